@@ -1,0 +1,4 @@
+//! What EN 300 743 and ISO/IEC 13818-1 lay down of a subtitle stream: pixel codes and pixel data blocks, segments,
+//! PES packets, transport packets, and the units and losses of a list of packets. The definitions stand in
+//! `specs/`, over numbers and lists; readers and writers above cite them.
+#![tactic(auto)]

@@ -1,0 +1,3 @@
+pub mod Colour
+pub mod Depth
+pub mod Picture
