@@ -1,3 +1,7 @@
 pub mod Colour
+pub mod Counts
 pub mod Depth
+pub mod InMemory
 pub mod Picture
+pub mod Profile
+pub mod Transfer

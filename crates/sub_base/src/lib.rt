@@ -4,8 +4,22 @@
 
 mod colour;
 mod depth;
-mod memory;
+mod faults;
+mod file;
+mod gate;
+mod in_memory;
+mod load;
+mod profile;
+mod transfer;
+mod words;
 
-pub use colour::{CLEAR, Colour};
+pub use colour::{CLEAR, Colour, default_colour};
 pub use depth::Depth;
-pub use memory::NoMemory;
+pub use faults::{NoMemory, ReadAllFault, ReadFailed, WriteFailed};
+pub use file::{FileSink, FileSource};
+pub use gate::{BandGate, NoGate};
+pub use in_memory::{MemSink, MemSource};
+pub use load::SetLoad;
+pub use profile::{Profile, ProfileName};
+pub use transfer::{Sink, Source, read_all, write_whole};
+pub use words::Words;

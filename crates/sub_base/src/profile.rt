@@ -1,0 +1,61 @@
+ghost use Rattle.std.specs.Prelude.{◌≡◌};
+ghost use Rattle.sub_base.specs.Profile.{profile_of};
+
+/// The names of the receiver profiles.
+#[derive(Clone, Copy, Debug, PartialEq, Eq)]
+pub enum ProfileName {
+    Sd,
+    Hd,
+    Wide,
+}
+
+/// What a receiver of a profile has: this project's numbers, since EN 300 743 leaves most of them open.
+#[derive(Clone, Copy, Debug, PartialEq, Eq)]
+pub struct Profile {
+    /// The coded data buffer, in bytes.
+    pub coded: u64,
+    /// The pixel buffer, in bytes of packed pixels.
+    pub pixels: u64,
+    /// The composition memory, in nodes.
+    pub nodes: u32,
+    /// The ticks of 90 kHz from one packet's slot to the next; none where the profile only reads.
+    pub step: Option<u64>,
+    /// The greatest width of a display, in pixels.
+    pub width: u32,
+    /// The greatest height of a display, in pixels.
+    pub height: u32,
+}
+
+impl Profile {
+    /// The profile of that name.
+    pub fn of(name: ProfileName) -> Profile
+        ensures { result ≡ profile_of name }
+    {
+        match name {
+            ProfileName::Sd => Profile {
+                coded: 24_576,
+                pixels: 81_920,
+                nodes: 512,
+                step: Some(705),
+                width: 720,
+                height: 576,
+            },
+            ProfileName::Hd => Profile {
+                coded: 61_440,
+                pixels: 327_680,
+                nodes: 2_048,
+                step: Some(360),
+                width: 1_920,
+                height: 1_080,
+            },
+            ProfileName::Wide => Profile {
+                coded: 262_144,
+                pixels: 4_194_304,
+                nodes: 8_192,
+                step: None,
+                width: 4_096,
+                height: 2_304,
+            },
+        }
+    }
+}
