@@ -4,5 +4,7 @@
 #![tactic(auto)]
 
 mod pes;
+mod transport;
 
 pub use pes::PesFault;
+pub use transport::{Event, PacketFault};
