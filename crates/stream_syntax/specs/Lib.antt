@@ -1,0 +1,3 @@
+pub mod BitFields
+pub mod Pes
+pub mod TransportPackets

@@ -2,3 +2,9 @@
 //! PES packets, transport packets, and the units and losses of a list of packets. The definitions stand in
 //! `specs/`, over numbers and lists; readers and writers above cite them.
 #![tactic(auto)]
+
+mod pes;
+mod transport;
+
+pub use pes::PesFault;
+pub use transport::{Event, PacketFault};

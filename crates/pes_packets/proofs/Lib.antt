@@ -1,0 +1,4 @@
+pub mod Answered
+pub mod PesLayout
+pub mod ReaderTests
+pub mod Written

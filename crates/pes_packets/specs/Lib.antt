@@ -1,0 +1,2 @@
+pub use Rattle.stream_syntax.specs.BitFields
+pub use Rattle.stream_syntax.specs.Pes

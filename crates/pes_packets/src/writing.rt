@@ -1,0 +1,71 @@
+ghost use Rattle.std.specs.Prelude.{◌≡◌, ◌+◌, ◌-◌, ◌*◌, ◌%◌, ◌^◌, ◌<◌, ◌≤◌, [], ◌∷◌, ◌++◌, length, take, drop, OnOk, OnErr, Ok};
+ghost use Rattle.stream_syntax.specs.Pes.{IsPes, pes_of, written_header, written_pes};
+
+use byteorder::{BigEndian, ByteOrder};
+use sub_base::NoMemory;
+
+/// The stream id of private data that is not in the form of audio or video, which subtitles have.
+pub const PRIVATE_STREAM_1: u8 = 0xBD;
+
+/// The bytes before the data field.
+const HEADER_LENGTH: usize = 14;
+
+/// The bytes behind the length field and before the data field.
+const LENGTH_BEFORE_FIELD: usize = 8;
+
+/// Appends one PES packet with this presentation time, in ticks of 90 kHz, and this data field, which begins with
+/// data identifier 20 and subtitle stream id 00.
+pub fn write_pes(pts: u64, field: &[u8], out: &mut Vec<u8>) -> Result<(), NoMemory>
+    requires time { pts < 2 ^ 33 }
+    requires fits { length field.now ≤ 65527 }
+    requires subtitles { take 2 field.now ≡ 0x20 ∷ 0 ∷ [] }
+
+    ensures bytes { OnOk result (out.new.items ≡ out.old.items ++ written_pes pts field.now) }
+    ensures err { OnErr result (out.new.items ≡ out.old.items) }
+
+    // The bytes are a PES packet of this time, which holds what follows the field's first two bytes.
+    ensures packet { IsPes (written_pes pts field.now) pts (drop 2 field.now) }
+    ensures read_again { pes_of (written_pes pts field.now) ≡ Ok (pts, drop 2 field.now) }
+    ensures size { length (written_pes pts field.now) ≡ 14 + length field.now }
+{
+    out.reserve(HEADER_LENGTH + field.len())?;
+    let header = header(pts, (LENGTH_BEFORE_FIELD + field.len()) as u16);
+    out.extend_from_slice(&header).unwrap();
+    out.extend_from_slice(field).unwrap();
+    Ok(())
+}
+
+/// The bytes before the data field.
+fn header(pts: u64, packet_length: u16) -> [u8; HEADER_LENGTH]
+    requires { pts < 2 ^ 33 }
+    ensures { result ≡ written_header pts packet_length }
+{
+    let mut bytes = [
+        0,
+        0,
+        1,
+        PRIVATE_STREAM_1,
+        0,
+        0,
+        0x84,
+        0x80,
+        5,
+        0,
+        0,
+        0,
+        0,
+        0,
+    ];
+    BigEndian::write_u16(&mut bytes[4..6], packet_length);
+    bytes[9] = 0x21 + 2 * (pts >> 30) as u8;
+    BigEndian::write_u16(&mut bytes[10..12], time_part(pts >> 15));
+    BigEndian::write_u16(&mut bytes[12..14], time_part(pts));
+    bytes
+}
+
+/// The low 15 bits of a time and a marker bit behind them.
+fn time_part(time: u64) -> u16
+    ensures { result ≡ time % 2 ^ 15 * 2 + 1 }
+{
+    (time % (1 << 15) * 2 + 1) as u16
+}

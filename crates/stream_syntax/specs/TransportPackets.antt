@@ -1,0 +1,107 @@
+-- Transport packets (ISO/IEC 13818-1, 2.4.3.2 to 2.4.3.5). A packet is a list of 188 bytes.
+use Rattle.std.specs.Prelude.{ℕ, zero, suc, ◌+◌, ◌-◌, ◌*◌, ◌/◌, ◌%◌, Bool, ◌==◌, ◌||◌, ◌&&◌, not, nat_lt, if◌then◌else◌, List, [], ◌∷◌, ◌++◌, length, drop, replicate, slice_index, find, Option, Some, None}
+use Rattle.std.specs.Option.{option_map}
+use Rattle.stream_syntax.specs.declared.transport.PacketFault.{PacketFault}
+use Rattle.stream_syntax.specs.declared.transport.PacketFault.TheVariants.{NoSync, ReservedControl, BadAdaptation, Scrambled}
+use Rattle.stream_syntax.specs.BitFields.{Field, field, packed}
+
+-- ---- what a packet says
+
+abbrev pub has_sync : List ℕ → Bool
+has_sync packet = slice_index packet 0 == 0x47
+
+-- transport_error_indicator
+abbrev pub has_error_flag : List ℕ → Bool
+has_error_flag packet = slice_index packet 1 / 128 == 1
+
+-- payload_unit_start_indicator
+abbrev pub has_start_flag : List ℕ → Bool
+has_start_flag packet = slice_index packet 1 / 64 % 2 == 1
+
+abbrev pub pid_of : List ℕ → ℕ
+pid_of packet = slice_index packet 1 % 32 * 256 + slice_index packet 2
+
+-- transport_scrambling_control
+abbrev pub scrambling_of : List ℕ → ℕ
+scrambling_of packet = slice_index packet 3 / 64
+
+-- adaptation_field_control: 1 is a payload alone, 2 an adaptation field alone, 3 both, and 0 is reserved
+abbrev pub control_of : List ℕ → ℕ
+control_of packet = slice_index packet 3 / 16 % 4
+
+-- continuity_counter
+abbrev pub counter_of : List ℕ → ℕ
+counter_of packet = slice_index packet 3 % 16
+
+-- adaptation_field_length: how many bytes follow it in the field
+abbrev pub field_length_of : List ℕ → ℕ
+field_length_of packet = slice_index packet 4
+
+-- the payload, behind the head and the adaptation field
+abbrev pub payload_of : List ℕ → List ℕ
+payload_of packet = if control_of packet == 3 then drop (5 + field_length_of packet) packet else drop 4 packet
+
+-- ---- what cannot be taken
+
+-- an adaptation field that is longer than the packet, or leaves no byte for a payload that the control announces
+abbrev pub has_bad_field : List ℕ → Bool
+has_bad_field packet =
+    (control_of packet == 2 && nat_lt 183 (field_length_of packet)) || (control_of packet == 3 && nat_lt 182 (field_length_of packet))
+
+-- packets of another PID, and packets that are marked as damaged, are not looked at further
+abbrev pub is_looked_at : ℕ → List ℕ → Bool
+is_looked_at pid packet = (pid_of packet == pid) && not (has_error_flag packet)
+
+-- the tests of a packet, in order: whether it fails, and the fault that says so
+abbrev pub packet_tests : ℕ → List ℕ → List (Bool × PacketFault)
+packet_tests pid packet =
+    (not (has_sync packet), NoSync)
+    ∷ (is_looked_at pid packet && not (scrambling_of packet == 0), Scrambled)
+    ∷ (is_looked_at pid packet && (control_of packet == 0), ReservedControl)
+    ∷ (is_looked_at pid packet && has_bad_field packet, BadAdaptation)
+    ∷ []
+
+-- the fault of the first test that fails
+abbrev pub packet_fault : ℕ → List ℕ → Option PacketFault
+packet_fault pid packet =
+    option_map (λ (test : Bool × PacketFault). test.1) (find (λ (test : Bool × PacketFault). test.0) (packet_tests pid packet))
+
+-- ---- what a writer writes
+
+-- the four bytes of the head, field by field
+pub record PacketHead : Type 0 where
+  pub error_flag : ℕ
+  pub start_flag : ℕ
+  pub priority : ℕ
+  pub pid : ℕ
+  pub scrambling : ℕ
+  pub control : ℕ
+  pub counter : ℕ
+
+abbrev pub head_groups : PacketHead → List (List Field)
+head_groups head =
+    (field 8 0x47 ∷ [])
+    ∷ (field 1 head.error_flag ∷ field 1 head.start_flag ∷ field 1 head.priority ∷ field 13 head.pid ∷ [])
+    ∷ (field 2 head.scrambling ∷ field 2 head.control ∷ field 4 head.counter ∷ [])
+    ∷ []
+
+-- an adaptation field of so many bytes: the count of those that follow, flags of 0, and stuffing
+abbrev pub adaptation_field : ℕ → List ℕ
+adaptation_field zero = []
+adaptation_field (suc zero) = 0 ∷ []
+adaptation_field (suc (suc stuffing)) = (stuffing + 1) ∷ 0 ∷ replicate stuffing 0xFF
+
+-- a packet with this piece of a unit: an adaptation field takes the place that the piece leaves
+abbrev pub written_packet : ℕ → Bool → ℕ → List ℕ → List ℕ
+written_packet pid start counter piece =
+    let head : PacketHead = record {
+        error_flag = 0; start_flag = if start then 1 else 0; priority = 0; pid = pid; scrambling = 0;
+        control = if length piece == 184 then 1 else 3; counter = counter
+      } in
+    packed (head_groups head) ++ (adaptation_field (184 - length piece) ++ piece)
+
+-- the packet that a multiplex has where nothing is to be sent
+abbrev pub null_packet : List ℕ
+null_packet =
+    packed (head_groups (record { error_flag = 0; start_flag = 0; priority = 0; pid = 0x1FFF; scrambling = 0; control = 1; counter = 0 }))
+    ++ replicate 184 0xFF

@@ -1,0 +1,35 @@
+ghost use Rattle.std.specs.Prelude.{◌≡◌, ◌≤◌, ◌<◌, length, true};
+ghost use Rattle.std.specs.List.{list_all};
+ghost use Rattle.sub_base.specs.Number.{number_of, value_from, is_digit};
+
+/// The number that the text is in decimal, without a sign and without leading zeros, of at most that many digits.
+pub fn decimal_number(text: &[u8], most_digits: usize) -> Option<u64>
+    requires { most_digits ≤ 19 }
+    ensures { result ≡ number_of most_digits text.now }
+{
+    if text.is_empty() || text.len() > most_digits || !text.iter().all(|byte| is_decimal(*byte)) {
+        return None;
+    }
+    if text.len() > 1 && text[0] == b'0' {
+        return None;
+    }
+    Some(value_of(text))
+}
+
+fn is_decimal(byte: u8) -> bool
+    ensures { result ≡ is_digit byte }
+{
+    byte >= b'0' && byte <= b'9'
+}
+
+fn value_of(digits: &[u8]) -> u64
+    requires short { length digits.now ≤ 19 }
+    requires digits { list_all is_digit digits.now ≡ true }
+    ensures { result ≡ value_from 0 digits.now }
+{
+    let mut value = 0;
+    for digit in digits {
+        value = 10 * value + u64::from(*digit - b'0');
+    }
+    value
+}

@@ -1,0 +1,3 @@
+pub use Rattle.stream_syntax.specs.BitFields
+pub use Rattle.stream_syntax.specs.TransportPackets
+pub mod Numbering

@@ -1,0 +1,8 @@
+//! Transport packets of one PID, both ways (ISO/IEC 13818-1, 2.4.3.2 to 2.4.3.5): a unit's pieces into packets, and
+//! from a list of packets the units and the losses.
+#![tactic(auto)]
+
+mod packetiser;
+
+pub use packetiser::{Packetiser, null_packet};
+pub use stream_syntax::{Event, PacketFault};

@@ -1,0 +1,107 @@
+ghost use Rattle.std.specs.Prelude.{◌≡◌, ℕ, ◌+◌, ◌-◌, ◌*◌, ◌^◌, ◌<◌, ◌≤◌, ◌==◌, if◌then◌else◌, List, length};
+ghost use Rattle.stream_syntax.specs.BitFields.{packed};
+ghost use Rattle.stream_syntax.specs.TransportPackets.{PacketHead, head_groups, adaptation_field, written_packet, null_packet as null_bytes};
+ghost use Rattle.ts_packets.specs.Numbering.{after_packet};
+
+use byteorder::{BigEndian, ByteOrder};
+use std::marker::Model;
+
+/// The bytes of a packet.
+pub const PACKET_LENGTH: usize = 188;
+
+/// The bytes of a packet's head.
+pub const HEAD_LENGTH: usize = 4;
+
+/// The most bytes of a unit that one packet takes.
+const PAYLOAD_LENGTH: usize = PACKET_LENGTH - HEAD_LENGTH;
+
+pub const SYNC_BYTE: u8 = 0x47;
+
+const STUFFING: u8 = 0xFF;
+
+/// The PID of null packets.
+const NULL_PID: u16 = 0x1FFF;
+
+/// Cuts the units of one PID into packets and numbers these.
+#[derive(Drop)]
+pub struct Packetiser {
+    pid: u16,
+    counter: u8,
+}
+
+impl Model for Packetiser {
+    ghost use Rattle.std.specs.Prelude.{◌<◌};
+    ghost use Rattle.ts_packets.specs.Numbering.{Numbering};
+
+    ghost Value = { Numbering };
+
+    ghost view = { λ p. record { pid = p.pid; counter = p.counter } };
+
+    ghost invariant = { λ p. (p.pid < 8192) × (p.counter < 16) };
+}
+
+impl Packetiser {
+    /// Begins with the counter 0.
+    pub fn make(pid: u16) -> Packetiser
+        requires { pid < 8192 }
+        ensures pid { result.pid ≡ pid }
+        ensures counter { result.counter ≡ 0 }
+    {
+        Packetiser { pid, counter: 0 }
+    }
+
+    /// Writes one packet with this piece of a unit, 1 to 184 bytes; `start` says that the unit begins with it.
+    pub fn packet(&mut self, piece: &[u8], start: bool, out: &mut [u8; 188])
+        requires some { 1 ≤ length piece.now }
+        requires fits { length piece.now ≤ 184 }
+        ensures bytes { out.new ≡ written_packet self.old.pid start self.old.counter piece.now }
+        ensures counter { self.new ≡ after_packet self.old }
+    {
+        let room = PAYLOAD_LENGTH - piece.len();
+        let control = if room == 0 { 1 } else { 3 };
+        let (head, rest) = out.split_at_mut(HEAD_LENGTH);
+        let (field, payload) = rest.split_at_mut(room);
+        head.copy_from_slice(&head_of(self.pid, start, control, self.counter));
+        write_adaptation_field(field);
+        payload.copy_from_slice(piece);
+        self.counter = (self.counter + 1) % 16;
+    }
+}
+
+/// Writes the packet that a multiplex has where nothing is to be sent.
+pub fn null_packet(out: &mut [u8; 188])
+    ensures { out.new ≡ null_bytes }
+{
+    let (head, payload) = out.split_at_mut(HEAD_LENGTH);
+    head.copy_from_slice(&head_of(NULL_PID, false, 1, 0));
+    payload.fill(STUFFING);
+}
+
+/// A packet's head without error flag, priority and scrambling.
+fn head_of(pid: u16, start: bool, control: u8, counter: u8) -> [u8; HEAD_LENGTH]
+    requires pid { pid < 8192 }
+    requires control { control < 4 }
+    requires counter { counter < 16 }
+    ensures { result ≡ packed (head_groups (record { error_flag = 0; start_flag = if start then 1 else 0; priority = 0; pid = pid; scrambling = 0; control = control; counter = counter })) }
+{
+    let flags: u16 = if start { 0x4000 } else { 0 };
+    let mut head = [SYNC_BYTE, 0, 0, 16 * control + counter];
+    BigEndian::write_u16(&mut head[1..3], flags + pid);
+    head
+}
+
+/// Fills the place of an adaptation field: the count of the bytes behind it, flags of 0, and stuffing.
+#[tactic(auto, using(crate::proofs::Adaptation::long_field, crate::proofs::Adaptation::short_field))]
+fn write_adaptation_field(field: &mut [u8])
+    requires { length field.old ≤ 184 }
+    ensures { field.new ≡ adaptation_field (length field.old) }
+{
+    field.fill(STUFFING);
+    if field.len() == 1 {
+        field[0] = 0;
+    }
+    if field.len() > 1 {
+        field[0] = (field.len() - 1) as u8;
+        field[1] = 0;
+    }
+}
