@@ -1,0 +1,4 @@
+pub mod Fields
+pub mod SegmentTests
+pub mod Segments
+pub mod Tests

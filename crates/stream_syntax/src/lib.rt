@@ -2,3 +2,15 @@
 //! PES packets, transport packets, and the units and losses of a list of packets. The definitions stand in
 //! `specs/`, over numbers and lists; readers and writers above cite them.
 #![tactic(auto)]
+
+mod clut;
+mod display;
+mod page;
+mod region;
+mod segment_fault;
+
+pub use clut::ClutEntry;
+pub use display::Window;
+pub use page::{PageEntry, State};
+pub use region::{Listing, RegionHead};
+pub use segment_fault::{SegmentFault, SegmentKind};
