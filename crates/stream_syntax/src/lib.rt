@@ -3,8 +3,18 @@
 //! `specs/`, over numbers and lists; readers and writers above cite them.
 #![tactic(auto)]
 
+mod clut;
+mod display;
+mod page;
 mod pes;
+mod region;
+mod segment_fault;
 mod transport;
 
+pub use clut::ClutEntry;
+pub use display::Window;
+pub use page::{PageEntry, State};
 pub use pes::PesFault;
+pub use region::{Listing, RegionHead};
+pub use segment_fault::{SegmentFault, SegmentKind};
 pub use transport::{Event, PacketFault};

@@ -1,0 +1,4 @@
+pub use Rattle.stream_syntax.specs.Fields
+pub use Rattle.stream_syntax.specs.SegmentTests
+pub use Rattle.stream_syntax.specs.Segments
+pub use Rattle.stream_syntax.specs.Tests

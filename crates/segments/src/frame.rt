@@ -1,0 +1,70 @@
+ghost use Rattle.std.specs.Prelude.{◌≡◌, ◌+◌, ◌-◌, ℕ, length, take, drop, IfOk, ◌<◌, ◌^◌};
+ghost use Rattle.std.specs.Result.{result_err};
+ghost use Rattle.stream_syntax.specs.Fields.{HasFields, bits_of};
+ghost use Rattle.stream_syntax.specs.SegmentTests.{frame_tests};
+ghost use Rattle.stream_syntax.specs.Segments.{head_fields};
+ghost use Rattle.stream_syntax.specs.Tests.{byte_at, word_at, first_fault};
+
+use byteorder::{BigEndian, ByteOrder};
+use stream_syntax::{SegmentFault, SegmentKind};
+
+/// The first byte of each segment.
+const SYNC: u8 = 0x0F;
+
+/// The bytes of a segment's head.
+const HEAD: usize = 6;
+
+/// A segment as its head frames it (EN 300 743, clause 7.2.1).
+#[derive(Clone, Copy, Debug, PartialEq, Eq)]
+pub struct Frame<'a> {
+    /// The segment type.
+    pub kind: u8,
+    /// The page id.
+    pub page: u16,
+    /// The bytes after the head.
+    pub body: &'a [u8],
+    /// The bytes of the whole segment, its head included.
+    pub whole: usize,
+}
+
+/// Reads the head of the segment that begins the bytes; other bytes may follow it.
+///
+/// The fault is `NoSync` or `Cut`.
+pub fn read_frame(bytes: &[u8]) -> Result<Frame<'_>, SegmentFault>
+    ensures fault { result_err result ≡ first_fault (frame_tests bytes.now) }
+    ensures kind { IfOk result (λ frame. frame.kind ≡ byte_at 1 bytes.now) }
+    ensures page { IfOk result (λ frame. frame.page ≡ word_at 2 bytes.now) }
+    ensures whole { IfOk result (λ frame. frame.whole ≡ 6 + word_at 4 bytes.now) }
+    ensures head { IfOk result (λ frame. HasFields (head_fields frame.kind frame.page (length frame.body.now)) (bits_of (take 6 bytes.now))) }
+    ensures body { IfOk result (λ frame. frame.body.now ≡ take (word_at 4 bytes.now) (drop 6 bytes.now)) }
+{
+    if bytes.is_empty() || bytes[0] != SYNC {
+        return Err(SegmentFault {
+            place: 0,
+            kind: SegmentKind::NoSync,
+        });
+    }
+    if bytes.len() < HEAD {
+        return Err(cut(bytes));
+    }
+    let whole = HEAD + BigEndian::read_u16(&bytes[4..]) as usize;
+    if bytes.len() < whole {
+        return Err(cut(bytes));
+    }
+    Ok(Frame {
+        kind: bytes[1],
+        page: BigEndian::read_u16(&bytes[2..]),
+        body: &bytes[HEAD..whole],
+        whole,
+    })
+}
+
+fn cut(bytes: &[u8]) -> SegmentFault
+    requires { length bytes.now < 2 ^ 32 }
+    ensures { result ≡ record { place = length bytes.now; kind = SegmentKind.Cut } }
+{
+    SegmentFault {
+        place: bytes.len() as u32,
+        kind: SegmentKind::Cut,
+    }
+}

@@ -1,0 +1,13 @@
+//! The segments of a subtitle stream (EN 300 743, clause 7.2), read out of bytes and written as bytes. What is read
+//! is borrowed from the bytes.
+#![tactic(auto)]
+
+mod frame;
+
+pub use frame::{Frame, read_frame};
+pub use stream_syntax::{
+    ClutEntry, Listing, PageEntry, RegionHead, SegmentFault, SegmentKind, State, Window,
+};
+
+#[cfg(test)]
+mod tests;

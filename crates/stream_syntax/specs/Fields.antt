@@ -1,0 +1,55 @@
+-- The syntax tables of the standards: rows of so many bits each, one after the other, the highest bit first.
+use Rattle.std.specs.Prelude.{◌≡◌, ℕ, zero, suc, ◌+◌, ◌*◌, ◌/◌, ◌%◌, ◌^◌, ◌<◌, List, [], ◌∷◌, ◌++◌, length, replicate}
+use Rattle.std.specs.List.{flat_map, AllByRecursion}
+
+-- a row of a table: a number in so many bits, or so many reserved bits
+pub data Field : Type 0 where
+  number : ℕ → ℕ → Field
+  reserved : ℕ → Field
+
+-- the lowest bits of a number, so many, the highest of them first
+unfoldable pub bits : ℕ → ℕ → List ℕ
+bits zero n = []
+bits (suc width) n = n / 2 ^ width % 2 ∷ bits width n
+
+-- the bits of bytes, each byte's highest bit first
+unfoldable pub bits_of : List ℕ → List ℕ
+bits_of bytes = flat_map (bits 8) bytes
+
+-- the bits of a row: its number's, or, where it is reserved, any
+abbrev pub IsRow : Field → List ℕ → Type 0
+IsRow (number width n) row = row ≡ bits width n
+IsRow (reserved width) row = length row ≡ width
+
+-- the bits are those of the rows of a table, one row after the other
+pub data HasFields : List Field → List ℕ → Type 0 where
+  no_row : HasFields [] []
+  row_first : {field : Field} {fields : List Field} {stream : List ℕ} (row rest : List ℕ) → IsRow field row → HasFields fields rest → stream ≡ row ++ rest → HasFields (field ∷ fields) stream
+
+-- what a writer makes of a row: its reserved bits are 1
+abbrev pub written_row : Field → List ℕ
+written_row (number width n) = bits width n
+written_row (reserved width) = replicate width 1
+
+-- what a writer makes of a table
+unfoldable pub written : List Field → List ℕ
+written fields = flat_map written_row fields
+
+-- the number that bits are, the highest first
+unfoldable pub number_of : List ℕ → ℕ
+number_of [] = 0
+number_of (bit ∷ rest) = bit * 2 ^ length rest + number_of rest
+
+-- the bytes that bits are, eight bits a byte
+unfoldable pub bytes_of : List ℕ → List ℕ
+bytes_of (a ∷ b ∷ c ∷ d ∷ e ∷ f ∷ g ∷ h ∷ rest) = number_of (a ∷ b ∷ c ∷ d ∷ e ∷ f ∷ g ∷ h ∷ []) ∷ bytes_of rest
+bytes_of rest = []
+
+-- a number fits its row
+abbrev pub FitsRow : Field → Type 0
+FitsRow (number width n) = n < 2 ^ width
+FitsRow (reserved width) = Unit {0}
+
+-- each number of a table fits its row
+abbrev pub FitsFields : List Field → Type 0
+FitsFields fields = AllByRecursion FitsRow fields

@@ -1,0 +1,19 @@
+/// How a display set stands to those before it (EN 300 743, page composition segment, page_state).
+#[derive(Clone, Copy, Debug, PartialEq, Eq)]
+pub enum State {
+    /// The set changes the page that is shown.
+    Normal,
+    /// The set has the whole page again, so a receiver can begin here.
+    Acquisition,
+    /// The set begins a new page, of which nothing was known before.
+    ModeChange,
+}
+
+/// A region that the page shows, and the place of its upper left corner in pixels of the display
+/// (EN 300 743, page composition segment).
+#[derive(Clone, Copy, Debug, PartialEq, Eq)]
+pub struct PageEntry {
+    pub region: u8,
+    pub x: u16,
+    pub y: u16,
+}
