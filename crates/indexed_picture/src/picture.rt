@@ -1,13 +1,14 @@
-ghost use Rattle.std.specs.Prelude.{◌≡◌, ◌↔◌, ℕ, ◌+◌, ◌*◌, ◌<◌, ◌≤◌, length, All, IsTrue, IsOk, IfOk, IfErr, MatchOption};
+ghost use Rattle.std.specs.Prelude.{◌≡◌, ◌↔◌, ℕ, ◌+◌, ◌*◌, ◌<◌, ◌≤◌, length, All, IsTrue, IsOk, IfOk, IfErr, MatchOption, replicate, slice_index};
 ghost use Rattle.sub_base.specs.Depth.{code_count};
 ghost use Rattle.sub_base.specs.Picture.{IsPicture, IsRow, picture_of, row_of, top_field, bottom_field, HasEqualFields};
 ghost use Rattle.indexed_picture.specs.Making.{IsFaultOf, IsFirstOutside};
+ghost use Rattle.indexed_picture.specs.Painting.{LiesWithin, IsPainted, PaintsRow};
 
 use crate::fault::PictureFault;
 use crate::fields::FieldRows;
 use std::alloc::Global;
 use std::marker::Model;
-use sub_base::Depth;
+use sub_base::{Depth, NoMemory};
 
 /// A picture of pixel codes: a width and a height in pixels, each at least 1, a depth, and width times height codes
 /// of that depth, by rows from the top.
@@ -51,6 +52,22 @@ impl Indexed {
         if let Some(place) = first_outside(depth, &codes) {
             return Err(PictureFault::CodeOutside { place });
         }
+        Ok(Indexed {
+            width,
+            height,
+            depth,
+            codes,
+        })
+    }
+
+    /// A picture whose codes are all 0.
+    pub fn blank(alloc: Global, width: u16, height: u16, depth: Depth) -> Result<Indexed, NoMemory>
+        requires wide { 1 ≤ width }
+        requires high { 1 ≤ height }
+        ensures made { IfOk result (λ picture. picture ≡ picture_of width height depth (replicate (width * height) 0)) }
+        ensures picture { IfOk result IsPicture }
+    {
+        let codes = vec![in alloc; 0; usize::from(width) * usize::from(height)]?;
         Ok(Indexed {
             width,
             height,
@@ -137,6 +154,32 @@ impl Indexed {
             }
         }
         true
+    }
+
+    /// Paints a picture over this one, with its upper left corner at column `x` of row `y`. Each of its codes replaces
+    /// the one beneath, but code 1 where the picture is seen through (EN 300 743, non-modifying colour).
+    pub fn paint(&mut self, x: u16, y: u16, over: &Indexed, see_through: bool)
+        requires { LiesWithin over.now self.old x y }
+        ensures painted { IsPainted self.old over.now x y see_through self.new }
+        ensures picture { IsPicture self.new }
+    {
+        let width = usize::from(self.width);
+        for row in 0..over.height() {
+            let start = (usize::from(y) + usize::from(row)) * width + usize::from(x);
+            paint_row(&mut self.codes, start, over.row(row), see_through);
+        }
+    }
+}
+
+// Paints a row of codes on a list of codes, from place `start` on.
+fn paint_row(codes: &mut [u8], start: usize, row: &[u8], see_through: bool)
+    requires { start + length row.now ≤ length codes.old }
+    ensures { PaintsRow row.now start see_through codes.old codes.new }
+{
+    for (place, code) in row.iter().enumerate() {
+        if !(see_through && *code == 1) {
+            codes[start + place] = *code;
+        }
     }
 }
 

@@ -1,7 +1,9 @@
-ghost use Rattle.std.specs.Prelude.{◌≤◌};
+ghost use Rattle.std.specs.Prelude.{◌≡◌, ◌≤◌, IfOk};
+ghost use Rattle.std.specs.List.{concat};
+ghost use Rattle.sub_base.specs.Picture.{picture_of, top_field};
 
 use super::*;
-use std::alloc::Global;
+use std::alloc::{AllocError, Global};
 use std::process::Abort;
 use std::test::Fail;
 use sub_base::Depth;
@@ -9,9 +11,21 @@ use sub_base::Depth;
 fn picture(alloc: Global, width: u16, height: u16, codes: &[u8]) -> Result<Indexed, Fail>
     requires wide { 1 ≤ width }
     requires high { 1 ≤ height }
+    ensures { IfOk result (λ picture. picture ≡ picture_of width height Depth.Two codes.now) }
 {
     let codes = codes.to_vec(alloc)?;
     Ok(Indexed::from_codes(alloc, width, height, Depth::Two, codes)?)
+}
+
+// What a caller's loop over a field is known to have met.
+fn top_codes(alloc: Global, picture: &Indexed) -> Result<Vec<u8>, AllocError>
+    ensures { IfOk result (λ codes. codes.items ≡ concat (top_field picture.now)) }
+{
+    let mut codes = Vec::new(alloc);
+    for row in picture.top_rows() {
+        codes.extend_from_slice(row)?;
+    }
+    Ok(codes)
 }
 
 #[test]
@@ -27,10 +41,7 @@ fn refuses_what_is_no_picture(rt: HostRuntime) -> Result<(), Fail> {
 #[test]
 fn gives_the_rows_of_both_fields(rt: HostRuntime) -> Result<(), Fail> {
     let three = picture(rt.alloc(), 2, 3, &[0, 1, 2, 3, 1, 1])?;
-    let mut top = Vec::new(rt.alloc());
-    for row in three.top_rows() {
-        top.extend_from_slice(row)?;
-    }
+    let top = top_codes(rt.alloc(), &three)?;
     assert_eq!(rt; top.as_slice(), [0, 1, 1, 1].as_slice());
     let mut bottom = Vec::new(rt.alloc());
     for row in three.bottom_rows() {
@@ -57,5 +68,19 @@ fn compares_the_fields(rt: HostRuntime) -> Result<(), Fail> {
             );
         }
     }
+    Ok(())
+}
+
+#[test]
+fn paints_over_a_blank_picture(rt: HostRuntime) -> Result<(), Fail> {
+    let mut below = Indexed::blank(rt.alloc(), 4, 3, Depth::Four)?;
+    assert_eq!(rt; below.codes(), [0; 12].as_slice());
+    let over = picture(rt.alloc(), 2, 2, &[1, 2, 3, 1])?;
+    below.paint(0, 0, &over, false);
+    below.paint(2, 1, &over, true);
+    let painted = [1, 2, 0, 0, 3, 1, 0, 2, 0, 0, 3, 0];
+    assert_eq!(rt; below.codes(), painted.as_slice());
+    below.paint(0, 0, &over, true);
+    assert_eq!(rt; below.codes(), painted.as_slice());
     Ok(())
 }

@@ -1,4 +1,4 @@
-use Rattle.std.specs.Prelude.{◌≡◌, ℕ, ◌+◌, ◌-◌, ◌*◌, ◌/◌, ◌%◌, ◌<◌, ◌≤◌, ◌^◌, List, length, All, map, take, drop}
+use Rattle.std.specs.Prelude.{◌≡◌, ℕ, ◌+◌, ◌-◌, ◌*◌, ◌/◌, ◌%◌, ◌<◌, ◌≤◌, ◌^◌, List, length, All, map, take, drop, slice_index}
 use Rattle.std.specs.List.{range_with_len}
 use Rattle.sub_base.specs.declared.depth.Depth.{Depth}
 use Rattle.sub_base.specs.Depth.{code_count}
@@ -16,6 +16,10 @@ pub record IsPicture (picture : Picture) : Type 0 where
   pub high : (1 ≤ picture.height) × (picture.height < 2 ^ 16)
   pub full : length picture.codes ≡ picture.width * picture.height
   pub each : All (λ code. code < code_count picture.depth) picture.codes
+
+-- the code in a column of a row, both counted from 0
+abbrev pub code_at : Picture → ℕ → ℕ → ℕ
+code_at picture column row = slice_index picture.codes (row * picture.width + column)
 
 -- row y: as many codes as the picture is wide, from the row's first place on
 abbrev pub row_of : Picture → ℕ → List ℕ
