@@ -1,5 +1,5 @@
 -- Numbers as decimal text: without a sign, and without leading zeros.
-use Rattle.std.specs.Prelude.{ℕ, ◌+◌, ◌-◌, ◌*◌, ◌==◌, nat_le, nat_lt, Bool, true, false, ◌&&◌, ◌||◌, if◌then◌else◌, List, [], ◌∷◌, length, Option, Some, None}
+use Rattle.std.specs.Prelude.{ℕ, ◌+◌, ◌-◌, ◌*◌, ◌==◌, nat_le, nat_lt, Bool, ◌&&◌, not, slice_index, if◌then◌else◌, List, [], ◌∷◌, length, Option, Some, None}
 use Rattle.std.specs.List.{list_all}
 
 -- the byte is a decimal digit
@@ -13,15 +13,11 @@ value_from before (digit ∷ digits) = value_from (10 * before + (digit - 48)) d
 
 -- a zero stands first, and something follows it
 abbrev pub has_leading_zero : List ℕ → Bool
-has_leading_zero text = nat_lt 1 (length text) && starts_with_zero text
-  where
-    starts_with_zero : List ℕ → Bool
-    starts_with_zero [] = false
-    starts_with_zero (digit ∷ digits) = digit == 48
+has_leading_zero text = nat_lt 1 (length text) && (slice_index text 0 == 48)
 
 -- one to that many digits, the first of several not 0
 abbrev pub is_number : ℕ → List ℕ → Bool
-is_number most text = nat_lt 0 (length text) && nat_le (length text) most && list_all is_digit text && (if has_leading_zero text then false else true)
+is_number most text = nat_lt 0 (length text) && nat_le (length text) most && list_all is_digit text && not (has_leading_zero text)
 
 -- the number that the text is, of at most that many digits
 abbrev pub number_of : ℕ → List ℕ → Option ℕ

@@ -1,19 +1,35 @@
 ghost use Rattle.std.specs.Prelude.{◌≡◌, ◌≤◌, ◌<◌, length, true};
 ghost use Rattle.std.specs.List.{list_all};
-ghost use Rattle.sub_base.specs.Number.{number_of, value_from, is_digit};
+ghost use Rattle.sub_base.specs.Number.{number_of, value_from, is_digit, is_number as is_number_of, has_leading_zero};
 
 /// The number that the text is in decimal, without a sign and without leading zeros, of at most that many digits.
 pub fn decimal_number(text: &[u8], most_digits: usize) -> Option<u64>
     requires { most_digits ≤ 19 }
     ensures { result ≡ number_of most_digits text.now }
 {
-    if text.is_empty() || text.len() > most_digits || !text.iter().all(|byte| is_decimal(*byte)) {
-        return None;
+    if is_number(text, most_digits) {
+        Some(value_of(text))
+    } else {
+        None
     }
-    if text.len() > 1 && text[0] == b'0' {
-        return None;
-    }
-    Some(value_of(text))
+}
+
+fn is_number(text: &[u8], most_digits: usize) -> bool
+    ensures { result ≡ is_number_of most_digits text.now }
+{
+    !text.is_empty() && text.len() <= most_digits && all_digits(text) && !leads_with_zero(text)
+}
+
+fn leads_with_zero(text: &[u8]) -> bool
+    ensures { result ≡ has_leading_zero text.now }
+{
+    text.len() > 1 && text[0] == b'0'
+}
+
+fn all_digits(text: &[u8]) -> bool
+    ensures { result ≡ list_all is_digit text.now }
+{
+    text.iter().all(|byte| is_decimal(*byte))
 }
 
 fn is_decimal(byte: u8) -> bool
