@@ -1,1 +1,4 @@
+pub mod CodesLaws
+pub mod OneCueLaws
 pub mod RowsLaws
+pub mod TextLaws

@@ -1,7 +1,7 @@
 -- The records of a text, one after another, without a bound on their number.
-use Rattle.std.proofs.Common.{map, take, append_assoc, ◌≡◌, ℕ, zero, suc, ◌+◌, ◌-◌, ◌<◌, ◌≤◌, List, [], ◌∷◌, ◌++◌, length, Bool, true, false, if◌then◌else◌, Option, Some, None, IsSome, refl, ap, sym, ◌∙◌, subst, arith, add-one, cond}
+use Rattle.std.proofs.Common.{map, take, append_assoc, ◌≡◌, ℕ, zero, suc, ◌+◌, ◌-◌, ◌<◌, ◌≤◌, List, [], ◌∷◌, ◌++◌, length, Bool, true, false, if◌then◌else◌, Option, Some, None, IsSome, refl, ap, sym, ◌∙◌, arith, add-one, cond}
 use Rattle.std.proofs.lemmas.List.{map-append}
-use Rattle.csv.specs.Machine.{Read, next_record, step, is_end, ends_at_end, fields_after, field_after}
+use Rattle.csv.specs.Machine.{Read, next_record, step, is_end, ends_at_end}
 use Rattle.csv.specs.Reading.{default_config, records_from, records_next, ReadsNext, NextIs, ReadRecord, source_of, pending_of}
 use Rattle.csv.specs.declared.parser.State.{State}
 use Rattle.csv.specs.declared.parser.State.TheVariants as st
@@ -86,7 +86,7 @@ pub rows_left-read : {R : Type 0} (remaining : R → Option (List ℕ)) (old new
     → rows_left remaining old ≡ (if found then fields ∷ rows_left remaining new else [])
 rows_left-read remaining old new found fields ready reads =
     let next : ReadsNext default_config old.state (source_of remaining old) (source_of remaining new) found fields new.state =
-      rw (source_of-read remaining new reads.1, ← ready.config) reads.0 in
+    rw (source_of-read remaining new reads.1, ← ready.config) reads.0 in
     rows_of_source-read old.state new.state (source_of remaining old) (source_of remaining new) found fields ready.known next
 
 -- one more record of those that are wanted

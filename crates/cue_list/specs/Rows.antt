@@ -1,8 +1,7 @@
-use Rattle.std.specs.Prelude.{◌≡◌, ℕ, ◌+◌, List, [], length, Option, Some, None, true, false, MatchOption, IsSome}
+use Rattle.std.specs.Prelude.{◌≡◌, ℕ, ◌+◌, List, [], length, Option, Some, None, true, false, IsSome}
 use Rattle.std.specs.Borrow.{Bor}
-use Rattle.csv.specs.Reading.{default_config, records, records_from, strip_bom, source_of, reader_config, reader_trim, reader_state, is_flexible, names_headers, reader_headers, has_failed, Ready}
+use Rattle.csv.specs.Reading.{default_config, records, records_from, strip_bom, source_of, reader_config, reader_trim, reader_state, is_flexible, has_failed, Ready}
 use Rattle.csv.specs.declared.parser.State.{State}
-use Rattle.csv.specs.declared.parser.State.TheVariants as st
 use Rattle.csv.specs.declared.reader.Reader.{Reader}
 use Rattle.csv.specs.declared.reader.Trim.TheVariants as trim
 

@@ -1,6 +1,13 @@
-//! Cue scripts: records of CSV that list the epochs, regions, colours, pictures and cues of a programme.
+//! Cue scripts: records of CSV that list the epochs, regions, colours, pictures and cues of a programme. For now
+//! scripts of one cue are read: one picture, shown over the whole display.
 #![tactic(auto)]
 
+mod cells;
+mod codes;
+mod fault;
+mod kind_rows;
+mod one_cue;
 mod rows;
 
-pub use rows::first_rows;
+pub use fault::{ScriptFault, ScriptKind};
+pub use one_cue::{OneCue, read_one_cue};

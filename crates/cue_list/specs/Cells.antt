@@ -1,0 +1,28 @@
+-- The cells of a record.
+use Rattle.std.specs.Prelude.{ℕ, ◌==◌, nat_le, Bool, ◌&&◌, if◌then◌else◌, List, [], length, Option, Some, None, unwrap_or}
+use Rattle.std.specs.Str.{bytes_eq}
+use Rattle.csv.specs.Records.{field_at}
+use Rattle.sub_base.specs.Number.{number_of}
+use Rattle.cue_list.specs.Rows.{Row}
+
+-- a step that may fail, and what follows it
+infixl 10 ◌>>=◌
+abbrev pub ◌>>=◌ : {A B : Type 0} → Option A → (A → Option B) → Option B
+None >>= f = None
+(Some x) >>= f = f x
+
+-- the cell at that place, empty where the record is shorter
+abbrev pub cell_at : Row → ℕ → List ℕ
+cell_at row place = unwrap_or (field_at row place) []
+
+-- a record of that many cells that begins with that word
+abbrev pub is_row : List ℕ → ℕ → Row → Bool
+is_row word cells row = (length row == cells) && bytes_eq (cell_at row 0) word
+
+-- the number, where it is in that range
+abbrev pub in_range : ℕ → ℕ → ℕ → Option ℕ
+in_range least most number = if nat_le least number && nat_le number most then Some number else None
+
+-- the number of a cell, of at most ten digits, in that range
+abbrev pub number_in : ℕ → ℕ → List ℕ → Option ℕ
+number_in least most cell = number_of 10 cell >>= in_range least most
