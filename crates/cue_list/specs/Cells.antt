@@ -18,11 +18,3 @@ cell_at row place = unwrap_or (field_at row place) []
 -- a record of that many cells that begins with that word
 abbrev pub is_row : List ℕ → ℕ → Row → Bool
 is_row word cells row = (length row == cells) && bytes_eq (cell_at row 0) word
-
--- the number, where it is in that range
-abbrev pub in_range : ℕ → ℕ → ℕ → Option ℕ
-in_range least most number = if nat_le least number && nat_le number most then Some number else None
-
--- the number of a cell, of at most ten digits, in that range
-abbrev pub number_in : ℕ → ℕ → List ℕ → Option ℕ
-number_in least most cell = number_of 10 cell >>= in_range least most

@@ -3,8 +3,9 @@ use Rattle.std.specs.Prelude.{ℕ, ◌+◌, nat_le, Bool, ◌&&◌, if◌then◌
 use Rattle.std.specs.Str.{bytes_eq, is_utf8}
 use Rattle.sub_base.specs.declared.depth.Depth.{Depth}
 use Rattle.sub_base.specs.declared.depth.Depth.TheVariants.{Two, Four, Eight}
+use Rattle.sub_base.specs.Number.{number_in}
 use Rattle.cue_list.specs.Rows.{Row}
-use Rattle.cue_list.specs.Cells.{◌>>=◌, cell_at, is_row, number_in}
+use Rattle.cue_list.specs.Cells.{◌>>=◌, cell_at, is_row}
 use Rattle.cue_list.specs.declared.kind_rows.DisplayRow.{DisplayRow}
 use Rattle.cue_list.specs.declared.kind_rows.RegionRow.{RegionRow}
 use Rattle.cue_list.specs.declared.kind_rows.PlaceRow.{PlaceRow}

@@ -1,10 +1,9 @@
-ghost use Rattle.std.specs.Prelude.{◌≡◌, ◌≤◌, IfSome};
+ghost use Rattle.std.specs.Prelude.{◌≡◌};
 ghost use Rattle.std.specs.Str.{bytes_eq};
 ghost use Rattle.csv.specs.Records.{fields_of};
-ghost use Rattle.cue_list.specs.Cells.{cell_at, is_row as is_row_of, number_in as number_in_of};
+ghost use Rattle.cue_list.specs.Cells.{cell_at, is_row as is_row_of};
 
 use csv::ByteRecord;
-use sub_base::decimal_number;
 
 /// The cell at that place, empty where the record is shorter.
 pub fn cell(row: &ByteRecord, place: usize) -> &[u8]
@@ -28,18 +27,4 @@ pub fn is_row(row: &ByteRecord, word: &str, cells: usize) -> bool
     ensures { result ≡ is_row_of word.now cells (fields_of row.now) }
 {
     row.len() == cells && is_text(cell(row, 0), word)
-}
-
-/// The number of a cell, of at most ten digits, in that range.
-pub fn number_in(cell: &[u8], least: u64, most: u64) -> Option<u64>
-    ensures value { result ≡ number_in_of least most cell.now }
-    ensures least { IfSome result (λ number. least ≤ number) }
-    ensures most { IfSome result (λ number. number ≤ most) }
-{
-    let number = decimal_number(cell, 10)?;
-    if least <= number && number <= most {
-        Some(number)
-    } else {
-        None
-    }
 }

@@ -3,9 +3,9 @@ ghost use Rattle.std.specs.Str.{is_utf8 as is_utf8_of};
 ghost use Rattle.csv.specs.Records.{fields_of};
 ghost use Rattle.cue_list.specs.KindRows.{origin_of, display_of, refresh_of, epoch_of, depth_of as depth_of_cell, region_of, is_name as is_name_of, picture_head_of, place_of};
 
-use crate::cells::{cell, is_row, is_text, number_in};
+use crate::cells::{cell, is_row, is_text};
 use csv::ByteRecord;
-use sub_base::Depth;
+use sub_base::{Depth, number_in};
 
 /// The greatest origin, in ticks.
 const GREATEST_ORIGIN: u64 = 5_000_000_000;

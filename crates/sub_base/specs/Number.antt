@@ -1,5 +1,5 @@
 -- Numbers as decimal text: without a sign, and without leading zeros.
-use Rattle.std.specs.Prelude.{ℕ, ◌+◌, ◌-◌, ◌*◌, ◌==◌, nat_le, nat_lt, Bool, ◌&&◌, not, slice_index, if◌then◌else◌, List, [], ◌∷◌, length, Option, Some, None}
+use Rattle.std.specs.Prelude.{ℕ, ◌+◌, ◌-◌, ◌*◌, ◌==◌, nat_le, nat_lt, Bool, ◌&&◌, not, slice_index, if◌then◌else◌, List, [], ◌∷◌, length, Option, Some, None, option_and_then}
 use Rattle.std.specs.List.{list_all}
 
 -- the byte is a decimal digit
@@ -22,3 +22,11 @@ is_number most text = nat_lt 0 (length text) && nat_le (length text) most && lis
 -- the number that the text is, of at most that many digits
 abbrev pub number_of : ℕ → List ℕ → Option ℕ
 number_of most text = if is_number most text then Some (value_from 0 text) else None
+
+-- the number, where it lies in that range
+abbrev pub in_range : ℕ → ℕ → ℕ → Option ℕ
+in_range least most number = if nat_le least number && nat_le number most then Some number else None
+
+-- the number that the text is, of at most ten digits, where it lies in that range
+abbrev pub number_in : ℕ → ℕ → List ℕ → Option ℕ
+number_in least most text = option_and_then (in_range least most) (number_of 10 text)

@@ -21,7 +21,7 @@ pub use file::{FileSink, FileSource};
 pub use gate::{BandGate, NoGate};
 pub use in_memory::{MemSink, MemSource};
 pub use load::SetLoad;
-pub use number::decimal_number;
+pub use number::{decimal_number, number_in};
 pub use profile::{Profile, ProfileName};
 pub use transfer::{Sink, Source, read_all, write_whole};
 pub use words::Words;

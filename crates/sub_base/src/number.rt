@@ -1,6 +1,6 @@
-ghost use Rattle.std.specs.Prelude.{◌≡◌, ◌≤◌, ◌<◌, length, true};
+ghost use Rattle.std.specs.Prelude.{◌≡◌, ◌≤◌, ◌<◌, length, true, IfSome};
 ghost use Rattle.std.specs.List.{list_all};
-ghost use Rattle.sub_base.specs.Number.{number_of, value_from, is_digit, is_number as is_number_of, has_leading_zero};
+ghost use Rattle.sub_base.specs.Number.{number_of, value_from, is_digit, is_number as is_number_of, has_leading_zero, number_in as number_in_of};
 
 /// The number that the text is in decimal, without a sign and without leading zeros, of at most that many digits.
 pub fn decimal_number(text: &[u8], most_digits: usize) -> Option<u64>
@@ -9,6 +9,20 @@ pub fn decimal_number(text: &[u8], most_digits: usize) -> Option<u64>
 {
     if is_number(text, most_digits) {
         Some(value_of(text))
+    } else {
+        None
+    }
+}
+
+/// The number that the text is in decimal, of at most ten digits, where it lies in that range.
+pub fn number_in(text: &[u8], least: u64, most: u64) -> Option<u64>
+    ensures value { result ≡ number_in_of least most text.now }
+    ensures least { IfSome result (λ number. least ≤ number) }
+    ensures most { IfSome result (λ number. number ≤ most) }
+{
+    let number = decimal_number(text, 10)?;
+    if least <= number && number <= most {
+        Some(number)
     } else {
         None
     }
