@@ -1,0 +1,2 @@
+pub mod PixelCodes
+pub mod PixelBlocks

@@ -2,3 +2,11 @@
 //! PES packets, transport packets, and the units and losses of a list of packets. The definitions stand in
 //! `specs/`, over numbers and lists; readers and writers above cite them.
 #![tactic(auto)]
+
+mod code_fault;
+mod map_table;
+mod pixel_run;
+
+pub use code_fault::{CodeFault, CodeKind};
+pub use map_table::MapTable;
+pub use pixel_run::Run;
