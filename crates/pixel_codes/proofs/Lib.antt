@@ -4,3 +4,4 @@ pub mod Strings
 pub mod Parts
 pub mod Walk
 pub mod Blocks
+pub mod Steps

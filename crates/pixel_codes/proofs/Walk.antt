@@ -102,12 +102,12 @@ enough (suc steps) (suc more) region (Some depth) rest place pen h k =
 -- ---- one step on
 
 -- at a sub-block
-pub step_part : (region : Depth) (first : ℕ) (body : List ℕ) (pen : Pen) → runs_left region None (first ∷ body) 0 pen ≡ runs_after_head (runs_left region) body pen (head_of first)
+pub step_part : (region : Depth) (first : ℕ) (body : List ℕ) (place : ℕ) (pen : Pen) → runs_left region None (first ∷ body) place pen ≡ runs_after_head (runs_left region) body pen (head_of first)
 unfolding runs_within Alike
-step_part region first body pen =
+step_part region first body place pen =
     let steps = 8 * length body + 7 in
     let e : 8 * length (first ∷ body) ≡ suc steps = omega arith in
-    ap (λ (n : ℕ). runs_within n region None (first ∷ body) 0 pen) e
+    ap (λ (n : ℕ). runs_within n region None (first ∷ body) place pen) e
     ∙ alike_after_head (8 * length body) (runs_within steps region) (runs_left region) (λ inside rest place pen l. enough steps (8 * length rest) region inside rest place pen (omega (arith, l)) (enough_left inside rest place)) body pen (omega arith) (head_of first)
   where
     enough_left : (inside : Option Depth) (rest : List ℕ) (place : ℕ) → to_come inside rest place ≤ 8 * length rest
@@ -233,7 +233,7 @@ walk_parts region (string depth codes ∷ parts) bytes before pen p a x =
     let a' : Agrees pen' (string depth codes ∷ before) = record { at_line = a.at_line; fours = a.fours; size = a.size; eights = a.eights; wide = a.wide } in
     let rest = walk_parts region parts p.1 (string depth codes ∷ before) pen' p.4 a' (ap (λ (n : ℕ). n + pixels_in depth codes) x) in
     ap (λ (t : List ℕ). runs_left region None t 0 pen) whole
-    ∙ step_part region (string_type depth) all pen
+    ∙ step_part region (string_type depth) all 0 pen
     ∙ ap (runs_after_head (runs_left region) all pen) (head_of-string depth)
     ∙ walk_codes region depth before codes all (s.fill ++ bits_of p.1) 0 pen s.each a text
     ∙ ap (λ (t : List ℕ). runs_from region depth before pen.x codes ++ runs_left region None t 0 pen') cut
@@ -249,7 +249,7 @@ walk_parts region (table kind entries ∷ parts) bytes before pen p a x =
     let pen' : Pen = record { x = pen.x; line = pen.line; maps = with_table kind all pen.maps } in
     let a' : Agrees pen' (table kind entries ∷ before) = subst (λ (t : List ℕ). Agrees pen' (table kind t ∷ before)) (sym part.3) (agrees_table kind pen before body p.1 part.2 a) in
     ap (λ (t : List ℕ). runs_left region None t 0 pen) whole
-    ∙ step_part region (table_type kind) all pen
+    ∙ step_part region (table_type kind) all 0 pen
     ∙ ap (runs_after_head (runs_left region) all pen) (head_of-table kind)
     ∙ ap (λ (b : Bool). cond b [] (runs_left region None (drop (table_size kind) all) 0 pen')) t1
     ∙ ap (λ (t : List ℕ). runs_left region None t 0 pen') cut
@@ -259,7 +259,7 @@ walk_parts region (line_end ∷ parts) bytes before pen p a x =
     let pen' : Pen = record { x = 0; line = pen.line + 1; maps = pen.maps } in
     let a' : Agrees pen' (line_end ∷ before) = record { at_line = ap (λ (n : ℕ). n + 1) a.at_line; fours = a.fours; size = a.size; eights = a.eights; wide = a.wide } in
     ap (λ (t : List ℕ). runs_left region None t 0 pen) whole
-    ∙ step_part region 0xF0 p.1 pen
+    ∙ step_part region 0xF0 p.1 0 pen
     ∙ walk_parts region parts p.1 (line_end ∷ before) pen' p.4 a' refl
 
 -- the walk over a block gives its runs, and no others

@@ -3,3 +3,5 @@ pub mod Parts
 pub mod Walk
 pub use Rattle.stream_syntax.specs.PixelCodes
 pub use Rattle.stream_syntax.specs.PixelBlocks
+pub mod Tables
+pub mod Cursor

@@ -4,6 +4,7 @@ ghost use Rattle.stream_syntax.specs.declared.pixel_run.Run.{Run};
 ghost use Rattle.stream_syntax.specs.declared.code_fault.CodeFault.{CodeFault};
 
 use crate::part::part_size;
+use crate::runs::Runs;
 use std::marker::Model;
 use stream_syntax::CodeFault;
 use sub_base::Depth;
@@ -11,8 +12,8 @@ use sub_base::Depth;
 /// A pixel data block that is in the grammar, for a region of a depth. It is seen as the list of its runs.
 #[derive(Drop)]
 pub struct CodeBlock<'a> {
-    pub(crate) bytes: &'a [u8],
-    pub(crate) region: Depth,
+    bytes: &'a [u8],
+    region: Depth,
 }
 
 impl<'a> Model for CodeBlock<'a> {
@@ -25,6 +26,15 @@ impl<'a> Model for CodeBlock<'a> {
     ghost view = { λ block. runs_in block.region block.bytes.now };
 
     ghost invariant = { λ block. length block.bytes.now ≤ 65535 };
+}
+
+impl<'a> CodeBlock<'a> {
+    /// The runs of the block: one for each code that gives a pixel, in order.
+    pub fn runs(&self) -> Runs<'_>
+        ensures { result ≡ self.now }
+    {
+        Runs::of_block(self.bytes, self.region)
+    }
 }
 
 /// Checks a pixel data block against the grammar, with no string deeper than `depth`, the region's (EN 300 743,

@@ -4,9 +4,13 @@
 #![tactic(auto)]
 
 mod block;
+mod cursor;
 mod field;
 mod part;
+mod runs;
+mod tables;
 mod token;
 
 pub use block::{CodeBlock, check_block};
+pub use runs::Runs;
 pub use stream_syntax::{CodeFault, CodeKind, Run};
