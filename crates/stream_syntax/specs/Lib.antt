@@ -5,3 +5,5 @@ pub mod Fields
 pub mod SegmentTests
 pub mod Segments
 pub mod Tests
+pub mod PixelCodes
+pub mod PixelBlocks

@@ -18,3 +18,10 @@ pub use pes::PesFault;
 pub use region::{Listing, RegionHead};
 pub use segment_fault::{SegmentFault, SegmentKind};
 pub use transport::{Event, PacketFault};
+mod code_fault;
+mod map_table;
+mod pixel_run;
+
+pub use code_fault::{CodeFault, CodeKind};
+pub use map_table::MapTable;
+pub use pixel_run::Run;

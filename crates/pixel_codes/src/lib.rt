@@ -1,0 +1,16 @@
+//! Pixel code strings and pixel data blocks of DVB subtitles (EN 300 743), both ways: a row of pixel codes is written
+//! as the string that is least in bits, and a pixel data block is checked against the grammar and read as the runs
+//! that it draws, in place.
+#![tactic(auto)]
+
+mod block;
+mod cursor;
+mod field;
+mod part;
+mod runs;
+mod tables;
+mod token;
+
+pub use block::{CodeBlock, check_block};
+pub use runs::Runs;
+pub use stream_syntax::{CodeFault, CodeKind, Run};
