@@ -1,3 +1,4 @@
 pub mod BitFields
 pub mod Pes
 pub mod TransportPackets
+pub mod Units
