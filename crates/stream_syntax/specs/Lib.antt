@@ -7,3 +7,4 @@ pub mod Segments
 pub mod Tests
 pub mod PixelCodes
 pub mod PixelBlocks
+pub mod Units

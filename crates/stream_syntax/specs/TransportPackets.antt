@@ -29,6 +29,9 @@ scrambling_of packet = slice_index packet 3 / 64
 abbrev pub control_of : List ℕ → ℕ
 control_of packet = slice_index packet 3 / 16 % 4
 
+abbrev pub has_payload : List ℕ → Bool
+has_payload packet = (control_of packet == 1) || (control_of packet == 3)
+
 -- continuity_counter
 abbrev pub counter_of : List ℕ → ℕ
 counter_of packet = slice_index packet 3 % 16

@@ -1,1 +1,3 @@
 pub mod Adaptation
+pub mod OneStep
+pub mod UnitLemmas

@@ -2,7 +2,13 @@
 //! from a list of packets the units and the losses.
 #![tactic(auto)]
 
+mod demux;
+mod kind;
 mod packetiser;
 
+pub use demux::{Demux, Fed};
 pub use packetiser::{Packetiser, null_packet};
 pub use stream_syntax::{Event, PacketFault};
+
+#[cfg(test)]
+mod tests;

@@ -1,0 +1,275 @@
+ghost use Rattle.std.specs.Prelude.{◌≡◌, None};
+ghost use Rattle.stream_syntax.specs.Units.{fate_of};
+ghost use Rattle.ts_packets.specs.Fates.{IsFate};
+
+use crate::kind::{Kind, Payload, kind_of};
+use byteorder::{BigEndian, ByteOrder};
+use std::alloc::Global;
+use std::marker::Model;
+use stream_syntax::{Event, PacketFault};
+use sub_base::NoMemory;
+
+/// The bytes before those that a PES packet's length counts.
+const LENGTH_END: usize = 6;
+
+/// The most bytes that a PES packet with a length has.
+const LONGEST_UNIT: u64 = 65_541;
+
+/// Fewer bytes than a length needs, and a payload.
+const ROOM_BEHIND: usize = 189;
+
+/// Collects the units of one PID from transport packets, in memory of a fixed size.
+#[derive(Drop)]
+pub struct Demux {
+    pid: u16,
+    size: u64,
+    counter: Option<u8>,
+    holds: bool,
+    bytes: Vec<u8>,
+}
+
+impl Model for Demux {
+    ghost use Rattle.std.specs.Prelude.{◌≡◌, ◌+◌, ◌≤◌, true, length, min};
+    ghost use Rattle.std.specs.Vec.{vec_capacity};
+    ghost use Rattle.ts_packets.specs.Demuxing.{Demuxing, room_of};
+
+    ghost Value = { Demuxing };
+
+    ghost view = { λ d. record { pid = d.pid; size = d.size; counter = d.counter; holds = d.holds; bytes = d.bytes.items } };
+
+    ghost invariant = { λ d. (room_of d.size ≤ vec_capacity d.bytes) × (d.holds ≡ true → length d.bytes.items ≤ min d.size 65541 + 5) };
+}
+
+/// What became of a packet, and the unit that it ended.
+#[derive(Clone, Copy, Debug, PartialEq, Eq)]
+pub struct Fed<'a> {
+    pub event: Event,
+    pub unit: Option<&'a [u8]>,
+}
+
+/// What becomes of a unit of which so many bytes are there.
+#[derive(Clone, Copy)]
+enum Fate {
+    /// It waits for more.
+    Waits,
+    /// It is handed out with so many bytes.
+    Whole(usize),
+    /// It needs more bytes than are taken.
+    Over(u32),
+}
+
+/// The event of a packet, and how many bytes of the unit that it ended.
+#[derive(Clone, Copy)]
+struct Step {
+    event: Event,
+    unit: Option<usize>,
+}
+
+impl Demux {
+    ghost use Rattle.std.specs.Prelude.{◌≡◌, ℕ, ◌+◌, ◌≤◌, Bool, true, false, if◌then◌else◌, List, [], ◌∷◌, ◌++◌, length, MatchResult, IfOk, Some, None};
+    ghost use Rattle.std.specs.Option.{option_copied, ForSome};
+    ghost use Rattle.std.specs.Borrow.{sem};
+    ghost use Rattle.stream_syntax.specs.TransportPackets.{packet_fault, counter_of};
+    ghost use Rattle.stream_syntax.specs.Units.{Next, Missing, is_payload, fate_of, is_waiting, part_after, event_after, unit_after, event_at, unit_at, payload_event, payload_part, succession};
+    ghost use Rattle.ts_packets.specs.Demuxing.{hand_of, next_hand, lent_bytes, Stands};
+    ghost use Rattle.ts_packets.specs.Fates.{IsFate};
+    ghost use Rattle.ts_packets.specs.Feeding.{IsFed};
+    ghost use Rattle.ts_packets.specs.Steps.{Answers, StepsOn};
+
+    /// A demultiplexer that was fed no packet. Units with a length of more than `size` bytes are dropped.
+    pub fn make(alloc: Global, pid: u16, size: u64) -> Result<Demux, NoMemory>
+        ensures pid { IfOk result (λ demux. demux.pid ≡ pid) }
+        ensures size { IfOk result (λ demux. demux.size ≡ size) }
+        ensures stands { IfOk result (λ demux. Stands demux []) }
+    {
+        let room = size.min(LONGEST_UNIT) as usize + ROOM_BEHIND;
+        Ok(Demux {
+            pid,
+            size,
+            counter: None,
+            holds: false,
+            bytes: Vec::with_capacity(alloc, room)?,
+        })
+    }
+
+    /// Takes the next packet: what becomes of it, and the unit that it ends, as it stands in the demultiplexer's own
+    /// memory. A packet that cannot be taken is not counted among the packets, and leaves the demultiplexer as it was.
+    pub fn feed(&mut self, packet: &[u8; 188]) -> Result<Fed<'_>, PacketFault>
+        ensures* after { sem 𝓛 (IsFed self.entry packet.now result) }
+
+        // The fault is that of the packet's first failing test.
+        ensures fault { MatchResult result (λ fed. packet_fault self.old.pid packet.now ≡ None) (λ fault. packet_fault self.old.pid packet.now ≡ Some fault) }
+
+        // For each list of packets that it stands for, the answer is the event and the unit at this packet behind them.
+        ensures event { IfOk result (λ fed. (packets : List (List ℕ)) → Stands self.old packets → fed.event ≡ event_at self.old.pid self.old.size packets packet.now) }
+        ensures unit { IfOk result (λ fed. (packets : List (List ℕ)) → Stands self.old packets → option_copied fed.unit ≡ unit_at self.old.pid self.old.size packets packet.now) }
+    {
+        let step = self.step(packet)?;
+        Ok(Fed {
+            event: step.event,
+            unit: self.first_bytes(step.unit),
+        })
+    }
+
+    /// The first bytes of the buffer, where there are some to lend.
+    fn first_bytes(&self, count: Option<usize>) -> Option<&[u8]>
+        requires { ForSome count (λ n. n ≤ length self.now.bytes) }
+        ensures { option_copied result ≡ lent_bytes self.now.bytes count }
+    {
+        match count {
+            Some(count) => Some(&self.bytes[..count]),
+            None => None,
+        }
+    }
+
+    /// Takes one packet, or finds why it cannot be taken.
+    fn step(&mut self, packet: &[u8; 188]) -> Result<Step, PacketFault>
+        ensures { MatchResult result (λ step. StepsOn self.old self.new step packet.now) (λ fault. (self.new ≡ self.old) × (packet_fault self.old.pid packet.now ≡ Some fault)) }
+    {
+        match kind_of(self.pid, packet)? {
+            Kind::Other => Ok(Step::alone(Event::Other)),
+            Kind::Damaged => {
+                self.holds = false;
+                Ok(Step::alone(Event::ErrorFlag))
+            }
+            Kind::Empty => Ok(Step::alone(Event::NoPayload)),
+            Kind::Payload(payload) => Ok(self.take(payload)),
+        }
+    }
+
+    /// Takes a packet's payload by its counter.
+    fn take(&mut self, payload: Payload<'_>) -> Step
+        requires { length payload.bytes.now ≤ 184 }
+        ensures answers { Answers self.old self.new result (succession self.old.counter payload.entry.counter) payload.entry.start payload.entry.bytes.now }
+        ensures counter { self.new.counter ≡ Some payload.entry.counter }
+    {
+        let last = self.counter;
+        self.counter = Some(payload.counter);
+        let Some(last) = last else {
+            return self.follow(payload);
+        };
+        let expected = (last % 16 + 1) % 16;
+        if payload.counter == last {
+            Step::alone(Event::Double)
+        } else if payload.counter == expected {
+            self.follow(payload)
+        } else {
+            self.resume(expected, payload)
+        }
+    }
+
+    /// Takes a payload that has the next counter.
+    fn follow(&mut self, payload: Payload<'_>) -> Step
+        requires { length payload.bytes.now ≤ 184 }
+        ensures answers { Answers self.old self.new result Next payload.entry.start payload.entry.bytes.now }
+        ensures counter { self.new.counter ≡ self.old.counter }
+    {
+        if payload.start && self.holds {
+            let event = Event::Short {
+                have: self.bytes.len() as u32,
+            };
+            self.begin(payload.bytes).answer(self.size, event)
+        } else if payload.start {
+            self.begin(payload.bytes).answer(self.size, Event::Followed)
+        } else if self.holds {
+            self.join(payload.bytes).answer(self.size, Event::Followed)
+        } else {
+            Step::alone(Event::Dropped)
+        }
+    }
+
+    /// Takes a payload behind missing packets.
+    fn resume(&mut self, expected: u8, payload: Payload<'_>) -> Step
+        requires { length payload.bytes.now ≤ 184 }
+        ensures answers { Answers self.old self.new result (Missing expected payload.entry.counter) payload.entry.start payload.entry.bytes.now }
+        ensures counter { self.new.counter ≡ self.old.counter }
+    {
+        let event = Event::Gap {
+            expected,
+            found: payload.counter,
+        };
+        if payload.start {
+            self.begin(payload.bytes).answer(self.size, event)
+        } else {
+            self.holds = false;
+            Step::alone(event)
+        }
+    }
+
+    /// Begins a unit with these bytes.
+    fn begin(&mut self, payload: &[u8]) -> Fate
+        requires { length payload.now ≤ 184 }
+        ensures state { self.new ≡ record self.old { holds = is_waiting (fate_of self.old.size payload.now); bytes = payload.now } }
+        ensures fate { IsFate self.old.size payload.now (fate_of self.old.size payload.now) result }
+    {
+        self.bytes.clear();
+        self.holds = true;
+        self.join(payload)
+    }
+
+    /// Puts these bytes behind those of the unit in hand.
+    fn join(&mut self, payload: &[u8]) -> Fate
+        requires held { self.old.holds ≡ true }
+        requires short { length payload.now ≤ 184 }
+        ensures state { self.new ≡ record self.old { holds = is_waiting (fate_of self.old.size (self.old.bytes ++ payload.now)); bytes = self.old.bytes ++ payload.now } }
+        ensures fate { IsFate self.old.size (self.old.bytes ++ payload.now) (fate_of self.old.size (self.old.bytes ++ payload.now)) result }
+    {
+        self.bytes.extend_from_slice(payload).unwrap();
+        let fate = fate_of_unit(self.size, &self.bytes);
+        self.holds = matches!(fate, Fate::Waits);
+        fate
+    }
+}
+
+impl Step {
+    /// A packet that ends no unit.
+    fn alone(event: Event) -> Step
+        ensures { result ≡ record { event = event; unit = None } }
+    {
+        Step { event, unit: None }
+    }
+}
+
+impl Fate {
+    ghost use Rattle.std.specs.Prelude.{◌≡◌};
+    ghost use Rattle.ts_packets.specs.Steps.{answered};
+
+    /// What a packet with this event answers where its unit has this fate.
+    fn answer(self, size: u64, event: Event) -> Step
+        ensures { result ≡ answered size event self }
+    {
+        match self {
+            Fate::Waits => Step::alone(event),
+            Fate::Whole(count) => Step {
+                event,
+                unit: Some(count),
+            },
+            Fate::Over(need) => Step::alone(match event {
+                Event::Followed => Event::TooLong { need, size },
+                _ => event,
+            }),
+        }
+    }
+}
+
+/// What becomes of a unit of which these bytes are there.
+#[tactic(auto, unfolding(stream_syntax::specs::Units::fate_of))]
+fn fate_of_unit(size: u64, bytes: &[u8]) -> Fate
+    ensures { IsFate size bytes.now (fate_of size bytes.now) result }
+{
+    if bytes.len() < LENGTH_END {
+        return Fate::Waits;
+    }
+    let length = BigEndian::read_u16(&bytes[4..LENGTH_END]);
+    if bytes[0] != 0 || bytes[1] != 0 || bytes[2] != 1 || length == 0 {
+        return Fate::Whole(bytes.len());
+    }
+    let need = 6 + u32::from(length);
+    if u64::from(need) > size {
+        Fate::Over(need)
+    } else if bytes.len() < need as usize {
+        Fate::Waits
+    } else {
+        Fate::Whole(need as usize)
+    }
+}

@@ -1,0 +1,68 @@
+ghost use Rattle.std.specs.Prelude.{◌≡◌, ℕ, ◌<◌, ◌≤◌, length, drop, MatchResult, None, Some};
+ghost use Rattle.stream_syntax.specs.TransportPackets.{packet_fault, counter_of, has_start_flag};
+ghost use Rattle.ts_packets.specs.Kinds.{IsKind};
+
+use crate::packetiser::{HEAD_LENGTH, PACKET_LENGTH, SYNC_BYTE};
+use byteorder::{BigEndian, ByteOrder};
+use stream_syntax::PacketFault;
+
+/// What a packet is for the units of a PID.
+pub enum Kind<'a> {
+    /// It has another PID.
+    Other,
+    /// It is marked as damaged.
+    Damaged,
+    /// It has no payload.
+    Empty,
+    /// It has bytes of a unit.
+    Payload(Payload<'a>),
+}
+
+/// The bytes of a unit in a packet, with the packet's counter, and whether a unit begins with them.
+#[derive(Clone, Copy)]
+pub struct Payload<'a> {
+    pub counter: u8,
+    pub start: bool,
+    pub bytes: &'a [u8],
+}
+
+/// Reads what a packet is for a PID, with the first of its faults. A packet of another PID costs two comparisons.
+pub fn kind_of(pid: u16, packet: &[u8; 188]) -> Result<Kind<'_>, PacketFault>
+    ensures { MatchResult result (λ kind. (packet_fault pid packet.now ≡ None) × IsKind pid packet.now kind) (λ fault. packet_fault pid packet.now ≡ Some fault) }
+{
+    if packet[0] != SYNC_BYTE {
+        return Err(PacketFault::NoSync);
+    }
+    if BigEndian::read_u16(&packet[1..3]) & 0x1FFF != pid {
+        return Ok(Kind::Other);
+    }
+    if packet[1] >> 7 == 1 {
+        return Ok(Kind::Damaged);
+    }
+    if packet[3] >> 6 != 0 {
+        return Err(PacketFault::Scrambled);
+    }
+    match packet[3] >> 4 & 3 {
+        0 => Err(PacketFault::ReservedControl),
+        1 => Ok(Kind::Payload(payload_from(packet, HEAD_LENGTH))),
+        2 if packet[4] > 183 => Err(PacketFault::BadAdaptation),
+        2 => Ok(Kind::Empty),
+        _ if packet[4] > 182 => Err(PacketFault::BadAdaptation),
+        _ => Ok(Kind::Payload(payload_from(packet, HEAD_LENGTH + 1 + usize::from(packet[4])))),
+    }
+}
+
+/// The payload from this place on.
+fn payload_from(packet: &[u8; 188], place: usize) -> Payload<'_>
+    requires low { 4 ≤ place }
+    requires high { place < 188 }
+    ensures counter { result.counter ≡ counter_of packet.now }
+    ensures start { result.start ≡ has_start_flag packet.now }
+    ensures bytes { result.bytes.now ≡ drop place packet.now }
+{
+    Payload {
+        counter: packet[3] & 15,
+        start: packet[1] >> 6 & 1 == 1,
+        bytes: &packet[place..],
+    }
+}
