@@ -108,7 +108,7 @@ bits_of-two a b bytes lt =
     bits-add 8 8 (a * 256 + b) ∙ ap (λ (h : ℕ). bits 8 h ++ bits 8 (a * 256 + b)) high ∙ ap (λ (s : List ℕ). bits 8 a ++ s) (bits-same 8 (a * 256 + b) b low) in
     bits_of-cons a (b ∷ bytes) ∙ ap (λ (s : List ℕ). bits 8 a ++ s) (bits_of-cons b bytes) ∙ sym (append_assoc (bits 8 a) (bits 8 b) (bits_of bytes)) ∙ ap (λ (s : List ℕ). s ++ bits_of bytes) (sym split)
 
-no_bits : (n : ℕ) (rest : List ℕ) → bits 0 n ++ rest ≡ rest
+pub no_bits : (n : ℕ) (rest : List ℕ) → bits 0 n ++ rest ≡ rest
 unfolding bits
 no_bits n rest = refl
 

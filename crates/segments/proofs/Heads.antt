@@ -3,15 +3,8 @@ use Rattle.std.proofs.Common.{◌≡◌, ℕ, ◌+◌, ◌*◌, ◌<◌, ◌≤�
 use Rattle.stream_syntax.specs.Fields.{number, bits_of, HasFields, no_row}
 use Rattle.stream_syntax.specs.Segments.{head_fields}
 use Rattle.stream_syntax.specs.Tests.{byte_at, word_at}
+use Rattle.segments.proofs.Shapes.{AreBytes, nothing_left}
 use Rattle.segments.proofs.Bits.{put_byte, put_word}
-
--- each number is a byte
-abbrev pub AreBytes : List ℕ → Type 0
-AreBytes bytes = (i : ℕ) → get_or bytes i 0 < 256
-
-nothing_left : HasFields [] (bits_of [])
-unfolding bits_of
-nothing_left = no_row
 
 pub head_is_laid : (bytes : List ℕ) → AreBytes bytes → byte_at 0 bytes ≡ 15 → 6 ≤ length bytes
     → HasFields (head_fields (byte_at 1 bytes) (word_at 2 bytes) (word_at 4 bytes)) (bits_of (take 6 bytes))
