@@ -5,3 +5,6 @@ pub mod Listings
 pub mod Entries
 pub mod Shapes
 pub mod Pages
+pub mod Regions
+pub mod Checks
+pub mod Displays

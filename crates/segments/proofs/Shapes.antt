@@ -1,7 +1,8 @@
 -- The rows of a table that share a byte, or two bytes: what each says of the byte, and that the byte meets them.
-use Rattle.std.proofs.Common.{◌≡◌, ℕ, zero, suc, ◌+◌, ◌-◌, ◌*◌, ◌/◌, ◌%◌, ◌^◌, ◌<◌, ◌≤◌, Bool, true, false, List, [], ◌∷◌, ◌++◌, length, get_or, refl, sym, ap, subst, ◌∙◌, append_assoc, arith}
+use Rattle.std.proofs.Common.{◌≡◌, ℕ, zero, suc, ◌+◌, ◌-◌, ◌*◌, ◌/◌, ◌%◌, ◌^◌, ◌<◌, ◌≤◌, Bool, true, false, List, [], ◌∷◌, ◌++◌, length, get_or, take, drop, refl, sym, ap, subst, ◌∙◌, append_assoc, arith, inl, inr}
 use Rattle.std.specs.Prelude.{◌==◌, sum_by}
-use Rattle.std.proofs.lemmas.List.{length-append, nil_from_length}
+use Rattle.std.proofs.lemmas.List.{length-append, length-take, get_or-drop, get_or-take, get_or_past, nil_from_length}
+use Rattle.std.proofs.lemmas.Bool.{cases_lt}
 use Rattle.std.proofs.lemmas.List.Sums.{sum_by-cons}
 use Rattle.stream_syntax.specs.Fields.{Field, number, reserved, bits, bits_of, HasFields, no_row, row_first, IsRow}
 use Rattle.stream_syntax.specs.Segments.{flag, width_of}
@@ -13,6 +14,16 @@ AreBytes bytes = (i : ℕ) → get_or bytes i 0 < 256
 
 pub AreBytes-tail : (b : ℕ) (bytes : List ℕ) → AreBytes (b ∷ bytes) → AreBytes bytes
 AreBytes-tail b bytes fits i = fits (suc i)
+
+pub AreBytes-drop : (n : ℕ) (bytes : List ℕ) → AreBytes bytes → AreBytes (drop n bytes)
+AreBytes-drop n bytes fits i = rw get_or-drop (fits (n + i))
+
+pub AreBytes-take : (n : ℕ) (bytes : List ℕ) → AreBytes bytes → AreBytes (take n bytes)
+AreBytes-take n bytes fits i =
+    elim (cases_lt i n) [
+      | inl lt ↦ rw (get_or-take n bytes i 0 lt) (fits i)
+      | inr le ↦ rw (get_or_past (take n bytes) i 0 (omega (arith, length-take n bytes))) (omega arith)
+    ]
 
 -- ---- sizes
 

@@ -74,6 +74,9 @@ region_head_at body = do
   depth ← depth_at (byte_at 6 body / 4 % 8)
   Ok (region_head_in body depth)
 
+abbrev pub region_in : List ℕ → Region
+region_in body = record { head = region_head_in body (depth_of (byte_at 6 body / 4 % 8)); listings = region_listings (drop 10 body) }
+
 unfoldable pub region_at : List ℕ → Result Region SegmentFault
 region_at body = do
   head ← region_head_at body
