@@ -3,7 +3,8 @@ use Rattle.std.proofs.Common.{◌≡◌, ℕ, zero, suc, ◌+◌, ◌-◌, ◌*�
 use Rattle.std.specs.Prelude.{◌==◌, not, replicate, if◌then◌else◌}
 use Rattle.std.proofs.lemmas.Bool.Decides.{nat_tests}
 use Rattle.stream_syntax.specs.declared.display.Window.{Window}
-use Rattle.stream_syntax.specs.Fields.{Field, number, reserved, bits_of, HasFields, FitsFields}
+use Rattle.stream_syntax.specs.Fields.{Field, number, reserved, HasFields, FitsFields}
+use Rattle.stream_syntax.specs.PixelCodes.{bits_of}
 use Rattle.stream_syntax.specs.Segments.{Display, display_fields, window_fields, window_flag, free_bytes}
 use Rattle.stream_syntax.specs.SegmentTests.{has_window}
 use Rattle.segments.specs.Reading.{display_in, window_in}

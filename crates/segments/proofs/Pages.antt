@@ -9,7 +9,8 @@ use Rattle.stream_syntax.specs.declared.page.PageEntry.{PageEntry}
 use Rattle.stream_syntax.specs.declared.page.State.{State}
 use Rattle.stream_syntax.specs.declared.page.State.TheVariants.{Normal, Acquisition, ModeChange}
 use Rattle.stream_syntax.specs.declared.segment_fault.SegmentFault.{SegmentFault}
-use Rattle.stream_syntax.specs.Fields.{Field, number, reserved, bits_of, HasFields, FitsFields}
+use Rattle.stream_syntax.specs.Fields.{Field, number, reserved, HasFields, FitsFields}
+use Rattle.stream_syntax.specs.PixelCodes.{bits_of}
 use Rattle.stream_syntax.specs.Segments.{Page, page_entry_fields, page_fields, state_number, width_of}
 use Rattle.stream_syntax.specs.SegmentTests.{page_tests}
 use Rattle.segments.specs.Contents.{by_six, page_entry, page_entries}

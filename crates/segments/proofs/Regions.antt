@@ -6,7 +6,8 @@ use Rattle.sub_base.specs.declared.depth.Depth.{Depth}
 use Rattle.sub_base.specs.declared.depth.Depth.TheVariants.{Two, Four, Eight}
 use Rattle.stream_syntax.specs.declared.region.Listing.{Listing}
 use Rattle.stream_syntax.specs.declared.segment_fault.SegmentFault.{SegmentFault}
-use Rattle.stream_syntax.specs.Fields.{Field, number, reserved, bits_of, HasFields, FitsFields}
+use Rattle.stream_syntax.specs.Fields.{Field, number, reserved, HasFields, FitsFields}
+use Rattle.stream_syntax.specs.PixelCodes.{bits_of}
 use Rattle.stream_syntax.specs.Segments.{Region, listing_fields, region_fields, depth_number, flag}
 use Rattle.stream_syntax.specs.SegmentTests.{listing_tests}
 use Rattle.segments.specs.Contents.{by_six, listing, region_listings}

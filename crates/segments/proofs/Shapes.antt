@@ -4,7 +4,8 @@ use Rattle.std.specs.Prelude.{◌==◌, sum_by}
 use Rattle.std.proofs.lemmas.List.{length-append, length-take, get_or-drop, get_or-take, get_or_past, nil_from_length}
 use Rattle.std.proofs.lemmas.Bool.{cases_lt}
 use Rattle.std.proofs.lemmas.List.Sums.{sum_by-cons}
-use Rattle.stream_syntax.specs.Fields.{Field, number, reserved, bits, bits_of, HasFields, no_row, row_first, IsRow}
+use Rattle.stream_syntax.specs.Fields.{Field, number, reserved, HasFields, no_row, row_first, IsRow}
+use Rattle.stream_syntax.specs.PixelCodes.{bits, bits_of}
 use Rattle.stream_syntax.specs.Segments.{flag, width_of}
 use Rattle.segments.proofs.Bits.{length-bits, bits_of-cons, bits_of-two, take_number, put_number, take_reserved, put_reserved, no_bits}
 

@@ -1,6 +1,7 @@
 ghost use Rattle.std.specs.Prelude.{◌≡◌, ◌+◌, ◌-◌, ℕ, length, take, drop, IfOk};
 ghost use Rattle.std.specs.Result.{result_err};
-ghost use Rattle.stream_syntax.specs.Fields.{HasFields, bits_of};
+ghost use Rattle.stream_syntax.specs.Fields.{HasFields};
+ghost use Rattle.stream_syntax.specs.PixelCodes.{bits_of};
 ghost use Rattle.stream_syntax.specs.SegmentTests.{frame_tests};
 ghost use Rattle.stream_syntax.specs.Segments.{head_fields};
 ghost use Rattle.stream_syntax.specs.Tests.{byte_at, word_at, first_fault};

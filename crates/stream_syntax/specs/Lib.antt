@@ -1,4 +1,6 @@
 pub mod Fields
+pub mod PixelBlocks
+pub mod PixelCodes
 pub mod SegmentTests
 pub mod Segments
 pub mod Tests

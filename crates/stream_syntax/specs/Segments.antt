@@ -6,7 +6,8 @@ use Rattle.sub_base.specs.Colour.{shown_of}
 use Rattle.sub_base.specs.declared.colour.Colour.{Colour}
 use Rattle.sub_base.specs.declared.depth.Depth.{Depth}
 use Rattle.sub_base.specs.declared.depth.Depth.TheVariants.{Two, Four, Eight}
-use Rattle.stream_syntax.specs.Fields.{Field, number, reserved, bits_of, HasFields, FitsFields}
+use Rattle.stream_syntax.specs.Fields.{Field, number, reserved, HasFields, FitsFields}
+use Rattle.stream_syntax.specs.PixelCodes.{bits_of}
 use Rattle.stream_syntax.specs.declared.clut.ClutEntry.{ClutEntry}
 use Rattle.stream_syntax.specs.declared.display.Window.{Window}
 use Rattle.stream_syntax.specs.declared.page.PageEntry.{PageEntry}

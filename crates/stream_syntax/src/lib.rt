@@ -4,13 +4,19 @@
 #![tactic(auto)]
 
 mod clut;
+mod code_fault;
 mod display;
+mod map_table;
 mod page;
+mod pixel_run;
 mod region;
 mod segment_fault;
 
 pub use clut::ClutEntry;
+pub use code_fault::{CodeFault, CodeKind};
 pub use display::Window;
+pub use map_table::MapTable;
 pub use page::{PageEntry, State};
+pub use pixel_run::Run;
 pub use region::{Listing, RegionHead};
 pub use segment_fault::{SegmentFault, SegmentKind};

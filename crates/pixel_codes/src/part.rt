@@ -1,0 +1,97 @@
+ghost use Rattle.std.specs.Prelude.{◌≡◌, ℕ, ◌+◌, ◌<◌, ◌≤◌, length, take, IsTrue, ◌↔◌, IfOk, IfErr, IfSome, IfNone, List, ◌∷◌, ◌++◌};
+ghost use Rattle.stream_syntax.specs.PixelCodes.{Code, IsString};
+ghost use Rattle.stream_syntax.specs.PixelBlocks.{Part, IsPart, IsRefused, IsNoDeeper, table_size};
+ghost use Rattle.pixel_codes.specs.Parts as parts;
+
+use crate::token::{Token, read_token};
+use stream_syntax::{CodeKind, MapTable};
+use sub_base::Depth;
+
+/// What the type byte of a sub-block says.
+#[derive(Clone, Copy, Debug, PartialEq, Eq)]
+pub(crate) enum Head {
+    PixelString(Depth),
+    Table(MapTable),
+    LineEnd,
+}
+
+/// The sub-block that a type byte begins; none where it begins none.
+pub(crate) fn head_of(first: u8) -> Option<Head>
+    ensures { result ≡ parts.head_of first }
+{
+    match first {
+        0x10 => Some(Head::PixelString(Depth::Two)),
+        0x11 => Some(Head::PixelString(Depth::Four)),
+        0x12 => Some(Head::PixelString(Depth::Eight)),
+        0x20 => Some(Head::Table(MapTable::TwoToFour)),
+        0x21 => Some(Head::Table(MapTable::TwoToEight)),
+        0x22 => Some(Head::Table(MapTable::FourToEight)),
+        0xF0 => Some(Head::LineEnd),
+        _ => None,
+    }
+}
+
+/// How many bytes of entries a map table has.
+pub(crate) fn size_of_table(table: MapTable) -> usize
+    ensures { result ≡ table_size table }
+{
+    match table {
+        MapTable::TwoToFour => 2,
+        MapTable::TwoToEight => 4,
+        MapTable::FourToEight => 16,
+    }
+}
+
+fn is_no_deeper(depth: Depth, region: Depth) -> bool
+    ensures { IsTrue result ↔ IsNoDeeper depth region }
+{
+    match depth {
+        Depth::Two => true,
+        Depth::Four => region != Depth::Two,
+        Depth::Eight => region == Depth::Eight,
+    }
+}
+
+/// The bytes of the string that begins these, with its end and the fill; none where no end comes.
+fn string_size(body: &[u8], depth: Depth) -> Option<usize>
+    requires { length body.now ≤ 65535 }
+    ensures found { IfSome result (λ size. (size ≤ length body.now) × (codes : List Code) × IsString depth codes (take size body.now)) }
+    ensures none { IfNone result ((codes : List Code) (front : List ℕ) (rest : List ℕ) → body.now ≡ front ++ rest → IsString depth codes front → ⊥) }
+{
+    let mut place = 0;
+    while let Some((token, next)) = read_token(body, place, depth) {
+        match token {
+            Token::End => return Some((next + 7) / 8),
+            Token::Pixels { .. } => place = next,
+        }
+    }
+    None
+}
+
+/// The bytes of the sub-block with this type byte and what follows it, or why none begins so.
+pub(crate) fn part_size(first: u8, body: &[u8], region: Depth) -> Result<usize, CodeKind>
+    requires { length body.now ≤ 65534 }
+    ensures part { IfOk result (λ size. (1 ≤ size) × (size ≤ length body.now + 1) × (part : Part) × IsPart region part (take size (first ∷ body.now))) }
+    ensures refused { IfErr result (λ kind. IsRefused region kind (first ∷ body.now)) }
+{
+    match head_of(first) {
+        None => Err(CodeKind::UnknownType),
+        Some(Head::LineEnd) => Ok(1),
+        Some(Head::PixelString(depth)) => {
+            if is_no_deeper(depth, region) {
+                let size = string_size(body, depth).ok_or(CodeKind::CutString)?;
+                Ok(1 + size)
+            } else {
+                Err(CodeKind::TooDeep)
+            }
+        }
+        Some(Head::Table(table)) => {
+            let size = size_of_table(table);
+            if body.len() < size {
+                Err(CodeKind::CutTable)
+            } else {
+                Ok(1 + size)
+            }
+        }
+    }
+}
