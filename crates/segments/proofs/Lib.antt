@@ -8,3 +8,4 @@ pub mod Pages
 pub mod Regions
 pub mod Checks
 pub mod Displays
+pub mod Cluts

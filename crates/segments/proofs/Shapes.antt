@@ -206,14 +206,14 @@ take_flags b two four eight range fields bytes lt lt2 lt4 lt8 ltr has =
     let fifth = take_number 1 0 b range fields (bits_of bytes) ltr fourth in
     (first.0, second.0, third.0, omega (arith, fifth.0), past b fields (bits_of bytes) fifth.1)
 
-pub put_flags : (b : ℕ) (fields : List Field) (bytes : List ℕ) → b < 256 → HasFields fields (bits_of bytes)
-    → HasFields (number 1 (b / 128 % 2) ∷ number 1 (b / 64 % 2) ∷ number 1 (b / 32 % 2) ∷ reserved 4 ∷ number 1 (b % 2) ∷ fields) (bits_of (b ∷ bytes))
-put_flags b fields bytes lt has =
-    let fifth = put_number 1 0 b (b % 2) fields (bits_of bytes) (omega arith) (before b fields (bits_of bytes) has) in
-    let fourth = put_reserved 4 1 b (number 1 (b % 2) ∷ fields) (bits_of bytes) fifth in
-    let third = put_number 1 5 b (b / 32 % 2) (reserved 4 ∷ number 1 (b % 2) ∷ fields) (bits_of bytes) refl fourth in
-    let second = put_number 1 6 b (b / 64 % 2) (number 1 (b / 32 % 2) ∷ reserved 4 ∷ number 1 (b % 2) ∷ fields) (bits_of bytes) refl third in
-    close_byte b _ bytes (put_number 1 7 b (b / 128 % 2) (number 1 (b / 64 % 2) ∷ number 1 (b / 32 % 2) ∷ reserved 4 ∷ number 1 (b % 2) ∷ fields) (bits_of bytes) refl second)
+pub put_flags : (b range : ℕ) (fields : List Field) (bytes : List ℕ) → b < 256 → b % 2 ≡ range → HasFields fields (bits_of bytes)
+    → HasFields (number 1 (b / 128 % 2) ∷ number 1 (b / 64 % 2) ∷ number 1 (b / 32 % 2) ∷ reserved 4 ∷ number 1 range ∷ fields) (bits_of (b ∷ bytes))
+put_flags b range fields bytes lt is has =
+    let fifth = put_number 1 0 b range fields (bits_of bytes) (omega arith) (before b fields (bits_of bytes) has) in
+    let fourth = put_reserved 4 1 b (number 1 range ∷ fields) (bits_of bytes) fifth in
+    let third = put_number 1 5 b (b / 32 % 2) (reserved 4 ∷ number 1 range ∷ fields) (bits_of bytes) refl fourth in
+    let second = put_number 1 6 b (b / 64 % 2) (number 1 (b / 32 % 2) ∷ reserved 4 ∷ number 1 range ∷ fields) (bits_of bytes) refl third in
+    close_byte b _ bytes (put_number 1 7 b (b / 128 % 2) (number 1 (b / 64 % 2) ∷ number 1 (b / 32 % 2) ∷ reserved 4 ∷ number 1 range ∷ fields) (bits_of bytes) refl second)
 
 -- ---- a short colour
 
