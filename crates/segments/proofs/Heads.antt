@@ -1,17 +1,11 @@
 -- The head of a segment: what is read at its places is what its table says.
 use Rattle.std.proofs.Common.{◌≡◌, ℕ, ◌+◌, ◌*◌, ◌<◌, ◌≤◌, List, [], ◌∷◌, length, get_or, take, subst, arith}
-use Rattle.stream_syntax.specs.Fields.{number, bits_of, HasFields, no_row}
+use Rattle.stream_syntax.specs.Fields.{number, HasFields, no_row}
+use Rattle.stream_syntax.specs.PixelCodes.{bits_of}
 use Rattle.stream_syntax.specs.Segments.{head_fields}
 use Rattle.stream_syntax.specs.Tests.{byte_at, word_at}
+use Rattle.segments.proofs.Shapes.{AreBytes, nothing_left}
 use Rattle.segments.proofs.Bits.{put_byte, put_word}
-
--- each number is a byte
-abbrev pub AreBytes : List ℕ → Type 0
-AreBytes bytes = (i : ℕ) → get_or bytes i 0 < 256
-
-nothing_left : HasFields [] (bits_of [])
-unfolding bits_of
-nothing_left = no_row
 
 pub head_is_laid : (bytes : List ℕ) → AreBytes bytes → byte_at 0 bytes ≡ 15 → 6 ≤ length bytes
     → HasFields (head_fields (byte_at 1 bytes) (word_at 2 bytes) (word_at 4 bytes)) (bits_of (take 6 bytes))

@@ -1,2 +1,11 @@
 pub mod Bits
 pub mod Heads
+pub mod Sixes
+pub mod Listings
+pub mod Entries
+pub mod Shapes
+pub mod Pages
+pub mod Regions
+pub mod Checks
+pub mod Displays
+pub mod Cluts

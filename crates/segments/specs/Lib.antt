@@ -1,3 +1,5 @@
+pub mod Contents
+pub mod Reading
 pub use Rattle.stream_syntax.specs.Fields
 pub use Rattle.stream_syntax.specs.SegmentTests
 pub use Rattle.stream_syntax.specs.Segments

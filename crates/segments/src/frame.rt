@@ -1,11 +1,13 @@
-ghost use Rattle.std.specs.Prelude.{◌≡◌, ◌+◌, ◌-◌, ℕ, length, take, drop, IfOk, ◌<◌, ◌^◌};
+ghost use Rattle.std.specs.Prelude.{◌≡◌, ◌+◌, ◌-◌, ℕ, length, take, drop, IfOk};
 ghost use Rattle.std.specs.Result.{result_err};
-ghost use Rattle.stream_syntax.specs.Fields.{HasFields, bits_of};
+ghost use Rattle.stream_syntax.specs.Fields.{HasFields};
+ghost use Rattle.stream_syntax.specs.PixelCodes.{bits_of};
 ghost use Rattle.stream_syntax.specs.SegmentTests.{frame_tests};
 ghost use Rattle.stream_syntax.specs.Segments.{head_fields};
 ghost use Rattle.stream_syntax.specs.Tests.{byte_at, word_at, first_fault};
 
-use byteorder::{BigEndian, ByteOrder};
+use crate::fault::cut;
+use crate::word::read_word;
 use stream_syntax::{SegmentFault, SegmentKind};
 
 /// The first byte of each segment.
@@ -47,24 +49,14 @@ pub fn read_frame(bytes: &[u8]) -> Result<Frame<'_>, SegmentFault>
     if bytes.len() < HEAD {
         return Err(cut(bytes));
     }
-    let whole = HEAD + BigEndian::read_u16(&bytes[4..]) as usize;
+    let whole = HEAD + read_word(bytes, 4) as usize;
     if bytes.len() < whole {
         return Err(cut(bytes));
     }
     Ok(Frame {
         kind: bytes[1],
-        page: BigEndian::read_u16(&bytes[2..]),
+        page: read_word(bytes, 2),
         body: &bytes[HEAD..whole],
         whole,
     })
-}
-
-fn cut(bytes: &[u8]) -> SegmentFault
-    requires { length bytes.now < 2 ^ 32 }
-    ensures { result ≡ record { place = length bytes.now; kind = SegmentKind.Cut } }
-{
-    SegmentFault {
-        place: bytes.len() as u32,
-        kind: SegmentKind::Cut,
-    }
 }

@@ -2,9 +2,19 @@
 //! is borrowed from the bytes.
 #![tactic(auto)]
 
+mod clut;
+mod display;
+mod fault;
 mod frame;
+mod page;
+mod region;
+mod word;
 
+pub use clut::{ClutItems, ClutSeg};
+pub use display::DisplaySeg;
 pub use frame::{Frame, read_frame};
+pub use page::PageSeg;
+pub use region::RegionSeg;
 pub use stream_syntax::{
     ClutEntry, Listing, PageEntry, RegionHead, SegmentFault, SegmentKind, State, Window,
 };

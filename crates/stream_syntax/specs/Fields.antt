@@ -1,20 +1,12 @@
 -- The syntax tables of the standards: rows of so many bits each, one after the other, the highest bit first.
 use Rattle.std.specs.Prelude.{◌≡◌, ℕ, zero, suc, ◌+◌, ◌*◌, ◌/◌, ◌%◌, ◌^◌, ◌<◌, List, [], ◌∷◌, ◌++◌, length, replicate}
 use Rattle.std.specs.List.{flat_map, AllByRecursion}
+use Rattle.stream_syntax.specs.PixelCodes.{bits}
 
 -- a row of a table: a number in so many bits, or so many reserved bits
 pub data Field : Type 0 where
   number : ℕ → ℕ → Field
   reserved : ℕ → Field
-
--- the lowest bits of a number, so many, the highest of them first
-unfoldable pub bits : ℕ → ℕ → List ℕ
-bits zero n = []
-bits (suc width) n = n / 2 ^ width % 2 ∷ bits width n
-
--- the bits of bytes, each byte's highest bit first
-unfoldable pub bits_of : List ℕ → List ℕ
-bits_of bytes = flat_map (bits 8) bytes
 
 -- the bits of a row: its number's, or, where it is reserved, any
 abbrev pub IsRow : Field → List ℕ → Type 0

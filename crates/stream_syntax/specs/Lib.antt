@@ -2,6 +2,8 @@ pub mod BitFields
 pub mod Pes
 pub mod TransportPackets
 pub mod Fields
+pub mod PixelBlocks
+pub mod PixelCodes
 pub mod SegmentTests
 pub mod Segments
 pub mod Tests

@@ -1,6 +1,86 @@
--- The segments of EN 300 743, clause 7.2: the syntax table of each kind, and the value that its bytes stand for.
-use Rattle.std.specs.Prelude.{ℕ, List, [], ◌∷◌}
-use Rattle.stream_syntax.specs.Fields.{Field, number}
+-- The segments of EN 300 743, clause 7.2: what each stands for, the syntax table of each kind, and when bytes are a
+-- segment with that value. Bits that a table reserves may be anything.
+use Rattle.std.specs.Prelude.{◌≡◌, ◌≢◌, ℕ, ◌+◌, ◌*◌, ◌-◌, ◌/◌, ◌<◌, ◌≤◌, Bool, true, false, List, [], ◌∷◌, ◌++◌, length, map, replicate, sum_by, All, Option, Some, None}
+use Rattle.std.specs.List.{flat_map}
+use Rattle.sub_base.specs.Colour.{shown_of}
+use Rattle.sub_base.specs.declared.colour.Colour.{Colour}
+use Rattle.sub_base.specs.declared.depth.Depth.{Depth}
+use Rattle.sub_base.specs.declared.depth.Depth.TheVariants.{Two, Four, Eight}
+use Rattle.stream_syntax.specs.Fields.{Field, number, reserved, HasFields, FitsFields}
+use Rattle.stream_syntax.specs.PixelCodes.{bits_of}
+use Rattle.stream_syntax.specs.declared.clut.ClutEntry.{ClutEntry}
+use Rattle.stream_syntax.specs.declared.display.Window.{Window}
+use Rattle.stream_syntax.specs.declared.page.PageEntry.{PageEntry}
+use Rattle.stream_syntax.specs.declared.page.State.{State}
+use Rattle.stream_syntax.specs.declared.page.State.TheVariants.{Normal, Acquisition, ModeChange}
+use Rattle.stream_syntax.specs.declared.region.Listing.{Listing}
+use Rattle.stream_syntax.specs.declared.region.RegionHead.{RegionHead}
+
+-- ---- what segments stand for
+
+-- a page: the seconds that it is shown at most, its version and state, and the regions that it shows
+pub record Page : Type 0 where
+  pub time_out : ℕ
+  pub version : ℕ
+  pub state : State
+  pub entries : List PageEntry
+
+-- a region, and the objects that it shows
+pub record Region : Type 0 where
+  pub head : RegionHead
+  pub listings : List Listing
+
+-- the entries of a CLUT
+pub record Clut : Type 0 where
+  pub clut : ℕ
+  pub version : ℕ
+  pub entries : List ClutEntry
+
+-- an object of pixels: whether code 1 lets the region be seen, and the pixel data blocks of its two fields
+pub record Object : Type 0 where
+  pub object : ℕ
+  pub version : ℕ
+  pub see_through : Bool
+  pub top : List ℕ
+  pub bottom : List ℕ
+
+-- the sides of the display in pixels, and the window in which regions stand
+pub record Display : Type 0 where
+  pub version : ℕ
+  pub width : ℕ
+  pub height : ℕ
+  pub window : Option Window
+
+-- what a segment stands for; segments of other kinds are passed over
+pub data SegmentValue : Type 0 where
+  of_page : Page → SegmentValue
+  of_region : Region → SegmentValue
+  of_clut : Clut → SegmentValue
+  of_object : Object → SegmentValue
+  of_display : Display → SegmentValue
+  end_of_set : SegmentValue
+  passed_over : SegmentValue
+
+-- ---- the tables
+
+-- the bytes of a table
+abbrev pub width_of : Field → ℕ
+width_of (number width n) = width
+width_of (reserved width) = width
+
+abbrev pub byte_count : List Field → ℕ
+byte_count fields = sum_by width_of fields / 8
+
+-- bytes as they are, and so many bytes that may be anything
+abbrev pub bytes_fields : List ℕ → List Field
+bytes_fields bytes = map (number 8) bytes
+
+abbrev pub free_bytes : ℕ → List Field
+free_bytes count = replicate count (reserved 8)
+
+abbrev pub flag : Bool → ℕ
+flag false = 0
+flag true = 1
 
 -- the head of a segment (7.2.1): sync byte, segment type, page id, segment length in bytes
 abbrev pub head_fields : ℕ → ℕ → ℕ → List Field
@@ -10,3 +90,183 @@ head_fields kind page size =
     ∷ number 16 page
     ∷ number 16 size
     ∷ []
+
+abbrev pub segment_fields : ℕ → ℕ → List Field → List Field
+segment_fields kind page body = head_fields kind page (byte_count body) ++ body
+
+-- page composition segment (7.2.2)
+abbrev pub state_number : State → ℕ
+state_number Normal = 0
+state_number Acquisition = 1
+state_number ModeChange = 2
+
+abbrev pub page_entry_fields : PageEntry → List Field
+page_entry_fields entry =
+    number 8 entry.region
+    ∷ reserved 8
+    ∷ number 16 entry.x
+    ∷ number 16 entry.y
+    ∷ []
+
+abbrev pub page_fields : Page → List Field
+page_fields page =
+    number 8 page.time_out
+    ∷ number 4 page.version
+    ∷ number 2 (state_number page.state)
+    ∷ reserved 2
+    ∷ flat_map page_entry_fields page.entries
+
+-- region composition segment (7.2.3), with its level of compatibility; each object has type 0 and provider 0
+abbrev pub depth_number : Depth → ℕ
+depth_number Two = 1
+depth_number Four = 2
+depth_number Eight = 3
+
+abbrev pub listing_fields : Listing → List Field
+listing_fields listing =
+    number 16 listing.object
+    ∷ number 2 0
+    ∷ number 2 0
+    ∷ number 12 listing.x
+    ∷ reserved 4
+    ∷ number 12 listing.y
+    ∷ []
+
+abbrev pub region_fields : ℕ → Region → List Field
+region_fields compatibility region =
+    number 8 region.head.region
+    ∷ number 4 region.head.version
+    ∷ number 1 (flag region.head.fill)
+    ∷ reserved 3
+    ∷ number 16 region.head.width
+    ∷ number 16 region.head.height
+    ∷ number 3 compatibility
+    ∷ number 3 (depth_number region.head.depth)
+    ∷ reserved 2
+    ∷ number 8 region.head.clut
+    ∷ number 8 region.head.code8
+    ∷ number 4 region.head.code4
+    ∷ number 2 region.head.code2
+    ∷ reserved 2
+    ∷ flat_map listing_fields region.listings
+
+-- CLUT definition segment (7.2.4): a colour is coded in the full range, or by its high bits
+pub data CodedColour : Type 0 where
+  full : ℕ → ℕ → ℕ → ℕ → CodedColour
+  short : ℕ → ℕ → ℕ → ℕ → CodedColour
+
+pub record CodedEntry : Type 0 where
+  pub entry : ℕ
+  pub two : Bool
+  pub four : Bool
+  pub eight : Bool
+  pub coded : CodedColour
+
+abbrev pub full_range : CodedColour → ℕ
+full_range (full y cr cb t) = 1
+full_range (short y cr cb t) = 0
+
+abbrev pub colour_fields : CodedColour → List Field
+colour_fields (full y cr cb t) = number 8 y ∷ number 8 cr ∷ number 8 cb ∷ number 8 t ∷ []
+colour_fields (short y cr cb t) = number 6 y ∷ number 4 cr ∷ number 4 cb ∷ number 2 t ∷ []
+
+abbrev pub coded_entry_fields : CodedEntry → List Field
+coded_entry_fields coded =
+    number 8 coded.entry
+    ∷ number 1 (flag coded.two)
+    ∷ number 1 (flag coded.four)
+    ∷ number 1 (flag coded.eight)
+    ∷ reserved 4
+    ∷ number 1 (full_range coded.coded)
+    ∷ colour_fields coded.coded
+
+abbrev pub clut_fields : ℕ → ℕ → List CodedEntry → List Field
+clut_fields clut version coded =
+    number 8 clut
+    ∷ number 4 version
+    ∷ reserved 4
+    ∷ flat_map coded_entry_fields coded
+
+-- the colour that is shown: the low bits of a short colour are 0, and a luminance of 0 means full transparency
+abbrev pub colour_of : CodedColour → Colour
+colour_of (full y cr cb t) = shown_of (record { y = y; cr = cr; cb = cb; t = t })
+colour_of (short y cr cb t) = shown_of (record { y = y * 4; cr = cr * 16; cb = cb * 16; t = t * 64 })
+
+abbrev pub entry_of : CodedEntry → ClutEntry
+entry_of coded = record { entry = coded.entry; two = coded.two; four = coded.four; eight = coded.eight; colour = colour_of coded.coded }
+
+-- object data segment (7.2.5), with coding method 0, and with or without the byte that makes its length even
+abbrev pub padding : Bool → List Field
+padding false = []
+padding true = number 8 0 ∷ []
+
+abbrev pub object_fields : Bool → Object → List Field
+object_fields padded object =
+    number 16 object.object
+    ∷ number 4 object.version
+    ∷ number 2 0
+    ∷ number 1 (flag object.see_through)
+    ∷ reserved 1
+    ∷ number 16 (length object.top)
+    ∷ number 16 (length object.bottom)
+    ∷ (bytes_fields object.top ++ (bytes_fields object.bottom ++ padding padded))
+
+-- display definition segment (7.2.7), with so many further bytes
+abbrev pub window_flag : Option Window → ℕ
+window_flag None = 0
+window_flag (Some window) = 1
+
+abbrev pub window_fields : Option Window → List Field
+window_fields None = []
+window_fields (Some window) = number 16 window.left ∷ number 16 window.right ∷ number 16 window.top ∷ number 16 window.bottom ∷ []
+
+abbrev pub display_fields : ℕ → Display → List Field
+display_fields further display =
+    number 4 display.version
+    ∷ number 1 (window_flag display.window)
+    ∷ reserved 3
+    ∷ number 16 (display.width - 1)
+    ∷ number 16 (display.height - 1)
+    ∷ (window_fields display.window ++ free_bytes further)
+
+-- ---- when bytes are a segment with a value
+
+-- the segment types (7.2.1)
+abbrev pub IsPassedOver : ℕ → Type 0
+IsPassedOver kind = (kind < 256) × (kind ≢ 16) × (kind ≢ 17) × (kind ≢ 18) × (kind ≢ 19) × (kind ≢ 20) × (kind ≢ 128)
+
+-- the segment types and the tables of bodies that have the value: what the value leaves open is free
+abbrev pub IsBody : SegmentValue → ℕ → List Field → Type 0
+IsBody (of_page value) kind body = (kind ≡ 16) × (body ≡ page_fields value)
+IsBody (of_region value) kind body = (kind ≡ 17) × (compatibility : ℕ) × (body ≡ region_fields compatibility value)
+IsBody (of_clut value) kind body = (kind ≡ 18) × (coded : List CodedEntry) × (map entry_of coded ≡ value.entries) × (body ≡ clut_fields value.clut value.version coded)
+IsBody (of_object value) kind body = (kind ≡ 19) × (padded : Bool) × (body ≡ object_fields padded value)
+IsBody (of_display value) kind body = (kind ≡ 20) × (further : ℕ) × (body ≡ display_fields further value)
+IsBody end_of_set kind body = (kind ≡ 128) × (further : ℕ) × (body ≡ free_bytes further)
+IsBody passed_over kind body = IsPassedOver kind × (further : ℕ) × (body ≡ free_bytes further)
+
+-- the window is not empty, and inside the display
+abbrev pub IsWindowOf : ℕ → ℕ → Option Window → Type 0
+IsWindowOf width height None = Unit {0}
+IsWindowOf width height (Some window) = (window.left ≤ window.right) × (window.right < width) × (window.top ≤ window.bottom) × (window.bottom < height)
+
+-- what is asked of a value beyond its table: sides are at least 1, and a window lies inside the display
+abbrev pub IsRight : SegmentValue → Type 0
+IsRight (of_page value) = Unit {0}
+IsRight (of_region value) = (1 ≤ value.head.width) × (1 ≤ value.head.height)
+IsRight (of_clut value) = Unit {0}
+IsRight (of_object value) = Unit {0}
+IsRight (of_display value) = (1 ≤ value.width) × (1 ≤ value.height) × IsWindowOf value.width value.height value.window
+IsRight end_of_set = Unit {0}
+IsRight passed_over = Unit {0}
+
+-- the bytes are a whole segment with that value
+pub record IsSegment (bytes : List ℕ) (value : SegmentValue) : Type 0 where
+  pub each : All (λ byte. byte < 256) bytes
+  pub kind : ℕ
+  pub page : ℕ
+  pub body : List Field
+  pub is_body : IsBody value kind body
+  pub fits : FitsFields (segment_fields kind page body)
+  pub laid : HasFields (segment_fields kind page body) (bits_of bytes)
+  pub right : IsRight value

@@ -4,15 +4,20 @@
 #![tactic(auto)]
 
 mod clut;
+mod code_fault;
 mod display;
+mod map_table;
 mod page;
 mod pes;
+mod pixel_run;
 mod region;
 mod segment_fault;
 mod transport;
 
 pub use clut::ClutEntry;
+pub use code_fault::{CodeFault, CodeKind};
 pub use display::Window;
+pub use map_table::MapTable;
 pub use page::{PageEntry, State};
 pub use pes::PesFault;
 pub use region::{Listing, RegionHead};
@@ -25,3 +30,6 @@ mod pixel_run;
 pub use code_fault::{CodeFault, CodeKind};
 pub use map_table::MapTable;
 pub use pixel_run::Run;
+pub use pixel_run::Run;
+pub use region::{Listing, RegionHead};
+pub use segment_fault::{SegmentFault, SegmentKind};

@@ -1,5 +1,7 @@
 use thiserror::Error;
 
+use crate::code_fault::CodeFault;
+
 /// What is wrong with the bytes of a segment.
 #[derive(Clone, Copy, Debug, PartialEq, Eq)]
 pub enum SegmentKind {
@@ -21,6 +23,8 @@ pub enum SegmentKind {
     Progressive,
     /// The coding method has the reserved value 3.
     ReservedMethod,
+    /// A pixel data block of the object is not in the grammar: its own fault, whose place counts in that block.
+    Code(CodeFault),
     /// The window is empty, or passes the display.
     BadWindow,
     /// A side of a region is 0.

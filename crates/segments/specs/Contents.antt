@@ -1,0 +1,93 @@
+-- What the values of this crate stand for, whose bytes are those of a segment.
+use Rattle.std.specs.Prelude.{ℕ, zero, suc, ◌+◌, ◌*◌, ◌/◌, ◌%◌, ◌==◌, nat_lt, List, [], ◌∷◌, length, drop, if◌then◌else◌}
+use Rattle.stream_syntax.specs.declared.page.PageEntry.{PageEntry}
+use Rattle.stream_syntax.specs.declared.clut.ClutEntry.{ClutEntry}
+use Rattle.stream_syntax.specs.declared.region.Listing.{Listing}
+use Rattle.stream_syntax.specs.Segments.{Page, Region, Clut, Display}
+use Rattle.stream_syntax.specs.SegmentTests.{entry_size}
+use Rattle.stream_syntax.specs.Tests.{byte_at, word_at}
+use Rattle.sub_base.specs.Colour.{shown_of}
+use Rattle.sub_base.specs.declared.colour.Colour.{Colour}
+use Rattle.segments.specs.declared.page.PageSeg.{PageSeg}
+use Rattle.segments.specs.declared.clut.ClutItems.{ClutItems}
+use Rattle.segments.specs.declared.clut.ClutSeg.{ClutSeg}
+use Rattle.segments.specs.declared.display.DisplaySeg.{DisplaySeg}
+use Rattle.segments.specs.declared.region.RegionSeg.{RegionSeg}
+
+-- what each six bytes stand for
+abbrev pub by_six : {Item : Type 0} → (ℕ → ℕ → ℕ → ℕ → ℕ → ℕ → Item) → List ℕ → List Item
+by_six item (a ∷ b ∷ c ∷ d ∷ e ∷ f ∷ rest) = item a b c d e f ∷ by_six item rest
+by_six item rest = []
+
+-- the entries of a page, six bytes each
+abbrev pub page_entry : ℕ → ℕ → ℕ → ℕ → ℕ → ℕ → PageEntry
+page_entry region free x1 x0 y1 y0 = record { region = region; x = x1 * 256 + x0; y = y1 * 256 + y0 }
+
+abbrev pub page_entries : List ℕ → List PageEntry
+page_entries bytes = by_six page_entry bytes
+
+abbrev pub page_value : PageSeg → Page
+page_value seg = record { time_out = seg.time_out; version = seg.version; state = seg.state; entries = page_entries seg.entries.now }
+
+-- the listings of a region, six bytes each
+abbrev pub listing : ℕ → ℕ → ℕ → ℕ → ℕ → ℕ → Listing
+listing object1 object0 x1 x0 y1 y0 = record { object = object1 * 256 + object0; x = (x1 * 256 + x0) % 4096; y = (y1 * 256 + y0) % 4096 }
+
+abbrev pub region_listings : List ℕ → List Listing
+region_listings bytes = by_six listing bytes
+
+abbrev pub region_value : RegionSeg → Region
+region_value seg =
+    record {
+      head = record {
+        region = seg.region;
+        version = seg.version;
+        fill = seg.fill;
+        width = seg.width;
+        height = seg.height;
+        depth = seg.depth;
+        clut = seg.clut;
+        code8 = seg.code8;
+        code4 = seg.code4;
+        code2 = seg.code2;
+      };
+      listings = region_listings seg.listings.now;
+    }
+
+-- a colour in the full range, and one by its high bits, as they are shown
+abbrev pub full_colour : List ℕ → Colour
+full_colour bytes = shown_of (record { y = byte_at 2 bytes; cr = byte_at 3 bytes; cb = byte_at 4 bytes; t = byte_at 5 bytes })
+
+abbrev pub short_colour : List ℕ → Colour
+short_colour bytes = shown_of (record { y = word_at 2 bytes / 1024 * 4; cr = word_at 2 bytes / 64 % 16 * 16; cb = word_at 2 bytes / 4 % 16 * 16; t = word_at 2 bytes % 4 * 64 })
+
+-- the first entry of a CLUT
+abbrev pub first_entry : List ℕ → ClutEntry
+first_entry bytes =
+    record {
+      entry = byte_at 0 bytes;
+      two = byte_at 1 bytes / 128 % 2 == 1;
+      four = byte_at 1 bytes / 64 % 2 == 1;
+      eight = byte_at 1 bytes / 32 % 2 == 1;
+      colour = if byte_at 1 bytes % 2 == 1 then full_colour bytes else short_colour bytes;
+    }
+
+-- the first entries of a CLUT, at most so many, up to one that is cut
+abbrev pub first_entries : ℕ → List ℕ → List ClutEntry
+first_entries zero bytes = []
+first_entries (suc most) bytes =
+    if nat_lt (length bytes) (entry_size bytes) then [] else first_entry bytes ∷ first_entries most (drop (entry_size bytes) bytes)
+
+-- the entries of a CLUT
+unfoldable pub clut_entries : List ℕ → List ClutEntry
+clut_entries bytes = first_entries (length bytes) bytes
+
+abbrev pub clut_value : ClutSeg → Clut
+clut_value seg = record { clut = seg.clut; version = seg.version; entries = clut_entries seg.entries.now }
+
+-- what is left of the entries of a CLUT
+abbrev pub items_left : ClutItems → List ClutEntry
+items_left items = clut_entries items.rest.now
+
+abbrev pub display_value : DisplaySeg → Display
+display_value seg = record { version = seg.version; width = seg.width; height = seg.height; window = seg.window }

@@ -1,0 +1,99 @@
+-- Reading from left to right: the first fault that is met, or the value.
+use Rattle.std.specs.Prelude.{◌≡◌, ℕ, zero, suc, ◌+◌, ◌*◌, ◌/◌, ◌%◌, ◌==◌, List, [], ◌∷◌, length, drop, nat_lt, ◌||◌, Option, Some, None, Result, Ok, Err, if◌then◌else◌}
+use Rattle.stream_syntax.specs.declared.segment_fault.SegmentFault.{SegmentFault}
+use Rattle.sub_base.specs.declared.depth.Depth.{Depth}
+use Rattle.sub_base.specs.declared.depth.Depth.TheVariants.{Two, Four, Eight}
+use Rattle.stream_syntax.specs.declared.page.State.{State}
+use Rattle.stream_syntax.specs.declared.page.State.TheVariants.{Normal, Acquisition, ModeChange}
+use Rattle.stream_syntax.specs.Segments.{Page, Region, Clut, Display}
+use Rattle.stream_syntax.specs.declared.display.Window.{Window}
+use Rattle.stream_syntax.specs.SegmentTests.{refuse, page_tests, depth_tests, listing_tests, clut_tests, has_window, display_tests}
+use Rattle.stream_syntax.specs.declared.segment_fault.SegmentKind.TheVariants.{BadLength, ZeroSize}
+use Rattle.stream_syntax.specs.declared.region.RegionHead.{RegionHead}
+use Rattle.stream_syntax.specs.Tests.{Test, byte_at, word_at}
+use Rattle.segments.specs.Contents.{page_entries, region_listings, clut_entries}
+
+-- a further step where the first gave a value
+infixl 10 ◌>>=◌
+abbrev pub ◌>>=◌ : {First Value Fault : Type 0} → Result First Fault → (First → Result Value Fault) → Result Value Fault
+(Ok first) >>= next = next first
+(Err fault) >>= next = Err fault
+
+-- the value, or the fault of the first test that fails
+abbrev pub checked : {Fault Value : Type 0} → List (Test Fault) → Value → Result Value Fault
+checked [] value = Ok value
+checked (test ∷ tests) value = if test.fails then Err test.fault else checked tests value
+
+-- no value, or the fault of the first test that fails
+abbrev pub tested : {Fault : Type 0} → List (Test Fault) → Result (Unit {0}) Fault
+tested tests = checked tests (tt {0})
+
+-- what a function returned, seen by view, is what reading gives
+abbrev pub Gives : {Seg Value Fault : Type 0} → (Seg → Value) → Result Seg Fault → Result Value Fault → Type 0
+Gives view (Ok seg) read = read ≡ Ok (view seg)
+Gives view (Err fault) read = read ≡ Err fault
+
+abbrev pub state_of : ℕ → State
+state_of zero = Normal
+state_of (suc zero) = Acquisition
+state_of (suc (suc n)) = ModeChange
+
+abbrev pub page_in : List ℕ → Page
+page_in body = record { time_out = byte_at 0 body; version = byte_at 1 body / 16; state = state_of (byte_at 1 body / 4 % 4); entries = page_entries (drop 2 body) }
+
+abbrev pub page_at : List ℕ → Result Page SegmentFault
+page_at body = checked (page_tests body) (page_in body)
+
+abbrev pub depth_of : ℕ → Depth
+depth_of zero = Two
+depth_of (suc zero) = Two
+depth_of (suc (suc zero)) = Four
+depth_of (suc (suc (suc n))) = Eight
+
+abbrev pub depth_at : ℕ → Result Depth SegmentFault
+depth_at number = checked (depth_tests number) (depth_of number)
+
+abbrev pub region_head_in : List ℕ → Depth → RegionHead
+region_head_in body depth =
+    record {
+      region = byte_at 0 body;
+      version = byte_at 1 body / 16;
+      fill = byte_at 1 body / 8 % 2 == 1;
+      width = word_at 2 body;
+      height = word_at 4 body;
+      depth = depth;
+      clut = byte_at 7 body;
+      code8 = byte_at 8 body;
+      code4 = byte_at 9 body / 16;
+      code2 = byte_at 9 body / 4 % 4;
+    }
+
+abbrev pub region_head_at : List ℕ → Result RegionHead SegmentFault
+region_head_at body = do
+  shape ← tested (refuse (nat_lt (length body) 10) 4 BadLength ∷ refuse (word_at 2 body == 0 || word_at 4 body == 0) 8 ZeroSize ∷ [])
+  depth ← depth_at (byte_at 6 body / 4 % 8)
+  Ok (region_head_in body depth)
+
+abbrev pub region_in : List ℕ → Region
+region_in body = record { head = region_head_in body (depth_of (byte_at 6 body / 4 % 8)); listings = region_listings (drop 10 body) }
+
+unfoldable pub region_at : List ℕ → Result Region SegmentFault
+region_at body = do
+  head ← region_head_at body
+  listings ← tested (listing_tests 16 (drop 10 body))
+  Ok (record { head = head; listings = region_listings (drop 10 body) })
+
+abbrev pub clut_in : List ℕ → Clut
+clut_in body = record { clut = byte_at 0 body; version = byte_at 1 body / 16; entries = clut_entries (drop 2 body) }
+
+abbrev pub clut_at : List ℕ → Result Clut SegmentFault
+clut_at body = checked (clut_tests body) (clut_in body)
+
+abbrev pub window_in : List ℕ → Window
+window_in body = record { left = word_at 5 body; right = word_at 7 body; top = word_at 9 body; bottom = word_at 11 body }
+
+abbrev pub display_in : List ℕ → Display
+display_in body = record { version = byte_at 0 body / 16; width = word_at 1 body + 1; height = word_at 3 body + 1; window = if has_window body then Some (window_in body) else None }
+
+abbrev pub display_at : List ℕ → Result Display SegmentFault
+display_at body = checked (display_tests body) (display_in body)

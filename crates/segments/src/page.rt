@@ -1,0 +1,72 @@
+ghost use Rattle.std.specs.Prelude.{◌≡◌, ◌<◌, length, slice_get, Some};
+ghost use Rattle.segments.specs.Contents.{page_entries, page_value};
+ghost use Rattle.segments.specs.Reading.{Gives, page_at};
+
+use crate::fault::bad_length;
+use crate::word::{bits, read_word};
+use stream_syntax::{PageEntry, SegmentFault, SegmentKind, State};
+
+/// The bytes of an entry.
+const ENTRY: usize = 6;
+
+/// A page: the regions that it shows, and how it stands to the pages before it (EN 300 743, page composition
+/// segment).
+#[derive(Clone, Copy, Debug, PartialEq, Eq)]
+pub struct PageSeg<'a> {
+    /// The seconds after which the page is no longer shown.
+    pub time_out: u8,
+    pub version: u8,
+    pub state: State,
+    /// The entries, as bytes.
+    pub entries: &'a [u8],
+}
+
+impl PageSeg<'_> {
+    #[tactic(auto, using(crate::proofs::Sixes::length_by_six))]
+    /// How many regions the page shows.
+    pub fn count(&self) -> usize
+        ensures { result ≡ length (page_entries self.now.entries.now) }
+    {
+        self.entries.len() / ENTRY
+    }
+
+    #[tactic(auto, using(crate::proofs::Sixes::length_by_six))]
+    /// The entry at a place below the count.
+    pub fn entry(&self, i: usize) -> PageEntry
+        requires { i < length (page_entries self.now.entries.now) }
+        ensures { slice_get (page_entries self.now.entries.now) i ≡ Some result }
+    {
+        let place = ENTRY * i;
+        PageEntry {
+            region: self.entries[place],
+            x: read_word(self.entries, place + 2),
+            y: read_word(self.entries, place + 4),
+        }
+    }
+}
+
+/// Reads the body of a page.
+pub(crate) fn page_of(body: &[u8]) -> Result<PageSeg<'_>, SegmentFault>
+    ensures { Gives page_value result (page_at body.now) }
+{
+    if body.len() % ENTRY != 2 {
+        return Err(bad_length());
+    }
+    let state = match bits(body[1], 2, 2) {
+        0 => State::Normal,
+        1 => State::Acquisition,
+        2 => State::ModeChange,
+        _ => {
+            return Err(SegmentFault {
+                place: 7,
+                kind: SegmentKind::ReservedState,
+            });
+        }
+    };
+    Ok(PageSeg {
+        time_out: body[0],
+        version: body[1] >> 4,
+        state,
+        entries: &body[2..],
+    })
+}
