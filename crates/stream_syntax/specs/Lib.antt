@@ -1,12 +1,10 @@
 pub mod BitFields
-pub mod Pes
-pub mod TransportPackets
 pub mod Fields
+pub mod Pes
 pub mod PixelBlocks
 pub mod PixelCodes
 pub mod SegmentTests
 pub mod Segments
 pub mod Tests
-pub mod PixelCodes
-pub mod PixelBlocks
+pub mod TransportPackets
 pub mod Units

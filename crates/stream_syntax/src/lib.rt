@@ -20,16 +20,7 @@ pub use display::Window;
 pub use map_table::MapTable;
 pub use page::{PageEntry, State};
 pub use pes::PesFault;
+pub use pixel_run::Run;
 pub use region::{Listing, RegionHead};
 pub use segment_fault::{SegmentFault, SegmentKind};
 pub use transport::{Event, PacketFault};
-mod code_fault;
-mod map_table;
-mod pixel_run;
-
-pub use code_fault::{CodeFault, CodeKind};
-pub use map_table::MapTable;
-pub use pixel_run::Run;
-pub use pixel_run::Run;
-pub use region::{Listing, RegionHead};
-pub use segment_fault::{SegmentFault, SegmentKind};

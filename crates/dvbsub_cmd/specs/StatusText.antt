@@ -1,0 +1,65 @@
+-- The line that tells how a command ended.
+use Rattle.std.specs.Prelude.{ℕ, ◌==◌, if◌then◌else◌, List, [], ◌∷◌, ◌++◌, codes}
+use Rattle.std.specs.Fmt.{decimal}
+use Rattle.cue_list.specs.KindNames.{kind_name}
+use Rattle.cue_list.specs.declared.fault.ScriptFault.{ScriptFault}
+use Rattle.cue_list.specs.declared.fault.ScriptFault.TheVariants as script
+use Rattle.cue_list.specs.declared.fault.ScriptKind.{ScriptKind}
+use Rattle.cue_list.specs.declared.fault.ScriptKind.TheVariants as kind
+use Rattle.dvbsub_cmd.specs.declared.status.Status.{Status}
+use Rattle.dvbsub_cmd.specs.declared.status.Status.TheVariants as status
+use Rattle.dvbsub_cmd.specs.declared.status.Which.{Which}
+use Rattle.dvbsub_cmd.specs.declared.status.Which.TheVariants as which
+
+-- the name of a source or sink
+abbrev pub which_name : Which → List ℕ
+which_name which.First = codes "first"
+which_name which.Second = codes "second"
+which_name which.Out = codes "out"
+which_name which.Notes = codes "notes"
+
+-- a space and a number
+abbrev pub then_number : ℕ → List ℕ
+then_number n = codes " " ++ decimal n
+
+-- the character's number, of a glyph that is missing
+abbrev pub glyph_number : ScriptKind → List ℕ
+glyph_number (kind.Glyph character) = then_number character
+glyph_number other = []
+
+-- what is wrong with a record: the kind's name, and for a glyph the character's number
+abbrev pub kind_text : ScriptKind → List ℕ
+kind_text kind = kind_name kind ++ glyph_number kind
+
+-- how the reading of a script ended
+abbrev pub script_text : ScriptFault → List ℕ
+script_text script.Memory = codes "memory"
+script_text (script.Refused row kind) = (codes "script" ++ then_number row) ++ codes " " ++ kind_text kind
+
+-- the end of a command that did all, with the count of the bytes after the last whole packet
+abbrev pub done_text : ℕ → List ℕ
+done_text cut = if cut == 0 then codes "done" else codes "done cut" ++ then_number cut
+
+-- the text of a status
+abbrev pub status_text : Status → List ℕ
+status_text (status.Done cut) = done_text cut
+status_text status.Usage = codes "usage"
+status_text (status.ScriptRefused fault) = script_text fault
+status_text (status.ReadFault which) = codes "read " ++ which_name which
+status_text (status.WriteFault which) = codes "write " ++ which_name which
+status_text status.Memory = codes "memory"
+status_text (status.InputTooLong which) = codes "long " ++ which_name which
+
+-- the line of a status
+abbrev pub status_line : Status → List ℕ
+status_line status = status_text status ++ (10 ∷ [])
+
+-- the code with which the program ends
+abbrev pub code_of : Status → ℕ
+code_of (status.Done cut) = 0
+code_of status.Usage = 2
+code_of (status.ScriptRefused fault) = 3
+code_of (status.ReadFault which) = 5
+code_of (status.WriteFault which) = 6
+code_of status.Memory = 7
+code_of (status.InputTooLong which) = 8

@@ -1,0 +1,157 @@
+ghost use Rattle.std.specs.Prelude.{◌≡◌, ◌≤◌, ◌+◌, ◌++◌, length};
+ghost use Rattle.dvbsub_cmd.specs.StatusText.{which_name as which_name_of, then_number, kind_text, done_text as done_text_of, script_text as script_text_of, status_text, status_line as line_of_status, code_of};
+
+use cue_list::{ScriptFault, ScriptKind};
+
+use crate::line::Line;
+
+/// One of the sources and sinks of a command.
+#[derive(Clone, Copy, Debug, PartialEq, Eq)]
+pub enum Which {
+    First,
+    Second,
+    Out,
+    Notes,
+}
+
+/// How a command ended.
+#[derive(Clone, Copy, Debug, PartialEq, Eq)]
+pub enum Status {
+    /// The inputs were read to their end, and all of the output was written. `cut` bytes were left after the last
+    /// whole packet.
+    Done { cut: u64 },
+    /// The words are no command.
+    Usage,
+    /// The script is refused.
+    ScriptRefused(ScriptFault),
+    /// The source could not be read.
+    ReadFault(Which),
+    /// The sink could not be written.
+    WriteFault(Which),
+    /// No memory was found.
+    Memory,
+    /// The source gave more bytes than its limit.
+    InputTooLong(Which),
+}
+
+impl Status {
+    /// The code with which the program ends.
+    pub fn code(&self) -> u8
+        ensures { result ≡ code_of self.now }
+    {
+        match self {
+            Status::Done { .. } => 0,
+            Status::Usage => 2,
+            Status::ScriptRefused(_) => 3,
+            Status::ReadFault(_) => 5,
+            Status::WriteFault(_) => 6,
+            Status::Memory => 7,
+            Status::InputTooLong(_) => 8,
+        }
+    }
+}
+
+/// The line that tells the status, with its line feed.
+pub fn status_line(status: Status) -> Line
+    ensures { result ≡ line_of_status status }
+{
+    let mut line = text_of(status);
+    line.push_text("\n");
+    line
+}
+
+fn text_of(status: Status) -> Line
+    ensures text { result ≡ status_text status }
+    ensures short { length result ≤ 100 }
+{
+    match status {
+        Status::Done { cut } => done_text(cut),
+        Status::Usage => line_of("usage"),
+        Status::ScriptRefused(fault) => script_text(fault),
+        Status::ReadFault(which) => named_text("read ", which),
+        Status::WriteFault(which) => named_text("write ", which),
+        Status::Memory => line_of("memory"),
+        Status::InputTooLong(which) => named_text("long ", which),
+    }
+}
+
+fn line_of(text: &str) -> Line
+    requires { length text.now ≤ 60 }
+    ensures text { result ≡ text.now }
+    ensures length { length result ≡ length text.now }
+{
+    let mut line = Line::new();
+    line.push_text(text);
+    line
+}
+
+fn done_text(cut: u64) -> Line
+    ensures text { result ≡ done_text_of cut }
+    ensures short { length result ≤ 100 }
+{
+    if cut == 0 {
+        return line_of("done");
+    }
+    let mut line = line_of("done cut");
+    push_then_number(&mut line, cut);
+    line
+}
+
+fn named_text(text: &str, which: Which) -> Line
+    requires { length text.now ≤ 60 }
+    ensures text { result ≡ text.now ++ which_name_of which }
+    ensures short { length result ≤ 100 }
+{
+    let mut line = line_of(text);
+    line.push_text(which_name(which));
+    line
+}
+
+fn which_name(which: Which) -> &'static str
+    ensures name { result.now ≡ which_name_of which }
+    ensures short { length result.now ≤ 6 }
+{
+    match which {
+        Which::First => "first",
+        Which::Second => "second",
+        Which::Out => "out",
+        Which::Notes => "notes",
+    }
+}
+
+fn script_text(fault: ScriptFault) -> Line
+    ensures text { result ≡ script_text_of fault }
+    ensures short { length result ≤ 100 }
+{
+    match fault {
+        ScriptFault::Memory => line_of("memory"),
+        ScriptFault::Refused { row, kind } => {
+            let mut line = line_of("script");
+            push_then_number(&mut line, row);
+            line.push_text(" ");
+            push_kind(&mut line, kind);
+            line
+        }
+    }
+}
+
+fn push_kind(line: &mut Line, kind: ScriptKind)
+    requires { length line.old ≤ 60 }
+    ensures text { line.new ≡ line.old ++ kind_text kind }
+    ensures short { length line.new ≤ length line.old + 34 }
+{
+    line.push_text(kind.name());
+    if let ScriptKind::Glyph(character) = kind {
+        push_then_number(line, u64::from(u32::from(character)));
+    }
+}
+
+/// Puts a space and the number at the end.
+fn push_then_number(line: &mut Line, number: u64)
+    requires { length line.old ≤ 80 }
+    ensures line { line.new ≡ line.old ++ then_number number }
+    ensures short { length line.new ≤ length line.old + 21 }
+{
+    line.push_text(" ");
+    line.push_number(number);
+}
