@@ -1,2 +1,6 @@
 pub mod Command
+pub mod Compiled
+pub mod Outcome
+pub mod PieceView
+pub mod SlotStream
 pub mod StatusText

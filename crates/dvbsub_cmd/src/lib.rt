@@ -1,9 +1,13 @@
 //! The commands: their words, the sources they read, the sink they write, and the line that tells how they ended.
 #![tactic(auto)]
 
+mod carry_out;
 mod command;
 mod line;
+mod packets;
+mod slot_stream;
 mod status;
 
+pub use carry_out::top;
 pub use command::{Command, InputPlaces, inputs};
 pub use status::{Status, Which};

@@ -1,0 +1,173 @@
+-- Which piece a slot is that of.
+use Rattle.std.proofs.Common.{◌++◌, take, drop, append_assoc, length-append, ◌-◌, subst, ◌≡◌, ◌≢◌, ℕ, zero, suc, ◌+◌, ◌<◌, ◌≤◌, ◌==◌, List, [], ◌∷◌, length, get_or, map, Bool, true, false, Option, Some, None, refl, ap, sym, ◌∙◌, ◌⊎◌, inl, inr, arith, add-one}
+use Rattle.std.proofs.lemmas.Bool.Decides.{nat_tests}
+use Rattle.std.proofs.lemmas.List.Kept.{AllPairs-from_increasing}
+use Rattle.std.specs.List.Sorted.{IsStrictlyIncreasing}
+use Rattle.std.proofs.KnownBytes.{Appends-nil, Appends-trans}
+use Rattle.std.proofs.Math.Seq.{take-append_seam}
+use Rattle.std.proofs.lemmas.Grind.{flat_map-append}
+use Rattle.std.proofs.lemmas.List.{get_or-map, append-nil, take-append-drop, length-take-le}
+use Rattle.std.specs.Io.KnownBytes.{Appends}
+use Rattle.std.specs.List.{flat_map, range_with_len}
+use Rattle.sub_base.specs.Transfer.{AppendsFront}
+use Rattle.stream_syntax.specs.TransportPackets.{null_packet}
+use Rattle.dvbsub_cmd.specs.PieceView.{plain}
+use Rattle.dvbsub_cmd.specs.SlotStream.{place_from, IsNext, slot_packet, packet_at, packet_of, no_piece, Sent}
+use Rattle.dvbsub_cmd.specs.declared.slot_stream.Piece.{Piece as Lent}
+
+same_test : (a b : ℕ) → a ≡ b → (a == b) ≡ true
+same_test a b e = grind (arith, nat_tests)
+
+other_test : (a b : ℕ) → a ≢ b → (a == b) ≡ false
+other_test a b e = grind (arith, nat_tests)
+
+-- a number is below another, the same, or above it
+compared : (a b : ℕ) → (a < b) ⊎ ((a ≡ b) ⊎ (b < a))
+compared a b = grind arith
+
+-- the first slot of that number
+pub place_from-found : (slots : List ℕ) (k i slot : ℕ) → ((j : ℕ) → j < k → get_or slots j 0 ≢ slot) → k < length slots → get_or slots k 0 ≡ slot → place_from i slot slots ≡ Some (i + k)
+place_from-found [] k i slot before within is = absurd (omega arith)
+place_from-found (x ∷ slots) zero i slot before within is = rw (same_test x slot is) (ap Some (omega arith))
+place_from-found (x ∷ slots) (suc k) i slot before within is =
+    let first : x ≢ slot = before 0 (omega arith) in
+    rw (other_test x slot first) (place_from-found slots k (i + 1) slot (λ j h. before (suc j) (omega arith)) (omega arith) is ∙ ap Some (omega arith))
+
+-- no slot of that number
+pub place_from-none : (slots : List ℕ) (i slot : ℕ) → ((j : ℕ) → j < length slots → get_or slots j 0 ≢ slot) → place_from i slot slots ≡ None
+place_from-none [] i slot others = refl
+place_from-none (x ∷ slots) i slot others =
+    let first : x ≢ slot = others 0 (omega arith) in
+    rw (other_test x slot first) (place_from-none slots (i + 1) slot (λ j h. others (suc j) (omega arith)))
+
+-- later slots are greater
+pub later_slot : (slots : List ℕ) (i j : ℕ) → IsStrictlyIncreasing slots → i < j → j < length slots → get_or slots i 0 < get_or slots j 0
+later_slot slots i j rising below within = AllPairs-from_increasing slots rising i j 0 below within
+
+-- the slot is that of the next piece
+pub place_from-next : (slots : List ℕ) (next slot : ℕ) → IsNext slots next slot → next < length slots → get_or slots next 0 ≡ slot → place_from 0 slot slots ≡ Some next
+place_from-next slots next slot at within is =
+    place_from-found slots next 0 slot (λ j h. let less : get_or slots j 0 < slot = at.before j h in λ e. omega arith) within is ∙ ap Some (omega arith)
+
+-- the slot is that of no piece
+pub place_from-idle : (slots : List ℕ) (next slot : ℕ) → IsStrictlyIncreasing slots → IsNext slots next slot → (next < length slots → get_or slots next 0 ≢ slot) → place_from 0 slot slots ≡ None
+place_from-idle slots next slot rising at idle = place_from-none slots 0 slot (λ j h e. differs j h e)
+  where
+    differs : (j : ℕ) → j < length slots → get_or slots j 0 ≡ slot → ⊥
+    differs j h e =
+        elim (compared j next) [
+          | inl below ↦ let less : get_or slots j 0 < slot = at.before j below in omega arith
+          | inr (inl same) ↦ idle (omega arith) (ap (λ k. get_or slots k 0) (sym same) ∙ e)
+          | inr (inr above) ↦
+              let more : get_or slots next 0 < get_or slots j 0 = later_slot slots next j rising above h in
+              let least : slot ≤ get_or slots next 0 = at.after next (omega arith) (omega arith) in
+              omega arith
+        ]
+
+-- after the slot of the next piece
+pub IsNext-sent : (slots : List ℕ) (next slot : ℕ) → IsStrictlyIncreasing slots → IsNext slots next slot → next < length slots → get_or slots next 0 ≡ slot → IsNext slots (next + 1) (slot + 1)
+IsNext-sent slots next slot rising at within is =
+    record {
+      within = omega arith;
+      before = sent;
+      after = λ j h k. let more : get_or slots next 0 < get_or slots j 0 = later_slot slots next j rising (omega arith) k in omega arith;
+    }
+  where
+    sent : (j : ℕ) → j < next + 1 → get_or slots j 0 < slot + 1
+    sent j h =
+        elim (compared j next) [
+          | inl below ↦ let less : get_or slots j 0 < slot = at.before j below in omega arith
+          | inr (inl same) ↦ let here : get_or slots j 0 ≡ slot = ap (λ k. get_or slots k 0) same ∙ is in omega arith
+          | inr (inr above) ↦ absurd (omega arith)
+        ]
+
+-- after a slot of no piece
+pub IsNext-idle : (slots : List ℕ) (next slot : ℕ) → IsStrictlyIncreasing slots → IsNext slots next slot → (next < length slots → get_or slots next 0 ≢ slot) → IsNext slots next (slot + 1)
+IsNext-idle slots next slot rising at idle =
+    record {
+      within = at.within;
+      before = λ j h. let less : get_or slots j 0 < slot = at.before j h in omega arith;
+      after = left;
+    }
+  where
+    left : (j : ℕ) → next ≤ j → j < length slots → slot + 1 ≤ get_or slots j 0
+    left j h k =
+        let least : slot ≤ get_or slots next 0 = at.after next (omega arith) (omega arith) in
+        let other : get_or slots next 0 ≢ slot = idle (omega arith) in
+        elim (compared j next) [
+          | inl below ↦ absurd (omega arith)
+          | inr (inl same) ↦ let here : get_or slots j 0 ≡ get_or slots next 0 = ap (λ k. get_or slots k 0) same in omega arith
+          | inr (inr above) ↦ let more : get_or slots next 0 < get_or slots j 0 = later_slot slots next j rising above k in omega arith
+        ]
+
+-- the packet of the next piece
+pub slot_packet-next : (pid : ℕ) (pieces : List Lent) (slots : List ℕ) (next slot : ℕ) (d : Lent) → IsNext slots next slot → length slots ≡ length pieces → next < length slots → get_or slots next 0 ≡ slot
+    → slot_packet pid (map plain pieces) slots slot ≡ packet_of pid next (plain (get_or pieces next d))
+slot_packet-next pid pieces slots next slot d at pairs within is =
+    ap (packet_at pid (map plain pieces)) (place_from-next slots next slot at within is)
+    ∙ ap (packet_of pid next) (get_or-map plain pieces next d no_piece (omega arith))
+
+-- the null packet, where the slot is that of no piece
+pub slot_packet-idle : (pid : ℕ) (pieces : List Lent) (slots : List ℕ) (next slot : ℕ) → IsStrictlyIncreasing slots → IsNext slots next slot → (next < length slots → get_or slots next 0 ≢ slot)
+    → slot_packet pid (map plain pieces) slots slot ≡ null_packet
+slot_packet-idle pid pieces slots next slot rising at idle = ap (packet_at pid (map plain pieces)) (place_from-idle slots next slot rising at idle)
+
+-- nothing was written yet
+pub Sent-nothing : (start : Option (List ℕ)) → Sent start start [] []
+Sent-nothing start = record { written = []; appended = Appends-nil start; whole = refl }
+
+-- what was to be written next was written
+pub Sent-written : (start now next : Option (List ℕ)) (pending bytes : List ℕ) → Sent start now pending bytes → Appends now next pending → Sent start next [] bytes
+Sent-written start now next pending bytes sent more =
+    record { written = sent.written ++ pending; appended = Appends-trans start now next sent.written pending sent.appended more; whole = append-nil _ ∙ sent.whole }
+
+-- a packet more is to be written
+pub Sent-more : (start now : Option (List ℕ)) (pending bytes packet : List ℕ) → Sent start now pending bytes → Sent start now (pending ++ packet) (bytes ++ packet)
+Sent-more start now pending bytes packet sent =
+    record { written = sent.written; appended = sent.appended; whole = sym (append_assoc sent.written pending packet) ∙ ap (λ k. k ++ packet) sent.whole }
+
+-- a front of what was to be written next was written: then a front of all bytes was, whatever follows
+pub Sent-front : (start now next : Option (List ℕ)) (pending bytes rest all : List ℕ) → Sent start now pending bytes → AppendsFront now next pending → bytes ++ rest ≡ all → AppendsFront start next all
+Sent-front start now next pending bytes rest all sent front joined =
+    let n = front.0 in
+    let here : Appends start next (sent.written ++ take n pending) = Appends-trans start now next sent.written (take n pending) sent.appended front.2 in
+    let both : sent.written ++ (take n pending ++ (drop n pending ++ rest)) ≡ all =
+      ap (λ k. sent.written ++ k) (sym (append_assoc (take n pending) (drop n pending) rest) ∙ ap (λ k. k ++ rest) (take-append-drop n pending))
+      ∙ (sym (append_assoc sent.written pending rest) ∙ (ap (λ k. k ++ rest) sent.whole ∙ joined)) in
+    let count : length (sent.written ++ take n pending) ≡ length sent.written + n = length-append sent.written (take n pending) ∙ ap (λ k. length sent.written + k) (length-take-le n pending front.1) in
+    let Front : List ℕ → Type 0 = λ bytes. Appends start next bytes in
+    let within : length sent.written + n ≤ length all =
+      omega (arith, ap length both, length-append sent.written (take n pending ++ (drop n pending ++ rest)), length-append (take n pending) (drop n pending ++ rest), length-take-le n pending front.1) in
+    let taken : take (length sent.written + n) all ≡ sent.written ++ take n pending =
+      ap (λ k. take k all) (sym count) ∙ (ap (λ k. take (length (sent.written ++ take n pending)) k) (sym both ∙ sym (append_assoc sent.written (take n pending) (drop n pending ++ rest)))
+      ∙ take-append_seam (sent.written ++ take n pending) (drop n pending ++ rest)) in
+    (length sent.written + n, within, subst Front (sym taken) here)
+
+-- one number more
+range-suc : (n a : ℕ) → range_with_len a (suc n) ≡ range_with_len a n ++ (a + n) ∷ []
+range-suc zero a = ap (λ k. k ∷ []) (omega arith)
+range-suc (suc n) a = ap (λ rest. a ∷ rest) (range-suc n (a + 1) ∙ ap (λ k. range_with_len (a + 1) n ++ k ∷ []) (omega arith))
+
+-- some numbers, and those after them
+range-split : (n a m : ℕ) → range_with_len a (n + m) ≡ range_with_len a n ++ range_with_len (a + n) m
+range-split zero a m =
+    let same : a ≡ a + 0 = omega arith in
+    let none : 0 + m ≡ m = omega arith in
+    ap (range_with_len a) none ∙ ap (λ k. range_with_len k m) same
+range-split (suc n) a m =
+    let more : suc n + m ≡ suc (n + m) = omega arith in
+    let next : (a + 1) + n ≡ a + suc n = omega arith in
+    ap (range_with_len a) more ∙ ap (λ rest. a ∷ rest) (range-split n (a + 1) m ∙ ap (λ k. range_with_len (a + 1) n ++ range_with_len k m) next)
+
+-- the packets of one slot more
+pub stream-more : (f : ℕ → List ℕ) (slot : ℕ) → flat_map f (range_with_len 0 (slot + 1)) ≡ flat_map f (range_with_len 0 slot) ++ f slot
+stream-more f slot =
+    ap (λ (slots : List ℕ). flat_map f slots) (ap (range_with_len 0) (add-one slot) ∙ range-suc slot 0)
+    ∙ (flat_map-append f (range_with_len 0 slot) ((0 + slot) ∷ []) ∙ ap (λ k. flat_map f (range_with_len 0 slot) ++ k) (append-nil (f (0 + slot)) ∙ ap f (omega arith)))
+
+-- the packets of the slots so far, and those of the slots after them
+pub stream-rest : (f : ℕ → List ℕ) (slot count : ℕ) → slot ≤ count → (rest : List ℕ) × (flat_map f (range_with_len 0 slot) ++ rest ≡ flat_map f (range_with_len 0 count))
+stream-rest f slot count within =
+    ( flat_map f (range_with_len (0 + slot) (count - slot))
+    , sym (flat_map-append f (range_with_len 0 slot) (range_with_len (0 + slot) (count - slot)))
+      ∙ ap (λ (slots : List ℕ). flat_map f slots) (sym (range-split slot 0 (count - slot)) ∙ ap (range_with_len 0) (omega arith)) )

@@ -1,0 +1,15 @@
+use Rattle.std.proofs.Common.{◌≡◌, ◌%◌, ◌*◌, ◌≤◌, ◌++◌, ℕ, List, length, map}
+use Rattle.std.specs.List.{flat_map, range_with_len}
+use Rattle.dvbsub_cmd.specs.SlotStream.{IsNext, Sent, slot_packet}
+use Rattle.dvbsub_cmd.specs.PieceView.{plain}
+use Rattle.dvbsub_cmd.proofs.slot_stream.write_stream.Given as goal
+
+abbrev pub invariant-loop-slot : goal.invariant-loop-slot
+invariant-loop-slot g l =
+    record {
+      next : IsNext l.slots l.next l.slot;
+      pid : l.packetiser.pid ≡ l.pid;
+      counter : l.packetiser.counter ≡ l.next % 16;
+      kept : g.K.Sink.faults l.fn.sink ≤ g.K.Sink.faults l.sink;
+      sent : Sent (g.K.Sink.written l.fn.sink) (g.K.Sink.written l.sink) l.outgoing (flat_map (slot_packet l.pid (map plain l.pieces) l.slots) (range_with_len 0 l.slot));
+    }

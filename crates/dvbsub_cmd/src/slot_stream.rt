@@ -1,0 +1,208 @@
+ghost use Rattle.std.specs.Prelude.{◌≡◌, ◌+◌, ◌-◌, ◌*◌, ◌%◌, ◌<◌, ◌≤◌, ◌++◌, ◌↔◌, List, Option, ℕ, [], length, map, IsTrue, IfOk, OnOk, OnErr, IfErr, All, ◌^◌, slice_index, vec_len};
+ghost use Rattle.std.specs.List.Sorted.{IsStrictlyIncreasing};
+ghost use Rattle.std.specs.Io.KnownBytes.{Appends, Keeps};
+ghost use Rattle.sub_base.specs.Counts.{HasRisen};
+ghost use Rattle.sub_base.specs.Transfer.{AppendsFront};
+ghost use Rattle.dvbsub_cmd.specs.SlotStream.{IsNext, IsPiece, Sent, packet_of, slot_packet, slot_count as slot_count_of, stream_of};
+ghost use Rattle.dvbsub_cmd.specs.PieceView.{plain};
+
+use std::alloc::{AllocError, Global};
+use std::marker::Model;
+use sub_base::{Sink, WriteFailed, write_whole};
+use ts_packets::{Packetiser, null_packet};
+
+/// The bytes of a packet.
+const PACKET: usize = 188;
+
+/// How many packets are written at once: 36,096 bytes.
+const PACKETS_AT_ONCE: usize = 192;
+
+/// A piece of a unit, as one packet takes it: 1 to 184 bytes.
+#[derive(Clone, Copy, Debug)]
+pub struct Piece<'a> {
+    pub bytes: &'a [u8],
+    /// Whether the unit starts with this piece.
+    pub starts: bool,
+}
+
+/// Packets that are to be written together.
+#[derive(Drop)]
+pub struct Outgoing {
+    bytes: Vec<u8>,
+    filled: usize,
+}
+
+impl Model for Outgoing {
+    ghost use Rattle.std.specs.Prelude.{◌≡◌, ◌≤◌, List, ℕ, take, vec_len};
+
+    ghost Value = { List ℕ };
+
+    ghost view = { λ o. take o.filled o.bytes.items };
+
+    ghost invariant = { λ o. (o.filled ≤ vec_len o.bytes) × (vec_len o.bytes ≡ 36096) };
+}
+
+impl Outgoing {
+    /// Room for the packets that are written at once, without any.
+    pub fn make(alloc: Global) -> Result<Outgoing, AllocError>
+        ensures { IfOk result (λ outgoing. outgoing ≡ []) }
+    {
+        Ok(Outgoing {
+            bytes: zeros(alloc, PACKET * PACKETS_AT_ONCE)?,
+            filled: 0,
+        })
+    }
+
+    /// Whether there is no room for one packet more.
+    pub fn is_full(&self) -> bool
+        ensures { IsTrue result ↔ (36096 < length self.now + 188) }
+    {
+        self.bytes.len() - self.filled < PACKET
+    }
+
+    /// Puts a packet at the end.
+    pub fn push(&mut self, packet: &[u8; 188])
+        requires { length self.old + 188 ≤ 36096 }
+        ensures { self.new ≡ self.old ++ packet.now }
+    {
+        let end = self.filled + PACKET;
+        self.bytes[self.filled..end].copy_from_slice(packet);
+        self.filled = end;
+    }
+
+    /// The packets' bytes.
+    pub fn as_bytes(&self) -> &[u8]
+        ensures { result.now ≡ self.now }
+    {
+        &self.bytes[..self.filled]
+    }
+
+    /// Forgets the packets, which were written.
+    pub fn clear(&mut self)
+        ensures { self.new ≡ [] }
+    {
+        self.filled = 0;
+    }
+}
+
+/// A buffer of that many bytes.
+fn zeros(alloc: Global, size: usize) -> Result<Vec<u8>, AllocError>
+    ensures { IfOk result (λ buffer. vec_len buffer ≡ size) }
+{
+    vec![in alloc; 0u8; size]
+}
+
+/// Makes the packet of a slot: that of the next piece where this is its slot, and else the null packet. Answers how many
+/// pieces were sent up to this slot.
+fn packet_at(
+    packetiser: &mut Packetiser,
+    pieces: &[Piece<'_>],
+    slots: &[u64],
+    next: usize,
+    slot: u64,
+    packet: &mut [u8; 188],
+) -> usize
+    requires each { All (λ piece. IsPiece (plain piece)) pieces.now }
+    requires pairs { length slots.now ≡ length pieces.now }
+    requires rising { IsStrictlyIncreasing slots.now }
+    requires next { IsNext slots.now next slot }
+    requires counter { packetiser.old.counter ≡ next % 16 }
+    ensures packet { packet.new ≡ slot_packet packetiser.old.pid (map plain pieces.now) slots.now slot }
+    ensures pid { packetiser.new.pid ≡ packetiser.old.pid }
+    ensures counter { packetiser.new.counter ≡ result % 16 }
+    ensures next { IsNext slots.now result (slot + 1) }
+{
+    if next < slots.len() && slots[next] == slot {
+        send(packetiser, pieces[next], next, packet);
+        next + 1
+    } else {
+        null_packet(packet);
+        next
+    }
+}
+
+/// Makes the packet of a piece, the one of that number among all pieces.
+fn send(packetiser: &mut Packetiser, piece: Piece<'_>, number: usize, packet: &mut [u8; 188])
+    requires piece { IsPiece (plain piece) }
+    requires counter { packetiser.old.counter ≡ number % 16 }
+    ensures packet { packet.new ≡ packet_of packetiser.old.pid number (plain piece.entry) }
+    ensures pid { packetiser.new.pid ≡ packetiser.old.pid }
+    ensures counter { packetiser.new.counter ≡ (number + 1) % 16 }
+{
+    packetiser.packet(piece.bytes, piece.starts, packet);
+}
+
+/// Puts the packet behind those that are to be written together; where there is no room, these are written first.
+fn pass_on<K: Sink>(
+    sink: &mut K,
+    outgoing: &mut Outgoing,
+    packet: &[u8; 188],
+) -> Result<(), WriteFailed>
+    ensures sent { OnOk result ((start : Option (List ℕ)) (bytes : List ℕ) → Sent start (K.written sink.old) outgoing.old bytes → Sent start (K.written sink.new) outgoing.new (bytes ++ packet.now)) }
+    ensures front { OnErr result (AppendsFront (K.written sink.old) (K.written sink.new) outgoing.old) }
+    ensures kept { K.faults sink.old ≤ K.faults sink.new }
+    ensures cause { OnErr result (HasRisen (K.faults sink.old) (K.faults sink.new)) }
+{
+    if outgoing.is_full() {
+        write_whole(sink, outgoing.as_bytes())?;
+        outgoing.clear();
+    }
+    outgoing.push(packet);
+    Ok(())
+}
+
+/// Why packets were not all written.
+#[derive(Drop)]
+pub enum StreamFault {
+    Memory,
+    Write,
+}
+
+/// Writes the packets of all slots from 0 up to the last used one: at the slots of the list the packets of the pieces, in
+/// order, and null packets between. Memory is taken before the first byte is written.
+pub fn write_stream<K: Sink>(
+    alloc: Global,
+    sink: &mut K,
+    pid: u16,
+    pieces: &[Piece<'_>],
+    slots: &[u64],
+) -> Result<(), StreamFault>
+    requires pid { pid < 8192 }
+    requires each { All (λ piece. IsPiece (plain piece)) pieces.now }
+    requires pairs { length slots.now ≡ length pieces.now }
+    requires rising { IsStrictlyIncreasing slots.now }
+    requires short { slot_count_of slots.now < 2 ^ 64 }
+    ensures all { OnOk result (Appends (K.written sink.old) (K.written sink.new) (stream_of pid (map plain pieces.now) slots.now)) }
+    ensures front { IfErr result (λ fault. fault ≡ StreamFault.Write → AppendsFront (K.written sink.old) (K.written sink.new) (stream_of pid (map plain pieces.now) slots.now)) }
+    ensures nothing { IfErr result (λ fault. fault ≡ StreamFault.Memory → Keeps (K.written sink.old) (K.written sink.new)) }
+    ensures kept { K.faults sink.old ≤ K.faults sink.new }
+    ensures cause { IfErr result (λ fault. fault ≡ StreamFault.Write → HasRisen (K.faults sink.old) (K.faults sink.new)) }
+{
+    let Ok(mut outgoing) = Outgoing::make(alloc) else {
+        return Err(StreamFault::Memory);
+    };
+    let mut packetiser = Packetiser::make(pid);
+    let mut packet = [0u8; PACKET];
+    let mut next = 0;
+    for slot in 0..slot_count(slots) {
+        next = packet_at(&mut packetiser, pieces, slots, next, slot, &mut packet);
+        if let Err(WriteFailed) = pass_on(sink, &mut outgoing, &packet) {
+            return Err(StreamFault::Write);
+        }
+    }
+    match write_whole(sink, outgoing.as_bytes()) {
+        Ok(()) => Ok(()),
+        Err(WriteFailed) => Err(StreamFault::Write),
+    }
+}
+
+/// How many slots there are up to the last one of the list.
+fn slot_count(slots: &[u64]) -> u64
+    requires { slot_count_of slots.now < 2 ^ 64 }
+    ensures { result ≡ slot_count_of slots.now }
+{
+    match slots {
+        [] => 0,
+        [.., last] => *last + 1,
+    }
+}
