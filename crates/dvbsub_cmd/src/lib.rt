@@ -5,6 +5,7 @@ mod carry_out;
 mod command;
 mod line;
 mod packets;
+mod pieces;
 mod slot_stream;
 mod status;
 
