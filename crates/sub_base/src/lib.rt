@@ -25,3 +25,6 @@ pub use number::{decimal_number, number_in};
 pub use profile::{Profile, ProfileName};
 pub use transfer::{Sink, Source, read_all, write_whole};
 pub use words::Words;
+
+#[cfg(test)]
+mod tests;
