@@ -1,4 +1,10 @@
 pub mod Bits
+pub mod Table
+pub mod First
+pub mod Chosen
+pub mod Writing
+pub mod Rows
+pub mod RowStrings
 pub mod Tokens
 pub mod Strings
 pub mod Parts

@@ -7,32 +7,9 @@ use Rattle.sub_base.specs.declared.depth.Depth.TheVariants.{Two, Four, Eight}
 use Rattle.stream_syntax.specs.PixelCodes.{bits, Code, pixel, one_zero, two_zeros, zeros, short_run, middle_run, long_run, IsCode, pixel_count, colour_of, spelled, ending}
 use Rattle.pixel_codes.specs.declared.token.Token.{Token}
 use Rattle.pixel_codes.specs.declared.token.Token.TheVariants.{Pixels, End}
+pub use Rattle.pixel_codes.specs.Spelling.{width_of}
 use Rattle.pixel_codes.specs.Reading.{field_at, two_at, two_long_at, four_at, four_run_at, eight_at, token_at}
 use Rattle.pixel_codes.proofs.Bits.{length-bits, bits-add, bits-mod, bits-join, IsBits, field_spelled, field_reads, Reads, drop-next}
-
--- the bits of each code
-abbrev pub width_of : Depth → Code → ℕ
-width_of Two (pixel code) = 2
-width_of Two one_zero = 4
-width_of Two two_zeros = 6
-width_of Two (zeros field) = 0
-width_of Two (short_run field code) = 8
-width_of Two (middle_run field code) = 12
-width_of Two (long_run field code) = 16
-width_of Four (pixel code) = 4
-width_of Four one_zero = 8
-width_of Four two_zeros = 8
-width_of Four (zeros field) = 8
-width_of Four (short_run field code) = 12
-width_of Four (middle_run field code) = 16
-width_of Four (long_run field code) = 20
-width_of Eight (pixel code) = 8
-width_of Eight one_zero = 0
-width_of Eight two_zeros = 0
-width_of Eight (zeros field) = 16
-width_of Eight (short_run field code) = 24
-width_of Eight (middle_run field code) = 0
-width_of Eight (long_run field code) = 0
 
 abbrev pub end_width : Depth → ℕ
 end_width Two = 6

@@ -4,13 +4,22 @@
 #![tactic(auto)]
 
 mod block;
+mod choice;
 mod cursor;
 mod field;
+mod least;
 mod part;
+mod pending;
+mod row;
 mod runs;
 mod tables;
 mod token;
 
 pub use block::{CodeBlock, check_block};
+pub use least::run_bits;
+pub use row::write_row;
 pub use runs::Runs;
 pub use stream_syntax::{CodeFault, CodeKind, Run};
+
+#[cfg(test)]
+mod tests;

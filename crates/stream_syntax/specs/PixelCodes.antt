@@ -1,6 +1,6 @@
 -- Pixel code strings (EN 300 743, 2-bit, 4-bit and 8-bit pixel code strings): the codes of a depth, the pixels that
 -- they give, the bits that they are spelled with, and the codes that a writer chooses for a row.
-use Rattle.std.specs.Prelude.{◌≡◌, ℕ, zero, suc, ◌+◌, ◌/◌, ◌%◌, ◌<◌, List, [], ◌∷◌, ◌++◌, length, replicate, flat_map, All}
+use Rattle.std.specs.Prelude.{◌≡◌, ℕ, zero, suc, ◌+◌, ◌/◌, ◌%◌, ◌<◌, ◌≤◌, ◌⊎◌, List, [], ◌∷◌, ◌++◌, length, map, replicate, flat_map, All}
 use Rattle.sub_base.specs.declared.depth.Depth.{Depth}
 use Rattle.sub_base.specs.declared.depth.Depth.TheVariants.{Two, Four, Eight}
 
@@ -126,3 +126,78 @@ pub record IsString (depth : Depth) (codes : List Code) (bytes : List ℕ) : Typ
   pub fill : List ℕ
   pub text : bits_of bytes ≡ string_of depth codes ++ fill
   pub short : length fill < 8
+
+-- the bits of a list of codes, without the end
+abbrev pub bits_in : Depth → List Code → ℕ
+bits_in depth codes = length (flat_map (spelled depth) codes)
+
+-- This is the least number of bits of a run of a code: some list of codes of the depth gives the run with so many
+-- bits, and every list of codes that gives it has at least so many.
+pub record IsLeast (depth : Depth) (code count bits : ℕ) : Type 0 where
+  pub codes : List Code
+  pub given : Gives depth codes (replicate count code)
+  pub reached : bits_in depth codes ≡ bits
+  pub least : (others : List Code) → Gives depth others (replicate count code) → bits ≤ bits_in depth others
+
+-- one list of lengths is at or above another, in order of the first, then the second, and so on
+abbrev pub IsAtLeast : List ℕ → List ℕ → Type 0
+IsAtLeast lengths [] = Unit {0}
+IsAtLeast [] (other ∷ others) = ⊥
+IsAtLeast (length ∷ lengths) (other ∷ others) = (other < length) ⊎ ((length ≡ other) × IsAtLeast lengths others)
+
+-- The codes that a writer chooses for a run of a code: they give it with the least bits, and of all that do their
+-- list of lengths is the greatest.
+pub record IsChosen (depth : Depth) (code count : ℕ) (codes : List Code) : Type 0 where
+  pub given : Gives depth codes (replicate count code)
+  pub least : (others : List Code) → Gives depth others (replicate count code) → bits_in depth codes ≤ bits_in depth others
+  pub greatest : (others : List Code) → Gives depth others (replicate count code) → bits_in depth others ≡ bits_in depth codes → IsAtLeast (map (pixel_count depth) codes) (map (pixel_count depth) others)
+
+-- a run of pixels: how many, and their code
+pub record Span : Type 0 where
+  pub count : ℕ
+  pub code : ℕ
+
+-- no two neighbours have one code
+abbrev pub AreApart : List Span → Type 0
+AreApart [] = Unit {0}
+AreApart (span ∷ []) = Unit {0}
+AreApart (span ∷ next ∷ spans) = (span.code ≡ next.code → ⊥) × AreApart (next ∷ spans)
+
+-- the maximal runs of a row of pixels, in order
+pub record AreMaximalRuns (spans : List Span) (pixels : List ℕ) : Type 0 where
+  pub drawn : flat_map (λ span. replicate span.count span.code) spans ≡ pixels
+  pub some : All (λ span. 0 < span.count) spans
+  pub apart : AreApart spans
+
+-- these codes are the chosen ones of each run, run after run
+abbrev pub AreChosen : Depth → List Span → List Code → Type 0
+AreChosen depth [] codes = codes ≡ []
+AreChosen depth (span ∷ spans) codes = (front : List Code) × (rest : List Code) × (codes ≡ front ++ rest) × IsChosen depth span.code span.count front × AreChosen depth spans rest
+
+-- the sum of the least bits of runs
+abbrev pub IsLeastSum : Depth → List Span → ℕ → Type 0
+IsLeastSum depth [] sum = sum ≡ 0
+IsLeastSum depth (span ∷ spans) sum = (here : ℕ) × (rest : ℕ) × IsLeast depth span.code span.count here × IsLeastSum depth spans rest × (sum ≡ here + rest)
+
+-- These bytes are the string that a writer gives a row of pixels: it spells the row, with the end and fill bits of 0
+-- to a whole byte; no other string that spells the row has fewer bits; and its codes are the chosen ones of the row's
+-- maximal runs.
+pub record IsRowString (depth : Depth) (pixels bytes : List ℕ) : Type 0 where
+  pub codes : List Code
+  pub given : Gives depth codes pixels
+  pub fill : ℕ
+  pub short : fill < 8
+  pub text : bits_of bytes ≡ string_of depth codes ++ replicate fill 0
+  pub each : All (λ byte. byte < 256) bytes
+  pub least : (others : List Code) → Gives depth others pixels → length (string_of depth codes) ≤ length (string_of depth others)
+  pub spans : List Span
+  pub maximal : AreMaximalRuns spans pixels
+  pub chosen : AreChosen depth spans codes
+
+-- how many bytes such a string has: the least bits of the row's maximal runs and the end, in started bytes
+pub record IsRowSize (depth : Depth) (pixels : List ℕ) (size : ℕ) : Type 0 where
+  pub spans : List Span
+  pub maximal : AreMaximalRuns spans pixels
+  pub sum : ℕ
+  pub least : IsLeastSum depth spans sum
+  pub started : size ≡ (sum + length (ending depth) + 7) / 8

@@ -1,0 +1,97 @@
+ghost use Rattle.std.specs.Prelude.{◌≡◌, ℕ, ◌==◌, ◌<◌, ◌≤◌, List, ◌++◌, length, replicate, flat_map, slice_index, take_while, All, OnOk, OnErr};
+ghost use Rattle.sub_base.specs.Depth.{code_count};
+ghost use Rattle.stream_syntax.specs.PixelCodes.{bits, bits_of, spelled, ending, string_of, IsRowString, IsRowSize};
+ghost use Rattle.pixel_codes.specs.Least.{chosen};
+ghost use Rattle.pixel_codes.specs.Lists.{Extends};
+ghost use Rattle.pixel_codes.specs.Rows.{runs_of, codes_of};
+ghost use Rattle.pixel_codes.specs.Stream.{stream};
+
+use crate::choice::first_spelling;
+use crate::pending::Pending;
+use sub_base::{Depth, NoMemory};
+
+/// Appends the pixel code string of a row of pixel codes with its end code, filled with bits 0 to whole bytes
+/// (EN 300 743, 2-bit, 4-bit and 8-bit pixel code strings). Of all strings that spell the row it has the least bits,
+/// and of those for each maximal run the greatest list of lengths. After want of memory `out` is as before.
+pub fn write_row(depth: Depth, codes: &[u8], out: &mut Vec<u8>) -> Result<(), NoMemory>
+    requires { All (λ code. code < code_count depth) codes.now }
+    ensures row { OnOk result ((bytes : List ℕ) × (out.new.items ≡ out.old.items ++ bytes)
+        × IsRowString depth codes.now bytes × IsRowSize depth codes.now (length bytes)) }
+    ensures kept { OnErr result (out.new.items ≡ out.old.items) }
+{
+    let before = out.len();
+    let written = append_row(depth, codes, out);
+    if written.is_err() {
+        out.truncate(before);
+    }
+    written
+}
+
+fn append_row(depth: Depth, codes: &[u8], out: &mut Vec<u8>) -> Result<(), NoMemory>
+    requires { All (λ code. code < code_count depth) codes.now }
+    ensures text { OnOk result ((fill : ℕ) × (fill < 8)
+        × (bits_of out.new.items ≡ bits_of out.old.items ++ (string_of depth (codes_of depth (runs_of codes.now)) ++ replicate fill 0))) }
+    ensures extends { Extends out.old.items out.new.items }
+{
+    let mut pending = Pending::none();
+    let mut place = 0;
+    while place < codes.len() {
+        let count = run_length(&codes[place..]);
+        append_run(depth, codes[place], count, &mut pending, out)?;
+        place += count;
+    }
+    append_end(depth, &mut pending, out)?;
+    pending.finish(out)
+}
+
+/// How many codes at the front are equal.
+fn run_length(codes: &[u8]) -> usize
+    requires { 0 < length codes.now }
+    ensures { result ≡ length (take_while (λ code. code == slice_index codes.now 0) codes.now) }
+{
+    let first = codes[0];
+    codes.iter().take_while(|code| **code == first).count()
+}
+
+/// Appends the codes of a run.
+fn append_run(
+    depth: Depth,
+    code: u8,
+    count: usize,
+    pending: &mut Pending,
+    out: &mut Vec<u8>,
+) -> Result<(), NoMemory>
+    requires { code < code_count depth }
+    ensures text { OnOk result (stream out.new.items pending.new
+        ≡ stream out.old.items pending.old ++ flat_map (spelled depth) (chosen depth code count)) }
+    ensures extends { Extends out.old.items out.new.items }
+{
+    let mut left = count;
+    while left > 0 {
+        let first = first_spelling(depth, code, left);
+        pending.push(first.bits, first.width, out)?;
+        left -= first.pixels;
+    }
+    Ok(())
+}
+
+/// Appends the end of a string.
+fn append_end(depth: Depth, pending: &mut Pending, out: &mut Vec<u8>) -> Result<(), NoMemory>
+    ensures text { OnOk result (stream out.new.items pending.new ≡ stream out.old.items pending.old ++ ending depth) }
+    ensures extends { Extends out.old.items out.new.items }
+{
+    pending.push(0, end_width(depth), out)
+}
+
+/// How many bits, all 0, the end of a string has.
+#[tactic(auto, using(crate::proofs::Rows::two_ending, crate::proofs::Rows::four_ending, crate::proofs::Rows::eight_ending))]
+fn end_width(depth: Depth) -> u32
+    ensures spelled { bits result 0 ≡ ending depth }
+    ensures narrow { result ≤ 24 }
+{
+    match depth {
+        Depth::Two => 6,
+        Depth::Four => 8,
+        Depth::Eight => 16,
+    }
+}
