@@ -1,7 +1,6 @@
 -- What a demultiplexer keeps, and what that has to do with the packets that it was fed.
-use Rattle.std.specs.Prelude.{◌≡◌, ℕ, ◌+◌, Bool, true, false, if◌then◌else◌, List, [], ◌∷◌, ◌++◌, length, take, min, Option, Some, None}
-use Rattle.std.specs.Option.{option_map}
-use Rattle.stream_syntax.specs.Units.{Part, Fate, Waits, Whole, Over, last_counter, hand_after, fate_of, is_waiting, joined}
+use Rattle.std.specs.Prelude.{◌≡◌, ℕ, ◌+◌, Bool, if◌then◌else◌, List, [], ◌∷◌, ◌++◌, take, min, Option, Some, None}
+use Rattle.stream_syntax.specs.Units.{Part, last_counter, hand_after, fate_of, is_waiting, joined}
 
 pub record Demuxing : Type 0 where
   pub pid : ℕ
