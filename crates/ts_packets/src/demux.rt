@@ -128,10 +128,7 @@ impl Demux {
     {
         match kind_of(self.pid, packet)? {
             Kind::Other => Ok(Step::alone(Event::Other)),
-            Kind::Damaged => {
-                self.holds = false;
-                Ok(Step::alone(Event::ErrorFlag))
-            }
+            Kind::Damaged => Ok(self.break_off(Event::ErrorFlag)),
             Kind::Empty => Ok(Step::alone(Event::NoPayload)),
             Kind::Payload(payload) => Ok(self.take(payload)),
         }
@@ -191,9 +188,17 @@ impl Demux {
         if payload.start {
             self.begin(payload.bytes).answer(self.size, event)
         } else {
-            self.holds = false;
-            Step::alone(event)
+            self.break_off(event)
         }
+    }
+
+    /// Drops the unit in hand.
+    fn break_off(&mut self, event: Event) -> Step
+        ensures state { self.new ≡ record self.old { holds = false } }
+        ensures answer { result ≡ record { event = event; unit = None } }
+    {
+        self.holds = false;
+        Step::alone(event)
     }
 
     /// Begins a unit with these bytes.
