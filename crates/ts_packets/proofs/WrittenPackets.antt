@@ -4,7 +4,7 @@ use Rattle.std.proofs.lemmas.Bool.{cases_eq, ne_eqb, le-ltb}
 use Rattle.std.proofs.lemmas.List.{drop_at, length-replicate}
 use Rattle.stream_syntax.specs.BitFields.{packed}
 use Rattle.stream_syntax.specs.Cutting.{CarriesPiece}
-use Rattle.stream_syntax.specs.TransportPackets.{head_groups, adaptation_field, written_packet, null_packet, control_of, counter_of, payload_of, field_length_of, has_bad_field, packet_fault}
+use Rattle.stream_syntax.specs.TransportPackets.{head_groups, written_head, adaptation_field, written_packet, null_packet, control_of, counter_of, payload_of, field_length_of, has_bad_field, packet_fault}
 
 -- what is read of a packet with this head and so many bytes of adaptation field
 pub record HasHead (pid : ℕ) (start : Bool) (control counter first second third : ℕ) : Type 0 where
@@ -48,7 +48,7 @@ no_fault pid start control counter h1 h2 h3 rest head used fits =
 -- a packet with this control and so many bytes of adaptation field
 abbrev packet_with : ℕ → Bool → ℕ → ℕ → ℕ → List ℕ → List ℕ
 packet_with pid start control counter count piece =
-    packed (head_groups (record { error_flag = 0; start_flag = cond start 1 0; priority = 0; pid = pid; scrambling = 0; control = control; counter = counter }))
+    packed (head_groups (written_head pid start control counter))
     ++ (adaptation_field count ++ piece)
 
 abbrev head_of : ℕ → Bool → ℕ → ℕ → List ℕ

@@ -15,6 +15,10 @@ pub record Demuxing : Type 0 where
 abbrev pub hand_of : Demuxing → Option (List ℕ)
 hand_of demux = if demux.holds then Some demux.bytes else None
 
+-- the demultiplexer with these bytes of a unit: it holds them where they wait for more
+abbrev pub taken_up : Demuxing → List ℕ → Demuxing
+taken_up demux unit = record demux { holds = is_waiting (fate_of demux.size unit); bytes = unit }
+
 -- each thing that the demultiplexer keeps is what the definition gives for all packets so far
 pub record Stands (demux : Demuxing) (packets : List (List ℕ)) : Type 0 where
   pub counter : demux.counter ≡ last_counter demux.pid packets

@@ -1,6 +1,6 @@
 ghost use Rattle.std.specs.Prelude.{◌≡◌, ℕ, ◌+◌, ◌-◌, ◌*◌, ◌^◌, ◌<◌, ◌≤◌, ◌==◌, ◌≢◌, if◌then◌else◌, List, length, None};
 ghost use Rattle.stream_syntax.specs.BitFields.{packed};
-ghost use Rattle.stream_syntax.specs.TransportPackets.{PacketHead, head_groups, adaptation_field, written_packet, null_packet as null_bytes, pid_of, counter_of, packet_fault};
+ghost use Rattle.stream_syntax.specs.TransportPackets.{written_head, head_groups, adaptation_field, written_packet, null_packet as null_bytes, pid_of, counter_of, packet_fault};
 ghost use Rattle.stream_syntax.specs.Cutting.{CarriesPiece};
 ghost use Rattle.ts_packets.specs.Numbering.{after_packet};
 
@@ -106,7 +106,7 @@ fn head_of(pid: u16, start: bool, control: u8, counter: u8) -> [u8; HEAD_LENGTH]
     requires pid { pid < 8192 }
     requires control { control < 4 }
     requires counter { counter < 16 }
-    ensures { result ≡ packed (head_groups (record { error_flag = 0; start_flag = if start then 1 else 0; priority = 0; pid = pid; scrambling = 0; control = control; counter = counter })) }
+    ensures { result ≡ packed (head_groups (written_head pid start control counter)) }
 {
     let flags: u16 = if start { 0x4000 } else { 0 };
     let mut head = [SYNC_BYTE, 0, 0, 16 * control + counter];
