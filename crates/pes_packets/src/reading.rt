@@ -1,7 +1,7 @@
-ghost use Rattle.std.specs.Prelude.{◌≡◌, ℕ, ◌+◌, ◌*◌, ◌/◌, ◌%◌, ◌^◌, ◌<◌, ◌≤◌, List, length, drop, slice_index, MatchOption, None, Some, Ok, Err, IsOkAnd, IfOk, IfErr};
+ghost use Rattle.std.specs.Prelude.{◌≡◌, ℕ, ◌+◌, ◌*◌, ◌/◌, ◌%◌, ◌^◌, ◌<◌, ◌≤◌, List, length, drop, slice_index, None, Some, Ok, Err, IsOkAnd, IfNone, IfOk, IfErr};
 ghost use Rattle.std.specs.Bool.{OnFalse};
 ghost use Rattle.byteorder.specs.Endian.{big_number};
-ghost use Rattle.stream_syntax.specs.Pes.{Gives, IsPes, pes_fault, pes_of, pts_in, segments_in};
+ghost use Rattle.stream_syntax.specs.Pes.{Gives, IsPes, field_place, pes_fault, pes_of, pts_in, segments_in};
 ghost use Rattle.stream_syntax.specs.Pes.{lacks_prefix as prefix_fails, has_bad_head as head_fails, has_bad_header_length as header_length_fails, lacks_marker as marker_fails, is_other_field as field_fails};
 
 use crate::writing::PRIVATE_STREAM_1;
@@ -23,7 +23,8 @@ const FIXED_LENGTH: usize = 9;
 pub fn read_pes(bytes: &[u8]) -> Result<Pes<'_>, PesFault>
     // What is read has the layout, and what has the layout is read.
     ensures found { IfOk result (λ pes. IsPes bytes.now pes.pts pes.segments.now) }
-    ensures only { (pts : ℕ) (segments : List ℕ) → IsPes bytes.now pts segments → IsOkAnd result (λ pes. (pes.pts ≡ pts) × (pes.segments.now ≡ segments)) }
+    ensures only { (pts : ℕ) (segments : List ℕ) → IsPes bytes.now pts segments
+        → IsOkAnd result (λ pes. (pes.pts ≡ pts) × (pes.segments.now ≡ segments)) }
 
     // A fault is that of the first test that fails.
     ensures fault { IfErr result (λ fault. pes_fault bytes.now ≡ Some fault) }
@@ -48,7 +49,7 @@ fn read(bytes: &[u8]) -> Result<Pes<'_>, PesFault>
 /// The fault of the first test that the bytes fail.
 fn fault_of(bytes: &[u8]) -> Option<PesFault>
     ensures first { result ≡ pes_fault bytes.now }
-    ensures long { MatchOption result ((11 + slice_index bytes.now 8 ≤ length bytes.now) × (5 ≤ slice_index bytes.now 8)) (λ _. Unit {0}) }
+    ensures long { IfNone result ((field_place bytes.now + 2 ≤ length bytes.now) × (5 ≤ slice_index bytes.now 8)) }
 {
     if lacks_prefix(bytes) {
         return Some(PesFault::NoPrefix);
@@ -100,7 +101,7 @@ fn has_bad_head(bytes: &[u8]) -> bool
 fn has_bad_header_length(bytes: &[u8]) -> bool
     requires { 9 ≤ length bytes.now }
     ensures exact { result ≡ header_length_fails bytes.now }
-    ensures enough { OnFalse result ((11 + slice_index bytes.now 8 ≤ length bytes.now) × (5 ≤ slice_index bytes.now 8)) }
+    ensures enough { OnFalse result ((field_place bytes.now + 2 ≤ length bytes.now) × (5 ≤ slice_index bytes.now 8)) }
 {
     bytes[8] < 5 || bytes.len() < FIXED_LENGTH + usize::from(bytes[8]) + 2
 }
@@ -115,7 +116,7 @@ fn lacks_marker(bytes: &[u8]) -> bool
 
 /// Tells a data field of another data identifier or subtitle stream id.
 fn is_other_field(bytes: &[u8]) -> bool
-    requires { 11 + slice_index bytes.now 8 ≤ length bytes.now }
+    requires { field_place bytes.now + 2 ≤ length bytes.now }
     ensures exact { result ≡ field_fails bytes.now }
 {
     let field = FIXED_LENGTH + usize::from(bytes[8]);

@@ -1,4 +1,5 @@
-ghost use Rattle.std.specs.Prelude.{◌≡◌, ◌+◌, ◌-◌, ◌*◌, ◌%◌, ◌^◌, ◌<◌, ◌≤◌, [], ◌∷◌, ◌++◌, length, take, drop, OnOk, OnErr, Ok};
+ghost use Rattle.std.specs.Prelude.{◌≡◌, ℕ, ◌+◌, ◌-◌, ◌*◌, ◌%◌, ◌^◌, ◌<◌, ◌≤◌, [], ◌∷◌, ◌++◌, length, take, drop, OnOk, OnErr, Ok};
+ghost use Rattle.stream_syntax.specs.Cutting.{IsUnit};
 ghost use Rattle.stream_syntax.specs.Pes.{IsPes, pes_of, written_header, written_pes};
 
 use byteorder::{BigEndian, ByteOrder};
@@ -26,6 +27,9 @@ pub fn write_pes(pts: u64, field: &[u8], out: &mut Vec<u8>) -> Result<(), NoMemo
     // The bytes are a PES packet of this time, which holds what follows the field's first two bytes.
     ensures packet { IsPes (written_pes pts field.now) pts (drop 2 field.now) }
     ensures read_again { pes_of (written_pes pts field.now) ≡ Ok (pts, drop 2 field.now) }
+
+    // It is a unit that a demultiplexer of that size or more hands out whole.
+    ensures unit { (size : ℕ) → 14 + length field.now ≤ size → IsUnit size (written_pes pts field.now) }
     ensures size { length (written_pes pts field.now) ≡ 14 + length field.now }
 {
     out.reserve(HEADER_LENGTH + field.len())?;

@@ -1,5 +1,6 @@
 pub mod BitFields
 pub mod Fields
+pub mod Cutting
 pub mod Pes
 pub mod PixelBlocks
 pub mod PixelCodes

@@ -1,5 +1,5 @@
 -- Transport packets (ISO/IEC 13818-1, 2.4.3.2 to 2.4.3.5). A packet is a list of 188 bytes.
-use Rattle.std.specs.Prelude.{ℕ, zero, suc, ◌+◌, ◌-◌, ◌*◌, ◌/◌, ◌%◌, Bool, ◌==◌, ◌||◌, ◌&&◌, not, nat_lt, if◌then◌else◌, List, [], ◌∷◌, ◌++◌, length, drop, replicate, slice_index, find, Option, Some, None}
+use Rattle.std.specs.Prelude.{ℕ, zero, suc, ◌+◌, ◌-◌, ◌*◌, ◌/◌, ◌%◌, Bool, false, ◌==◌, ◌||◌, ◌&&◌, not, nat_lt, if◌then◌else◌, List, [], ◌∷◌, ◌++◌, length, drop, replicate, slice_index, find, Option, Some, None}
 use Rattle.std.specs.Option.{option_map}
 use Rattle.stream_syntax.specs.declared.transport.PacketFault.{PacketFault}
 use Rattle.stream_syntax.specs.declared.transport.PacketFault.TheVariants.{NoSync, ReservedControl, BadAdaptation, Scrambled}
@@ -94,17 +94,18 @@ adaptation_field zero = []
 adaptation_field (suc zero) = 0 ∷ []
 adaptation_field (suc (suc stuffing)) = (stuffing + 1) ∷ 0 ∷ replicate stuffing 0xFF
 
+-- a head without error flag, priority and scrambling
+abbrev pub written_head : ℕ → Bool → ℕ → ℕ → PacketHead
+written_head number start kind count = record {
+    error_flag = 0; start_flag = if start then 1 else 0; priority = 0; pid = number; scrambling = 0; control = kind; counter = count
+  }
+
 -- a packet with this piece of a unit: an adaptation field takes the place that the piece leaves
 abbrev pub written_packet : ℕ → Bool → ℕ → List ℕ → List ℕ
 written_packet pid start counter piece =
-    let head : PacketHead = record {
-        error_flag = 0; start_flag = if start then 1 else 0; priority = 0; pid = pid; scrambling = 0;
-        control = if length piece == 184 then 1 else 3; counter = counter
-      } in
-    packed (head_groups head) ++ (adaptation_field (184 - length piece) ++ piece)
+    packed (head_groups (written_head pid start (if length piece == 184 then 1 else 3) counter))
+    ++ (adaptation_field (184 - length piece) ++ piece)
 
 -- the packet that a multiplex has where nothing is to be sent
 abbrev pub null_packet : List ℕ
-null_packet =
-    packed (head_groups (record { error_flag = 0; start_flag = 0; priority = 0; pid = 0x1FFF; scrambling = 0; control = 1; counter = 0 }))
-    ++ replicate 184 0xFF
+null_packet = packed (head_groups (written_head 0x1FFF false 1 0)) ++ replicate 184 0xFF

@@ -1,5 +1,5 @@
 -- How an adaptation field is written.
-use Rattle.std.proofs.Common.{◌≡◌, ℕ, zero, suc, ◌+◌, ◌-◌, ◌<◌, ◌≤◌, List, [], ◌∷◌, replicate, set, refl, ap, arith}
+use Rattle.std.proofs.Common.{◌≡◌, ℕ, zero, suc, ◌-◌, ◌<◌, ◌∷◌, replicate, set, refl, ap, arith}
 use Rattle.stream_syntax.specs.TransportPackets.{adaptation_field}
 
 -- the count and the flags over a field of stuffing

@@ -1,8 +1,8 @@
 -- The units of a list with one more packet at its end.
-use Rattle.std.proofs.Common.{◌≡◌, ℕ, ◌<◌, Bool, true, false, cond, ◌&&◌, ◌||◌, not, List, [], ◌∷◌, ◌++◌, map, reverse, Option, Some, None, refl, sym, ap, ◌∙◌, append_assoc}
+use Rattle.std.proofs.Common.{◌≡◌, ℕ, Bool, true, false, cond, ◌&&◌, ◌||◌, not, List, [], ◌∷◌, ◌++◌, map, reverse, Option, Some, None, refl, sym, ap, ◌∙◌, append_assoc}
 use Rattle.std.specs.Prelude.{find}
 use Rattle.std.specs.Option.{option_map}
-use Rattle.std.specs.List.{list_any, list_all, flat_map, filter_map, cons_option}
+use Rattle.std.specs.List.{list_any, list_all, filter_map, cons_option}
 use Rattle.std.proofs.lemmas.List.{append-nil, reverse-append, map-append}
 use Rattle.stream_syntax.specs.TransportPackets.{counter_of}
 use Rattle.stream_syntax.specs.Units.{is_payload, last_counter, Part, Begins, Adds, Breaks, part_of, each_after, parts_of, begins_unit, breaks_unit, bytes_in, fate_of, is_waiting, last_unit, fronts, gathered, stays_in_hand, unit_in_hand, hand_after, joined}

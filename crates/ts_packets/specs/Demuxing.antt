@@ -1,7 +1,6 @@
 -- What a demultiplexer keeps, and what that has to do with the packets that it was fed.
-use Rattle.std.specs.Prelude.{◌≡◌, ℕ, ◌+◌, Bool, true, false, if◌then◌else◌, List, [], ◌∷◌, ◌++◌, length, take, min, Option, Some, None}
-use Rattle.std.specs.Option.{option_map}
-use Rattle.stream_syntax.specs.Units.{Part, Fate, Waits, Whole, Over, last_counter, hand_after, fate_of, is_waiting, joined}
+use Rattle.std.specs.Prelude.{◌≡◌, ℕ, ◌+◌, Bool, if◌then◌else◌, List, [], ◌∷◌, ◌++◌, take, min, Option, Some, None}
+use Rattle.stream_syntax.specs.Units.{Part, last_counter, hand_after, fate_of, is_waiting, joined}
 
 pub record Demuxing : Type 0 where
   pub pid : ℕ
@@ -15,6 +14,10 @@ pub record Demuxing : Type 0 where
 -- the bytes of the unit in hand
 abbrev pub hand_of : Demuxing → Option (List ℕ)
 hand_of demux = if demux.holds then Some demux.bytes else None
+
+-- the demultiplexer with these bytes of a unit: it holds them where they wait for more
+abbrev pub taken_up : Demuxing → List ℕ → Demuxing
+taken_up demux unit = record demux { holds = is_waiting (fate_of demux.size unit); bytes = unit }
 
 -- each thing that the demultiplexer keeps is what the definition gives for all packets so far
 pub record Stands (demux : Demuxing) (packets : List (List ℕ)) : Type 0 where

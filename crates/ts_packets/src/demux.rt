@@ -66,12 +66,12 @@ struct Step {
 }
 
 impl Demux {
-    ghost use Rattle.std.specs.Prelude.{◌≡◌, ℕ, ◌+◌, ◌≤◌, Bool, true, false, if◌then◌else◌, List, [], ◌∷◌, ◌++◌, length, MatchResult, IfOk, Some, None};
+    ghost use Rattle.std.specs.Prelude.{◌≡◌, ℕ, ◌≤◌, true, false, List, [], ◌++◌, length, MatchResult, IfOk, Some, None};
     ghost use Rattle.std.specs.Option.{option_copied, ForSome};
     ghost use Rattle.std.specs.Borrow.{sem};
-    ghost use Rattle.stream_syntax.specs.TransportPackets.{packet_fault, counter_of};
-    ghost use Rattle.stream_syntax.specs.Units.{Next, Missing, is_payload, fate_of, is_waiting, part_after, event_after, unit_after, event_at, unit_at, payload_event, payload_part, succession};
-    ghost use Rattle.ts_packets.specs.Demuxing.{hand_of, next_hand, lent_bytes, Stands};
+    ghost use Rattle.stream_syntax.specs.TransportPackets.{packet_fault};
+    ghost use Rattle.stream_syntax.specs.Units.{Next, Missing, fate_of, event_at, unit_at, succession};
+    ghost use Rattle.ts_packets.specs.Demuxing.{lent_bytes, taken_up, Stands};
     ghost use Rattle.ts_packets.specs.Fates.{IsFate};
     ghost use Rattle.ts_packets.specs.Feeding.{IsFed};
     ghost use Rattle.ts_packets.specs.Steps.{Answers, StepsOn};
@@ -98,11 +98,14 @@ impl Demux {
         ensures* after { sem 𝓛 (IsFed self.entry packet.now result) }
 
         // The fault is that of the packet's first failing test.
-        ensures fault { MatchResult result (λ fed. packet_fault self.old.pid packet.now ≡ None) (λ fault. packet_fault self.old.pid packet.now ≡ Some fault) }
+        ensures fault { MatchResult result (λ _. packet_fault self.old.pid packet.now ≡ None)
+            (λ fault. packet_fault self.old.pid packet.now ≡ Some fault) }
 
         // For each list of packets that it stands for, the answer is the event and the unit at this packet behind them.
-        ensures event { IfOk result (λ fed. (packets : List (List ℕ)) → Stands self.old packets → fed.event ≡ event_at self.old.pid self.old.size packets packet.now) }
-        ensures unit { IfOk result (λ fed. (packets : List (List ℕ)) → Stands self.old packets → option_copied fed.unit ≡ unit_at self.old.pid self.old.size packets packet.now) }
+        ensures event { IfOk result (λ fed. (packets : List (List ℕ)) → Stands self.old packets
+            → fed.event ≡ event_at self.old.pid self.old.size packets packet.now) }
+        ensures unit { IfOk result (λ fed. (packets : List (List ℕ)) → Stands self.old packets
+            → option_copied fed.unit ≡ unit_at self.old.pid self.old.size packets packet.now) }
     {
         let step = self.step(packet)?;
         Ok(Fed {
@@ -124,14 +127,12 @@ impl Demux {
 
     /// Takes one packet, or finds why it cannot be taken.
     fn step(&mut self, packet: &[u8; 188]) -> Result<Step, PacketFault>
-        ensures { MatchResult result (λ step. StepsOn self.old self.new step packet.now) (λ fault. (self.new ≡ self.old) × (packet_fault self.old.pid packet.now ≡ Some fault)) }
+        ensures { MatchResult result (λ step. StepsOn self.old self.new step packet.now)
+            (λ fault. (self.new ≡ self.old) × (packet_fault self.old.pid packet.now ≡ Some fault)) }
     {
         match kind_of(self.pid, packet)? {
             Kind::Other => Ok(Step::alone(Event::Other)),
-            Kind::Damaged => {
-                self.holds = false;
-                Ok(Step::alone(Event::ErrorFlag))
-            }
+            Kind::Damaged => Ok(self.break_off(Event::ErrorFlag)),
             Kind::Empty => Ok(Step::alone(Event::NoPayload)),
             Kind::Payload(payload) => Ok(self.take(payload)),
         }
@@ -140,7 +141,8 @@ impl Demux {
     /// Takes a packet's payload by its counter.
     fn take(&mut self, payload: Payload<'_>) -> Step
         requires { length payload.bytes.now ≤ 184 }
-        ensures answers { Answers self.old self.new result (succession self.old.counter payload.entry.counter) payload.entry.start payload.entry.bytes.now }
+        ensures answers { let order = succession self.old.counter payload.entry.counter in
+            Answers self.old self.new result order payload.entry.start payload.entry.bytes.now }
         ensures counter { self.new.counter ≡ Some payload.entry.counter }
     {
         let last = self.counter;
@@ -181,7 +183,8 @@ impl Demux {
     /// Takes a payload behind missing packets.
     fn resume(&mut self, expected: u8, payload: Payload<'_>) -> Step
         requires { length payload.bytes.now ≤ 184 }
-        ensures answers { Answers self.old self.new result (Missing expected payload.entry.counter) payload.entry.start payload.entry.bytes.now }
+        ensures answers { let order = Missing expected payload.entry.counter in
+            Answers self.old self.new result order payload.entry.start payload.entry.bytes.now }
         ensures counter { self.new.counter ≡ self.old.counter }
     {
         let event = Event::Gap {
@@ -191,15 +194,23 @@ impl Demux {
         if payload.start {
             self.begin(payload.bytes).answer(self.size, event)
         } else {
-            self.holds = false;
-            Step::alone(event)
+            self.break_off(event)
         }
+    }
+
+    /// Drops the unit in hand.
+    fn break_off(&mut self, event: Event) -> Step
+        ensures state { self.new ≡ record self.old { holds = false } }
+        ensures answer { result ≡ record { event = event; unit = None } }
+    {
+        self.holds = false;
+        Step::alone(event)
     }
 
     /// Begins a unit with these bytes.
     fn begin(&mut self, payload: &[u8]) -> Fate
         requires { length payload.now ≤ 184 }
-        ensures state { self.new ≡ record self.old { holds = is_waiting (fate_of self.old.size payload.now); bytes = payload.now } }
+        ensures state { self.new ≡ taken_up self.old payload.now }
         ensures fate { IsFate self.old.size payload.now (fate_of self.old.size payload.now) result }
     {
         self.bytes.clear();
@@ -211,8 +222,9 @@ impl Demux {
     fn join(&mut self, payload: &[u8]) -> Fate
         requires held { self.old.holds ≡ true }
         requires short { length payload.now ≤ 184 }
-        ensures state { self.new ≡ record self.old { holds = is_waiting (fate_of self.old.size (self.old.bytes ++ payload.now)); bytes = self.old.bytes ++ payload.now } }
-        ensures fate { IsFate self.old.size (self.old.bytes ++ payload.now) (fate_of self.old.size (self.old.bytes ++ payload.now)) result }
+        ensures state { self.new ≡ taken_up self.old (self.old.bytes ++ payload.now) }
+        ensures fate { let bytes = self.old.bytes ++ payload.now in
+            IsFate self.old.size bytes (fate_of self.old.size bytes) result }
     {
         self.bytes.extend_from_slice(payload).unwrap();
         let fate = fate_of_unit(self.size, &self.bytes);

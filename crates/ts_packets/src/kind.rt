@@ -28,7 +28,8 @@ pub struct Payload<'a> {
 
 /// Reads what a packet is for a PID, with the first of its faults. A packet of another PID costs two comparisons.
 pub fn kind_of(pid: u16, packet: &[u8; 188]) -> Result<Kind<'_>, PacketFault>
-    ensures { MatchResult result (λ kind. (packet_fault pid packet.now ≡ None) × IsKind pid packet.now kind) (λ fault. packet_fault pid packet.now ≡ Some fault) }
+    ensures { MatchResult result (λ kind. (packet_fault pid packet.now ≡ None) × IsKind pid packet.now kind)
+        (λ fault. packet_fault pid packet.now ≡ Some fault) }
 {
     if packet[0] != SYNC_BYTE {
         return Err(PacketFault::NoSync);

@@ -4,9 +4,11 @@
 
 mod demux;
 mod kind;
+mod laws;
 mod packetiser;
 
 pub use demux::{Demux, Fed};
+pub use laws::every_cutting_gives_its_unit;
 pub use packetiser::{Packetiser, null_packet};
 pub use stream_syntax::{Event, PacketFault};
 

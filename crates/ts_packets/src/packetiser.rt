@@ -1,6 +1,7 @@
-ghost use Rattle.std.specs.Prelude.{◌≡◌, ℕ, ◌+◌, ◌-◌, ◌*◌, ◌^◌, ◌<◌, ◌≤◌, ◌==◌, if◌then◌else◌, List, length};
+ghost use Rattle.std.specs.Prelude.{◌≡◌, ℕ, ◌+◌, ◌-◌, ◌*◌, ◌^◌, ◌<◌, ◌≤◌, ◌==◌, ◌≢◌, if◌then◌else◌, List, length, None};
 ghost use Rattle.stream_syntax.specs.BitFields.{packed};
-ghost use Rattle.stream_syntax.specs.TransportPackets.{PacketHead, head_groups, adaptation_field, written_packet, null_packet as null_bytes};
+ghost use Rattle.stream_syntax.specs.TransportPackets.{written_head, head_groups, adaptation_field, written_packet, null_packet as null_bytes, pid_of, counter_of, packet_fault};
+ghost use Rattle.stream_syntax.specs.Cutting.{CarriesPiece};
 ghost use Rattle.ts_packets.specs.Numbering.{after_packet};
 
 use byteorder::{BigEndian, ByteOrder};
@@ -56,20 +57,27 @@ impl Packetiser {
         requires fits { length piece.now ≤ 184 }
         ensures bytes { out.new ≡ written_packet self.old.pid start self.old.counter piece.now }
         ensures counter { self.new ≡ after_packet self.old }
+
+        // What is written is read again.
+        ensures carries { CarriesPiece self.old.pid start piece.now out.new }
+        ensures number { counter_of out.new ≡ self.old.counter }
+        ensures taken { packet_fault self.old.pid out.new ≡ None }
     {
-        let room = PAYLOAD_LENGTH - piece.len();
-        let control = if room == 0 { 1 } else { 3 };
-        let (head, rest) = out.split_at_mut(HEAD_LENGTH);
-        let (field, payload) = rest.split_at_mut(room);
-        head.copy_from_slice(&head_of(self.pid, start, control, self.counter));
-        write_adaptation_field(field);
-        payload.copy_from_slice(piece);
+        write_packet(self.pid, self.counter, piece, start, out);
         self.counter = (self.counter + 1) % 16;
     }
 }
 
 /// Writes the packet that a multiplex has where nothing is to be sent.
 pub fn null_packet(out: &mut [u8; 188])
+    ensures bytes { out.new ≡ null_bytes }
+    ensures pid { pid_of out.new ≡ 0x1FFF }
+    ensures taken { (pid : ℕ) → pid ≢ 0x1FFF → packet_fault pid out.new ≡ None }
+{
+    write_null_packet(out);
+}
+
+fn write_null_packet(out: &mut [u8; 188])
     ensures { out.new ≡ null_bytes }
 {
     let (head, payload) = out.split_at_mut(HEAD_LENGTH);
@@ -77,12 +85,28 @@ pub fn null_packet(out: &mut [u8; 188])
     payload.fill(STUFFING);
 }
 
+/// Writes a packet with a payload, and an adaptation field where the payload leaves room.
+fn write_packet(pid: u16, counter: u8, piece: &[u8], start: bool, out: &mut [u8; 188])
+    requires pid { pid < 8192 }
+    requires counter { counter < 16 }
+    requires fits { length piece.now ≤ 184 }
+    ensures { out.new ≡ written_packet pid start counter piece.now }
+{
+    let room = PAYLOAD_LENGTH - piece.len();
+    let control = if room == 0 { 1 } else { 3 };
+    let (head, rest) = out.split_at_mut(HEAD_LENGTH);
+    let (field, payload) = rest.split_at_mut(room);
+    head.copy_from_slice(&head_of(pid, start, control, counter));
+    write_adaptation_field(field);
+    payload.copy_from_slice(piece);
+}
+
 /// A packet's head without error flag, priority and scrambling.
 fn head_of(pid: u16, start: bool, control: u8, counter: u8) -> [u8; HEAD_LENGTH]
     requires pid { pid < 8192 }
     requires control { control < 4 }
     requires counter { counter < 16 }
-    ensures { result ≡ packed (head_groups (record { error_flag = 0; start_flag = if start then 1 else 0; priority = 0; pid = pid; scrambling = 0; control = control; counter = counter })) }
+    ensures { result ≡ packed (head_groups (written_head pid start control counter)) }
 {
     let flags: u16 = if start { 0x4000 } else { 0 };
     let mut head = [SYNC_BYTE, 0, 0, 16 * control + counter];

@@ -1,6 +1,6 @@
 use Rattle.std.proofs.Common.{◌++◌, List, ℕ, ap, ◌∙◌}
 use Rattle.pes_packets.proofs.PesLayout.{pes_is_read}
-use Rattle.pes_packets.proofs.Written.{written_is_pes, two_pieces}
+use Rattle.pes_packets.proofs.Written.{written_is_pes, written_is_unit, two_pieces}
 use Rattle.pes_packets.proofs.writing.write_pes.Goals as goal
 
 pub returns-in_err-reserve-clause-packet : goal.returns-in_err-reserve-clause-packet
@@ -21,3 +21,9 @@ returns-clause-bytes c =
 
 pub returns-clause-packet : goal.returns-clause-packet
 returns-clause-packet c = written_is_pes _ _ c.requires.time c.requires.fits c.requires.subtitles
+
+pub returns-clause-unit : goal.returns-clause-unit
+returns-clause-unit c = written_is_unit _ _ c.requires.fits
+
+pub returns-in_err-reserve-clause-unit : goal.returns-in_err-reserve-clause-unit
+returns-in_err-reserve-clause-unit c = written_is_unit _ _ c.requires.fits

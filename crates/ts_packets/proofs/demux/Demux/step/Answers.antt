@@ -9,7 +9,8 @@ returns-in-Other c =
 pub returns-in-Damaged : goal.returns-in-Damaged
 returns-in-Damaged c =
     let kind = rw c.in-Damaged.is at c.in_ok-kind_of.ensures in
-    rw (c.alone-in-Damaged.ensures, ← c.self.view_is) (damaged_steps _ _ kind.0 kind.1.0 kind.1.1)
+    rw (c.break_off.ensures.state, c.break_off.ensures.answer)
+    (damaged_steps _ _ (rw (← c.self.view_is) kind.0) (rw (← c.self.view_is) kind.1.0) kind.1.1)
 
 pub returns-in-Empty : goal.returns-in-Empty
 returns-in-Empty c =
