@@ -9,3 +9,4 @@ pub mod Regions
 pub mod Checks
 pub mod Displays
 pub mod Cluts
+pub mod Bodies

@@ -8,6 +8,7 @@ use Rattle.sub_base.specs.declared.depth.Depth.{Depth}
 use Rattle.sub_base.specs.declared.depth.Depth.TheVariants.{Two, Four, Eight}
 use Rattle.stream_syntax.specs.Fields.{Field, number, reserved, HasFields, FitsFields}
 use Rattle.stream_syntax.specs.PixelCodes.{bits_of}
+use Rattle.stream_syntax.specs.SegmentTests.{AreBlocks}
 use Rattle.stream_syntax.specs.declared.clut.ClutEntry.{ClutEntry}
 use Rattle.stream_syntax.specs.declared.display.Window.{Window}
 use Rattle.stream_syntax.specs.declared.page.PageEntry.{PageEntry}
@@ -250,12 +251,13 @@ abbrev pub IsWindowOf : ℕ → ℕ → Option Window → Type 0
 IsWindowOf width height None = Unit {0}
 IsWindowOf width height (Some window) = (window.left ≤ window.right) × (window.right < width) × (window.top ≤ window.bottom) × (window.bottom < height)
 
--- what is asked of a value beyond its table: sides are at least 1, and a window lies inside the display
+-- what is asked of a value beyond its table: sides are at least 1, the blocks of an object are in their grammar, and a
+-- window lies inside the display
 abbrev pub IsRight : SegmentValue → Type 0
 IsRight (of_page value) = Unit {0}
 IsRight (of_region value) = (1 ≤ value.head.width) × (1 ≤ value.head.height)
 IsRight (of_clut value) = Unit {0}
-IsRight (of_object value) = Unit {0}
+IsRight (of_object value) = AreBlocks value.top value.bottom
 IsRight (of_display value) = (1 ≤ value.width) × (1 ≤ value.height) × IsWindowOf value.width value.height value.window
 IsRight end_of_set = Unit {0}
 IsRight passed_over = Unit {0}
