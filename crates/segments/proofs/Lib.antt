@@ -10,3 +10,5 @@ pub mod Checks
 pub mod Displays
 pub mod Cluts
 pub mod Bodies
+pub mod Objects
+pub mod Passing
