@@ -99,7 +99,7 @@ display_laid body fits long longer =
 
 -- ---- what has the table is read
 
-plain_again : (further version width height : ℕ) (body : List ℕ) → AreBytes body → 1 ≤ width → 1 ≤ height → FitsFields (display_fields further (record { version = version; width = width; height = height; window = None }))
+pub plain_again : (further version width height : ℕ) (body : List ℕ) → AreBytes body → 1 ≤ width → 1 ≤ height → FitsFields (display_fields further (record { version = version; width = width; height = height; window = None }))
     → HasFields (display_fields further (record { version = version; width = width; height = height; window = None })) (bits_of body)
     → (display_in body ≡ record { version = version; width = width; height = height; window = None }) × (5 ≤ length body) × (has_window body ≡ false)
 plain_again further version width height (flags ∷ w1 ∷ w0 ∷ h1 ∷ h0 ∷ rest) fits wide high fit has =
@@ -116,7 +116,7 @@ plain_again further version width height (a ∷ b ∷ []) fits wide high fit has
 plain_again further version width height (a ∷ b ∷ c ∷ []) fits wide high fit has = absurd (omega (arith, fields_bytes _ (a ∷ b ∷ c ∷ []) has))
 plain_again further version width height (a ∷ b ∷ c ∷ d ∷ []) fits wide high fit has = absurd (omega (arith, fields_bytes _ (a ∷ b ∷ c ∷ d ∷ []) has))
 
-window_again : (further version width height : ℕ) (window : Window) (body : List ℕ) → AreBytes body → 1 ≤ width → 1 ≤ height → FitsFields (display_fields further (record { version = version; width = width; height = height; window = Some window }))
+pub window_again : (further version width height : ℕ) (window : Window) (body : List ℕ) → AreBytes body → 1 ≤ width → 1 ≤ height → FitsFields (display_fields further (record { version = version; width = width; height = height; window = Some window }))
     → HasFields (display_fields further (record { version = version; width = width; height = height; window = Some window })) (bits_of body)
     → (display_in body ≡ (record { version = version; width = width; height = height; window = Some window })) × (13 ≤ length body) × (has_window body ≡ true)
 window_again further version width height window (flags ∷ w1 ∷ w0 ∷ h1 ∷ h0 ∷ l1 ∷ l0 ∷ r1 ∷ r0 ∷ t1 ∷ t0 ∷ b1 ∷ b0 ∷ rest) fits wide high fit has =

@@ -12,3 +12,4 @@ pub mod Cluts
 pub mod Bodies
 pub mod Objects
 pub mod Passing
+pub mod Whole

@@ -38,29 +38,29 @@ and_there : (a b : Bool) → (a ≡ true → b ≡ false) → (a && b) ≡ false
 and_there true b h = h refl
 and_there false b h = refl
 
-and_true : (a b : Bool) → (a && b) ≡ true → (a ≡ true) × (b ≡ true)
+pub and_true : (a b : Bool) → (a && b) ≡ true → (a ≡ true) × (b ≡ true)
 and_true true b e = (refl, e)
 and_true false b e = absurd cc
 
-both_true : (a b : Bool) → a ≡ true → b ≡ true → (a && b) ≡ true
+pub both_true : (a b : Bool) → a ≡ true → b ≡ true → (a && b) ≡ true
 both_true true b e f = f
 both_true false b e f = absurd cc
 
-not_false : (a : Bool) → not a ≡ false → a ≡ true
+pub not_false : (a : Bool) → not a ≡ false → a ≡ true
 not_false true e = refl
 not_false false e = absurd cc
 
-not_true : (a : Bool) → not a ≡ true → a ≡ false
+pub not_true : (a : Bool) → not a ≡ true → a ≡ false
 not_true true e = absurd cc
 not_true false e = refl
 
-equal_there : (m n : ℕ) → m ≡ n → (m == n) ≡ true
+pub equal_there : (m n : ℕ) → m ≡ n → (m == n) ≡ true
 equal_there m n e = grind (arith, nat_tests)
 
-unequal : (m n : ℕ) → (m == n) ≡ false → m ≢ n
+pub unequal : (m n : ℕ) → (m == n) ≡ false → m ≢ n
 unequal m n e same = grind (arith, nat_tests)
 
-unequal_there : (m n : ℕ) → m ≢ n → (m == n) ≡ false
+pub unequal_there : (m n : ℕ) → m ≢ n → (m == n) ≡ false
 unequal_there m n differ = grind (arith, nat_tests)
 
 -- ---- pages
@@ -158,6 +158,12 @@ size_cases false true true e = inr (refl, refl)
 size_cases false true false e = absurd cc
 size_cases false false last e = absurd cc
 
+plus_none : (n : ℕ) → n ≡ n + 0
+plus_none n = omega arith
+
+below_one : (n : ℕ) → n < 4 → n ≢ 1 → n ≢ 2 → n ≢ 3 → n ≡ 0
+below_one n lt one two three = omega (arith, one, two, three)
+
 pub object_asks : (body : List ℕ) → first_fault (object_tests body) ≡ None → (padded : Bool) × ObjectAsks body padded
 object_asks body none =
     let a = none_from _ _ _ none in
@@ -170,11 +176,11 @@ object_asks body none =
     let two : coding_method body ≢ 2 = unequal _ _ c.0 in
     let three : coding_method body ≢ 3 = unequal _ _ d.0 in
     let long : 7 ≤ length body = ltb-false _ _ e.0 in
-    let method : coding_method body ≡ 0 = omega (arith, one, two, three) in
+    let method : coding_method body ≡ 0 = below_one (coding_method body) (omega arith) one two three in
     elim (size_cases (length body == object_size body) (length body == object_size body + 1) (byte_at (object_size body) body == 0) f.0) [
       | inl exact ↦
           let size : length body ≡ object_size body = eqb-true _ _ exact in
-          (false, (long, method, omega (arith, size), ends_exact body (word_at 3 body) (word_at 5 body) size))
+          (false, (long, method, size ∙ plus_none _, ends_exact body (word_at 3 body) (word_at 5 body) size))
       | inr more ↦
           let size : length body ≡ object_size body + 1 = eqb-true _ _ more.0 in
           (true, (long, method, size, ends_padded body (word_at 3 body) (word_at 5 body) size (eqb-true _ _ more.1)))
