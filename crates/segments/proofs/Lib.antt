@@ -13,3 +13,4 @@ pub mod Bodies
 pub mod Objects
 pub mod Passing
 pub mod Whole
+pub mod Frames

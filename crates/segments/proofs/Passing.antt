@@ -22,11 +22,11 @@ pub none_there : {Fault : Type 0} (fails : Bool) (fault : Fault) (more : Option 
 none_there true fault more failed e = absurd cc
 none_there false fault more failed e = e
 
-or_false : (a b : Bool) → (a || b) ≡ false → (a ≡ false) × (b ≡ false)
+pub or_false : (a b : Bool) → (a || b) ≡ false → (a ≡ false) × (b ≡ false)
 or_false true b e = absurd cc
 or_false false b e = (refl, e)
 
-or_there : (a b : Bool) → a ≡ false → b ≡ false → (a || b) ≡ false
+pub or_there : (a b : Bool) → a ≡ false → b ≡ false → (a || b) ≡ false
 or_there true b e f = absurd cc
 or_there false b e f = f
 
