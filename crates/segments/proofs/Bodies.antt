@@ -43,7 +43,7 @@ display_kind kind body e = rw e refl
 -- reading a region is its tests in order
 region_steps : (a b c : Bool) (f1 f2 f3 : SegmentFault) {Depth Head Whole : Type 0} (depth : Depth) (head : Depth → Head) (tests : List (Test SegmentFault)) (whole : Head → Whole)
     → ((cond a (Err f1) (cond b (Err f2) (Ok (tt {0}))) >>= λ shape. cond c (Err f3) (Ok depth) >>= λ d. Ok (head d)) >>= λ h. tested tests >>= λ passed. Ok (whole h))
-      ≡ cond a (Err f1) (cond b (Err f2) (cond c (Err f3) (checked tests (whole (head depth)))))
+    ≡ cond a (Err f1) (cond b (Err f2) (cond c (Err f3) (checked tests (whole (head depth)))))
 region_steps true b c f1 f2 f3 depth head tests whole = refl
 region_steps false true c f1 f2 f3 depth head tests whole = refl
 region_steps false false true f1 f2 f3 depth head tests whole = refl

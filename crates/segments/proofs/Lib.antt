@@ -14,3 +14,4 @@ pub mod Objects
 pub mod Passing
 pub mod Whole
 pub mod Frames
+pub mod Readings

@@ -81,9 +81,10 @@ object_cells padded o1 o0 flags t1 t0 b1 b0 rest bottom fits long method ends bo
     let p4 = put_word b1 b0 _ rest (fits 5) (fits 6) p3 in
     let p5 = put_word t1 t0 _ (b1 ∷ b0 ∷ rest) (fits 3) (fits 4) p4 in
     let p6 = put_4_2_1 flags 0 _ (t1 ∷ t0 ∷ b1 ∷ b0 ∷ rest) (fits 2) method p5 in
-    let p7 = put_word o1 o0 _ (flags ∷ t1 ∷ t0 ∷ b1 ∷ b0 ∷ rest) (fits 0) (fits 1) p6 in
-    (rw (top-long, bottom-long, flag_there (flags / 2 % 2) (omega arith)) p7,
-    (omega (arith, fits 0, fits 1), (omega (arith, fits 2), (omega arith, (flag_fits _, (tt, (omega (arith, top-long, fits 3, fits 4), (omega (arith, bottom-long, fits 5, fits 6), p2.1))))))))
+    let p7 = put_word o1 o0 _ (flags ∷ t1 ∷ t0 ∷ b1 ∷ b0 ∷ rest) (fits 0) (fits 1) p6 in (
+      rw (top-long, bottom-long, flag_there (flags / 2 % 2) (omega arith)) p7,
+      (omega (arith, fits 0, fits 1), (omega (arith, fits 2), (omega arith, (flag_fits _, (tt, (omega (arith, top-long, fits 3, fits 4), (omega (arith, bottom-long, fits 5, fits 6), p2.1))))))),
+    )
 
 pub object_laid : (padded : Bool) (body : List ℕ) → AreBytes body → 7 ≤ length body → 7 + word_at 3 body + word_at 5 body ≤ length body → coding_method body ≡ 0 → Ends (drop 7 body) (word_at 3 body) (word_at 5 body) padded
     → HasFields (object_fields padded (object_in body)) (bits_of body) × FitsFields (object_fields padded (object_in body))

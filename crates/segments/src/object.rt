@@ -3,12 +3,11 @@ ghost use Rattle.segments.specs.Contents.{object_value};
 ghost use Rattle.segments.specs.Reading.{Gives, object_at};
 ghost use Rattle.stream_syntax.specs.SegmentTests.{AreBlocks, IsBlocksFault};
 
+use crate::fault::bad_length;
+use crate::word::{bits, is_set, read_word};
 use pixel_codes::check_block;
 use stream_syntax::{CodeFault, SegmentFault, SegmentKind};
 use sub_base::Depth;
-
-use crate::fault::bad_length;
-use crate::word::{bits, is_set, read_word};
 
 /// The bytes before the blocks.
 const FIXED: usize = 7;
