@@ -1,5 +1,5 @@
 -- What the values of this crate stand for, whose bytes are those of a segment.
-use Rattle.std.specs.Prelude.{ℕ, zero, suc, ◌+◌, ◌*◌, ◌/◌, ◌%◌, ◌==◌, nat_lt, List, [], ◌∷◌, length, drop, if◌then◌else◌}
+use Rattle.std.specs.Prelude.{None, ℕ, zero, suc, ◌+◌, ◌*◌, ◌/◌, ◌%◌, ◌==◌, nat_lt, List, [], ◌∷◌, length, drop, if◌then◌else◌}
 use Rattle.stream_syntax.specs.declared.page.PageEntry.{PageEntry}
 use Rattle.stream_syntax.specs.declared.clut.ClutEntry.{ClutEntry}
 use Rattle.stream_syntax.specs.declared.region.Listing.{Listing}
@@ -15,6 +15,8 @@ use Rattle.segments.specs.declared.display.DisplaySeg.{DisplaySeg}
 use Rattle.segments.specs.declared.object.ObjectSeg.{ObjectSeg}
 use Rattle.segments.specs.declared.reading.Segment.{Segment}
 use Rattle.segments.specs.declared.reading.Segment.TheVariants as variants
+use Rattle.segments.specs.declared.writing.SegmentOut.{SegmentOut}
+use Rattle.segments.specs.declared.writing.SegmentOut.TheVariants as outs
 use Rattle.segments.specs.declared.region.RegionSeg.{RegionSeg}
 
 -- what each six bytes stand for
@@ -107,3 +109,12 @@ contents (variants.Object seg) = of_object (object_value seg)
 contents (variants.Display seg) = of_display (display_value seg)
 contents variants.End = end_of_set
 contents variants.Passed = passed_over
+
+-- what a segment that is to be written stands for
+abbrev pub value_of : SegmentOut → SegmentValue
+value_of (outs.Page time_out version state entries) = of_page (record { time_out = time_out; version = version; state = state; entries = entries.now })
+value_of (outs.Region head listings) = of_region (record { head = head; listings = listings.now })
+value_of (outs.Clut clut version entries) = of_clut (record { clut = clut; version = version; entries = entries.now })
+value_of (outs.Object seg) = of_object (object_value seg)
+value_of (outs.Display version width height) = of_display (record { version = version; width = width; height = height; window = None })
+value_of outs.End = end_of_set

@@ -11,6 +11,7 @@ mod page;
 mod reading;
 mod region;
 mod word;
+mod writing;
 
 pub use clut::{ClutItems, ClutSeg};
 pub use display::DisplaySeg;
@@ -19,6 +20,7 @@ pub use object::ObjectSeg;
 pub use page::PageSeg;
 pub use reading::{Segment, read_segment};
 pub use region::RegionSeg;
+pub use writing::SegmentOut;
 pub use stream_syntax::{
     ClutEntry, Listing, PageEntry, RegionHead, SegmentFault, SegmentKind, State, Window,
 };
