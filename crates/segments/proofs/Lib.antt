@@ -15,3 +15,4 @@ pub mod Passing
 pub mod Whole
 pub mod Frames
 pub mod Readings
+pub mod Writes
