@@ -29,7 +29,7 @@ bits_of-append : (a b : List ℕ) → bits_of (a ++ b) ≡ bits_of a ++ bits_of 
 unfolding bits_of
 bits_of-append a b = flat_map-append (bits 8) a b
 
-byte_count_is : (fields : List Field) (bytes : List ℕ) → HasFields fields (bits_of bytes) → byte_count fields ≡ length bytes
+pub byte_count_is : (fields : List Field) (bytes : List ℕ) → HasFields fields (bits_of bytes) → byte_count fields ≡ length bytes
 byte_count_is fields bytes has = omega (arith, widths-sum fields, fields_bytes fields bytes has)
 
 -- ---- the head

@@ -16,3 +16,4 @@ pub mod Whole
 pub mod Frames
 pub mod Readings
 pub mod Writes
+pub mod Spellings
