@@ -2,6 +2,7 @@
 //! is borrowed from the bytes.
 #![tactic(auto)]
 
+mod append;
 mod clut;
 mod display;
 mod fault;
