@@ -17,3 +17,4 @@ pub mod Frames
 pub mod Readings
 pub mod Writes
 pub mod Spellings
+pub mod Sizes

@@ -136,3 +136,18 @@ written_segment page value writable =
       right = writable.right;
     } in
     subst (λ (bytes : List ℕ). IsSegment bytes value) (sym (spelled_as page value writable.fits)) whole
+
+-- ---- what the writer appends
+
+pub body_small : (page : ℕ) (value : SegmentValue) → IsWritable page value → length (body_bytes value) < 65536
+body_small page value writable = omega (arith, size_is value writable.fits.1.1.1.1, writable.fits.1.1.1.0)
+
+pub appended : (page : ℕ) (value : SegmentValue) (old kept head after new : List ℕ) (kind size : ℕ) → IsWritable page value → kept ≡ old → head ≡ frame_bytes kind page size → kind ≡ segment_kind value → size ≡ length (body_bytes value)
+    → after ≡ kept ++ head → new ≡ after ++ body_bytes value → new ≡ old ++ spelled page value
+appended page value old kept head after new kind size writable kept-is head-is kind-is size-is after-is new-is =
+    let front : after ≡ old ++ frame_bytes (segment_kind value) page (length (body_bytes value)) = after-is ∙ rw (kept-is, head-is, kind-is, size-is) refl in
+    new-is ∙ ap (λ (s : List ℕ). s ++ body_bytes value) front ∙ append_assoc old (frame_bytes (segment_kind value) page (length (body_bytes value))) (body_bytes value)
+    ∙ ap (λ (s : List ℕ). old ++ s) (sym (spelled_as page value writable.fits))
+
+pub spelled_size : (page : ℕ) (value : SegmentValue) → IsWritable page value → length (spelled page value) ≡ 6 + byte_count (written_body value)
+spelled_size page value writable = ap length (spelled_as page value writable.fits) ∙ omega (arith, size_is value writable.fits.1.1.1.1)

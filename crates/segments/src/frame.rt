@@ -11,10 +11,10 @@ use crate::word::read_word;
 use stream_syntax::{SegmentFault, SegmentKind};
 
 /// The first byte of each segment.
-const SYNC: u8 = 0x0F;
+pub(crate) const SYNC: u8 = 0x0F;
 
 /// The bytes of a segment's head.
-const HEAD: usize = 6;
+pub(crate) const HEAD: usize = 6;
 
 /// A segment as its head frames it (EN 300 743, clause 7.2.1).
 #[derive(Clone, Copy, Debug, PartialEq, Eq)]

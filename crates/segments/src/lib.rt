@@ -21,10 +21,10 @@ pub use object::ObjectSeg;
 pub use page::PageSeg;
 pub use reading::{Segment, read_segment};
 pub use region::RegionSeg;
-pub use writing::SegmentOut;
 pub use stream_syntax::{
     ClutEntry, Listing, PageEntry, RegionHead, SegmentFault, SegmentKind, State, Window,
 };
+pub use writing::{SegmentOut, write_segment};
 
 #[cfg(test)]
 mod tests;

@@ -3,15 +3,27 @@ ghost use Rattle.std.specs.List.{flat_map};
 ghost use Rattle.std.specs.Vec.{vec_capacity};
 ghost use Rattle.segments.specs.Contents.{object_value, value_of};
 ghost use Rattle.segments.specs.Writing.{
-    body_bytes, clut_bytes, clut_entry_bytes, display_bytes, frame_bytes, head_bytes, listing_bytes, object_bytes, object_head_bytes, page_bytes, page_entry_bytes, region_bytes
+  body_bytes,
+  clut_bytes,
+  clut_entry_bytes,
+  display_bytes,
+  frame_bytes,
+  head_bytes,
+  listing_bytes,
+  object_bytes,
+  object_head_bytes,
+  page_bytes,
+  page_entry_bytes,
+  region_bytes,
 };
-ghost use Rattle.stream_syntax.specs.Segments.{IsSegment, IsWritable, byte_count, segment_kind, is_odd, spelled, state_number, depth_number, written_body};
-
-use stream_syntax::{ClutEntry, Listing, PageEntry, RegionHead, State};
-use sub_base::{Depth, NoMemory};
+ghost use Rattle.stream_syntax.specs.Fields.{FitsFields};
+ghost use Rattle.stream_syntax.specs.Segments.{IsRight, IsSegment, IsWritable, byte_count, segment_kind, is_odd, spelled, state_number, depth_number, written_body};
 
 use crate::append::{append, word};
+use crate::frame::{HEAD, SYNC};
 use crate::object::ObjectSeg;
+use stream_syntax::{ClutEntry, Listing, PageEntry, RegionHead, State};
+use sub_base::{Depth, NoMemory};
 
 /// A byte of reserved bits.
 const RESERVED: u8 = 0xFF;
@@ -46,6 +58,94 @@ pub enum SegmentOut<'a> {
     End,
 }
 
+/// Appends a segment. Reserved bits are 1; the level of compatibility of a region is its depth, colours are in the
+/// full range, and a byte 00 makes the length of an object even. After want of memory `out` is as before.
+pub fn write_segment(page: u16, segment: &SegmentOut<'_>, out: &mut Vec<u8>) -> Result<(), NoMemory>
+    requires { IsWritable page (value_of segment.now) }
+    ensures bytes { OnOk result (out.new.items ≡ out.old.items ++ spelled page (value_of segment.now)) }
+    // What was appended is a segment with this value.
+    ensures segment { OnOk result (IsSegment (spelled page (value_of segment.now)) (value_of segment.now)) }
+    ensures size { OnOk result (length (spelled page (value_of segment.now)) ≡ 6 + byte_count (written_body (value_of segment.now))) }
+    ensures err { OnErr result (out.new.items ≡ out.old.items) }
+{
+    let size = body_size(segment);
+    out.reserve(HEAD + size)?;
+    append(out, &frame_bytes(kind_of(segment), page, size as u16));
+    put_body(out, segment);
+    Ok(())
+}
+
+/// The segment type.
+fn kind_of(segment: &SegmentOut<'_>) -> u8
+    ensures { result ≡ segment_kind (value_of segment.now) }
+{
+    match *segment {
+        SegmentOut::Page { .. } => 0x10,
+        SegmentOut::Region { .. } => 0x11,
+        SegmentOut::Clut { .. } => 0x12,
+        SegmentOut::Object(_) => 0x13,
+        SegmentOut::Display { .. } => 0x14,
+        SegmentOut::End => 0x80,
+    }
+}
+
+/// How many bytes the body has.
+#[tactic(auto, using(crate::proofs::Sizes::page_entries_size, crate::proofs::Sizes::listings_size, crate::proofs::Sizes::clut_entries_size))]
+fn body_size(segment: &SegmentOut<'_>) -> usize
+    requires { length (body_bytes (value_of segment.now)) < 65536 }
+    ensures { result ≡ length (body_bytes (value_of segment.now)) }
+{
+    match segment {
+        SegmentOut::Page { entries, .. } => 2 + 6 * entries.len(),
+        SegmentOut::Region { listings, .. } => 10 + 6 * listings.len(),
+        SegmentOut::Clut { entries, .. } => 2 + 6 * entries.len(),
+        SegmentOut::Object(object) => {
+            7 + object.top.len() + object.bottom.len() + usize::from(is_odd(object))
+        }
+        SegmentOut::Display { .. } => 5,
+        SegmentOut::End => 0,
+    }
+}
+
+/// The bytes of the head.
+fn frame_bytes(kind: u8, page: u16, size: u16) -> [u8; HEAD]
+    ensures { result ≡ frame_bytes kind page size }
+{
+    let (page, size) = (word(page), word(size));
+    [SYNC, kind, page[0], page[1], size[0], size[1]]
+}
+
+/// Appends the body, for which there is room.
+#[tactic(auto, using(crate::proofs::Sizes::page_entries_size, crate::proofs::Sizes::listings_size, crate::proofs::Sizes::clut_entries_size, crate::proofs::Sizes::all_places_fit))]
+fn put_body(out: &mut Vec<u8>, segment: &SegmentOut<'_>)
+    requires fits { FitsFields (written_body (value_of segment.now)) }
+    requires right { IsRight (value_of segment.now) }
+    requires room { vec_len out.old + length (body_bytes (value_of segment.now)) ≤ vec_capacity out.old }
+    ensures { out.new.items ≡ out.old.items ++ body_bytes (value_of segment.now) }
+{
+    match segment {
+        SegmentOut::Page {
+            time_out,
+            version,
+            state,
+            entries,
+        } => put_page(out, *time_out, *version, *state, entries),
+        SegmentOut::Region { head, listings } => put_region(out, head, listings),
+        SegmentOut::Clut {
+            clut,
+            version,
+            entries,
+        } => put_clut(out, *clut, *version, entries),
+        SegmentOut::Object(object) => put_object(out, object),
+        SegmentOut::Display {
+            version,
+            width,
+            height,
+        } => put_display(out, *version, *width, *height),
+        SegmentOut::End => {}
+    }
+}
+
 /// The bytes of an entry of a page.
 fn page_entry_bytes(entry: &PageEntry) -> [u8; 6]
     ensures { result ≡ page_entry_bytes entry.now }
@@ -59,7 +159,11 @@ fn listing_bytes(listing: &Listing) -> [u8; 6]
     requires { listing.now.y < 4096 }
     ensures { result ≡ listing_bytes listing.now }
 {
-    let (object, x, y) = (word(listing.object), word(listing.x), word(0xF000 + listing.y));
+    let (object, x, y) = (
+        word(listing.object),
+        word(listing.x),
+        word(0xF000 + listing.y),
+    );
     [object[0], object[1], x[0], x[1], y[0], y[1]]
 }
 
@@ -69,7 +173,14 @@ fn clut_entry_bytes(entry: &ClutEntry) -> [u8; 6]
 {
     let flags = u8::from(entry.two) * 128 + u8::from(entry.four) * 64 + u8::from(entry.eight) * 32;
     let colour = entry.colour;
-    [entry.entry, flags + 31, colour.y, colour.cr, colour.cb, colour.t]
+    [
+        entry.entry,
+        flags + 31,
+        colour.y,
+        colour.cr,
+        colour.cb,
+        colour.t,
+    ]
 }
 
 /// The number of a page state.
@@ -166,7 +277,10 @@ fn object_head_bytes(object: &ObjectSeg<'_>) -> [u8; 7]
     ensures { result ≡ object_head_bytes (object_value object.now) }
 {
     let id = word(object.object);
-    let (top, bottom) = (word(object.top.len() as u16), word(object.bottom.len() as u16));
+    let (top, bottom) = (
+        word(object.top.len() as u16),
+        word(object.bottom.len() as u16),
+    );
     let flags = object.version * 16 + u8::from(object.see_through) * 2 + 1;
     [id[0], id[1], flags, top[0], top[1], bottom[0], bottom[1]]
 }
@@ -207,5 +321,8 @@ fn put_display(out: &mut Vec<u8>, version: u8, width: u32, height: u32)
     ensures { out.new.items ≡ out.old.items ++ display_bytes (record { version = version; width = width; height = height; window = None }) }
 {
     let (width, height) = (word((width - 1) as u16), word((height - 1) as u16));
-    append(out, &[version * 16 + 7, width[0], width[1], height[0], height[1]]);
+    append(
+        out,
+        &[version * 16 + 7, width[0], width[1], height[0], height[1]],
+    );
 }
