@@ -56,9 +56,10 @@ full_laid a flags c d (e ∷ f ∷ rest) fields fits long odd more =
     let cb = put_byte e _ (f ∷ rest) (fits 4) t in
     let cr = put_byte d _ (e ∷ f ∷ rest) (fits 3) cb in
     let y = put_byte c _ (d ∷ e ∷ f ∷ rest) (fits 2) cr in
-    let all = put_byte a _ (flags ∷ c ∷ d ∷ e ∷ f ∷ rest) (fits 0) (put_flags flags 1 _ (c ∷ d ∷ e ∷ f ∷ rest) (fits 1) odd y) in
-    (rw (flag_there (flags / 128 % 2) (omega arith), flag_there (flags / 64 % 2) (omega arith), flag_there (flags / 32 % 2) (omega arith)) all,
-    (fits 0, (flag_fits _, (flag_fits _, (flag_fits _, (tt, (omega arith, (fits 2, (fits 3, (fits 4, (fits 5, more.1)))))))))))
+    let all = put_byte a _ (flags ∷ c ∷ d ∷ e ∷ f ∷ rest) (fits 0) (put_flags flags 1 _ (c ∷ d ∷ e ∷ f ∷ rest) (fits 1) odd y) in (
+      rw (flag_there (flags / 128 % 2) (omega arith), flag_there (flags / 64 % 2) (omega arith), flag_there (flags / 32 % 2) (omega arith)) all,
+      (fits 0, (flag_fits _, (flag_fits _, (flag_fits _, (tt, (omega arith, (fits 2, (fits 3, (fits 4, (fits 5, more.1)))))))))),
+    )
 full_laid a flags c d [] fields fits long odd more = absurd (omega arith)
 full_laid a flags c d (e ∷ []) fields fits long odd more = absurd (omega arith)
 
@@ -81,7 +82,7 @@ first_laid : (bytes : List ℕ) (fields : List Field) → AreBytes bytes → ent
     → HasFields (coded_entry_fields (first_coded bytes) ++ fields) (bits_of bytes) × FitsFields (coded_entry_fields (first_coded bytes) ++ fields)
 first_laid (a ∷ flags ∷ c ∷ d ∷ rest) fields fits =
     let P : Bool → Type 0 = λ b. (flags % 2 == 1) ≡ b → cond b 6 4 ≤ length (a ∷ flags ∷ c ∷ d ∷ rest) → HasFields fields (bits_of (drop (cond b 6 4) (a ∷ flags ∷ c ∷ d ∷ rest))) × FitsFields fields
-      → HasFields (coded_entry_fields (coded_as (a ∷ flags ∷ c ∷ d ∷ rest) b) ++ fields) (bits_of (a ∷ flags ∷ c ∷ d ∷ rest)) × FitsFields (coded_entry_fields (coded_as (a ∷ flags ∷ c ∷ d ∷ rest) b) ++ fields) in
+    → HasFields (coded_entry_fields (coded_as (a ∷ flags ∷ c ∷ d ∷ rest) b) ++ fields) (bits_of (a ∷ flags ∷ c ∷ d ∷ rest)) × FitsFields (coded_entry_fields (coded_as (a ∷ flags ∷ c ∷ d ∷ rest) b) ++ fields) in
     (elim (flags % 2 == 1) as P [
       | true ↦ λ e long more. full_laid a flags c d rest fields fits (omega arith) (odd_from flags e) more
       | false ↦ λ e long more. short_laid a flags c d rest fields fits (even_from flags e) more

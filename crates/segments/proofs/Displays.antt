@@ -51,9 +51,10 @@ plain_laid (flags ∷ w1 ∷ w0 ∷ h1 ∷ h0 ∷ rest) fits long flagged =
     let p3 = put_4_1 flags _ (w1 ∷ w0 ∷ h1 ∷ h0 ∷ rest) (fits 0) p2 in
     let off : flags / 8 % 2 ≡ 0 = not_set (flags / 8 % 2) (omega arith) flagged in
     let width : w1 * 256 + w0 + 1 - 1 ≡ w1 * 256 + w0 = omega arith in
-    let height : h1 * 256 + h0 + 1 - 1 ≡ h1 * 256 + h0 = omega arith in
-    (rw (width, height) (subst (λ (n : ℕ). HasFields (number 4 (flags / 16) ∷ number 1 n ∷ reserved 3 ∷ number 16 (w1 * 256 + w0) ∷ number 16 (h1 * 256 + h0) ∷ free_bytes (length rest)) (bits_of (flags ∷ w1 ∷ w0 ∷ h1 ∷ h0 ∷ rest))) off p3),
-    rw (width, height) (omega (arith, fits 0), (omega arith, (tt, (omega (arith, fits 1, fits 2), (omega (arith, fits 3, fits 4), free_fits (length rest)))))))
+    let height : h1 * 256 + h0 + 1 - 1 ≡ h1 * 256 + h0 = omega arith in (
+      rw (width, height) (subst (λ (n : ℕ). HasFields (number 4 (flags / 16) ∷ number 1 n ∷ reserved 3 ∷ number 16 (w1 * 256 + w0) ∷ number 16 (h1 * 256 + h0) ∷ free_bytes (length rest)) (bits_of (flags ∷ w1 ∷ w0 ∷ h1 ∷ h0 ∷ rest))) off p3),
+      rw (width, height) (omega (arith, fits 0), (omega arith, (tt, (omega (arith, fits 1, fits 2), (omega (arith, fits 3, fits 4), free_fits (length rest)))))),
+    )
 plain_laid [] fits long flagged = absurd (omega arith)
 plain_laid (a ∷ []) fits long flagged = absurd (omega arith)
 plain_laid (a ∷ b ∷ []) fits long flagged = absurd (omega arith)
@@ -73,9 +74,10 @@ window_laid (flags ∷ w1 ∷ w0 ∷ h1 ∷ h0 ∷ l1 ∷ l0 ∷ r1 ∷ r0 ∷ t
     let p3 = put_4_1 flags _ (w1 ∷ w0 ∷ h1 ∷ h0 ∷ l1 ∷ l0 ∷ r1 ∷ r0 ∷ t1 ∷ t0 ∷ b1 ∷ b0 ∷ rest) (fits 0) p2 in
     let on : flags / 8 % 2 ≡ 1 = set (flags / 8 % 2) (omega arith) flagged in
     let width : w1 * 256 + w0 + 1 - 1 ≡ w1 * 256 + w0 = omega arith in
-    let height : h1 * 256 + h0 + 1 - 1 ≡ h1 * 256 + h0 = omega arith in
-    (rw (width, height) (subst (λ (n : ℕ). HasFields (number 4 (flags / 16) ∷ number 1 n ∷ reserved 3 ∷ number 16 (w1 * 256 + w0) ∷ number 16 (h1 * 256 + h0) ∷ number 16 (l1 * 256 + l0) ∷ number 16 (r1 * 256 + r0) ∷ number 16 (t1 * 256 + t0) ∷ number 16 (b1 * 256 + b0) ∷ free_bytes (length rest)) (bits_of (flags ∷ w1 ∷ w0 ∷ h1 ∷ h0 ∷ l1 ∷ l0 ∷ r1 ∷ r0 ∷ t1 ∷ t0 ∷ b1 ∷ b0 ∷ rest))) on p3),
-    rw (width, height) (omega (arith, fits 0), (omega arith, (tt, (omega (arith, fits 1, fits 2), (omega (arith, fits 3, fits 4), (omega (arith, fits 5, fits 6), (omega (arith, fits 7, fits 8), (omega (arith, fits 9, fits 10), (omega (arith, fits 11, fits 12), free_fits (length rest)))))))))))
+    let height : h1 * 256 + h0 + 1 - 1 ≡ h1 * 256 + h0 = omega arith in (
+      rw (width, height) (subst (λ (n : ℕ). HasFields (number 4 (flags / 16) ∷ number 1 n ∷ reserved 3 ∷ number 16 (w1 * 256 + w0) ∷ number 16 (h1 * 256 + h0) ∷ number 16 (l1 * 256 + l0) ∷ number 16 (r1 * 256 + r0) ∷ number 16 (t1 * 256 + t0) ∷ number 16 (b1 * 256 + b0) ∷ free_bytes (length rest)) (bits_of (flags ∷ w1 ∷ w0 ∷ h1 ∷ h0 ∷ l1 ∷ l0 ∷ r1 ∷ r0 ∷ t1 ∷ t0 ∷ b1 ∷ b0 ∷ rest))) on p3),
+      rw (width, height) (omega (arith, fits 0), (omega arith, (tt, (omega (arith, fits 1, fits 2), (omega (arith, fits 3, fits 4), (omega (arith, fits 5, fits 6), (omega (arith, fits 7, fits 8), (omega (arith, fits 9, fits 10), (omega (arith, fits 11, fits 12), free_fits (length rest)))))))))),
+    )
 window_laid [] fits long flagged = absurd (omega arith)
 window_laid (a ∷ []) fits long flagged = absurd (omega arith)
 window_laid (a ∷ b ∷ []) fits long flagged = absurd (omega arith)
@@ -94,12 +96,12 @@ pub display_laid : (body : List ℕ) → AreBytes body → 5 ≤ length body →
     → HasFields (display_fields (further_in body) (display_in body)) (bits_of body) × FitsFields (display_fields (further_in body) (display_in body))
 display_laid body fits long longer =
     let P : Bool → Type 0 = λ b. has_window body ≡ b → HasFields (display_fields (cond b (length (drop 13 body)) (length (drop 5 body))) (record { version = get_or body 0 0 / 16; width = (get_or body 1 0 * 256 + get_or body 2 0) + 1; height = (get_or body 3 0 * 256 + get_or body 4 0) + 1; window = cond b (Some (window_in body)) None })) (bits_of body)
-      × FitsFields (display_fields (cond b (length (drop 13 body)) (length (drop 5 body))) (record { version = get_or body 0 0 / 16; width = (get_or body 1 0 * 256 + get_or body 2 0) + 1; height = (get_or body 3 0 * 256 + get_or body 4 0) + 1; window = cond b (Some (window_in body)) None })) in
+    × FitsFields (display_fields (cond b (length (drop 13 body)) (length (drop 5 body))) (record { version = get_or body 0 0 / 16; width = (get_or body 1 0 * 256 + get_or body 2 0) + 1; height = (get_or body 3 0 * 256 + get_or body 4 0) + 1; window = cond b (Some (window_in body)) None })) in
     (elim (has_window body) as P [ true ↦ λ e. window_laid body fits (longer e) e | false ↦ λ e. plain_laid body fits long e ]) refl
 
 -- ---- what has the table is read
 
-plain_again : (further version width height : ℕ) (body : List ℕ) → AreBytes body → 1 ≤ width → 1 ≤ height → FitsFields (display_fields further (record { version = version; width = width; height = height; window = None }))
+pub plain_again : (further version width height : ℕ) (body : List ℕ) → AreBytes body → 1 ≤ width → 1 ≤ height → FitsFields (display_fields further (record { version = version; width = width; height = height; window = None }))
     → HasFields (display_fields further (record { version = version; width = width; height = height; window = None })) (bits_of body)
     → (display_in body ≡ record { version = version; width = width; height = height; window = None }) × (5 ≤ length body) × (has_window body ≡ false)
 plain_again further version width height (flags ∷ w1 ∷ w0 ∷ h1 ∷ h0 ∷ rest) fits wide high fit has =
@@ -116,7 +118,7 @@ plain_again further version width height (a ∷ b ∷ []) fits wide high fit has
 plain_again further version width height (a ∷ b ∷ c ∷ []) fits wide high fit has = absurd (omega (arith, fields_bytes _ (a ∷ b ∷ c ∷ []) has))
 plain_again further version width height (a ∷ b ∷ c ∷ d ∷ []) fits wide high fit has = absurd (omega (arith, fields_bytes _ (a ∷ b ∷ c ∷ d ∷ []) has))
 
-window_again : (further version width height : ℕ) (window : Window) (body : List ℕ) → AreBytes body → 1 ≤ width → 1 ≤ height → FitsFields (display_fields further (record { version = version; width = width; height = height; window = Some window }))
+pub window_again : (further version width height : ℕ) (window : Window) (body : List ℕ) → AreBytes body → 1 ≤ width → 1 ≤ height → FitsFields (display_fields further (record { version = version; width = width; height = height; window = Some window }))
     → HasFields (display_fields further (record { version = version; width = width; height = height; window = Some window })) (bits_of body)
     → (display_in body ≡ (record { version = version; width = width; height = height; window = Some window })) × (13 ≤ length body) × (has_window body ≡ true)
 window_again further version width height window (flags ∷ w1 ∷ w0 ∷ h1 ∷ h0 ∷ l1 ∷ l0 ∷ r1 ∷ r0 ∷ t1 ∷ t0 ∷ b1 ∷ b0 ∷ rest) fits wide high fit has =

@@ -9,3 +9,12 @@ pub mod Regions
 pub mod Checks
 pub mod Displays
 pub mod Cluts
+pub mod Bodies
+pub mod Objects
+pub mod Passing
+pub mod Whole
+pub mod Frames
+pub mod Readings
+pub mod Writes
+pub mod Spellings
+pub mod Sizes

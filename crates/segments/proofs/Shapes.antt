@@ -247,13 +247,13 @@ take_4_2_1 b v m s fields bytes lt ltv ltm lts has =
     let third = take_number 1 1 b s (reserved 1 ∷ fields) (bits_of bytes) lts second.1 in
     (omega (arith, first.0), second.0, third.0, past b fields (bits_of bytes) (take_reserved 1 0 b fields (bits_of bytes) third.1))
 
-pub put_4_2_1 : (b : ℕ) (fields : List Field) (bytes : List ℕ) → b < 256
-    → HasFields fields (bits_of bytes) → HasFields (number 4 (b / 16) ∷ number 2 (b / 4 % 4) ∷ number 1 (b / 2 % 2) ∷ reserved 1 ∷ fields) (bits_of (b ∷ bytes))
-put_4_2_1 b fields bytes lt has =
+pub put_4_2_1 : (b m : ℕ) (fields : List Field) (bytes : List ℕ) → b < 256 → b / 4 % 4 ≡ m
+    → HasFields fields (bits_of bytes) → HasFields (number 4 (b / 16) ∷ number 2 m ∷ number 1 (b / 2 % 2) ∷ reserved 1 ∷ fields) (bits_of (b ∷ bytes))
+put_4_2_1 b m fields bytes lt is has =
     let fourth = put_reserved 1 0 b fields (bits_of bytes) (before b fields (bits_of bytes) has) in
     let third = put_number 1 1 b (b / 2 % 2) (reserved 1 ∷ fields) (bits_of bytes) refl fourth in
-    let second = put_number 2 2 b (b / 4 % 4) (number 1 (b / 2 % 2) ∷ reserved 1 ∷ fields) (bits_of bytes) refl third in
-    close_byte b _ bytes (put_number 4 4 b (b / 16) (number 2 (b / 4 % 4) ∷ number 1 (b / 2 % 2) ∷ reserved 1 ∷ fields) (bits_of bytes) (omega arith) second)
+    let second = put_number 2 2 b m (number 1 (b / 2 % 2) ∷ reserved 1 ∷ fields) (bits_of bytes) is third in
+    close_byte b _ bytes (put_number 4 4 b (b / 16) (number 2 m ∷ number 1 (b / 2 % 2) ∷ reserved 1 ∷ fields) (bits_of bytes) (omega arith) second)
 
 -- ---- flags
 

@@ -1,9 +1,9 @@
 -- What the values of this crate stand for, whose bytes are those of a segment.
-use Rattle.std.specs.Prelude.{ℕ, zero, suc, ◌+◌, ◌*◌, ◌/◌, ◌%◌, ◌==◌, nat_lt, List, [], ◌∷◌, length, drop, if◌then◌else◌}
+use Rattle.std.specs.Prelude.{None, ℕ, zero, suc, ◌+◌, ◌*◌, ◌/◌, ◌%◌, ◌==◌, nat_lt, List, [], ◌∷◌, length, drop, if◌then◌else◌}
 use Rattle.stream_syntax.specs.declared.page.PageEntry.{PageEntry}
 use Rattle.stream_syntax.specs.declared.clut.ClutEntry.{ClutEntry}
 use Rattle.stream_syntax.specs.declared.region.Listing.{Listing}
-use Rattle.stream_syntax.specs.Segments.{Page, Region, Clut, Display}
+use Rattle.stream_syntax.specs.Segments.{Page, Region, Clut, Object, Display, SegmentValue, of_page, of_region, of_clut, of_object, of_display, end_of_set, passed_over}
 use Rattle.stream_syntax.specs.SegmentTests.{entry_size}
 use Rattle.stream_syntax.specs.Tests.{byte_at, word_at}
 use Rattle.sub_base.specs.Colour.{shown_of}
@@ -12,6 +12,11 @@ use Rattle.segments.specs.declared.page.PageSeg.{PageSeg}
 use Rattle.segments.specs.declared.clut.ClutItems.{ClutItems}
 use Rattle.segments.specs.declared.clut.ClutSeg.{ClutSeg}
 use Rattle.segments.specs.declared.display.DisplaySeg.{DisplaySeg}
+use Rattle.segments.specs.declared.object.ObjectSeg.{ObjectSeg}
+use Rattle.segments.specs.declared.reading.Segment.{Segment}
+use Rattle.segments.specs.declared.reading.Segment.TheVariants as variants
+use Rattle.segments.specs.declared.writing.SegmentOut.{SegmentOut}
+use Rattle.segments.specs.declared.writing.SegmentOut.TheVariants as outs
 use Rattle.segments.specs.declared.region.RegionSeg.{RegionSeg}
 
 -- what each six bytes stand for
@@ -91,3 +96,25 @@ items_left items = clut_entries items.rest.now
 
 abbrev pub display_value : DisplaySeg → Display
 display_value seg = record { version = seg.version; width = seg.width; height = seg.height; window = seg.window }
+
+abbrev pub object_value : ObjectSeg → Object
+object_value seg = record { object = seg.object; version = seg.version; see_through = seg.see_through; top = seg.top.now; bottom = seg.bottom.now }
+
+-- what a segment that was read stands for
+abbrev pub contents : Segment → SegmentValue
+contents (variants.Page seg) = of_page (page_value seg)
+contents (variants.Region seg) = of_region (region_value seg)
+contents (variants.Clut seg) = of_clut (clut_value seg)
+contents (variants.Object seg) = of_object (object_value seg)
+contents (variants.Display seg) = of_display (display_value seg)
+contents variants.End = end_of_set
+contents variants.Passed = passed_over
+
+-- what a segment that is to be written stands for
+abbrev pub value_of : SegmentOut → SegmentValue
+value_of (outs.Page time_out version state entries) = of_page (record { time_out = time_out; version = version; state = state; entries = entries.now })
+value_of (outs.Region head listings) = of_region (record { head = head; listings = listings.now })
+value_of (outs.Clut clut version entries) = of_clut (record { clut = clut; version = version; entries = entries.now })
+value_of (outs.Object seg) = of_object (object_value seg)
+value_of (outs.Display version width height) = of_display (record { version = version; width = width; height = height; window = None })
+value_of outs.End = end_of_set

@@ -1,5 +1,6 @@
 pub mod Contents
 pub mod Reading
+pub mod Writing
 pub use Rattle.stream_syntax.specs.Fields
 pub use Rattle.stream_syntax.specs.SegmentTests
 pub use Rattle.stream_syntax.specs.Segments

@@ -5,9 +5,9 @@ use Rattle.sub_base.specs.declared.depth.Depth.{Depth}
 use Rattle.sub_base.specs.declared.depth.Depth.TheVariants.{Two, Four, Eight}
 use Rattle.stream_syntax.specs.declared.page.State.{State}
 use Rattle.stream_syntax.specs.declared.page.State.TheVariants.{Normal, Acquisition, ModeChange}
-use Rattle.stream_syntax.specs.Segments.{Page, Region, Clut, Display}
+use Rattle.stream_syntax.specs.Segments.{Page, Region, Clut, Object, Display, SegmentValue, of_page, of_region, of_clut, of_object, of_display, end_of_set, passed_over}
 use Rattle.stream_syntax.specs.declared.display.Window.{Window}
-use Rattle.stream_syntax.specs.SegmentTests.{refuse, page_tests, depth_tests, listing_tests, clut_tests, has_window, display_tests}
+use Rattle.stream_syntax.specs.SegmentTests.{refuse, page_tests, depth_tests, listing_tests, clut_tests, has_window, display_tests, object_tests, top_in, bottom_in}
 use Rattle.stream_syntax.specs.declared.segment_fault.SegmentKind.TheVariants.{BadLength, ZeroSize}
 use Rattle.stream_syntax.specs.declared.region.RegionHead.{RegionHead}
 use Rattle.stream_syntax.specs.Tests.{Test, byte_at, word_at}
@@ -97,3 +97,20 @@ display_in body = record { version = byte_at 0 body / 16; width = word_at 1 body
 
 abbrev pub display_at : List ℕ → Result Display SegmentFault
 display_at body = checked (display_tests body) (display_in body)
+
+abbrev pub object_in : List ℕ → Object
+object_in body = record { object = word_at 0 body; version = byte_at 2 body / 16; see_through = byte_at 2 body / 2 % 2 == 1; top = top_in body; bottom = bottom_in body }
+
+abbrev pub object_at : List ℕ → Result Object SegmentFault
+object_at body = checked (object_tests body) (object_in body)
+
+-- the value of a body that passes its tests, by the segment type
+abbrev pub value_in : ℕ → List ℕ → SegmentValue
+value_in kind body =
+    if kind == 0x10 then of_page (page_in body) else
+    if kind == 0x11 then of_region (region_in body) else
+    if kind == 0x12 then of_clut (clut_in body) else
+    if kind == 0x13 then of_object (object_in body) else
+    if kind == 0x14 then of_display (display_in body) else
+    if kind == 0x80 then end_of_set else
+    passed_over

@@ -1,4 +1,4 @@
-ghost use Rattle.std.specs.Prelude.{◌≡◌, ◌+◌, ◌-◌, ℕ, length, take, drop, IfOk};
+ghost use Rattle.std.specs.Prelude.{◌≡◌, ◌+◌, ◌≤◌, length, take, drop, IfOk};
 ghost use Rattle.std.specs.Result.{result_err};
 ghost use Rattle.stream_syntax.specs.Fields.{HasFields};
 ghost use Rattle.stream_syntax.specs.PixelCodes.{bits_of};
@@ -11,10 +11,10 @@ use crate::word::read_word;
 use stream_syntax::{SegmentFault, SegmentKind};
 
 /// The first byte of each segment.
-const SYNC: u8 = 0x0F;
+pub(crate) const SYNC: u8 = 0x0F;
 
 /// The bytes of a segment's head.
-const HEAD: usize = 6;
+pub(crate) const HEAD: usize = 6;
 
 /// A segment as its head frames it (EN 300 743, clause 7.2.1).
 #[derive(Clone, Copy, Debug, PartialEq, Eq)]
@@ -37,6 +37,7 @@ pub fn read_frame(bytes: &[u8]) -> Result<Frame<'_>, SegmentFault>
     ensures kind { IfOk result (λ frame. frame.kind ≡ byte_at 1 bytes.now) }
     ensures page { IfOk result (λ frame. frame.page ≡ word_at 2 bytes.now) }
     ensures whole { IfOk result (λ frame. frame.whole ≡ 6 + word_at 4 bytes.now) }
+    ensures within { IfOk result (λ frame. frame.whole ≤ length bytes.now) }
     ensures head { IfOk result (λ frame. HasFields (head_fields frame.kind frame.page (length frame.body.now)) (bits_of (take 6 bytes.now))) }
     ensures body { IfOk result (λ frame. frame.body.now ≡ take (word_at 4 bytes.now) (drop 6 bytes.now)) }
 {

@@ -2,22 +2,29 @@
 //! is borrowed from the bytes.
 #![tactic(auto)]
 
+mod append;
 mod clut;
 mod display;
 mod fault;
 mod frame;
+mod object;
 mod page;
+mod reading;
 mod region;
 mod word;
+mod writing;
 
 pub use clut::{ClutItems, ClutSeg};
 pub use display::DisplaySeg;
 pub use frame::{Frame, read_frame};
+pub use object::ObjectSeg;
 pub use page::PageSeg;
+pub use reading::{Segment, read_segment};
 pub use region::RegionSeg;
 pub use stream_syntax::{
     ClutEntry, Listing, PageEntry, RegionHead, SegmentFault, SegmentKind, State, Window,
 };
+pub use writing::{SegmentOut, write_segment};
 
 #[cfg(test)]
 mod tests;

@@ -1,10 +1,14 @@
 -- When the bytes of a segment are refused: the tests in order, each with the place and the kind of its fault. Places
 -- count from the segment's first byte, and a length is always at place 4.
-use Rattle.std.specs.Prelude.{ℕ, ◌+◌, ◌*◌, ◌/◌, ◌%◌, ◌==◌, nat_lt, not, ◌&&◌, ◌||◌, Bool, true, false, List, [], ◌∷◌, ◌++◌, length, drop, suc, zero, if◌then◌else◌}
+use Rattle.std.specs.Prelude.{◌≡◌, ℕ, ◌+◌, ◌*◌, ◌/◌, ◌%◌, ◌==◌, nat_lt, not, ◌&&◌, ◌||◌, Bool, true, false, List, [], ◌∷◌, ◌++◌, length, take, drop, Option, Some, None, suc, zero, if◌then◌else◌}
 use Rattle.stream_syntax.specs.declared.segment_fault.SegmentFault.{SegmentFault}
 use Rattle.stream_syntax.specs.declared.segment_fault.SegmentKind.{SegmentKind}
-use Rattle.stream_syntax.specs.declared.segment_fault.SegmentKind.TheVariants.{NoSync, Cut, BadLength, ReservedState, BadDepth, CharacterObject, HeldObject, BadWindow, ZeroSize}
-use Rattle.stream_syntax.specs.Tests.{Test, byte_at, word_at}
+use Rattle.stream_syntax.specs.declared.segment_fault.SegmentKind.TheVariants.{NoSync, Cut, BadLength, ReservedState, BadDepth, CharacterObject, HeldObject, Progressive, ReservedMethod, Code, BadWindow, ZeroSize}
+use Rattle.stream_syntax.specs.declared.code_fault.CodeFault.{CodeFault}
+use Rattle.stream_syntax.specs.declared.pixel_run.Run.{Run}
+use Rattle.stream_syntax.specs.PixelBlocks.{IsBlock, IsBlockFault}
+use Rattle.stream_syntax.specs.Tests.{Test, byte_at, word_at, first_fault}
+use Rattle.sub_base.specs.declared.depth.Depth.TheVariants.{Eight}
 
 -- a test that gives a fault of that kind at that place
 abbrev pub refuse : Bool → ℕ → SegmentKind → Test SegmentFault
@@ -81,3 +85,66 @@ display_tests body =
     refuse (nat_lt (length body) 5 || has_window body && nat_lt (length body) 13) 4 BadLength
     ∷ refuse (has_window body && not (is_window body)) 11 BadWindow
     ∷ []
+
+-- an object: seven bytes, its two blocks, and perhaps a byte 00; its coding method is 0, pixels
+abbrev pub coding_method : List ℕ → ℕ
+coding_method body = byte_at 2 body / 4 % 4
+
+abbrev pub object_size : List ℕ → ℕ
+object_size body = 7 + word_at 3 body + word_at 5 body
+
+abbrev pub object_tests : List ℕ → List (Test SegmentFault)
+object_tests body =
+    refuse (nat_lt (length body) 3) 4 BadLength
+    ∷ refuse (coding_method body == 1) 8 CharacterObject
+    ∷ refuse (coding_method body == 2) 8 Progressive
+    ∷ refuse (coding_method body == 3) 8 ReservedMethod
+    ∷ refuse (nat_lt (length body) 7) 4 BadLength
+    ∷ refuse (not (length body == object_size body) && not (length body == object_size body + 1 && byte_at (object_size body) body == 0)) 4 BadLength
+    ∷ []
+
+-- the blocks of an object
+abbrev pub top_in : List ℕ → List ℕ
+top_in body = take (word_at 3 body) (drop 7 body)
+
+abbrev pub bottom_in : List ℕ → List ℕ
+bottom_in body = take (word_at 5 body) (drop (7 + word_at 3 body) body)
+
+-- the tests of a body by the segment type; bodies of other types are not tested
+abbrev pub body_tests : ℕ → List ℕ → List (Test SegmentFault)
+body_tests kind body =
+    if kind == 0x10 then page_tests body else
+    if kind == 0x11 then region_tests body else
+    if kind == 0x12 then clut_tests body else
+    if kind == 0x13 then object_tests body else
+    if kind == 0x14 then display_tests body else
+    []
+
+-- the bytes after the head, as many as it says
+abbrev pub body_of : List ℕ → List ℕ
+body_of bytes = take (word_at 4 bytes) (drop 6 bytes)
+
+-- both blocks of an object are in the grammar of pixel data blocks of eight bits
+pub record AreBlocks (top bottom : List ℕ) : Type 0 where
+  pub top_runs : List Run
+  pub top_is : IsBlock Eight top top_runs
+  pub bottom_runs : List Run
+  pub bottom_is : IsBlock Eight bottom bottom_runs
+
+-- the first fault of the blocks of an object: that of the top block, or, where that has none, that of the bottom
+-- block; its own place counts in its block
+pub data IsBlocksFault : List ℕ → List ℕ → SegmentFault → Type 0 where
+  in_top : {top bottom : List ℕ} {fault : SegmentFault} (code : CodeFault) → IsBlockFault Eight top code
+      → fault ≡ record { place = 13 + code.place; kind = Code code } → IsBlocksFault top bottom fault
+  in_bottom : {top bottom : List ℕ} {fault : SegmentFault} (runs : List Run) (code : CodeFault) → IsBlock Eight top runs → IsBlockFault Eight bottom code
+      → fault ≡ record { place = 13 + length top + code.place; kind = Code code } → IsBlocksFault top bottom fault
+
+-- the fault of a body: that of the first test that fails, or, where an object passes them, that of its blocks
+pub data IsBodyFault : ℕ → List ℕ → SegmentFault → Type 0 where
+  in_tests : {kind : ℕ} {body : List ℕ} {fault : SegmentFault} → first_fault (body_tests kind body) ≡ Some fault → IsBodyFault kind body fault
+  in_blocks : {kind : ℕ} {body : List ℕ} {fault : SegmentFault} → first_fault (body_tests kind body) ≡ None → kind ≡ 0x13 → IsBlocksFault (top_in body) (bottom_in body) fault → IsBodyFault kind body fault
+
+-- the fault of the segment that begins the bytes: that of its head, or, where that has none, that of its body
+pub data IsSegmentFault : List ℕ → SegmentFault → Type 0 where
+  in_head : {bytes : List ℕ} {fault : SegmentFault} → first_fault (frame_tests bytes) ≡ Some fault → IsSegmentFault bytes fault
+  in_body : {bytes : List ℕ} {fault : SegmentFault} → first_fault (frame_tests bytes) ≡ None → IsBodyFault (byte_at 1 bytes) (body_of bytes) fault → IsSegmentFault bytes fault

@@ -1,13 +1,14 @@
 -- The segments of EN 300 743, clause 7.2: what each stands for, the syntax table of each kind, and when bytes are a
 -- segment with that value. Bits that a table reserves may be anything.
-use Rattle.std.specs.Prelude.{◌≡◌, ◌≢◌, ℕ, ◌+◌, ◌*◌, ◌-◌, ◌/◌, ◌<◌, ◌≤◌, Bool, true, false, List, [], ◌∷◌, ◌++◌, length, map, replicate, sum_by, All, Option, Some, None}
+use Rattle.std.specs.Prelude.{◌≡◌, ◌≢◌, ℕ, ◌+◌, ◌*◌, ◌-◌, ◌/◌, ◌%◌, ◌==◌, ◌<◌, ◌≤◌, Bool, true, false, List, [], ◌∷◌, ◌++◌, length, map, replicate, sum_by, All, Option, Some, None}
 use Rattle.std.specs.List.{flat_map}
 use Rattle.sub_base.specs.Colour.{shown_of}
 use Rattle.sub_base.specs.declared.colour.Colour.{Colour}
 use Rattle.sub_base.specs.declared.depth.Depth.{Depth}
 use Rattle.sub_base.specs.declared.depth.Depth.TheVariants.{Two, Four, Eight}
-use Rattle.stream_syntax.specs.Fields.{Field, number, reserved, HasFields, FitsFields}
+use Rattle.stream_syntax.specs.Fields.{Field, number, reserved, HasFields, FitsFields, written, bytes_of}
 use Rattle.stream_syntax.specs.PixelCodes.{bits_of}
+use Rattle.stream_syntax.specs.SegmentTests.{AreBlocks}
 use Rattle.stream_syntax.specs.declared.clut.ClutEntry.{ClutEntry}
 use Rattle.stream_syntax.specs.declared.display.Window.{Window}
 use Rattle.stream_syntax.specs.declared.page.PageEntry.{PageEntry}
@@ -250,12 +251,13 @@ abbrev pub IsWindowOf : ℕ → ℕ → Option Window → Type 0
 IsWindowOf width height None = Unit {0}
 IsWindowOf width height (Some window) = (window.left ≤ window.right) × (window.right < width) × (window.top ≤ window.bottom) × (window.bottom < height)
 
--- what is asked of a value beyond its table: sides are at least 1, and a window lies inside the display
+-- what is asked of a value beyond its table: sides are at least 1, the blocks of an object are in their grammar, and a
+-- window lies inside the display
 abbrev pub IsRight : SegmentValue → Type 0
 IsRight (of_page value) = Unit {0}
 IsRight (of_region value) = (1 ≤ value.head.width) × (1 ≤ value.head.height)
 IsRight (of_clut value) = Unit {0}
-IsRight (of_object value) = Unit {0}
+IsRight (of_object value) = AreBlocks value.top value.bottom
 IsRight (of_display value) = (1 ≤ value.width) × (1 ≤ value.height) × IsWindowOf value.width value.height value.window
 IsRight end_of_set = Unit {0}
 IsRight passed_over = Unit {0}
@@ -270,3 +272,54 @@ pub record IsSegment (bytes : List ℕ) (value : SegmentValue) : Type 0 where
   pub fits : FitsFields (segment_fields kind page body)
   pub laid : HasFields (segment_fields kind page body) (bits_of bytes)
   pub right : IsRight value
+
+-- ---- what a writer makes of a value
+
+-- the segment type
+abbrev pub segment_kind : SegmentValue → ℕ
+segment_kind (of_page value) = 0x10
+segment_kind (of_region value) = 0x11
+segment_kind (of_clut value) = 0x12
+segment_kind (of_object value) = 0x13
+segment_kind (of_display value) = 0x14
+segment_kind end_of_set = 0x80
+segment_kind passed_over = 0xFF
+
+-- each colour in the full range
+abbrev pub in_full : ClutEntry → CodedEntry
+in_full entry =
+    record { entry = entry.entry; two = entry.two; four = entry.four; eight = entry.eight; coded = full entry.colour.y entry.colour.cr entry.colour.cb entry.colour.t }
+
+-- an object has a byte 00 at its end exactly where its head, its own fixed bytes and its blocks are an odd sum
+abbrev pub is_odd : Object → Bool
+is_odd object = (13 + length object.top + length object.bottom) % 2 == 1
+
+-- the table: the level of compatibility is the depth's number, colours are in the full range, the length of an object
+-- is made even, and nothing stands after a display definition or in an end of set
+abbrev pub written_body : SegmentValue → List Field
+written_body (of_page value) = page_fields value
+written_body (of_region value) = region_fields (depth_number value.head.depth) value
+written_body (of_clut value) = clut_fields value.clut value.version (map in_full value.entries)
+written_body (of_object value) = object_fields (is_odd value) value
+written_body (of_display value) = display_fields 0 value
+written_body end_of_set = []
+written_body passed_over = []
+
+abbrev pub written_fields : ℕ → SegmentValue → List Field
+written_fields page value = segment_fields (segment_kind value) page (written_body value)
+
+-- the bytes
+unfoldable pub spelled : ℕ → SegmentValue → List ℕ
+spelled page value = bytes_of (written (written_fields page value))
+
+-- the colours of a CLUT are as they are shown
+abbrev pub AreShown : SegmentValue → Type 0
+AreShown (of_clut value) = All (λ entry. shown_of entry.colour ≡ entry.colour) value.entries
+AreShown value = Unit {0}
+
+-- what can be written: each number fits its row, the length of the body among them, the value is right, and its
+-- colours are as they are shown
+pub record IsWritable (page : ℕ) (value : SegmentValue) : Type 0 where
+  pub fits : FitsFields (written_fields page value)
+  pub right : IsRight value
+  pub shown : AreShown value

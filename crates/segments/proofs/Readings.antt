@@ -1,0 +1,113 @@
+-- What bytes are read as: a segment or a fault, and never both.
+use Rattle.std.proofs.Common.{◌≡◌, ℕ, ◌+◌, ◌<◌, ◌≤◌, List, length, take, drop, Option, Some, None, Result, Ok, Err, refl, sym, ap, subst, ◌∙◌, arith}
+use Rattle.std.specs.Prelude.{IfOk, IfErr, OnOk, IsOkAnd}
+use Rattle.sub_base.specs.declared.depth.Depth.TheVariants.{Eight}
+use Rattle.pixel_codes.proofs.Blocks.{not_both}
+use Rattle.pixel_codes.proofs.Parts.{same_fault}
+use Rattle.stream_syntax.specs.declared.code_fault.CodeFault.{CodeFault}
+use Rattle.stream_syntax.specs.declared.segment_fault.SegmentFault.{SegmentFault}
+use Rattle.stream_syntax.specs.declared.segment_fault.SegmentKind.TheVariants.{Code}
+use Rattle.stream_syntax.specs.Segments.{SegmentValue, IsSegment}
+use Rattle.stream_syntax.specs.SegmentTests.{frame_tests, body_tests, body_of, top_in, bottom_in, AreBlocks, IsBlocksFault, in_top, in_bottom, IsBodyFault, in_tests, in_blocks, IsSegmentFault, in_head, in_body}
+use Rattle.stream_syntax.specs.Tests.{first_fault, byte_at, word_at}
+use Rattle.segments.specs.declared.reading.Segment.{Segment}
+use Rattle.segments.specs.Contents.{contents}
+use Rattle.segments.specs.Reading.{value_in}
+use Rattle.segments.proofs.Bodies.{Found}
+use Rattle.segments.proofs.Frames.{is_segment, segment_again}
+use Rattle.segments.proofs.Shapes.{AreBytes, AreBytes-take, AreBytes-drop}
+use Rattle.segments.proofs.Whole.{Reads, body_laid}
+
+-- ---- blocks
+
+blocks_apart : (top bottom : List ℕ) (fault : SegmentFault) → AreBlocks top bottom → IsBlocksFault top bottom fault → ⊥
+blocks_apart top bottom fault blocks (in_top code bad is) = not_both Eight top blocks.top_runs code blocks.top_is bad
+blocks_apart top bottom fault blocks (in_bottom runs code good bad is) = not_both Eight bottom blocks.bottom_runs code blocks.bottom_is bad
+
+same_blocks_fault : (top bottom : List ℕ) (one other : SegmentFault) → IsBlocksFault top bottom one → IsBlocksFault top bottom other → one ≡ other
+same_blocks_fault top bottom one other (in_top code bad is) (in_top code' bad' is') =
+    is ∙ ap (λ (c : CodeFault). record { place = 13 + c.place; kind = Code c }) (same_fault Eight top code code' bad bad') ∙ sym is'
+same_blocks_fault top bottom one other (in_top code bad is) (in_bottom runs code' good bad' is') = absurd (not_both Eight top runs code good bad)
+same_blocks_fault top bottom one other (in_bottom runs code good bad is) (in_top code' bad' is') = absurd (not_both Eight top runs code' good bad')
+same_blocks_fault top bottom one other (in_bottom runs code good bad is) (in_bottom runs' code' good' bad' is') =
+    is ∙ ap (λ (c : CodeFault). record { place = 13 + length top + c.place; kind = Code c }) (same_fault Eight bottom code code' bad bad') ∙ sym is'
+
+-- ---- bodies and whole segments
+
+abbrev fails : SegmentFault → Option SegmentFault
+fails fault = Some fault
+
+apart : {fault : SegmentFault} → fails fault ≡ None → ⊥
+apart e = cc
+
+AreBytes-body : (bytes : List ℕ) → AreBytes bytes → AreBytes (body_of bytes)
+AreBytes-body bytes fits = AreBytes-take (word_at 4 bytes) (drop 6 bytes) (AreBytes-drop 6 bytes fits)
+
+same_some : (one other : SegmentFault) → fails one ≡ fails other → one ≡ other
+same_some one other e = cc
+
+same_body_fault : (kind : ℕ) (body : List ℕ) (one other : SegmentFault) → IsBodyFault kind body one → IsBodyFault kind body other → one ≡ other
+same_body_fault kind body one other (in_tests a) (in_tests b) = same_some one other (sym a ∙ b)
+same_body_fault kind body one other (in_tests a) (in_blocks none e bad) = absurd (apart (sym a ∙ none))
+same_body_fault kind body one other (in_blocks none e bad) (in_tests b) = absurd (apart (sym b ∙ none))
+same_body_fault kind body one other (in_blocks none e bad) (in_blocks none' e' bad') = same_blocks_fault (top_in body) (bottom_in body) one other bad bad'
+
+same_segment_fault : (bytes : List ℕ) (one other : SegmentFault) → IsSegmentFault bytes one → IsSegmentFault bytes other → one ≡ other
+same_segment_fault bytes one other (in_head a) (in_head b) = same_some one other (sym a ∙ b)
+same_segment_fault bytes one other (in_head a) (in_body none bad) = absurd (apart (sym a ∙ none))
+same_segment_fault bytes one other (in_body none bad) (in_head b) = absurd (apart (sym b ∙ none))
+same_segment_fault bytes one other (in_body none bad) (in_body none' bad') = same_body_fault (byte_at 1 bytes) (body_of bytes) one other bad bad'
+
+body_apart : (kind : ℕ) (body : List ℕ) (value : SegmentValue) (fault : SegmentFault) → Reads kind body value → IsBodyFault kind body fault → ⊥
+body_apart kind body value fault reads (in_tests e) = apart (sym e ∙ reads.0.1)
+body_apart kind body value fault reads (in_blocks none e bad) = blocks_apart (top_in body) (bottom_in body) fault (reads.1 e) bad
+
+segment_apart : (bytes : List ℕ) (value : SegmentValue) (fault : SegmentFault) → first_fault (frame_tests bytes) ≡ None → Reads (byte_at 1 bytes) (body_of bytes) value → IsSegmentFault bytes fault → ⊥
+segment_apart bytes value fault none reads (in_head e) = apart (sym e ∙ none)
+segment_apart bytes value fault none reads (in_body none' bad) = body_apart (byte_at 1 bytes) (body_of bytes) value fault reads bad
+
+-- ---- what reading gave
+
+-- a segment that was read: its head and its body pass their tests, and this is its value and its size
+pub record WasRead (bytes : List ℕ) (value : SegmentValue) (size : ℕ) : Type 0 where
+  pub head : first_fault (frame_tests bytes) ≡ None
+  pub body : Reads (byte_at 1 bytes) (body_of bytes) value
+  pub whole : size ≡ 6 + word_at 4 bytes
+
+abbrev pub Outcome : Type 0
+Outcome = Result (Segment × ℕ) SegmentFault
+
+abbrev pub WasAllRead : List ℕ → Outcome → Type 0
+WasAllRead bytes result = IfOk result (λ r. WasRead bytes (contents r.0) r.1)
+
+pub found : (bytes : List ℕ) (result : Outcome) → AreBytes bytes → WasAllRead bytes result → IfOk result (λ r. IsSegment (take r.1 bytes) (contents r.0))
+found bytes (Ok r) fits was =
+    let laid = body_laid (byte_at 1 bytes) (body_of bytes) (contents r.0) (AreBytes-body bytes fits) (fits 1) was.body.0 was.body.1 in
+    subst (λ (n : ℕ). IsSegment (take n bytes) (contents r.0)) (sym was.whole) (is_segment bytes (contents r.0) fits was.head laid)
+found bytes (Err fault) fits was = tt
+
+same_value : (kind : ℕ) (body : List ℕ) (one other : SegmentValue) → Reads kind body one → Reads kind body other → one ≡ other
+same_value kind body one other a b = a.0.0 ∙ sym b.0.0
+
+pub every_segment : (bytes : List ℕ) (result : Outcome) → WasAllRead bytes result → IfErr result (IsSegmentFault bytes)
+    → (value : SegmentValue) (size : ℕ) → size ≤ length bytes → IsSegment (take size bytes) value → IsOkAnd result (λ r. (contents r.0 ≡ value) × (r.1 ≡ size))
+every_segment bytes (Ok r) was bad value size le is =
+    let again = segment_again bytes size value le is in
+    (same_value (byte_at 1 bytes) (body_of bytes) (contents r.0) value was.body again.2, was.whole ∙ sym again.1)
+every_segment bytes (Err fault) was bad value size le is =
+    let again = segment_again bytes size value le is in
+    absurd (segment_apart bytes value fault again.0 again.2 bad)
+
+pub every_fault : (bytes : List ℕ) (result : Outcome) → WasAllRead bytes result → IfErr result (IsSegmentFault bytes)
+    → (fault : SegmentFault) → IsSegmentFault bytes fault → result ≡ Err fault
+every_fault bytes (Ok r) was bad fault is = absurd (segment_apart bytes (contents r.0) fault was.head was.body is)
+every_fault bytes (Err known) was bad fault is = ap (λ (f : SegmentFault). Err f) (same_segment_fault bytes known fault bad is)
+
+pub was_all_read : (bytes : List ℕ) (result : Outcome) → OnOk result (first_fault (frame_tests bytes) ≡ None) → IfOk result (λ r. contents r.0 ≡ value_in (byte_at 1 bytes) (body_of bytes))
+    → OnOk result (first_fault (body_tests (byte_at 1 bytes) (body_of bytes)) ≡ None) → OnOk result (byte_at 1 bytes ≡ 19 → AreBlocks (top_in (body_of bytes)) (bottom_in (body_of bytes))) → IfOk result (λ r. r.1 ≡ 6 + word_at 4 bytes)
+    → WasAllRead bytes result
+was_all_read bytes (Ok r) head value passes blocks size = record { head = head; body = ((value, passes), blocks); whole = size }
+was_all_read bytes (Err fault) head value passes blocks size = tt
+
+pub body_fault_at : (kind known : ℕ) (body bytes : List ℕ) (fault : SegmentFault) → kind ≡ known → body ≡ bytes → IsBodyFault kind body fault → IsBodyFault known bytes fault
+body_fault_at kind known body bytes fault kind-is body-is bad = subst (λ (k : ℕ). IsBodyFault k bytes fault) kind-is (subst (λ (b : List ℕ). IsBodyFault kind b fault) body-is bad)

@@ -1,0 +1,91 @@
+ghost use Rattle.std.specs.Prelude.{◌≡◌, ◌<◌, ◌≤◌, ◌+◌, ℕ, None, IfErr, IfOk, IsOkAnd, OnOk, length, take};
+ghost use Rattle.segments.specs.Contents.{contents};
+ghost use Rattle.segments.specs.Reading.{value_in};
+ghost use Rattle.stream_syntax.specs.SegmentTests.{
+  AreBlocks,
+  IsBodyFault,
+  IsSegmentFault,
+  body_of,
+  body_tests,
+  bottom_in,
+  frame_tests,
+  top_in,
+};
+ghost use Rattle.stream_syntax.specs.Segments.{IsSegment, SegmentValue};
+ghost use Rattle.stream_syntax.specs.Tests.{byte_at, first_fault, word_at};
+
+use crate::clut::{ClutSeg, clut_of};
+use crate::display::{DisplaySeg, display_of};
+use crate::frame::read_frame;
+use crate::object::{ObjectSeg, check_blocks, object_of};
+use crate::page::{PageSeg, page_of};
+use crate::region::{RegionSeg, region_of};
+use stream_syntax::SegmentFault;
+
+/// A segment (EN 300 743, clause 7.2), borrowed from the bytes that it was read from.
+#[derive(Clone, Copy, Debug)]
+pub enum Segment<'a> {
+    Page(PageSeg<'a>),
+    Region(RegionSeg<'a>),
+    Clut(ClutSeg<'a>),
+    Object(ObjectSeg<'a>),
+    Display(DisplaySeg),
+    /// The end of a display set.
+    End,
+    /// A segment of another type, which is passed over.
+    Passed,
+}
+
+/// Reads the segment that begins the bytes, and tells its whole length; other bytes may follow it. Nothing is copied.
+///
+/// The fault is that of the first test that fails: its place counts from the segment's first byte.
+pub fn read_segment(bytes: &[u8]) -> Result<(Segment<'_>, usize), SegmentFault>
+    // The bytes so far are a segment with that value.
+    ensures segment { IfOk result (λ found. IsSegment (take found.1 bytes.now) (contents found.0)) }
+    ensures within { IfOk result (λ found. found.1 ≤ length bytes.now) }
+    // No other bytes at the front are a segment, and none with another value.
+    ensures every_segment { (value : SegmentValue) (size : ℕ) → size ≤ length bytes.now → IsSegment (take size bytes.now) value
+        → IsOkAnd result (λ found. (contents found.0 ≡ value) × (found.1 ≡ size)) }
+    ensures fault { IfErr result (IsSegmentFault bytes.now) }
+    ensures every_fault { (fault : SegmentFault) → IsSegmentFault bytes.now fault → result ≡ Err fault }
+{
+    framed(bytes)
+}
+
+/// Reads the head, and the body that it frames.
+fn framed(bytes: &[u8]) -> Result<(Segment<'_>, usize), SegmentFault>
+    ensures head { OnOk result (first_fault (frame_tests bytes.now) ≡ None) }
+    ensures value { IfOk result (λ found. contents found.0 ≡ value_in (byte_at 1 bytes.now) (body_of bytes.now)) }
+    ensures passes { OnOk result (first_fault (body_tests (byte_at 1 bytes.now) (body_of bytes.now)) ≡ None) }
+    ensures blocks { OnOk result (byte_at 1 bytes.now ≡ 0x13 → AreBlocks (top_in (body_of bytes.now)) (bottom_in (body_of bytes.now))) }
+    ensures size { IfOk result (λ found. found.1 ≡ 6 + word_at 4 bytes.now) }
+    ensures within { IfOk result (λ found. found.1 ≤ length bytes.now) }
+    ensures fault { IfErr result (IsSegmentFault bytes.now) }
+{
+    let frame = read_frame(bytes)?;
+    let segment = by_kind(frame.kind, frame.body)?;
+    Ok((segment, frame.whole))
+}
+
+/// Reads a body by its segment type.
+fn by_kind(kind: u8, body: &[u8]) -> Result<Segment<'_>, SegmentFault>
+    requires { length body.now < 65536 }
+    ensures value { IfOk result (λ segment. contents segment ≡ value_in kind body.now) }
+    ensures passes { OnOk result (first_fault (body_tests kind body.now) ≡ None) }
+    ensures blocks { OnOk result (kind ≡ 0x13 → AreBlocks (top_in body.now) (bottom_in body.now)) }
+    ensures fault { IfErr result (IsBodyFault kind body.now) }
+{
+    match kind {
+        0x10 => Ok(Segment::Page(page_of(body)?)),
+        0x11 => Ok(Segment::Region(region_of(body)?)),
+        0x12 => Ok(Segment::Clut(clut_of(body)?)),
+        0x13 => {
+            let object = object_of(body)?;
+            check_blocks(object.top, object.bottom)?;
+            Ok(Segment::Object(object))
+        }
+        0x14 => Ok(Segment::Display(display_of(body)?)),
+        0x80 => Ok(Segment::End),
+        _ => Ok(Segment::Passed),
+    }
+}
