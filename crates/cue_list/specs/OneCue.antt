@@ -1,6 +1,6 @@
 -- A script of one cue: one epoch, one region of the display's size, and one picture of that size that is placed over all
 -- of it as the epoch starts, for less than the time of a refresh.
-use Rattle.std.specs.Prelude.{◌≡◌, ℕ, ◌+◌, ◌*◌, ◌==◌, nat_lt, nat_le, Bool, ◌&&◌, if◌then◌else◌, List, [], length, Option, Some, None, codes, ⊤, slice_index_or}
+use Rattle.std.specs.Prelude.{◌≡◌, ◌≤◌, ◌<◌, ◌^◌, ℕ, ◌+◌, ◌*◌, ◌==◌, nat_lt, nat_le, Bool, ◌&&◌, if◌then◌else◌, List, [], length, Option, Some, None, codes, ⊤, slice_index_or}
 use Rattle.std.specs.Str.{bytes_eq}
 use Rattle.sub_base.specs.declared.depth.Depth.{Depth}
 use Rattle.sub_base.specs.Depth.{bits_of}
@@ -93,3 +93,16 @@ cue_of rows = if length rows == 7 then (do
 abbrev pub IsNotYet : ScriptFault → List Row → Type 0
 IsNotYet faults.Memory rows = ⊤
 IsNotYet (faults.Refused row kind) rows = (row ≡ 1) × (kind ≡ kinds.NotYet) × (cue_of rows ≡ None)
+
+-- what is true of the numbers of such a script: times of 33 bits, in order, and a small picture that is no deeper than its region
+pub record IsSound (cue : OneCue) : Type 0 where
+  pub origin : cue.origin ≤ cue.start
+  pub rising : cue.start + 3600 < cue.end
+  pub late : cue.end < 2 ^ 33
+  pub refresh : (1 ≤ cue.refresh) × (cue.refresh ≤ 60)
+  pub short : cue.end < cue.start + 90000 * cue.refresh
+  pub narrow : cue.picture.width ≤ 720
+  pub low : cue.picture.height ≤ 576
+  pub small : cue.picture.width * cue.picture.height ≤ 4096
+  pub shallow : bits_of cue.picture.depth ≤ bits_of cue.depth
+  pub numbers : (cue.region ≤ 255) × (cue.clut ≤ 255)

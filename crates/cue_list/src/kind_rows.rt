@@ -81,7 +81,7 @@ pub fn display_row(row: &ByteRecord) -> Option<DisplayRow>
 #[tactic(auto, unfolding(crate::specs::KindRows::refresh_of))]
 pub fn refresh_row(row: &ByteRecord) -> Option<u64>
     ensures value { result ≡ refresh_of (fields_of row.now) }
-    ensures most { IfSome result (λ seconds. seconds ≤ 60) }
+    ensures range { IfSome result (λ seconds. (1 ≤ seconds) × (seconds ≤ 60)) }
 {
     if is_row(row, "refresh", 2) {
         number_in(cell(row, 1), 1, 60)
@@ -107,7 +107,8 @@ pub fn epoch_row(row: &ByteRecord, origin: u64) -> Option<u64>
 
 #[tactic(auto, unfolding(crate::specs::KindRows::region_of))]
 pub fn region_row(row: &ByteRecord) -> Option<RegionRow>
-    ensures { result ≡ region_of (fields_of row.now) }
+    ensures value { result ≡ region_of (fields_of row.now) }
+    ensures numbers { IfSome result (λ region. (region.id ≤ 255) × (region.clut ≤ 255)) }
 {
     if !is_row(row, "region", 8) {
         return None;
@@ -150,7 +151,8 @@ pub fn picture_head(row: &ByteRecord) -> Option<PictureHead>
 #[tactic(auto, unfolding(crate::specs::KindRows::place_of))]
 pub fn place_row(row: &ByteRecord, origin: u64) -> Option<PlaceRow>
     requires { origin ≤ 5000000000 }
-    ensures { result ≡ place_of origin (fields_of row.now) }
+    ensures value { result ≡ place_of origin (fields_of row.now) }
+    ensures end { IfSome result (λ place. place.end ≤ 8240000000) }
 {
     if !is_row(row, "place", 8) {
         return None;

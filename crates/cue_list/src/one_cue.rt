@@ -3,7 +3,7 @@ ghost use Rattle.std.specs.Str.{bytes_eq};
 ghost use Rattle.csv.specs.Records.{fields_of};
 ghost use Rattle.sub_base.specs.Depth.{code_count, bits_of as depth_bits};
 ghost use Rattle.cue_list.specs.Rows.{rows_of};
-ghost use Rattle.cue_list.specs.OneCue.{cue_of, heads_of as heads_of_rows, row_at, picture_with as picture_of_codes, cue_with as cue_of_heads, is_whole as is_whole_of, is_small as is_small_of, covers as covers_of, fits as fits_of, stands as stands_of, IsNotYet};
+ghost use Rattle.cue_list.specs.OneCue.{cue_of, heads_of as heads_of_rows, row_at, picture_with as picture_of_codes, cue_with as cue_of_heads, is_whole as is_whole_of, is_small as is_small_of, covers as covers_of, fits as fits_of, stands as stands_of, IsNotYet, IsSound};
 
 use crate::cells::{cell, is_text};
 use crate::codes::codes_of;
@@ -54,6 +54,7 @@ pub struct Heads {
 /// Reads a script of one cue; any other script is refused at its first record.
 pub fn read_one_cue(alloc: Global, text: &[u8]) -> Result<OneCue, ScriptFault>
     ensures cue { IfOk result (λ cue. cue_of (rows_of text.now) ≡ Some cue) }
+    ensures sound { IfOk result IsSound }
     ensures refused { IfErr result (λ fault. IsNotYet fault (rows_of text.now)) }
 {
     match find_cue(alloc, text) {
@@ -68,7 +69,8 @@ pub fn read_one_cue(alloc: Global, text: &[u8]) -> Result<OneCue, ScriptFault>
 
 /// The script of one cue that the text is, if it is one.
 fn find_cue(alloc: Global, text: &[u8]) -> Result<Option<OneCue>, NoMemory>
-    ensures { IfOk result (λ cue. cue ≡ cue_of (rows_of text.now)) }
+    ensures cue { IfOk result (λ cue. cue ≡ cue_of (rows_of text.now)) }
+    ensures sound { IfOk result (λ cue. IfSome cue IsSound) }
 {
     let rows = first_rows(alloc, text, 8)?;
     cue_of_rows(alloc, rows.as_slice())
@@ -76,7 +78,8 @@ fn find_cue(alloc: Global, text: &[u8]) -> Result<Option<OneCue>, NoMemory>
 
 #[tactic(auto, unfolding(crate::specs::OneCue::cue_of))]
 fn cue_of_rows(alloc: Global, rows: &[ByteRecord]) -> Result<Option<OneCue>, NoMemory>
-    ensures { IfOk result (λ cue. cue ≡ cue_of (map fields_of rows.now)) }
+    ensures cue { IfOk result (λ cue. cue ≡ cue_of (map fields_of rows.now)) }
+    ensures sound { IfOk result (λ cue. IfSome cue IsSound) }
 {
     if rows.len() != 7 {
         return Ok(None);
@@ -90,11 +93,10 @@ fn cue_of_rows(alloc: Global, rows: &[ByteRecord]) -> Result<Option<OneCue>, NoM
     let Some(picture) = picture_with(alloc, heads.display, heads.head.depth, codes) else {
         return Ok(None);
     };
-    if is_whole(&heads, row(rows, 5), row(rows, 6)) {
-        Ok(Some(cue_with(&heads, picture)))
-    } else {
-        Ok(None)
+    if !is_whole(&heads, row(rows, 5), row(rows, 6)) {
+        return Ok(None);
     }
+    Ok(Some(cue_with(&heads, picture)))
 }
 
 /// The record at that place.
@@ -109,8 +111,10 @@ fn row(rows: &[ByteRecord], place: usize) -> &ByteRecord
 fn heads_of(rows: &[ByteRecord]) -> Option<Heads>
     requires { length rows.now ≡ 7 }
     ensures heads { result ≡ heads_of_rows (map fields_of rows.now) }
-    ensures start { IfSome result (λ heads. heads.start < 2 ^ 63) }
-    ensures refresh { IfSome result (λ heads. heads.refresh ≤ 60) }
+    ensures start { IfSome result (λ heads. (heads.origin ≤ heads.start) × (heads.start < 2 ^ 63)) }
+    ensures end { IfSome result (λ heads. heads.place.end ≤ 8240000000) }
+    ensures refresh { IfSome result (λ heads. (1 ≤ heads.refresh) × (heads.refresh ≤ 60)) }
+    ensures numbers { IfSome result (λ heads. (heads.region.id ≤ 255) × (heads.region.clut ≤ 255)) }
     ensures wide { IfSome result (λ heads. 1 ≤ heads.display.width) }
     ensures high { IfSome result (λ heads. 1 ≤ heads.display.height) }
 {
