@@ -1,3 +1,4 @@
+pub mod ObjectLaws
 pub mod PieceLaws
 pub mod SlotLaws
 pub mod WordsLaws

@@ -1,5 +1,6 @@
 pub mod Command
 pub mod Compiled
+pub mod CueSets
 pub mod Outcome
 pub mod PieceView
 pub mod SlotStream

@@ -6,6 +6,7 @@ mod command;
 mod line;
 mod packets;
 mod pieces;
+mod sets;
 mod slot_stream;
 mod status;
 
