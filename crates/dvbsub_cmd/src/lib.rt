@@ -9,6 +9,7 @@ mod pieces;
 mod sets;
 mod slot_stream;
 mod status;
+mod units;
 
 pub use carry_out::top;
 pub use command::{Command, InputPlaces, inputs};

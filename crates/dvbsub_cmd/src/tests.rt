@@ -1,0 +1,100 @@
+use std::alloc::Global;
+use std::process::Abort;
+use std::test::Fail;
+use std::thread::Threads;
+use sub_base::{MemSink, MemSource, NoGate, Words};
+
+use super::*;
+
+/// The script of the first run: one cue of one picture of 8 bits.
+const FIRST_SCRIPT: &str = "origin,0\ndisplay,4,2\nrefresh,5\nepoch,90000\nregion,0,0,0,4,2,8,0\npicture,a,8,4,2,0102020203030303\nplace,90000,180000,0,0,0,solid,a\n";
+
+/// What stands in its first packet behind the head, `55 00` and 84 bytes FF.
+#[rattlefmt::skip]
+const FIRST_UNIT: [u8; 98] = [
+    0x00, 0x00, 0x01, 0xBD, 0x00, 0x5C, 0x84, 0x80, 0x05, 0x21, 0x00, 0x05, 0xBF, 0x21, 0x20, 0x00,
+    0x0F, 0x14, 0x00, 0x01, 0x00, 0x05, 0x07, 0x00, 0x03, 0x00, 0x01, 0x0F, 0x10, 0x00, 0x01, 0x00,
+    0x08, 0x0C, 0x0B, 0x00, 0xFF, 0x00, 0x00, 0x00, 0x00, 0x0F, 0x11, 0x00, 0x01, 0x00, 0x10, 0x00,
+    0x0F, 0x00, 0x04, 0x00, 0x02, 0x6F, 0x00, 0x00, 0x03, 0x00, 0x00, 0x00, 0x00, 0xF0, 0x00, 0x0F,
+    0x13, 0x00, 0x01, 0x00, 0x16, 0x00, 0x00, 0x01, 0x00, 0x08, 0x00, 0x07, 0x12, 0x01, 0x00, 0x83,
+    0x02, 0x00, 0x00, 0xF0, 0x12, 0x00, 0x84, 0x03, 0x00, 0x00, 0xF0, 0x0F, 0x80, 0x00, 0x01, 0x00,
+    0x00, 0xFF,
+];
+
+/// What stands in its second packet behind the head, `98 00` and 151 bytes FF.
+#[rattlefmt::skip]
+const SECOND_UNIT: [u8; 31] = [
+    0x00, 0x00, 0x01, 0xBD, 0x00, 0x19, 0x84, 0x80, 0x05, 0x21, 0x00, 0x0B, 0x7E, 0x41, 0x20, 0x00,
+    0x0F, 0x10, 0x00, 0x01, 0x00, 0x02, 0x0C, 0x13, 0x0F, 0x80, 0x00, 0x01, 0x00, 0x00, 0xFF,
+];
+
+/// How a command ended over a script in memory: the status, what `out` received, and the note.
+struct Outcome {
+    status: Status,
+    out: MemSink,
+    notes: MemSink,
+}
+
+fn words_of(alloc: Global, line: &str) -> Result<Words, Fail> {
+    let mut words = Words::make(alloc);
+    for word in line.split(' ') {
+        words.push(word)?;
+    }
+    Ok(words)
+}
+
+/// Runs the command over the script, whose source fails at the read with the number `bad_read`, with a sink that fails at
+/// the write with the number `bad_write`, and notes that fail at the write with the number `bad_note`.
+fn run_failing<R: Threads + Sync>(
+    rt: &R,
+    alloc: Global,
+    line: &str,
+    script: &str,
+    fails: [u64; 3],
+) -> Result<Outcome, Fail> {
+    let words = words_of(alloc, line)?;
+    let [bad_read, bad_write, bad_note] = fails;
+    let text = Vec::from_slice(alloc, script.as_bytes())?;
+    let mut first = MemSource::make(alloc, text, 7, vec![in alloc; bad_read]?);
+    let mut second = MemSource::make(alloc, Vec::new(alloc), 1, vec![in alloc; 1u64]?);
+    let mut out = MemSink::make(alloc, vec![in alloc; bad_write]?);
+    let mut notes = MemSink::make(alloc, vec![in alloc; bad_note]?);
+    let status = top(
+        rt,
+        alloc,
+        &words,
+        &mut first,
+        &mut second,
+        &mut out,
+        &mut notes,
+        &NoGate,
+    );
+    Ok(Outcome { status, out, notes })
+}
+
+fn run<R: Threads + Sync>(
+    rt: &R,
+    alloc: Global,
+    line: &str,
+    script: &str,
+) -> Result<Outcome, Fail> {
+    run_failing(rt, alloc, line, script, [0, 0, 0])
+}
+
+const COMPILE: &str = "compile sd 256 1 script.csv none out.ts";
+
+#[test]
+fn one_cue_becomes_two_packets(rt: HostRuntime) -> Result<(), Fail> {
+    let done = run(&rt, rt.alloc(), COMPILE, FIRST_SCRIPT)?;
+    assert_eq!(rt; done.status, Status::Done { cut: 0 });
+    assert_eq!(rt; done.notes.written(), b"done\n".as_slice());
+    let packets = done.out.written();
+    assert_eq!(rt; packets.len(), 376);
+    assert_eq!(rt; &packets[..6], [0x47, 0x41, 0x00, 0x30, 0x55, 0x00].as_slice());
+    assert!(rt; packets[6..90].iter().all(|byte| *byte == 0xFF));
+    assert_eq!(rt; &packets[90..188], FIRST_UNIT.as_slice());
+    assert_eq!(rt; &packets[188..194], [0x47, 0x41, 0x00, 0x31, 0x98, 0x00].as_slice());
+    assert!(rt; packets[194..345].iter().all(|byte| *byte == 0xFF));
+    assert_eq!(rt; &packets[345..376], SECOND_UNIT.as_slice());
+    Ok(())
+}
