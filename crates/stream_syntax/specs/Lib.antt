@@ -1,2 +1,3 @@
 pub mod PixelCodes
 pub mod PixelBlocks
+pub mod FieldBlocks
