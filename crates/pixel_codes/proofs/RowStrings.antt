@@ -233,7 +233,6 @@ row_string depth row old new fill h small x f e =
       },
     )
 
-
 -- ---- how long a string can be
 
 -- a run of code 0 has at most twelve bits a pixel and four more
@@ -311,7 +310,7 @@ row_short depth row old new fill h f e =
     let codes = codes_of depth (runs_of row) in
     let below = runs_of-below (code_count depth) row h in
     let all : 8 * length new ≡ 8 * length old + (length (string_of depth codes) + fill) =
-        sym (length-bits_of new) ∙ ap length e ∙ length-append (bits_of old) (string_of depth codes ++ replicate fill 0) ∙ ap (λ (n : ℕ). n + length (string_of depth codes ++ replicate fill 0)) (length-bits_of old) ∙ ap (λ (n : ℕ). 8 * length old + n) (length-append (string_of depth codes) (replicate fill 0) ∙ ap (λ (n : ℕ). length (string_of depth codes) + n) (length-replicate fill 0)) in
+    sym (length-bits_of new) ∙ ap length e ∙ length-append (bits_of old) (string_of depth codes ++ replicate fill 0) ∙ ap (λ (n : ℕ). n + length (string_of depth codes ++ replicate fill 0)) (length-bits_of old) ∙ ap (λ (n : ℕ). 8 * length old + n) (length-append (string_of depth codes) (replicate fill 0) ∙ ap (λ (n : ℕ). length (string_of depth codes) + n) (length-replicate fill 0)) in
     let parts : length (string_of depth codes) ≡ bits_in depth codes + length (ending depth) = length-append (flat_map (spelled depth) codes) (ending depth) in
     let pixels : pixels_sum (runs_of row) ≡ length row = sym (pixels_sum-drawn (runs_of row)) ∙ ap length (runs_of-drawn row) in
     omega (arith, all, parts, codes_sum depth (runs_of row) below, sum_bound depth (runs_of row) (runs_of-some row) (runs_of-apart row), excess-le (runs_of row), pixels, end_bound depth, f)
@@ -322,9 +321,13 @@ sum_of : (depth : Depth) (spans : List Span) (codes : List Code) → AreChosen d
 sum_of depth [] codes h = ap (bits_in depth) h
 sum_of depth (s ∷ ss) codes h =
     let front = h.0 in
-    let chosen = h.3 in
-    (bits_in depth front, bits_in depth h.1, record { codes = front; given = chosen.given; reached = refl; least = chosen.least }, sum_of depth ss h.1 h.4,
-    ap (bits_in depth) h.2 ∙ ap length (flat_map-append (spelled depth) front h.1) ∙ length-append (flat_map (spelled depth) front) (flat_map (spelled depth) h.1))
+    let chosen = h.3 in (
+      bits_in depth front,
+      bits_in depth h.1,
+      record { codes = front; given = chosen.given; reached = refl; least = chosen.least },
+      sum_of depth ss h.1 h.4,
+      ap (bits_in depth) h.2 ∙ ap length (flat_map-append (spelled depth) front h.1) ∙ length-append (flat_map (spelled depth) front) (flat_map (spelled depth) h.1),
+    )
 
 pub row_size : (depth : Depth) (row bytes : List ℕ) → IsRowString depth row bytes → IsRowSize depth row (length bytes)
 row_size depth row bytes w =

@@ -5,7 +5,7 @@ use Rattle.std.proofs.lemmas.List.{length-replicate, length-append, length-drop,
 use Rattle.std.proofs.lemmas.List.Concat.{flat_map-append}
 use Rattle.std.proofs.lemmas.List.Elements.{All-nil, All-head, All-tail, All-push}
 use Rattle.sub_base.specs.declared.depth.Depth.{Depth}
-use Rattle.stream_syntax.specs.PixelCodes.{bits, bits_of, Code, IsCode, pixel_count, colour_of, pixels_of, spelled, ending, string_of, Gives, IsString, IsRowString, IsReadAs}
+use Rattle.stream_syntax.specs.PixelCodes.{bits_of, Code, IsCode, pixel_count, colour_of, pixels_of, spelled, ending, string_of, IsString, IsRowString, IsReadAs}
 use Rattle.pixel_codes.specs.declared.token.Token.{Token}
 use Rattle.pixel_codes.specs.declared.token.Token.TheVariants.{Pixels, End}
 use Rattle.pixel_codes.specs.Reading.{token_at}
@@ -174,6 +174,7 @@ same_pixels depth xs r s place (c ∷ cs) (o ∷ os) h k e f =
   where
     same_count : (a b c d : ℕ) → Pixels a b ≡ Pixels c d → a ≡ c
     same_count a b c d e = cc
+
     same_colour : (a b c d : ℕ) → Pixels a b ≡ Pixels c d → b ≡ d
     same_colour a b c d e = cc
 
@@ -187,7 +188,8 @@ read_as depth pixels bytes w =
       given = w.given;
       only = λ others front rest more e s.
           let one : bits_of (bytes ++ rest) ≡ string_of depth w.codes ++ (whole.fill ++ bits_of rest) = bits_of-append bytes rest ∙ ap (λ (t : List ℕ). t ++ bits_of rest) whole.text ∙ append_assoc (string_of depth w.codes) whole.fill (bits_of rest) in
-          let two : bits_of (bytes ++ rest) ≡ string_of depth others ++ (s.fill ++ bits_of more) = ap bits_of e ∙ bits_of-append front more ∙ ap (λ (t : List ℕ). t ++ bits_of more) s.text ∙ append_assoc (string_of depth others) s.fill (bits_of more) in
-          (same_string depth others w.codes front bytes more rest s whole (sym e),
-          record { each = s.each; drawn = sym (same_pixels depth (bits_of (bytes ++ rest)) (whole.fill ++ bits_of rest) (s.fill ++ bits_of more) 0 w.codes others w.given.each s.each one two) ∙ w.given.drawn });
+          let two : bits_of (bytes ++ rest) ≡ string_of depth others ++ (s.fill ++ bits_of more) = ap bits_of e ∙ bits_of-append front more ∙ ap (λ (t : List ℕ). t ++ bits_of more) s.text ∙ append_assoc (string_of depth others) s.fill (bits_of more) in (
+            same_string depth others w.codes front bytes more rest s whole (sym e),
+            record { each = s.each; drawn = sym (same_pixels depth (bits_of (bytes ++ rest)) (whole.fill ++ bits_of rest) (s.fill ++ bits_of more) 0 w.codes others w.given.each s.each one two) ∙ w.given.drawn },
+          );
     }

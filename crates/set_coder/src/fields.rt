@@ -99,7 +99,7 @@ fn append_field(
     requires few { length rows ≤ 32768 }
     requires rows { AreRows depth rows }
     ensures block { OnOk result ((bytes : List ℕ) × (out.new.items ≡ out.old.items ++ bytes)
-        × (length bytes < 2 ^ 32) × IsFieldBlock depth region rows bytes) }
+        × (length bytes < 2 ^ 32) × IsFieldBlock depth region rows.entry bytes) }
     ensures extends { Extends out.old.items out.new.items }
 {
     out.extend_from_slice(table_bytes(depth, region))?;
@@ -141,7 +141,8 @@ fn table_bytes(depth: Depth, region: Depth) -> &'static [u8]
     match (depth, region) {
         (Depth::Two, Depth::Four) => b"\x20\x01\x23",
         (Depth::Two, Depth::Eight) => b"\x21\x00\x01\x02\x03",
-        (Depth::Four, Depth::Eight) => b"\x22\x00\x01\x02\x03\x04\x05\x06\x07\x08\x09\x0A\x0B\x0C\x0D\x0E\x0F",
+        (Depth::Four, Depth::Eight) =>
+            b"\x22\x00\x01\x02\x03\x04\x05\x06\x07\x08\x09\x0A\x0B\x0C\x0D\x0E\x0F",
         _ => b"",
     }
 }

@@ -4,3 +4,6 @@
 mod fields;
 
 pub use fields::{FieldLengths, write_fields};
+
+#[cfg(test)]
+mod tests;
