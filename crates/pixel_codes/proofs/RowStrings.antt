@@ -1,14 +1,17 @@
 -- The writer's string of a row is the string of the row.
 use Rattle.std.proofs.Common.{◌≡◌, ℕ, zero, suc, ◌+◌, ◌*◌, ◌<◌, ◌≤◌, Bool, true, false, cond, eqb, List, [], ◌∷◌, ◌++◌, length, get_or, refl, sym, ap, subst, ◌∙◌, arith}
 use Rattle.std.specs.Prelude.{flat_map, replicate, All}
-use Rattle.std.proofs.lemmas.Bool.{eq-eqb, eqb-true, eqb-false}
+use Rattle.std.proofs.lemmas.Bool.{ne_eqb, eq-eqb, eqb-true, eqb-false}
 use Rattle.std.proofs.lemmas.List.{length-append, length-replicate, append_cancel_left, get_or-append-add}
 use Rattle.std.proofs.lemmas.List.Concat.{flat_map-append}
 use Rattle.std.proofs.lemmas.List.Elements.{All-nil, All-cons, All-head, All-tail, All-append, All-from_get_or}
 use Rattle.sub_base.specs.Depth.{code_count}
 use Rattle.sub_base.specs.declared.depth.Depth.{Depth}
+use Rattle.sub_base.specs.declared.depth.Depth.TheVariants.{Two, Four, Eight}
 use Rattle.stream_syntax.specs.PixelCodes.{bits_of, Code, IsCode, pixel_count, colour_of, pixels_of, spelled, ending, string_of, Gives, bits_in, Span, AreApart, AreMaximalRuns, AreChosen, IsLeastSum, IsRowString, IsRowSize}
-use Rattle.pixel_codes.specs.Least.{table_bits, chosen}
+use Rattle.std.proofs.lemmas.Bool.Decides.{nat_tests}
+use Rattle.pixel_codes.specs.Least.{two_some, two_none, four_some, four_none, eight_some, eight_none, table_bits, chosen}
+use Rattle.pixel_codes.proofs.Tokens.{end_width, length-ending}
 use Rattle.pixel_codes.specs.Lists.{Extends}
 use Rattle.pixel_codes.specs.Rows.{span_of, extended, runs_of, codes_of}
 use Rattle.pixel_codes.specs.Spelling.{width_of}
@@ -229,3 +232,105 @@ row_string depth row old new fill h small x f e =
         started = omega (arith, len, parts, sum, f);
       },
     )
+
+-- ---- how long a string can be
+
+-- a run of code 0 has at most twelve bits a pixel and four more
+none_bound : (depth : Depth) (count : ℕ) → 1 ≤ count → table_bits depth 0 count ≤ 12 * count + 4
+unfolding two_none four_none eight_none
+none_bound Two count h = grind (arith, nat_tests)
+none_bound Four count h = grind (arith, nat_tests)
+none_bound Eight count h = grind (arith, nat_tests)
+
+-- a run of another code has at most twelve bits a pixel less four
+some_bound : (depth : Depth) (colour count : ℕ) → 1 ≤ count → table_bits depth (suc colour) count + 4 ≤ 12 * count
+unfolding two_some four_some eight_some
+some_bound Two colour count h = grind (arith, nat_tests)
+some_bound Four colour count h = grind (arith, nat_tests)
+some_bound Eight colour count h = grind (arith, nat_tests)
+
+abbrev pixels_sum : List Span → ℕ
+pixels_sum [] = 0
+pixels_sum (s ∷ ss) = s.count + pixels_sum ss
+
+-- what runs have more than twelve bits a pixel
+abbrev excess : List Span → ℕ
+excess [] = 0
+excess (s ∷ ss) = cond (eqb s.code 0) 4 0
+
+excess-le : (spans : List Span) → excess spans ≤ 4
+excess-le [] = omega arith
+excess-le (s ∷ ss) = by (eqb s.code 0)
+  where
+    by : (b : Bool) → cond b 4 0 ≤ 4
+    by true = omega arith
+    by false = omega arith
+
+-- behind a run of code 0 stands another code
+apart_none : (s : Span) (ss : List Span) → s.code ≡ 0 → AreApart (s ∷ ss) → excess ss ≡ 0
+apart_none s [] e h = refl
+apart_none s (t ∷ ss) e h = let f : eqb t.code 0 ≡ false = ne_eqb t.code 0 (λ z. h.0 (e ∙ sym z)) in rw f refl
+
+apart_rest : (s : Span) (ss : List Span) → AreApart (s ∷ ss) → AreApart ss
+apart_rest s [] h = tt
+apart_rest s (t ∷ ss) h = h.1
+
+sum_bound : (depth : Depth) (spans : List Span) → All (λ span. 0 < span.count) spans → AreApart spans → table_sum depth spans ≤ 12 * pixels_sum spans + excess spans
+sum_bound depth [] h a = omega arith
+sum_bound depth (s ∷ ss) h a =
+    let some = All-head (λ (span : Span). 0 < span.count) s ss h in
+    let rest = sum_bound depth ss (All-tail (λ (span : Span). 0 < span.count) s ss h) (apart_rest s ss a) in
+    by s.code refl some rest
+  where
+    by : (c : ℕ) → s.code ≡ c → 0 < s.count → table_sum depth ss ≤ 12 * pixels_sum ss + excess ss → table_sum depth (s ∷ ss) ≤ 12 * pixels_sum (s ∷ ss) + excess (s ∷ ss)
+    by zero e some rest =
+        let t : table_bits depth s.code s.count ≡ table_bits depth 0 s.count = ap (λ (c : ℕ). table_bits depth c s.count) e in
+        let x : excess (s ∷ ss) ≡ 4 = let f = eq-eqb s.code 0 e in rw f refl in
+        omega (arith, t, none_bound depth s.count some, rest, apart_none s ss e a, x)
+    by (suc c) e some rest =
+        let t : table_bits depth s.code s.count ≡ table_bits depth (suc c) s.count = ap (λ (c : ℕ). table_bits depth c s.count) e in
+        omega (arith, t, some_bound depth c s.count some, rest, excess-le ss)
+
+pixels_sum-drawn : (spans : List Span) → length (flat_map (λ span. replicate span.count span.code) spans) ≡ pixels_sum spans
+pixels_sum-drawn [] = refl
+pixels_sum-drawn (s ∷ ss) = length-append (replicate s.count s.code) (flat_map (λ span. replicate span.count span.code) ss) ∙ omega (arith, length-replicate s.count s.code, pixels_sum-drawn ss)
+
+end_bound : (depth : Depth) → length (ending depth) ≤ 16
+end_bound depth = omega (arith, length-ending depth, wide depth)
+  where
+    wide : (d : Depth) → end_width d ≤ 16
+    wide Two = omega arith
+    wide Four = omega arith
+    wide Eight = omega arith
+
+pub row_short : (depth : Depth) (row old new : List ℕ) (fill : ℕ) → All (λ code. code < code_count depth) row → fill < 8 →
+    bits_of new ≡ bits_of old ++ (string_of depth (codes_of depth (runs_of row)) ++ replicate fill 0) →
+    2 * length new ≤ 2 * length old + 3 * length row + 6
+row_short depth row old new fill h f e =
+    let codes = codes_of depth (runs_of row) in
+    let below = runs_of-below (code_count depth) row h in
+    let all : 8 * length new ≡ 8 * length old + (length (string_of depth codes) + fill) =
+    sym (length-bits_of new) ∙ ap length e ∙ length-append (bits_of old) (string_of depth codes ++ replicate fill 0) ∙ ap (λ (n : ℕ). n + length (string_of depth codes ++ replicate fill 0)) (length-bits_of old) ∙ ap (λ (n : ℕ). 8 * length old + n) (length-append (string_of depth codes) (replicate fill 0) ∙ ap (λ (n : ℕ). length (string_of depth codes) + n) (length-replicate fill 0)) in
+    let parts : length (string_of depth codes) ≡ bits_in depth codes + length (ending depth) = length-append (flat_map (spelled depth) codes) (ending depth) in
+    let pixels : pixels_sum (runs_of row) ≡ length row = sym (pixels_sum-drawn (runs_of row)) ∙ ap length (runs_of-drawn row) in
+    omega (arith, all, parts, codes_sum depth (runs_of row) below, sum_bound depth (runs_of row) (runs_of-some row) (runs_of-apart row), excess-le (runs_of row), pixels, end_bound depth, f)
+
+-- ---- the size of a string follows from its codes
+
+sum_of : (depth : Depth) (spans : List Span) (codes : List Code) → AreChosen depth spans codes → IsLeastSum depth spans (bits_in depth codes)
+sum_of depth [] codes h = ap (bits_in depth) h
+sum_of depth (s ∷ ss) codes h =
+    let front = h.0 in
+    let chosen = h.3 in (
+      bits_in depth front,
+      bits_in depth h.1,
+      record { codes = front; given = chosen.given; reached = refl; least = chosen.least },
+      sum_of depth ss h.1 h.4,
+      ap (bits_in depth) h.2 ∙ ap length (flat_map-append (spelled depth) front h.1) ∙ length-append (flat_map (spelled depth) front) (flat_map (spelled depth) h.1),
+    )
+
+pub row_size : (depth : Depth) (row bytes : List ℕ) → IsRowString depth row bytes → IsRowSize depth row (length bytes)
+row_size depth row bytes w =
+    let len : 8 * length bytes ≡ length (string_of depth w.codes) + w.fill = sym (length-bits_of bytes) ∙ ap length w.text ∙ length-append (string_of depth w.codes) (replicate w.fill 0) ∙ ap (λ (n : ℕ). length (string_of depth w.codes) + n) (length-replicate w.fill 0) in
+    let parts : length (string_of depth w.codes) ≡ bits_in depth w.codes + length (ending depth) = length-append (flat_map (spelled depth) w.codes) (ending depth) in
+    record { spans = w.spans; maximal = w.maximal; sum = bits_in depth w.codes; least = sum_of depth w.spans w.codes w.chosen; started = omega (arith, len, parts, w.short) }

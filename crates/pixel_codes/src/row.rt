@@ -1,6 +1,6 @@
-ghost use Rattle.std.specs.Prelude.{◌≡◌, ℕ, ◌==◌, ◌<◌, ◌≤◌, List, ◌++◌, length, replicate, flat_map, slice_index, take_while, All, OnOk, OnErr};
+ghost use Rattle.std.specs.Prelude.{◌≡◌, ℕ, ◌==◌, ◌+◌, ◌*◌, ◌<◌, ◌≤◌, List, ◌++◌, length, replicate, flat_map, slice_index, take_while, All, OnOk, OnErr};
 ghost use Rattle.sub_base.specs.Depth.{code_count};
-ghost use Rattle.stream_syntax.specs.PixelCodes.{bits, bits_of, spelled, ending, string_of, IsRowString, IsRowSize};
+ghost use Rattle.stream_syntax.specs.PixelCodes.{bits, bits_of, spelled, ending, string_of, IsRowString, IsRowSize, IsReadAs};
 ghost use Rattle.pixel_codes.specs.Least.{chosen};
 ghost use Rattle.pixel_codes.specs.Lists.{Extends};
 ghost use Rattle.pixel_codes.specs.Rows.{runs_of, codes_of};
@@ -18,6 +18,12 @@ pub fn write_row(depth: Depth, codes: &[u8], out: &mut Vec<u8>) -> Result<(), No
     ensures row { OnOk result ((bytes : List ℕ) × (out.new.items ≡ out.old.items ++ bytes)
         × IsRowString depth codes.now bytes × IsRowSize depth codes.now (length bytes)) }
     ensures kept { OnErr result (out.new.items ≡ out.old.items) }
+
+    // Whatever follows, the string is read back as codes that give the row.
+    ensures read_back { OnOk result ((bytes : List ℕ) × (out.new.items ≡ out.old.items ++ bytes)
+        × IsReadAs depth codes.now bytes) }
+    // One and a half bytes a pixel, and three more, are enough.
+    ensures short { OnOk result (2 * length out.new.items ≤ 2 * length out.old.items + 3 * length codes.now + 6) }
 {
     let before = out.len();
     let written = append_row(depth, codes, out);

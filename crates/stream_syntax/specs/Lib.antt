@@ -9,3 +9,4 @@ pub mod Segments
 pub mod Tests
 pub mod TransportPackets
 pub mod Units
+pub mod FieldBlocks

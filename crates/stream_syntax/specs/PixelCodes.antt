@@ -201,3 +201,11 @@ pub record IsRowSize (depth : Depth) (pixels : List ℕ) (size : ℕ) : Type 0 w
   pub sum : ℕ
   pub least : IsLeastSum depth spans sum
   pub started : size ≡ (sum + length (ending depth) + 7) / 8
+
+-- Whatever follows these bytes, one string of the depth begins there and no other: these bytes; and each list of codes
+-- that it is read as gives these pixels.
+pub record IsReadAs (depth : Depth) (pixels bytes : List ℕ) : Type 0 where
+  pub codes : List Code
+  pub whole : IsString depth codes bytes
+  pub given : Gives depth codes pixels
+  pub only : (others : List Code) (front rest more : List ℕ) → bytes ++ rest ≡ front ++ more → IsString depth others front → (front ≡ bytes) × Gives depth others pixels

@@ -1,0 +1,12 @@
+use Rattle.std.proofs.lemmas.Result.{IfOk-weaker}
+use Rattle.set_coder.proofs.FieldLaws.{both_sizes}
+use Rattle.set_coder.proofs.Drawing.{both_drawn}
+use Rattle.set_coder.proofs.fields.write_fields.Goals as goal
+
+pub returns-else-is_err-clause-sizes : goal.returns-else-is_err-clause-sizes
+returns-else-is_err-clause-sizes c =
+    IfOk-weaker c.append_fields-written.result _ _ (λ lengths b. both_sizes c.args.picture.now c.args.region c.args.out.now.items c.append_fields-written.new.out.items lengths.top lengths.bottom b) c.append_fields-written.ensures.blocks
+
+pub returns-else-is_err-clause-drawn : goal.returns-else-is_err-clause-drawn
+returns-else-is_err-clause-drawn c =
+    IfOk-weaker c.append_fields-written.result _ _ (λ lengths b. both_drawn c.args.picture.now c.args.region c.args.out.now.items c.append_fields-written.new.out.items lengths.top lengths.bottom c.requires b) c.append_fields-written.ensures.blocks

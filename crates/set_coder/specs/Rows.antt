@@ -1,0 +1,16 @@
+-- Rows of a picture, and bytes that grow at their end.
+use Rattle.std.specs.Prelude.{◌≡◌, ℕ, ◌<◌, ◌≤◌, List, ◌++◌, length, All}
+use Rattle.sub_base.specs.declared.depth.Depth.{Depth}
+use Rattle.sub_base.specs.Depth.{code_count}
+
+-- a row of codes of a depth, as long as a row can be
+pub record IsRowOf (depth : Depth) (row : List ℕ) : Type 0 where
+  pub short : length row ≤ 65535
+  pub each : All (λ code. code < code_count depth) row
+
+abbrev pub AreRows : Depth → List (List ℕ) → Type 0
+AreRows depth rows = All (IsRowOf depth) rows
+
+-- something was put at the end, perhaps nothing
+abbrev pub Extends : List ℕ → List ℕ → Type 0
+Extends old new = (more : List ℕ) × (new ≡ old ++ more)

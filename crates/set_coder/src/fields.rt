@@ -1,0 +1,148 @@
+ghost use Rattle.std.specs.Prelude.{◌≡◌, ℕ, ◌+◌, ◌*◌, ◌^◌, ◌<◌, ◌≤◌, List, [], ◌∷◌, ◌++◌, length, All, OnOk, OnErr, IfOk};
+ghost use Rattle.sub_base.specs.Depth.{code_count};
+ghost use Rattle.sub_base.specs.Picture.{bottom_field};
+ghost use Rattle.stream_syntax.specs.PixelBlocks.{IsNoDeeper, string_type};
+ghost use Rattle.stream_syntax.specs.FieldBlocks.{identity_table, IsRowBlock, AreRowBlocks, IsFieldBlock, AreFieldBlocks, AreFieldSizes, DrawsPicture};
+ghost use Rattle.set_coder.specs.Rows.{AreRows, Extends};
+
+use indexed_picture::{FieldRows, Indexed};
+use pixel_codes::write_row;
+use sub_base::{Depth, NoMemory};
+
+/// The bytes of the pixel data blocks of a picture's two fields. Where the bottom field is the top field, its block
+/// has none.
+#[derive(Clone, Copy, Debug, PartialEq, Eq)]
+pub struct FieldLengths {
+    pub top: u32,
+    pub bottom: u32,
+}
+
+const LINE_END: u8 = 0xF0;
+
+/// Appends the pixel data blocks of a picture's top and bottom field, for a region of a depth (EN 300 743, object
+/// data segment): the map table in which each code stands for itself where the picture is less deep than the region,
+/// then each row's string by the picture's depth and an end of line. A field without rows is an end of line alone,
+/// and the bottom block is left out exactly where the two fields are equal. After want of memory `out` is as before.
+pub fn write_fields(
+    picture: &Indexed,
+    region: Depth,
+    out: &mut Vec<u8>,
+) -> Result<FieldLengths, NoMemory>
+    requires { IsNoDeeper picture.now.depth region }
+    ensures blocks { IfOk result (λ lengths. (top : List ℕ) × (bottom : List ℕ)
+        × (out.new.items ≡ out.old.items ++ (top ++ bottom))
+        × (lengths.top ≡ length top) × (lengths.bottom ≡ length bottom)
+        × AreFieldBlocks picture.now region top bottom) }
+    ensures kept { OnErr result (out.new.items ≡ out.old.items) }
+
+    // What follows of the blocks: their sizes, and that they draw the picture.
+    ensures sizes { IfOk result (λ lengths. AreFieldSizes picture.now region lengths.top lengths.bottom) }
+    ensures drawn { IfOk result (λ lengths. (top : List ℕ) × (bottom : List ℕ)
+        × (out.new.items ≡ out.old.items ++ (top ++ bottom))
+        × (lengths.top ≡ length top) × (lengths.bottom ≡ length bottom)
+        × DrawsPicture picture.now region top bottom) }
+{
+    let before = out.len();
+    let written = append_fields(picture, region, out);
+    if written.is_err() {
+        out.truncate(before);
+    }
+    written
+}
+
+fn append_fields(
+    picture: &Indexed,
+    region: Depth,
+    out: &mut Vec<u8>,
+) -> Result<FieldLengths, NoMemory>
+    requires { IsNoDeeper picture.now.depth region }
+    ensures blocks { IfOk result (λ lengths. (top : List ℕ) × (bottom : List ℕ)
+        × (out.new.items ≡ out.old.items ++ (top ++ bottom))
+        × (lengths.top ≡ length top) × (lengths.bottom ≡ length bottom)
+        × AreFieldBlocks picture.now region top bottom) }
+    ensures extends { Extends out.old.items out.new.items }
+{
+    let start = out.len();
+    append_field(picture.depth(), region, picture.top_rows(), out)?;
+    let middle = out.len();
+    if !picture.fields_equal() {
+        append_bottom_field(picture, region, out)?;
+    }
+    Ok(FieldLengths {
+        top: (middle - start) as u32,
+        bottom: (out.len() - middle) as u32,
+    })
+}
+
+/// Appends the block of the bottom field, which has no rows where the picture is one row high.
+fn append_bottom_field(picture: &Indexed, region: Depth, out: &mut Vec<u8>) -> Result<(), NoMemory>
+    requires { IsNoDeeper picture.now.depth region }
+    ensures block { OnOk result ((bytes : List ℕ) × (out.new.items ≡ out.old.items ++ bytes)
+        × (length bytes < 2 ^ 32) × IsFieldBlock picture.now.depth region (bottom_field picture.now) bytes) }
+    ensures extends { Extends out.old.items out.new.items }
+{
+    if picture.height() == 1 {
+        out.push(LINE_END)?;
+        return Ok(());
+    }
+    append_field(picture.depth(), region, picture.bottom_rows(), out)
+}
+
+/// Appends the block of a field that has rows.
+fn append_field(
+    depth: Depth,
+    region: Depth,
+    rows: FieldRows<'_>,
+    out: &mut Vec<u8>,
+) -> Result<(), NoMemory>
+    requires some { 0 < length rows }
+    requires few { length rows ≤ 32768 }
+    requires rows { AreRows depth rows }
+    ensures block { OnOk result ((bytes : List ℕ) × (out.new.items ≡ out.old.items ++ bytes)
+        × (length bytes < 2 ^ 32) × IsFieldBlock depth region rows.entry bytes) }
+    ensures extends { Extends out.old.items out.new.items }
+{
+    out.extend_from_slice(table_bytes(depth, region))?;
+    for row in rows {
+        append_row(depth, row, out)?;
+    }
+    Ok(())
+}
+
+/// Appends the sub-blocks of a row.
+fn append_row(depth: Depth, row: &[u8], out: &mut Vec<u8>) -> Result<(), NoMemory>
+    requires { All (λ code. code < code_count depth) row.now }
+    ensures block { OnOk result ((bytes : List ℕ) × (out.new.items ≡ out.old.items ++ bytes)
+        × (2 * length bytes ≤ 3 * length row.now + 10) × IsRowBlock depth row.now bytes) }
+    ensures extends { Extends out.old.items out.new.items }
+{
+    out.push(type_of_string(depth))?;
+    write_row(depth, row, out)?;
+    out.push(LINE_END)?;
+    Ok(())
+}
+
+/// The type byte of a string of a depth.
+fn type_of_string(depth: Depth) -> u8
+    ensures { result ≡ string_type depth }
+{
+    match depth {
+        Depth::Two => 0x10,
+        Depth::Four => 0x11,
+        Depth::Eight => 0x12,
+    }
+}
+
+/// The map table in which each code stands for itself, with its type byte; none where the picture is as deep as the
+/// region.
+fn table_bytes(depth: Depth, region: Depth) -> &'static [u8]
+    ensures { result.now ≡ identity_table depth region }
+{
+    match (depth, region) {
+        (Depth::Two, Depth::Four) => b"\x20\x01\x23",
+        (Depth::Two, Depth::Eight) => b"\x21\x00\x01\x02\x03",
+        (Depth::Four, Depth::Eight) =>
+            b"\x22\x00\x01\x02\x03\x04\x05\x06\x07\x08\x09\x0A\x0B\x0C\x0D\x0E\x0F",
+        _ => b"",
+    }
+}
