@@ -161,6 +161,9 @@ size_cases false false last e = absurd cc
 plus_none : (n : ℕ) → n ≡ n + 0
 plus_none n = omega arith
 
+two_bits : (body : List ℕ) → coding_method body < 4
+two_bits body = omega arith
+
 below_one : (n : ℕ) → n < 4 → n ≢ 1 → n ≢ 2 → n ≢ 3 → n ≡ 0
 below_one n lt one two three = omega (arith, one, two, three)
 
@@ -176,7 +179,7 @@ object_asks body none =
     let two : coding_method body ≢ 2 = unequal _ _ c.0 in
     let three : coding_method body ≢ 3 = unequal _ _ d.0 in
     let long : 7 ≤ length body = ltb-false _ _ e.0 in
-    let method : coding_method body ≡ 0 = below_one (coding_method body) (omega arith) one two three in
+    let method : coding_method body ≡ 0 = below_one (coding_method body) (two_bits body) one two three in
     elim (size_cases (length body == object_size body) (length body == object_size body + 1) (byte_at (object_size body) body == 0) f.0) [
       | inl exact ↦
           let size : length body ≡ object_size body = eqb-true _ _ exact in

@@ -2,6 +2,7 @@
 use Rattle.std.proofs.Common.{◌≡◌, ℕ, zero, suc, ◌+◌, ◌-◌, ◌*◌, ◌/◌, ◌%◌, ◌^◌, ◌<◌, ◌≤◌, Bool, true, false, List, [], ◌∷◌, ◌++◌, All, length, get_or, take, drop, map, Option, Some, None, refl, sym, ap, subst, ◌∙◌, append_assoc, arith}
 use Rattle.std.specs.List.{flat_map, AllByRecursion}
 use Rattle.std.proofs.lemmas.List.Elements.{All-from_get_or, recursion_from_All}
+use Rattle.std.proofs.lemmas.List.{take_at}
 use Rattle.sub_base.specs.Colour.{shown_of}
 use Rattle.stream_syntax.specs.declared.clut.ClutEntry.{ClutEntry}
 use Rattle.stream_syntax.specs.declared.display.Window.{Window}
@@ -151,3 +152,7 @@ appended page value old kept head after new kind size writable kept-is head-is k
 
 pub spelled_size : (page : ℕ) (value : SegmentValue) → IsWritable page value → length (spelled page value) ≡ 6 + byte_count (written_body value)
 spelled_size page value writable = ap length (spelled_as page value writable.fits) ∙ omega (arith, size_is value writable.fits.1.1.1.1)
+
+pub read_again : (page : ℕ) (value : SegmentValue) (rest : List ℕ) → IsWritable page value → IsSegment (take (length (spelled page value)) (spelled page value ++ rest)) value
+read_again page value rest writable =
+    subst (λ (bytes : List ℕ). IsSegment bytes value) (sym (take_at (spelled page value) rest (length (spelled page value)) refl)) (written_segment page value writable)
