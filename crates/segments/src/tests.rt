@@ -1,5 +1,5 @@
 use super::*;
-use pixel_codes::{CodeFault, CodeKind};
+use pixel_codes::{CodeFault, CodeKind, check_block};
 use std::test::Fail;
 use sub_base::{CLEAR, Colour, Depth};
 
@@ -163,4 +163,94 @@ fn each_prefix_is_cut(rt: HostRuntime) {
             assert!(rt; matches!(read_segment(front), Err(found) if found == expected));
         }
     }
+}
+
+#[test]
+fn segments_are_written(rt: HostRuntime) -> Result<(), Fail> {
+    let mut out = Vec::new(rt.alloc());
+    let display = SegmentOut::Display { version: 0, width: 4, height: 2 };
+    write_segment(1, &display, &mut out)?;
+    let entries = [PageEntry { region: 0, x: 0, y: 0 }];
+    let page = SegmentOut::Page {
+        time_out: 12,
+        version: 0,
+        state: State::ModeChange,
+        entries: &entries,
+    };
+    write_segment(1, &page, &mut out)?;
+    write_segment(1, &SegmentOut::End, &mut out)?;
+    assert_eq!(rt;
+        out.as_slice(),
+        [
+            0x0F, 0x14, 0x00, 0x01, 0x00, 0x05, 0x07, 0x00, 0x03, 0x00, 0x01, 0x0F, 0x10, 0x00, 0x01,
+            0x00, 0x08, 0x0C, 0x0B, 0x00, 0xFF, 0x00, 0x00, 0x00, 0x00, 0x0F, 0x80, 0x00, 0x01, 0x00,
+            0x00,
+        ]
+        .as_slice()
+    );
+    Ok(())
+}
+
+#[test]
+fn a_region_is_written(rt: HostRuntime) -> Result<(), Fail> {
+    let mut out = Vec::new(rt.alloc());
+    let head = RegionHead {
+        region: 0,
+        version: 0,
+        fill: true,
+        width: 4,
+        height: 2,
+        depth: Depth::Eight,
+        clut: 0,
+        code8: 0,
+        code4: 0,
+        code2: 0,
+    };
+    let listings = [Listing { object: 0, x: 0, y: 0 }];
+    let region = SegmentOut::Region { head, listings: &listings };
+    write_segment(1, &region, &mut out)?;
+    assert_eq!(rt;
+        out.as_slice(),
+        [
+            0x0F, 0x11, 0x00, 0x01, 0x00, 0x10, 0x00, 0x0F, 0x00, 0x04, 0x00, 0x02, 0x6F, 0x00, 0x00,
+            0x03, 0x00, 0x00, 0x00, 0x00, 0xF0, 0x00,
+        ]
+        .as_slice()
+    );
+    Ok(())
+}
+
+#[test]
+fn a_clut_is_written(rt: HostRuntime) -> Result<(), Fail> {
+    let mut out = Vec::new(rt.alloc());
+    let colour = Colour { y: 81, cr: 240, cb: 90, t: 192 };
+    let entries = [ClutEntry { entry: 1, two: true, four: false, eight: false, colour }];
+    let clut = SegmentOut::Clut { clut: 4, version: 15, entries: &entries };
+    write_segment(1, &clut, &mut out)?;
+    assert_eq!(rt;
+        out.as_slice(),
+        [0x0F, 0x12, 0x00, 0x01, 0x00, 0x08, 0x04, 0xFF, 0x01, 0x9F, 0x51, 0xF0, 0x5A, 0xC0].as_slice()
+    );
+    Ok(())
+}
+
+#[test]
+fn an_object_is_written(rt: HostRuntime) -> Result<(), Fail> {
+    let top = [0x12, 0x01, 0x00, 0x83, 0x02, 0x00, 0x00, 0xF0];
+    let bottom = [0x12, 0x00, 0x84, 0x03, 0x00, 0x00, 0xF0];
+    let (Ok(_), Ok(_)) = (check_block(&top, Depth::Eight), check_block(&bottom, Depth::Eight)) else {
+        return Err(Fail::from("no blocks"));
+    };
+    let mut out = Vec::new(rt.alloc());
+    let object = ObjectSeg { object: 0, version: 0, see_through: false, top: &top, bottom: &bottom };
+    write_segment(1, &SegmentOut::Object(object), &mut out)?;
+    assert_eq!(rt;
+        out.as_slice(),
+        [
+            0x0F, 0x13, 0x00, 0x01, 0x00, 0x16, 0x00, 0x00, 0x01, 0x00, 0x08, 0x00, 0x07, 0x12, 0x01,
+            0x00, 0x83, 0x02, 0x00, 0x00, 0xF0, 0x12, 0x00, 0x84, 0x03, 0x00, 0x00, 0xF0,
+        ]
+        .as_slice()
+    );
+    Ok(())
 }
