@@ -1,5 +1,5 @@
 -- What bytes are read as: a segment or a fault, and never both.
-use Rattle.std.proofs.Common.{◌≡◌, ℕ, ◌+◌, ◌<◌, ◌≤◌, List, ◌++◌, length, take, drop, Option, Some, None, Result, Ok, Err, refl, sym, ap, subst, ◌∙◌, arith}
+use Rattle.std.proofs.Common.{◌≡◌, ℕ, ◌+◌, ◌≤◌, List, ◌++◌, length, take, drop, Option, Some, None, Result, Ok, Err, refl, sym, ap, subst, ◌∙◌, arith}
 use Rattle.std.specs.Prelude.{IfOk, IfErr, OnOk, IsOkAnd}
 use Rattle.std.proofs.lemmas.List.{take_at, length-append}
 use Rattle.sub_base.specs.declared.depth.Depth.TheVariants.{Eight}
@@ -14,7 +14,6 @@ use Rattle.stream_syntax.specs.Tests.{first_fault, byte_at, word_at}
 use Rattle.segments.specs.declared.reading.Segment.{Segment}
 use Rattle.segments.specs.Contents.{contents}
 use Rattle.segments.specs.Reading.{value_in}
-use Rattle.segments.proofs.Bodies.{Found}
 use Rattle.segments.proofs.Frames.{is_segment, segment_again}
 use Rattle.segments.proofs.Shapes.{AreBytes, AreBytes-take, AreBytes-drop}
 use Rattle.segments.proofs.Whole.{Reads, body_laid}

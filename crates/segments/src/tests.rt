@@ -47,23 +47,49 @@ fn segments_of_a_usual_encoder(rt: HostRuntime) -> Result<(), Fail> {
     let Segment::Page(page) = read_segment(&PAGE)?.0 else {
         return Err(Fail::from("no page"));
     };
-    assert_eq!(rt; (page.time_out, page.version, page.state), (10, 0, State::ModeChange));
+    assert_eq!(rt;
+        (page.time_out, page.version, page.state),
+        (10, 0, State::ModeChange)
+    );
     assert_eq!(rt; page.count(), 1);
-    assert_eq!(rt; page.entry(0), PageEntry { region: 1, x: 0, y: 0 });
+    assert_eq!(rt;
+        page.entry(0),
+        PageEntry {
+            region: 1,
+            x: 0,
+            y: 0
+        }
+    );
 
     let Segment::Region(region) = read_segment(&REGION)?.0 else {
         return Err(Fail::from("no region"));
     };
     assert_eq!(rt; (region.region, region.version, region.fill), (1, 0, true));
-    assert_eq!(rt; (region.width, region.height, region.depth), (2, 1, Depth::Two));
-    assert_eq!(rt; (region.clut, region.code8, region.code4, region.code2), (0, 0, 0, 0));
+    assert_eq!(rt;
+        (region.width, region.height, region.depth),
+        (2, 1, Depth::Two)
+    );
+    assert_eq!(rt;
+        (region.clut, region.code8, region.code4, region.code2),
+        (0, 0, 0, 0)
+    );
     assert_eq!(rt; region.count(), 1);
-    assert_eq!(rt; region.listing(0), Listing { object: 5, x: 0, y: 0 });
+    assert_eq!(rt;
+        region.listing(0),
+        Listing {
+            object: 5,
+            x: 0,
+            y: 0
+        }
+    );
 
     let Segment::Object(object) = read_segment(&OBJECT)?.0 else {
         return Err(Fail::from("no object"));
     };
-    assert_eq!(rt; (object.object, object.version, object.see_through), (5, 0, false));
+    assert_eq!(rt;
+        (object.object, object.version, object.see_through),
+        (5, 0, false)
+    );
     assert_eq!(rt; object.top, [0x10, 0x70, 0x00, 0xF0].as_slice());
     assert_eq!(rt; object.bottom.len(), 0);
 
@@ -79,9 +105,25 @@ fn colours_of_a_clut(rt: HostRuntime) -> Result<(), Fail> {
     };
     assert_eq!(rt; (clut.clut, clut.version), (7, 2));
     let mut items = clut.items();
-    let full = Colour { y: 0x51, cr: 0xF0, cb: 0x5A, t: 0xC0 };
-    let short = Colour { y: 252, cr: 240, cb: 240, t: 128 };
-    let entry = |entry, two, four, eight, colour| ClutEntry { entry, two, four, eight, colour };
+    let full = Colour {
+        y: 0x51,
+        cr: 0xF0,
+        cb: 0x5A,
+        t: 0xC0,
+    };
+    let short = Colour {
+        y: 252,
+        cr: 240,
+        cb: 240,
+        t: 128,
+    };
+    let entry = |entry, two, four, eight, colour| ClutEntry {
+        entry,
+        two,
+        four,
+        eight,
+        colour,
+    };
     assert_eq!(rt; items.next(), Some(entry(1, true, false, false, full)));
     assert_eq!(rt; items.next(), Some(entry(2, false, true, true, short)));
     assert_eq!(rt; items.next(), Some(entry(3, false, false, true, CLEAR)));
@@ -94,7 +136,12 @@ fn a_window_inside_the_display(rt: HostRuntime) -> Result<(), Fail> {
     let Segment::Display(display) = read_segment(&WINDOW)?.0 else {
         return Err(Fail::from("no display"));
     };
-    let window = Window { left: 0, right: 3, top: 0, bottom: 1 };
+    let window = Window {
+        left: 0,
+        right: 3,
+        top: 0,
+        bottom: 1,
+    };
     assert_eq!(rt; (display.version, display.width, display.height), (0, 4, 2));
     assert_eq!(rt; display.window, Some(window));
     Ok(())
@@ -105,29 +152,83 @@ fn first_faults(rt: HostRuntime) {
     let rows: [(&[u8], u32, SegmentKind); 16] = [
         (&[], 0, SegmentKind::NoSync),
         (&[0x0E, 0x80, 0, 1, 0, 0], 0, SegmentKind::NoSync),
-        (&[0x0F, 0x10, 0, 1, 0, 2, 0x05, 0x0C], 7, SegmentKind::ReservedState),
-        (&[0x0F, 0x10, 0, 1, 0, 3, 0x05, 0, 0], 4, SegmentKind::BadLength),
-        (&[0x0F, 0x11, 0, 1, 0, 10, 0, 0, 0, 0, 0, 1, 0x24, 0, 0, 0], 8, SegmentKind::ZeroSize),
-        (&[0x0F, 0x11, 0, 1, 0, 10, 0, 0, 0, 1, 0, 1, 0x20, 0, 0, 0], 12, SegmentKind::BadDepth),
-        (&[0x0F, 0x12, 0, 1, 0, 5, 0, 0, 0, 1, 0], 4, SegmentKind::BadLength),
-        (&[0x0F, 0x13, 0, 1, 0, 3, 0, 5, 0x04], 8, SegmentKind::CharacterObject),
-        (&[0x0F, 0x13, 0, 1, 0, 3, 0, 5, 0x08], 8, SegmentKind::Progressive),
-        (&[0x0F, 0x13, 0, 1, 0, 3, 0, 5, 0x0C], 8, SegmentKind::ReservedMethod),
-        (&[0x0F, 0x13, 0, 1, 0, 7, 0, 0, 0, 0xFF, 0xFF, 0, 0], 4, SegmentKind::BadLength),
-        (&[0x0F, 0x13, 0, 1, 0, 8, 0, 5, 0, 0, 0, 0, 0, 1], 4, SegmentKind::BadLength),
+        (
+            &[0x0F, 0x10, 0, 1, 0, 2, 0x05, 0x0C],
+            7,
+            SegmentKind::ReservedState,
+        ),
+        (
+            &[0x0F, 0x10, 0, 1, 0, 3, 0x05, 0, 0],
+            4,
+            SegmentKind::BadLength,
+        ),
+        (
+            &[0x0F, 0x11, 0, 1, 0, 10, 0, 0, 0, 0, 0, 1, 0x24, 0, 0, 0],
+            8,
+            SegmentKind::ZeroSize,
+        ),
+        (
+            &[0x0F, 0x11, 0, 1, 0, 10, 0, 0, 0, 1, 0, 1, 0x20, 0, 0, 0],
+            12,
+            SegmentKind::BadDepth,
+        ),
+        (
+            &[0x0F, 0x12, 0, 1, 0, 5, 0, 0, 0, 1, 0],
+            4,
+            SegmentKind::BadLength,
+        ),
+        (
+            &[0x0F, 0x13, 0, 1, 0, 3, 0, 5, 0x04],
+            8,
+            SegmentKind::CharacterObject,
+        ),
+        (
+            &[0x0F, 0x13, 0, 1, 0, 3, 0, 5, 0x08],
+            8,
+            SegmentKind::Progressive,
+        ),
+        (
+            &[0x0F, 0x13, 0, 1, 0, 3, 0, 5, 0x0C],
+            8,
+            SegmentKind::ReservedMethod,
+        ),
+        (
+            &[0x0F, 0x13, 0, 1, 0, 7, 0, 0, 0, 0xFF, 0xFF, 0, 0],
+            4,
+            SegmentKind::BadLength,
+        ),
+        (
+            &[0x0F, 0x13, 0, 1, 0, 8, 0, 5, 0, 0, 0, 0, 0, 1],
+            4,
+            SegmentKind::BadLength,
+        ),
         (
             &[0x0F, 0x13, 0, 1, 0, 10, 0, 5, 0, 0, 3, 0, 0, 0x12, 0, 2],
             13,
-            SegmentKind::Code(CodeFault { place: 0, kind: CodeKind::CutString }),
+            SegmentKind::Code(CodeFault {
+                place: 0,
+                kind: CodeKind::CutString,
+            }),
         ),
         (
-            &[0x0F, 0x13, 0, 1, 0, 10, 0, 5, 0, 0, 1, 0, 2, 0xF0, 0xF0, 0x99],
+            &[
+                0x0F, 0x13, 0, 1, 0, 10, 0, 5, 0, 0, 1, 0, 2, 0xF0, 0xF0, 0x99,
+            ],
             15,
-            SegmentKind::Code(CodeFault { place: 1, kind: CodeKind::UnknownType }),
+            SegmentKind::Code(CodeFault {
+                place: 1,
+                kind: CodeKind::UnknownType,
+            }),
         ),
-        (&[0x0F, 0x14, 0, 1, 0, 4, 0, 0, 0, 0], 4, SegmentKind::BadLength),
         (
-            &[0x0F, 0x14, 0, 1, 0, 13, 0x0F, 0, 3, 0, 1, 0, 0, 0, 4, 0, 0, 0, 1],
+            &[0x0F, 0x14, 0, 1, 0, 4, 0, 0, 0, 0],
+            4,
+            SegmentKind::BadLength,
+        ),
+        (
+            &[
+                0x0F, 0x14, 0, 1, 0, 13, 0x0F, 0, 3, 0, 1, 0, 0, 0, 4, 0, 0, 0, 1,
+            ],
             11,
             SegmentKind::BadWindow,
         ),
@@ -168,9 +269,17 @@ fn each_prefix_is_cut(rt: HostRuntime) {
 #[test]
 fn segments_are_written(rt: HostRuntime) -> Result<(), Fail> {
     let mut out = Vec::new(rt.alloc());
-    let display = SegmentOut::Display { version: 0, width: 4, height: 2 };
+    let display = SegmentOut::Display {
+        version: 0,
+        width: 4,
+        height: 2,
+    };
     write_segment(1, &display, &mut out)?;
-    let entries = [PageEntry { region: 0, x: 0, y: 0 }];
+    let entries = [PageEntry {
+        region: 0,
+        x: 0,
+        y: 0,
+    }];
     let page = SegmentOut::Page {
         time_out: 12,
         version: 0,
@@ -182,9 +291,9 @@ fn segments_are_written(rt: HostRuntime) -> Result<(), Fail> {
     assert_eq!(rt;
         out.as_slice(),
         [
-            0x0F, 0x14, 0x00, 0x01, 0x00, 0x05, 0x07, 0x00, 0x03, 0x00, 0x01, 0x0F, 0x10, 0x00, 0x01,
-            0x00, 0x08, 0x0C, 0x0B, 0x00, 0xFF, 0x00, 0x00, 0x00, 0x00, 0x0F, 0x80, 0x00, 0x01, 0x00,
-            0x00,
+            0x0F, 0x14, 0x00, 0x01, 0x00, 0x05, 0x07, 0x00, 0x03, 0x00, 0x01, 0x0F, 0x10, 0x00,
+            0x01, 0x00, 0x08, 0x0C, 0x0B, 0x00, 0xFF, 0x00, 0x00, 0x00, 0x00, 0x0F, 0x80, 0x00,
+            0x01, 0x00, 0x00,
         ]
         .as_slice()
     );
@@ -206,14 +315,21 @@ fn a_region_is_written(rt: HostRuntime) -> Result<(), Fail> {
         code4: 0,
         code2: 0,
     };
-    let listings = [Listing { object: 0, x: 0, y: 0 }];
-    let region = SegmentOut::Region { head, listings: &listings };
+    let listings = [Listing {
+        object: 0,
+        x: 0,
+        y: 0,
+    }];
+    let region = SegmentOut::Region {
+        head,
+        listings: &listings,
+    };
     write_segment(1, &region, &mut out)?;
     assert_eq!(rt;
         out.as_slice(),
         [
-            0x0F, 0x11, 0x00, 0x01, 0x00, 0x10, 0x00, 0x0F, 0x00, 0x04, 0x00, 0x02, 0x6F, 0x00, 0x00,
-            0x03, 0x00, 0x00, 0x00, 0x00, 0xF0, 0x00,
+            0x0F, 0x11, 0x00, 0x01, 0x00, 0x10, 0x00, 0x0F, 0x00, 0x04, 0x00, 0x02, 0x6F, 0x00,
+            0x00, 0x03, 0x00, 0x00, 0x00, 0x00, 0xF0, 0x00,
         ]
         .as_slice()
     );
@@ -223,13 +339,31 @@ fn a_region_is_written(rt: HostRuntime) -> Result<(), Fail> {
 #[test]
 fn a_clut_is_written(rt: HostRuntime) -> Result<(), Fail> {
     let mut out = Vec::new(rt.alloc());
-    let colour = Colour { y: 81, cr: 240, cb: 90, t: 192 };
-    let entries = [ClutEntry { entry: 1, two: true, four: false, eight: false, colour }];
-    let clut = SegmentOut::Clut { clut: 4, version: 15, entries: &entries };
+    let colour = Colour {
+        y: 81,
+        cr: 240,
+        cb: 90,
+        t: 192,
+    };
+    let entries = [ClutEntry {
+        entry: 1,
+        two: true,
+        four: false,
+        eight: false,
+        colour,
+    }];
+    let clut = SegmentOut::Clut {
+        clut: 4,
+        version: 15,
+        entries: &entries,
+    };
     write_segment(1, &clut, &mut out)?;
     assert_eq!(rt;
         out.as_slice(),
-        [0x0F, 0x12, 0x00, 0x01, 0x00, 0x08, 0x04, 0xFF, 0x01, 0x9F, 0x51, 0xF0, 0x5A, 0xC0].as_slice()
+        [
+            0x0F, 0x12, 0x00, 0x01, 0x00, 0x08, 0x04, 0xFF, 0x01, 0x9F, 0x51, 0xF0, 0x5A, 0xC0
+        ]
+        .as_slice()
     );
     Ok(())
 }
@@ -238,17 +372,26 @@ fn a_clut_is_written(rt: HostRuntime) -> Result<(), Fail> {
 fn an_object_is_written(rt: HostRuntime) -> Result<(), Fail> {
     let top = [0x12, 0x01, 0x00, 0x83, 0x02, 0x00, 0x00, 0xF0];
     let bottom = [0x12, 0x00, 0x84, 0x03, 0x00, 0x00, 0xF0];
-    let (Ok(_), Ok(_)) = (check_block(&top, Depth::Eight), check_block(&bottom, Depth::Eight)) else {
+    let (Ok(_), Ok(_)) = (
+        check_block(&top, Depth::Eight),
+        check_block(&bottom, Depth::Eight),
+    ) else {
         return Err(Fail::from("no blocks"));
     };
     let mut out = Vec::new(rt.alloc());
-    let object = ObjectSeg { object: 0, version: 0, see_through: false, top: &top, bottom: &bottom };
+    let object = ObjectSeg {
+        object: 0,
+        version: 0,
+        see_through: false,
+        top: &top,
+        bottom: &bottom,
+    };
     write_segment(1, &SegmentOut::Object(object), &mut out)?;
     assert_eq!(rt;
         out.as_slice(),
         [
-            0x0F, 0x13, 0x00, 0x01, 0x00, 0x16, 0x00, 0x00, 0x01, 0x00, 0x08, 0x00, 0x07, 0x12, 0x01,
-            0x00, 0x83, 0x02, 0x00, 0x00, 0xF0, 0x12, 0x00, 0x84, 0x03, 0x00, 0x00, 0xF0,
+            0x0F, 0x13, 0x00, 0x01, 0x00, 0x16, 0x00, 0x00, 0x01, 0x00, 0x08, 0x00, 0x07, 0x12,
+            0x01, 0x00, 0x83, 0x02, 0x00, 0x00, 0xF0, 0x12, 0x00, 0x84, 0x03, 0x00, 0x00, 0xF0,
         ]
         .as_slice()
     );
