@@ -1,5 +1,5 @@
 -- Laws of the bits of numbers and bytes, and of the rows of a table over them.
-use Rattle.std.proofs.Common.{◌≡◌, ℕ, zero, suc, ◌+◌, ◌-◌, ◌*◌, ◌/◌, ◌%◌, ◌^◌, ◌<◌, ◌≤◌, List, [], ◌∷◌, ◌++◌, length, take, drop, refl, sym, ap, subst, ◌∙◌, append_assoc, arith}
+use Rattle.std.proofs.Common.{◌≡◌, ℕ, zero, suc, ◌+◌, ◌*◌, ◌/◌, ◌%◌, ◌^◌, ◌<◌, List, [], ◌∷◌, ◌++◌, length, take, drop, refl, sym, ap, subst, ◌∙◌, append_assoc, arith}
 use Rattle.std.proofs.Math.Nat.{mod-eq_of_lt, div-one}
 use Rattle.std.proofs.lemmas.Nat.{pow-add, shr-shr, field_of, mod-pow-add, shr_high, mod_low}
 use Rattle.std.proofs.lemmas.List.{length-append, take_at, drop_at, append-nil}

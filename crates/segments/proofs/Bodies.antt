@@ -1,15 +1,15 @@
 -- The tests and the value of a body by the segment type.
-use Rattle.std.proofs.Common.{◌≡◌, ℕ, zero, suc, ◌+◌, ◌/◌, ◌%◌, ◌<◌, ◌≤◌, Bool, true, false, cond, eqb, ltb, List, [], ◌∷◌, ◌++◌, length, take, drop, Option, Some, None, Result, Ok, Err, refl, sym, ap, subst, ◌∙◌, arith}
-use Rattle.std.specs.Prelude.{◌==◌, nat_lt, not, ◌||◌}
+use Rattle.std.proofs.Common.{◌≡◌, ℕ, ◌/◌, ◌%◌, Bool, true, false, cond, List, length, drop, Some, None, Ok, Err, refl, sym, ap, subst, ◌∙◌}
+use Rattle.std.specs.Prelude.{◌==◌, nat_lt, ◌||◌}
 use Rattle.std.specs.Result.{result_err}
 use Rattle.stream_syntax.specs.declared.segment_fault.SegmentFault.{SegmentFault}
 use Rattle.stream_syntax.specs.declared.segment_fault.SegmentKind.TheVariants.{BadLength, ZeroSize, BadDepth}
-use Rattle.stream_syntax.specs.Segments.{Page, Region, Clut, Object, Display, SegmentValue, of_page, of_region, of_clut, of_object, of_display}
-use Rattle.stream_syntax.specs.SegmentTests.{refuse, page_tests, region_tests, region_head_tests, depth_tests, listing_tests, clut_tests, object_tests, display_tests, body_tests, top_in, bottom_in, IsBlocksFault, IsBodyFault, in_tests, in_blocks}
+use Rattle.stream_syntax.specs.Segments.{Region, Object, Display, SegmentValue, of_region, of_object, of_display}
+use Rattle.stream_syntax.specs.SegmentTests.{page_tests, region_tests, listing_tests, clut_tests, object_tests, display_tests, body_tests, IsBlocksFault, IsBodyFault, in_tests, in_blocks}
 use Rattle.stream_syntax.specs.Tests.{Test, first_fault, byte_at, word_at}
-use Rattle.segments.specs.Reading.{◌>>=◌, checked, tested, page_in, page_at, region_head_in, region_head_at, region_in, region_at, depth_of, clut_in, clut_at, object_in, object_at, display_in, display_at, value_in}
+use Rattle.segments.specs.Reading.{◌>>=◌, checked, tested, region_head_in, region_in, region_at, depth_of, object_in, object_at, display_in, display_at, value_in}
 use Rattle.segments.specs.Contents.{region_listings}
-use Rattle.segments.proofs.Checks.{fault_of_checked, value_of_checked, same_from_ok, checked-append, tested-then}
+use Rattle.segments.proofs.Checks.{fault_of_checked, value_of_checked, same_from_ok, tested-then}
 
 -- the first fault of tests that gave one, and of tests that gave none
 pub fault_known : {Value : Type 0} (tests : List (Test SegmentFault)) (value : Value) (fault : SegmentFault) → checked tests value ≡ Err fault → first_fault tests ≡ Some fault

@@ -1,20 +1,18 @@
 -- CLUT definitions: what is read has the table of a CLUT, and what has that table is read.
-use Rattle.std.proofs.Common.{◌≡◌, ℕ, zero, suc, ◌+◌, ◌-◌, ◌*◌, ◌/◌, ◌%◌, ◌^◌, ◌<◌, ◌≤◌, Bool, true, false, cond, eqb, ltb, List, [], ◌∷◌, ◌++◌, length, get_or, drop, map, Option, Some, None, Result, Ok, Err, refl, sym, ap, subst, ◌∙◌, arith, inl, inr}
-use Rattle.std.specs.Prelude.{◌==◌, not}
+use Rattle.std.proofs.Common.{◌≡◌, ℕ, zero, suc, ◌/◌, ◌%◌, ◌≤◌, Bool, true, false, cond, ltb, List, [], ◌∷◌, ◌++◌, length, drop, map, refl, arith}
+use Rattle.std.specs.Prelude.{◌==◌}
 use Rattle.std.specs.List.{flat_map}
-use Rattle.std.proofs.lemmas.Bool.{le-ltb, lt-ltb, ltb-false, eqb-true}
+use Rattle.std.proofs.lemmas.Bool.{le-ltb, ltb-false, eqb-true}
 use Rattle.std.proofs.lemmas.Bool.Decides.{nat_tests}
 use Rattle.std.proofs.lemmas.List.{nil_from_length, length-drop}
-use Rattle.sub_base.specs.declared.colour.Colour.{Colour}
-use Rattle.stream_syntax.specs.declared.clut.ClutEntry.{ClutEntry}
-use Rattle.stream_syntax.specs.Fields.{Field, number, reserved, HasFields, FitsFields}
+use Rattle.stream_syntax.specs.Fields.{Field, HasFields, FitsFields}
 use Rattle.stream_syntax.specs.PixelCodes.{bits_of}
-use Rattle.stream_syntax.specs.Segments.{Clut, CodedColour, CodedEntry, full, short, full_range, colour_fields, coded_entry_fields, clut_fields, colour_of, entry_of, flag}
+use Rattle.stream_syntax.specs.Segments.{CodedColour, CodedEntry, full, short, colour_fields, coded_entry_fields, clut_fields, entry_of, flag}
 use Rattle.stream_syntax.specs.SegmentTests.{entry_size, are_entries, are_whole}
 use Rattle.stream_syntax.specs.Tests.{byte_at, word_at}
 use Rattle.segments.specs.Contents.{full_colour, short_colour, first_entry, first_entries, clut_entries}
 use Rattle.segments.specs.Reading.{clut_in}
-use Rattle.segments.proofs.Bits.{take_byte, put_byte, take_word, put_word}
+use Rattle.segments.proofs.Bits.{take_byte, put_byte}
 use Rattle.segments.proofs.Entries.{entry_has_bytes}
 use Rattle.segments.proofs.Shapes.{AreBytes, AreBytes-drop, fields_bytes, no_bytes, nothing_left, take_4, put_4, take_flags, put_flags, take_short, put_short, flag_back, flag_there, flag_fits}
 

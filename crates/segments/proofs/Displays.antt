@@ -1,15 +1,14 @@
 -- Display definitions and bodies that are passed over: what is read has its table, and what has that table is read.
-use Rattle.std.proofs.Common.{◌≡◌, ℕ, zero, suc, ◌+◌, ◌-◌, ◌*◌, ◌/◌, ◌%◌, ◌^◌, ◌<◌, ◌≤◌, Bool, true, false, cond, eqb, List, [], ◌∷◌, ◌++◌, length, get_or, drop, Option, Some, None, Result, Ok, Err, refl, sym, ap, subst, ◌∙◌, arith}
-use Rattle.std.specs.Prelude.{◌==◌, not, replicate, if◌then◌else◌}
-use Rattle.std.proofs.lemmas.Bool.Decides.{nat_tests}
+use Rattle.std.proofs.Common.{◌≡◌, ℕ, zero, suc, ◌+◌, ◌-◌, ◌*◌, ◌/◌, ◌%◌, ◌<◌, ◌≤◌, Bool, true, false, cond, List, [], ◌∷◌, length, get_or, drop, Some, None, refl, ap, subst, arith}
+use Rattle.std.specs.Prelude.{◌==◌, if◌then◌else◌}
 use Rattle.stream_syntax.specs.declared.display.Window.{Window}
-use Rattle.stream_syntax.specs.Fields.{Field, number, reserved, HasFields, FitsFields}
+use Rattle.stream_syntax.specs.Fields.{number, reserved, HasFields, FitsFields}
 use Rattle.stream_syntax.specs.PixelCodes.{bits_of}
-use Rattle.stream_syntax.specs.Segments.{Display, display_fields, window_fields, window_flag, free_bytes}
+use Rattle.stream_syntax.specs.Segments.{display_fields, free_bytes}
 use Rattle.stream_syntax.specs.SegmentTests.{has_window}
 use Rattle.segments.specs.Reading.{display_in, window_in}
-use Rattle.segments.proofs.Bits.{take_byte, put_byte, take_word, put_word}
-use Rattle.segments.proofs.Shapes.{AreBytes, AreBytes-drop, fields_bytes, no_bytes, nothing_left, take_free, put_free, take_4_1, put_4_1, flag_there}
+use Rattle.segments.proofs.Bits.{take_word, put_word}
+use Rattle.segments.proofs.Shapes.{AreBytes, fields_bytes, no_bytes, nothing_left, take_free, put_free, take_4_1, put_4_1}
 
 -- ---- bytes that may be anything
 

@@ -1,22 +1,21 @@
 -- Whole segments over their heads: what is read is a segment with its value, a segment with a value is read, and bytes
 -- have one value or one fault.
-use Rattle.std.proofs.Common.{◌≡◌, ◌≢◌, ℕ, zero, suc, ◌+◌, ◌-◌, ◌*◌, ◌/◌, ◌%◌, ◌^◌, ◌<◌, ◌≤◌, ◌⊎◌, Bool, true, false, cond, eqb, List, [], ◌∷◌, ◌++◌, All, length, get_or, take, drop, Option, Some, None, Result, Ok, Err, refl, sym, ap, subst, ◌∙◌, append_assoc, arith, inl, inr}
-use Rattle.std.specs.Prelude.{◌==◌, nat_lt, not, ◌||◌, sum_by}
+use Rattle.std.proofs.Common.{◌≡◌, ℕ, ◌+◌, ◌<◌, ◌≤◌, List, [], ◌∷◌, ◌++◌, All, length, take, drop, None, refl, sym, ap, subst, ◌∙◌, append_assoc, arith, inl, inr}
+use Rattle.std.specs.Prelude.{not}
 use Rattle.std.proofs.lemmas.Bool.{cases_lt, ltb-false, le-ltb, eqb-true}
 use Rattle.std.proofs.lemmas.Grind.{flat_map-append}
-use Rattle.std.proofs.lemmas.List.{length-append, length-take, length-drop, length-take-le, drop-take, get_or-take, get_or_past, take_all}
+use Rattle.std.proofs.lemmas.List.{length-drop, length-take-le, drop-take, get_or-take, get_or_past}
 use Rattle.std.proofs.lemmas.List.Elements.{All-get_or, All-from_get_or}
 use Rattle.std.proofs.Math.Seq.{take-add}
-use Rattle.stream_syntax.specs.Fields.{Field, number, reserved, HasFields, no_row, row_first, FitsRow, FitsFields}
+use Rattle.stream_syntax.specs.Fields.{Field, HasFields, no_row, row_first, FitsFields}
 use Rattle.stream_syntax.specs.PixelCodes.{bits, bits_of}
-use Rattle.stream_syntax.specs.Segments.{SegmentValue, head_fields, segment_fields, byte_count, width_of, IsBody, IsRight, IsSegment}
-use Rattle.stream_syntax.specs.SegmentTests.{frame_tests, body_of, top_in, bottom_in, AreBlocks}
+use Rattle.stream_syntax.specs.Segments.{SegmentValue, head_fields, segment_fields, byte_count, IsBody, IsRight, IsSegment}
+use Rattle.stream_syntax.specs.SegmentTests.{frame_tests, body_of}
 use Rattle.stream_syntax.specs.Tests.{first_fault, byte_at, word_at}
 use Rattle.segments.proofs.Bits.{take_byte, take_word}
-use Rattle.segments.proofs.Bodies.{Found}
 use Rattle.segments.proofs.Heads.{head_is_laid}
 use Rattle.segments.proofs.Passing.{none_from, none_there, or_false, or_there, not_false, equal_there}
-use Rattle.segments.proofs.Shapes.{AreBytes, AreBytes-drop, AreBytes-take, widths, widths-sum, fields_bytes}
+use Rattle.segments.proofs.Shapes.{AreBytes, AreBytes-drop, AreBytes-take, widths-sum, fields_bytes}
 use Rattle.segments.proofs.Whole.{Laid, Reads, body_again}
 
 -- ---- tables one after the other

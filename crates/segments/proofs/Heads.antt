@@ -1,6 +1,6 @@
 -- The head of a segment: what is read at its places is what its table says.
-use Rattle.std.proofs.Common.{◌≡◌, ℕ, ◌+◌, ◌*◌, ◌<◌, ◌≤◌, List, [], ◌∷◌, length, get_or, take, subst, arith}
-use Rattle.stream_syntax.specs.Fields.{number, HasFields, no_row}
+use Rattle.std.proofs.Common.{◌≡◌, ℕ, ◌+◌, ◌*◌, ◌≤◌, List, [], ◌∷◌, length, take, subst, arith}
+use Rattle.stream_syntax.specs.Fields.{number, HasFields}
 use Rattle.stream_syntax.specs.PixelCodes.{bits_of}
 use Rattle.stream_syntax.specs.Segments.{head_fields}
 use Rattle.stream_syntax.specs.Tests.{byte_at, word_at}

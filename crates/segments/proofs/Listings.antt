@@ -1,5 +1,5 @@
 -- The tests of the listings of a region, one listing at a time.
-use Rattle.std.proofs.Common.{◌≡◌, ℕ, zero, suc, ◌+◌, ◌*◌, ◌/◌, ◌%◌, ◌<◌, ◌≤◌, Bool, true, false, List, [], ◌∷◌, ◌++◌, length, get_or, drop, refl, sym, ap, subst, ◌∙◌, arith}
+use Rattle.std.proofs.Common.{◌≡◌, ℕ, ◌+◌, ◌/◌, ◌%◌, ◌<◌, ◌≤◌, true, List, [], ◌∷◌, length, get_or, drop, refl, arith}
 use Rattle.std.specs.Prelude.{◌==◌, not}
 use Rattle.stream_syntax.specs.declared.segment_fault.SegmentKind.TheVariants.{BadLength, CharacterObject, HeldObject}
 use Rattle.stream_syntax.specs.SegmentTests.{refuse, listing_tests}

@@ -1,13 +1,12 @@
 -- Objects: what is read has the table of an object, and what has that table is read.
-use Rattle.std.proofs.Common.{◌≡◌, ℕ, zero, suc, ◌+◌, ◌-◌, ◌*◌, ◌/◌, ◌%◌, ◌^◌, ◌<◌, ◌≤◌, Bool, true, false, cond, eqb, ltb, List, [], ◌∷◌, ◌++◌, length, get_or, take, drop, Option, Some, None, Result, Ok, Err, refl, sym, ap, subst, ◌∙◌, append_assoc, arith, inl, inr}
-use Rattle.std.specs.Prelude.{◌==◌, ◌⊎◌}
-use Rattle.std.specs.List.{AllByRecursion}
-use Rattle.std.proofs.lemmas.List.{append-nil, take_at, drop_at, drop-drop, length-append, length-take, length-drop, length-take-le, take-append-drop, get_or_at, nil_from_length}
-use Rattle.stream_syntax.specs.Fields.{Field, number, reserved, HasFields, FitsRow, FitsFields}
+use Rattle.std.proofs.Common.{◌≡◌, ℕ, ◌+◌, ◌*◌, ◌/◌, ◌%◌, ◌≤◌, Bool, true, false, List, [], ◌∷◌, ◌++◌, length, take, drop, refl, sym, ap, subst, ◌∙◌, arith}
+use Rattle.std.specs.Prelude.{◌==◌}
+use Rattle.std.proofs.lemmas.List.{take_at, drop_at, drop-drop, length-append, length-drop, length-take-le, take-append-drop}
+use Rattle.stream_syntax.specs.Fields.{Field, HasFields, FitsFields}
 use Rattle.stream_syntax.specs.PixelCodes.{bits_of}
 use Rattle.stream_syntax.specs.Segments.{Object, object_fields, bytes_fields, padding, flag}
-use Rattle.stream_syntax.specs.SegmentTests.{top_in, bottom_in, coding_method, object_size}
-use Rattle.stream_syntax.specs.Tests.{byte_at, word_at}
+use Rattle.stream_syntax.specs.SegmentTests.{coding_method, object_size}
+use Rattle.stream_syntax.specs.Tests.{word_at}
 use Rattle.segments.specs.Reading.{object_in}
 use Rattle.segments.proofs.Bits.{take_byte, put_byte, take_word, put_word}
 use Rattle.segments.proofs.Shapes.{AreBytes, AreBytes-drop, AreBytes-take, AreBytes-tail, fields_bytes, no_bytes, nothing_left, take_4_2_1, put_4_2_1, flag_back, flag_there, flag_fits}

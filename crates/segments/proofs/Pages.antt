@@ -1,22 +1,16 @@
 -- Pages: what is read has the table of a page, and what has that table is read.
-use Rattle.std.proofs.Common.{◌≡◌, ℕ, zero, suc, ◌+◌, ◌-◌, ◌*◌, ◌/◌, ◌%◌, ◌^◌, ◌<◌, ◌≤◌, Bool, true, false, cond, eqb, List, [], ◌∷◌, ◌++◌, length, get_or, drop, Result, Ok, Err, refl, sym, ap, subst, ◌∙◌, arith}
-use Rattle.std.specs.Prelude.{not, sum_by}
+use Rattle.std.proofs.Common.{◌≡◌, ℕ, zero, suc, ◌/◌, ◌%◌, ◌<◌, List, [], ◌∷◌, length, get_or, refl, sym, subst, arith}
 use Rattle.std.specs.List.{flat_map}
-use Rattle.std.proofs.lemmas.Bool.{eqb-true}
-use Rattle.std.proofs.lemmas.Bool.Decides.{nat_tests}
-use Rattle.std.proofs.lemmas.List.Sums.{sum_by-cons}
 use Rattle.stream_syntax.specs.declared.page.PageEntry.{PageEntry}
 use Rattle.stream_syntax.specs.declared.page.State.{State}
 use Rattle.stream_syntax.specs.declared.page.State.TheVariants.{Normal, Acquisition, ModeChange}
-use Rattle.stream_syntax.specs.declared.segment_fault.SegmentFault.{SegmentFault}
-use Rattle.stream_syntax.specs.Fields.{Field, number, reserved, HasFields, FitsFields}
+use Rattle.stream_syntax.specs.Fields.{number, reserved, HasFields, FitsFields}
 use Rattle.stream_syntax.specs.PixelCodes.{bits_of}
-use Rattle.stream_syntax.specs.Segments.{Page, page_entry_fields, page_fields, state_number, width_of}
-use Rattle.stream_syntax.specs.SegmentTests.{page_tests}
-use Rattle.segments.specs.Contents.{by_six, page_entry, page_entries}
-use Rattle.segments.specs.Reading.{page_in, page_at, state_of}
+use Rattle.stream_syntax.specs.Segments.{Page, page_entry_fields, page_fields, state_number}
+use Rattle.segments.specs.Contents.{page_entries}
+use Rattle.segments.specs.Reading.{page_in, state_of}
 use Rattle.segments.proofs.Bits.{take_byte, put_byte, take_word, put_word}
-use Rattle.segments.proofs.Shapes.{AreBytes, AreBytes-tail, fields_bytes, no_bytes, nothing_left, take_free, put_free, take_4_2, put_4_2, Six, six_cells}
+use Rattle.segments.proofs.Shapes.{AreBytes, fields_bytes, no_bytes, nothing_left, take_free, put_free, take_4_2, put_4_2}
 
 pub entries_laid : (bytes : List ℕ) → AreBytes bytes → length bytes % 6 ≡ 0
     → HasFields (flat_map page_entry_fields (page_entries bytes)) (bits_of bytes) × FitsFields (flat_map page_entry_fields (page_entries bytes))

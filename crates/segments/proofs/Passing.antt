@@ -1,13 +1,12 @@
 -- What the tests of each kind of segment ask of a body: what passes them has it, and what has it passes them.
-use Rattle.std.proofs.Common.{◌≡◌, ◌≢◌, ℕ, zero, suc, ◌+◌, ◌-◌, ◌*◌, ◌/◌, ◌%◌, ◌<◌, ◌≤◌, ◌⊎◌, Bool, true, false, cond, eqb, ltb, List, [], ◌∷◌, ◌++◌, length, get_or, take, drop, Option, Some, None, Result, Ok, Err, refl, sym, ap, subst, ◌∙◌, arith, inl, inr}
+use Rattle.std.proofs.Common.{◌≡◌, ◌≢◌, ℕ, ◌+◌, ◌-◌, ◌/◌, ◌%◌, ◌<◌, ◌≤◌, ◌⊎◌, Bool, true, false, cond, List, [], ◌∷◌, length, get_or, drop, Option, Some, None, Ok, refl, sym, ap, ◌∙◌, arith, inl, inr}
 use Rattle.std.specs.Prelude.{◌==◌, nat_lt, not, ◌||◌, ◌&&◌}
-use Rattle.std.proofs.lemmas.Bool.{le-ltb, lt-ltb, ltb-false, ltb-true, eqb-true}
+use Rattle.std.proofs.lemmas.Bool.{le-ltb, ltb-false, eqb-true}
 use Rattle.std.specs.Result.{result_err}
 use Rattle.std.proofs.lemmas.Bool.Decides.{nat_tests}
 use Rattle.std.proofs.lemmas.List.{nil_from_length, length-drop, get_or-drop}
-use Rattle.stream_syntax.specs.declared.segment_fault.SegmentFault.{SegmentFault}
 use Rattle.stream_syntax.specs.SegmentTests.{page_tests, region_tests, listing_tests, clut_tests, are_whole, object_tests, coding_method, object_size, display_tests, has_window, is_window}
-use Rattle.stream_syntax.specs.Tests.{Test, first_fault, byte_at, word_at}
+use Rattle.stream_syntax.specs.Tests.{first_fault, byte_at, word_at}
 use Rattle.segments.specs.Reading.{tested}
 use Rattle.segments.proofs.Checks.{value_of_checked, fault_of_checked}
 use Rattle.segments.proofs.Objects.{pad_bytes, Ends}
@@ -161,6 +160,9 @@ size_cases false false last e = absurd cc
 plus_none : (n : ℕ) → n ≡ n + 0
 plus_none n = omega arith
 
+two_bits : (body : List ℕ) → coding_method body < 4
+two_bits body = omega arith
+
 below_one : (n : ℕ) → n < 4 → n ≢ 1 → n ≢ 2 → n ≢ 3 → n ≡ 0
 below_one n lt one two three = omega (arith, one, two, three)
 
@@ -176,7 +178,7 @@ object_asks body none =
     let two : coding_method body ≢ 2 = unequal _ _ c.0 in
     let three : coding_method body ≢ 3 = unequal _ _ d.0 in
     let long : 7 ≤ length body = ltb-false _ _ e.0 in
-    let method : coding_method body ≡ 0 = below_one (coding_method body) (omega arith) one two three in
+    let method : coding_method body ≡ 0 = below_one (coding_method body) (two_bits body) one two three in
     elim (size_cases (length body == object_size body) (length body == object_size body + 1) (byte_at (object_size body) body == 0) f.0) [
       | inl exact ↦
           let size : length body ≡ object_size body = eqb-true _ _ exact in

@@ -1,6 +1,7 @@
 -- What bytes are read as: a segment or a fault, and never both.
-use Rattle.std.proofs.Common.{◌≡◌, ℕ, ◌+◌, ◌<◌, ◌≤◌, List, length, take, drop, Option, Some, None, Result, Ok, Err, refl, sym, ap, subst, ◌∙◌, arith}
+use Rattle.std.proofs.Common.{◌≡◌, ℕ, ◌+◌, ◌≤◌, List, ◌++◌, length, take, drop, Option, Some, None, Result, Ok, Err, refl, sym, ap, subst, ◌∙◌, arith}
 use Rattle.std.specs.Prelude.{IfOk, IfErr, OnOk, IsOkAnd}
+use Rattle.std.proofs.lemmas.List.{take_at, length-append}
 use Rattle.sub_base.specs.declared.depth.Depth.TheVariants.{Eight}
 use Rattle.pixel_codes.proofs.Blocks.{not_both}
 use Rattle.pixel_codes.proofs.Parts.{same_fault}
@@ -13,7 +14,6 @@ use Rattle.stream_syntax.specs.Tests.{first_fault, byte_at, word_at}
 use Rattle.segments.specs.declared.reading.Segment.{Segment}
 use Rattle.segments.specs.Contents.{contents}
 use Rattle.segments.specs.Reading.{value_in}
-use Rattle.segments.proofs.Bodies.{Found}
 use Rattle.segments.proofs.Frames.{is_segment, segment_again}
 use Rattle.segments.proofs.Shapes.{AreBytes, AreBytes-take, AreBytes-drop}
 use Rattle.segments.proofs.Whole.{Reads, body_laid}
@@ -111,3 +111,15 @@ was_all_read bytes (Err fault) head value passes blocks size = tt
 
 pub body_fault_at : (kind known : ℕ) (body bytes : List ℕ) (fault : SegmentFault) → kind ≡ known → body ≡ bytes → IsBodyFault kind body fault → IsBodyFault known bytes fault
 body_fault_at kind known body bytes fault kind-is body-is bad = subst (λ (k : ℕ). IsBodyFault k bytes fault) kind-is (subst (λ (b : List ℕ). IsBodyFault kind b fault) body-is bad)
+
+-- ---- laws
+
+same_length : (a b x y : List ℕ) → length a ≡ length b → a ++ x ≡ b ++ y → a ≡ b
+same_length a b x y len e = sym (take_at a x (length a) refl) ∙ ap (take (length a)) e ∙ take_at b y (length a) (sym len)
+
+pub one_reading : (a b x y : List ℕ) (one other : SegmentValue) → IsSegment a one → IsSegment b other → a ++ x ≡ b ++ y → (a ≡ b) × (one ≡ other)
+one_reading a b x y one other is is' e =
+    let first = segment_again (a ++ x) (length a) one (omega (arith, length-append a x)) (subst (λ (s : List ℕ). IsSegment s one) (sym (take_at a x (length a) refl)) is) in
+    let front : take (length b) (a ++ x) ≡ b = ap (take (length b)) e ∙ take_at b y (length b) refl in
+    let second = segment_again (a ++ x) (length b) other (omega (arith, ap length e, length-append b y)) (subst (λ (s : List ℕ). IsSegment s other) (sym front) is') in
+    (same_length a b x y (first.1 ∙ sym second.1) e, same_value (byte_at 1 (a ++ x)) (body_of (a ++ x)) one other first.2 second.2)

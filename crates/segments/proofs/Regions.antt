@@ -1,20 +1,18 @@
 -- Regions: what is read has the table of a region, and what has that table is read.
-use Rattle.std.proofs.Common.{◌≡◌, ℕ, zero, suc, ◌+◌, ◌-◌, ◌*◌, ◌/◌, ◌%◌, ◌^◌, ◌<◌, ◌≤◌, Bool, true, false, cond, eqb, List, [], ◌∷◌, ◌++◌, length, get_or, drop, Result, Ok, Err, refl, sym, ap, subst, ◌∙◌, arith}
-use Rattle.std.specs.Prelude.{◌==◌, not}
+use Rattle.std.proofs.Common.{◌≡◌, ℕ, zero, suc, ◌+◌, ◌/◌, ◌%◌, ◌<◌, ◌≤◌, List, [], ◌∷◌, length, get_or, drop, Ok, refl, arith}
 use Rattle.std.specs.List.{flat_map}
 use Rattle.sub_base.specs.declared.depth.Depth.{Depth}
 use Rattle.sub_base.specs.declared.depth.Depth.TheVariants.{Two, Four, Eight}
 use Rattle.stream_syntax.specs.declared.region.Listing.{Listing}
-use Rattle.stream_syntax.specs.declared.segment_fault.SegmentFault.{SegmentFault}
-use Rattle.stream_syntax.specs.Fields.{Field, number, reserved, HasFields, FitsFields}
+use Rattle.stream_syntax.specs.Fields.{HasFields, FitsFields}
 use Rattle.stream_syntax.specs.PixelCodes.{bits_of}
 use Rattle.stream_syntax.specs.Segments.{Region, listing_fields, region_fields, depth_number, flag}
 use Rattle.stream_syntax.specs.SegmentTests.{listing_tests}
-use Rattle.segments.specs.Contents.{by_six, listing, region_listings}
-use Rattle.segments.specs.Reading.{region_head_in, region_in, region_at, depth_of, tested}
+use Rattle.segments.specs.Contents.{region_listings}
+use Rattle.segments.specs.Reading.{region_in, depth_of, tested}
 use Rattle.segments.proofs.Checks.{test_passed, test_passes, zero_from, zero_there}
 use Rattle.segments.proofs.Bits.{take_byte, put_byte, take_word, put_word}
-use Rattle.segments.proofs.Shapes.{AreBytes, AreBytes-drop, fields_bytes, no_bytes, nothing_left, take_4_1, put_4_1, take_3_3, put_3_3, take_4_2, put_4_2, take_2_2_12, put_2_2_12, take_r4_12, put_r4_12, flag_back, flag_there, flag_fits}
+use Rattle.segments.proofs.Shapes.{AreBytes, AreBytes-drop, fields_bytes, no_bytes, nothing_left, take_4_1, put_4_1, take_3_3, put_3_3, take_4_2, put_4_2, take_2_2_12, put_2_2_12, take_r4_12, put_r4_12, flag_back, flag_there}
 
 -- listings that pass their tests have the table of listings
 pub listings_laid : (place : ℕ) (bytes : List ℕ) → AreBytes bytes → tested (listing_tests place bytes) ≡ Ok tt

@@ -1,14 +1,13 @@
 -- How many bytes the bodies of segments have, and what of their numbers fits.
-use Rattle.std.proofs.Common.{◌≡◌, ℕ, zero, suc, ◌+◌, ◌-◌, ◌*◌, ◌^◌, ◌<◌, ◌≤◌, Bool, true, false, List, [], ◌∷◌, ◌++◌, All, length, Option, Some, None, refl, sym, ap, subst, ◌∙◌, arith}
+use Rattle.std.proofs.Common.{◌≡◌, ◌*◌, ◌<◌, List, [], ◌∷◌, All, length, refl, arith}
 use Rattle.std.specs.List.{flat_map, AllByRecursion}
-use Rattle.std.proofs.lemmas.List.{length-append}
 use Rattle.std.proofs.lemmas.List.Elements.{All-from_recursion}
 use Rattle.stream_syntax.specs.declared.clut.ClutEntry.{ClutEntry}
 use Rattle.stream_syntax.specs.declared.page.PageEntry.{PageEntry}
 use Rattle.stream_syntax.specs.declared.region.Listing.{Listing}
 use Rattle.stream_syntax.specs.Fields.{FitsFields}
-use Rattle.stream_syntax.specs.Segments.{listing_fields, Object, is_odd}
-use Rattle.segments.specs.Writing.{page_entry_bytes, listing_bytes, clut_entry_bytes, object_bytes, padding_bytes}
+use Rattle.stream_syntax.specs.Segments.{listing_fields}
+use Rattle.segments.specs.Writing.{page_entry_bytes, listing_bytes, clut_entry_bytes}
 
 pub page_entries_size : (entries : List PageEntry) → length (flat_map page_entry_bytes entries) ≡ 6 * length entries
 page_entries_size [] = refl

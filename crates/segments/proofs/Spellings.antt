@@ -1,15 +1,16 @@
 -- The bytes of each kind of segment are what a writer makes of its table, and are a segment with their value.
-use Rattle.std.proofs.Common.{◌≡◌, ℕ, zero, suc, ◌+◌, ◌-◌, ◌*◌, ◌/◌, ◌%◌, ◌^◌, ◌<◌, ◌≤◌, Bool, true, false, List, [], ◌∷◌, ◌++◌, All, length, get_or, take, drop, map, Option, Some, None, refl, sym, ap, subst, ◌∙◌, append_assoc, arith}
+use Rattle.std.proofs.Common.{◌≡◌, ℕ, ◌+◌, ◌-◌, ◌<◌, Bool, true, false, List, [], ◌∷◌, ◌++◌, All, length, take, map, Option, Some, None, refl, sym, ap, subst, ◌∙◌, append_assoc, arith}
 use Rattle.std.specs.List.{flat_map, AllByRecursion}
 use Rattle.std.proofs.lemmas.List.Elements.{All-from_get_or, recursion_from_All}
+use Rattle.std.proofs.lemmas.List.{take_at}
 use Rattle.sub_base.specs.Colour.{shown_of}
 use Rattle.stream_syntax.specs.declared.clut.ClutEntry.{ClutEntry}
 use Rattle.stream_syntax.specs.declared.display.Window.{Window}
 use Rattle.stream_syntax.specs.declared.page.PageEntry.{PageEntry}
 use Rattle.stream_syntax.specs.declared.region.Listing.{Listing}
-use Rattle.stream_syntax.specs.Fields.{Field, number, reserved, HasFields, FitsRow, FitsFields, written, bytes_of}
-use Rattle.stream_syntax.specs.Segments.{Page, Region, Clut, Object, Display, SegmentValue, of_page, of_region, of_clut, of_object, of_display, end_of_set, passed_over, page_entry_fields, page_fields, listing_fields, region_fields, coded_entry_fields, clut_fields, in_full, entry_of, object_fields, bytes_fields, padding, is_odd, display_fields, window_fields, window_flag, free_bytes, state_number, depth_number, flag, written_body, written_fields, segment_kind, segment_fields, byte_count, spelled, IsWritable, IsBody, IsRight, IsSegment, AreShown}
-use Rattle.segments.specs.Writing.{word_bytes, page_entry_bytes, page_bytes, listing_bytes, head_bytes, region_bytes, clut_entry_bytes, clut_bytes, padding_bytes, object_bytes, window_bytes, display_bytes, body_bytes, frame_bytes, segment_bytes}
+use Rattle.stream_syntax.specs.Fields.{Field, FitsFields}
+use Rattle.stream_syntax.specs.Segments.{Page, Region, Clut, Object, Display, SegmentValue, of_page, of_region, of_clut, of_object, of_display, end_of_set, passed_over, page_entry_fields, page_fields, listing_fields, region_fields, coded_entry_fields, clut_fields, in_full, entry_of, object_fields, bytes_fields, padding, is_odd, display_fields, window_fields, window_flag, free_bytes, state_number, depth_number, flag, written_body, written_fields, segment_kind, byte_count, spelled, IsWritable, IsBody, IsSegment, AreShown}
+use Rattle.segments.specs.Writing.{page_entry_bytes, page_bytes, listing_bytes, region_bytes, clut_entry_bytes, clut_bytes, padding_bytes, object_bytes, window_bytes, display_bytes, body_bytes, frame_bytes, segment_bytes}
 use Rattle.segments.proofs.Frames.{byte_count_is}
 use Rattle.segments.proofs.Shapes.{AreBytes}
 use Rattle.segments.proofs.Writes.{Writes, nothing_written, write_byte, write_free, write_word, write_4_2, write_4_1, write_3_3, write_4, write_flags, write_4_2_1, write_2_2_12, write_r4_12, spelled_is, writes_has}
@@ -151,3 +152,7 @@ appended page value old kept head after new kind size writable kept-is head-is k
 
 pub spelled_size : (page : ℕ) (value : SegmentValue) → IsWritable page value → length (spelled page value) ≡ 6 + byte_count (written_body value)
 spelled_size page value writable = ap length (spelled_as page value writable.fits) ∙ omega (arith, size_is value writable.fits.1.1.1.1)
+
+pub read_again : (page : ℕ) (value : SegmentValue) (rest : List ℕ) → IsWritable page value → IsSegment (take (length (spelled page value)) (spelled page value ++ rest)) value
+read_again page value rest writable =
+    subst (λ (bytes : List ℕ). IsSegment bytes value) (sym (take_at (spelled page value) rest (length (spelled page value)) refl)) (written_segment page value writable)

@@ -1,25 +1,23 @@
 -- Whole segments: what is read is a segment with its value, and a segment with a value is read.
-use Rattle.std.proofs.Common.{◌≡◌, ◌≢◌, ℕ, zero, suc, ◌+◌, ◌-◌, ◌*◌, ◌/◌, ◌%◌, ◌^◌, ◌<◌, ◌≤◌, ◌⊎◌, Bool, true, false, cond, eqb, List, [], ◌∷◌, ◌++◌, length, get_or, take, drop, map, Option, Some, None, Result, Ok, Err, refl, sym, ap, subst, ◌∙◌, append_assoc, arith, inl, inr}
-use Rattle.std.specs.Prelude.{◌==◌, nat_lt, not, ◌||◌, ◌&&◌, sum_by}
-use Rattle.std.proofs.lemmas.Bool.{cases_eq, ltb-false, le-ltb, lt-ltb, ltb-true, eqb-true}
-use Rattle.std.proofs.lemmas.Bool.Decides.{nat_tests}
-use Rattle.std.proofs.lemmas.List.{append-nil, take-append-drop, length-append, length-take, length-drop, length-take-le, take-take, drop-take, get_or-take}
+use Rattle.std.proofs.Common.{◌≡◌, ◌≢◌, ℕ, ◌+◌, ◌/◌, ◌<◌, ◌≤◌, Bool, true, false, cond, List, length, get_or, map, Option, Some, None, refl, sym, ap, subst, ◌∙◌, arith, inl, inr}
+use Rattle.std.specs.Prelude.{not}
+use Rattle.std.proofs.lemmas.Bool.{cases_eq, ltb-false, le-ltb, lt-ltb, ltb-true}
 use Rattle.stream_syntax.specs.declared.clut.ClutEntry.{ClutEntry}
 use Rattle.stream_syntax.specs.declared.display.Window.{Window}
-use Rattle.stream_syntax.specs.Fields.{Field, number, reserved, HasFields, no_row, row_first, FitsRow, FitsFields}
+use Rattle.stream_syntax.specs.Fields.{Field, HasFields, FitsFields}
 use Rattle.stream_syntax.specs.PixelCodes.{bits_of}
-use Rattle.stream_syntax.specs.Segments.{Page, Region, Clut, Object, Display, SegmentValue, of_page, of_region, of_clut, of_object, of_display, end_of_set, passed_over, CodedEntry, page_fields, region_fields, clut_fields, object_fields, display_fields, free_bytes, head_fields, segment_fields, byte_count, width_of, IsPassedOver, IsBody, IsRight, IsWindowOf, IsSegment, entry_of}
-use Rattle.stream_syntax.specs.SegmentTests.{frame_tests, body_tests, body_of, top_in, bottom_in, has_window, is_window, AreBlocks, IsBodyFault, IsSegmentFault, page_tests, region_tests, clut_tests, object_tests, display_tests}
-use Rattle.stream_syntax.specs.Tests.{Test, first_fault, byte_at, word_at}
+use Rattle.stream_syntax.specs.Segments.{Page, Region, Clut, Object, Display, SegmentValue, of_page, of_region, of_clut, of_object, of_display, end_of_set, passed_over, CodedEntry, page_fields, region_fields, clut_fields, object_fields, display_fields, free_bytes, IsPassedOver, IsBody, IsRight, IsWindowOf, entry_of}
+use Rattle.stream_syntax.specs.SegmentTests.{body_tests, top_in, bottom_in, has_window, is_window, AreBlocks, page_tests, region_tests, clut_tests, object_tests, display_tests}
+use Rattle.stream_syntax.specs.Tests.{first_fault, byte_at, word_at}
 use Rattle.segments.specs.Reading.{window_in, page_in, region_in, clut_in, object_in, display_in, value_in}
 use Rattle.segments.proofs.Bodies.{Found}
 use Rattle.segments.proofs.Pages.{page_laid, page_again}
 use Rattle.segments.proofs.Regions.{region_laid, region_again}
 use Rattle.segments.proofs.Cluts.{clut_laid, clut_again}
 use Rattle.segments.proofs.Objects.{object_laid, object_again}
-use Rattle.segments.proofs.Displays.{display_laid, plain_again, window_again, further_in, free_laid, free_again, free_fits}
-use Rattle.segments.proofs.Passing.{page_asks, page_passes, region_asks, region_passes, clut_asks, clut_passes, object_asks, object_passes, display_asks, display_passes, none_from, none_there, not_true, not_false, and_true, both_true, unequal_there}
-use Rattle.segments.proofs.Shapes.{AreBytes, AreBytes-drop, AreBytes-take, widths, widths-sum, fields_bytes, no_bytes, take_free, Six, six_cells}
+use Rattle.segments.proofs.Displays.{display_laid, plain_again, window_again, further_in, free_laid, free_fits}
+use Rattle.segments.proofs.Passing.{page_asks, page_passes, region_asks, region_passes, clut_asks, clut_passes, object_asks, object_passes, display_asks, display_passes, not_true, and_true, both_true, unequal_there}
+use Rattle.segments.proofs.Shapes.{AreBytes}
 
 -- ---- bodies
 

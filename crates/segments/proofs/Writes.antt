@@ -1,10 +1,9 @@
 -- Bytes that are what a writer makes of a table: the rows that share a byte, or two bytes, and whole tables.
-use Rattle.std.proofs.Common.{◌≡◌, ℕ, zero, suc, ◌+◌, ◌-◌, ◌*◌, ◌/◌, ◌%◌, ◌^◌, ◌<◌, ◌≤◌, Bool, true, false, List, [], ◌∷◌, ◌++◌, length, get_or, take, drop, replicate, refl, sym, ap, subst, ◌∙◌, append_assoc, arith}
+use Rattle.std.proofs.Common.{◌≡◌, ℕ, zero, suc, ◌+◌, ◌*◌, ◌/◌, ◌%◌, ◌^◌, ◌<◌, List, [], ◌∷◌, ◌++◌, replicate, refl, sym, ap, subst, ◌∙◌, append_assoc, arith}
 use Rattle.std.proofs.Math.Nat.{mod-eq_of_lt}
 use Rattle.std.proofs.lemmas.Nat.{shr_high, mod_low}
-use Rattle.std.proofs.lemmas.Grind.{flat_map-append}
-use Rattle.std.proofs.lemmas.List.{append-nil, length-append, length-replicate}
-use Rattle.stream_syntax.specs.Fields.{Field, number, reserved, HasFields, no_row, row_first, written, written_row, number_of, bytes_of, FitsFields}
+use Rattle.std.proofs.lemmas.List.{length-replicate}
+use Rattle.stream_syntax.specs.Fields.{Field, number, reserved, HasFields, no_row, row_first, written, bytes_of}
 use Rattle.stream_syntax.specs.PixelCodes.{bits, bits_of}
 use Rattle.segments.proofs.Bits.{bits-add, bits-same, number_of-bits, bits_of-cons, bits_of-two}
 use Rattle.segments.proofs.Shapes.{AreBytes, AreBytes-tail}

@@ -1,5 +1,5 @@
 ghost use Rattle.std.specs.Prelude.{◌≡◌, ◌≤◌, length};
-ghost use Rattle.segments.specs.Contents.{clut_entries, clut_value, first_entry, full_colour, short_colour};
+ghost use Rattle.segments.specs.Contents.{clut_value, first_entry, items_left, full_colour, short_colour};
 ghost use Rattle.segments.specs.Reading.{Gives, clut_at};
 ghost use Rattle.stream_syntax.specs.SegmentTests.{are_whole, entry_size};
 
@@ -26,7 +26,7 @@ pub struct ClutSeg<'a> {
 impl ClutSeg<'_> {
     /// The entries in order. The low bits of a short colour are 0, and a luminance of 0 means full transparency.
     pub fn items(&self) -> ClutItems<'_>
-        ensures { clut_entries result.rest.now ≡ clut_entries self.now.entries.now }
+        ensures { items_left result ≡ (clut_value self.now).entries }
     {
         ClutItems { rest: self.entries }
     }
@@ -40,7 +40,6 @@ pub struct ClutItems<'a> {
 
 impl Iterator for ClutItems<'_> {
     ghost use Rattle.std.specs.Iterator.{YieldsFirst, item_count};
-    ghost use Rattle.segments.specs.Contents.{items_left};
 
     type Item = ClutEntry;
 

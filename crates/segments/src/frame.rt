@@ -16,7 +16,7 @@ pub(crate) const SYNC: u8 = 0x0F;
 /// The bytes of a segment's head.
 pub(crate) const HEAD: usize = 6;
 
-/// A segment as its head frames it (EN 300 743, clause 7.2.1).
+/// A segment as its head frames it (EN 300 743, clause 7.2).
 #[derive(Clone, Copy, Debug, PartialEq, Eq)]
 pub struct Frame<'a> {
     /// The segment type.

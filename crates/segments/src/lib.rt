@@ -7,6 +7,7 @@ mod clut;
 mod display;
 mod fault;
 mod frame;
+mod laws;
 mod object;
 mod page;
 mod reading;

@@ -1,5 +1,5 @@
 ghost use Rattle.std.specs.Prelude.{◌≡◌, ◌<◌, length, slice_get, Some};
-ghost use Rattle.segments.specs.Contents.{page_entries, page_value};
+ghost use Rattle.segments.specs.Contents.{page_value};
 ghost use Rattle.segments.specs.Reading.{Gives, page_at};
 
 use crate::fault::bad_length;
@@ -22,19 +22,19 @@ pub struct PageSeg<'a> {
 }
 
 impl PageSeg<'_> {
-    #[tactic(auto, using(crate::proofs::Sixes::length_by_six))]
     /// How many regions the page shows.
+    #[tactic(auto, using(crate::proofs::Sixes::length_by_six))]
     pub fn count(&self) -> usize
-        ensures { result ≡ length (page_entries self.now.entries.now) }
+        ensures { result ≡ length (page_value self.now).entries }
     {
         self.entries.len() / ENTRY
     }
 
-    #[tactic(auto, using(crate::proofs::Sixes::length_by_six))]
     /// The entry at a place below the count.
+    #[tactic(auto, using(crate::proofs::Sixes::length_by_six))]
     pub fn entry(&self, i: usize) -> PageEntry
-        requires { i < length (page_entries self.now.entries.now) }
-        ensures { slice_get (page_entries self.now.entries.now) i ≡ Some result }
+        requires { i < length (page_value self.now).entries }
+        ensures { slice_get (page_value self.now).entries i ≡ Some result }
     {
         let place = ENTRY * i;
         PageEntry {

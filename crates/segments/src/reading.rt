@@ -23,7 +23,7 @@ use crate::region::{RegionSeg, region_of};
 use stream_syntax::SegmentFault;
 
 /// A segment (EN 300 743, clause 7.2), borrowed from the bytes that it was read from.
-#[derive(Clone, Copy, Debug)]
+#[derive(Clone, Copy, Debug, PartialEq, Eq)]
 pub enum Segment<'a> {
     Page(PageSeg<'a>),
     Region(RegionSeg<'a>),

@@ -1,6 +1,6 @@
 ghost use Rattle.std.specs.Prelude.{◌≡◌, ◌+◌, ◌<◌, ◌^◌, ◌≤◌, drop, length, slice_get, OnOk, Some};
 ghost use Rattle.std.specs.Result.{result_and};
-ghost use Rattle.segments.specs.Contents.{region_listings, region_value};
+ghost use Rattle.segments.specs.Contents.{region_value};
 ghost use Rattle.segments.specs.Reading.{Gives, tested, depth_at, region_head_at, region_at};
 ghost use Rattle.stream_syntax.specs.SegmentTests.{listing_tests};
 
@@ -38,19 +38,19 @@ pub struct RegionSeg<'a> {
 }
 
 impl RegionSeg<'_> {
-    #[tactic(auto, using(crate::proofs::Sixes::length_by_six))]
     /// How many objects the region lists.
+    #[tactic(auto, using(crate::proofs::Sixes::length_by_six))]
     pub fn count(&self) -> usize
-        ensures { result ≡ length (region_listings self.now.listings.now) }
+        ensures { result ≡ length (region_value self.now).listings }
     {
         self.listings.len() / LISTING
     }
 
-    #[tactic(auto, using(crate::proofs::Sixes::length_by_six))]
     /// The listing at a place below the count.
+    #[tactic(auto, using(crate::proofs::Sixes::length_by_six))]
     pub fn listing(&self, i: usize) -> Listing
-        requires { i < length (region_listings self.now.listings.now) }
-        ensures { slice_get (region_listings self.now.listings.now) i ≡ Some result }
+        requires { i < length (region_value self.now).listings }
+        ensures { slice_get (region_value self.now).listings i ≡ Some result }
     {
         let place = LISTING * i;
         Listing {
@@ -144,8 +144,8 @@ fn check_listings(listings: &[u8]) -> Result<(), SegmentFault>
     Ok(())
 }
 
-#[tactic(auto, using(crate::proofs::Listings::whole_listing, crate::proofs::Listings::cut_listing, crate::proofs::Listings::listing_passes))]
 /// Tests the first of the listings, which begins at that place of the segment.
+#[tactic(auto, using(crate::proofs::Listings::whole_listing, crate::proofs::Listings::cut_listing, crate::proofs::Listings::listing_passes))]
 fn check_listing(listings: &[u8], place: u32) -> Result<(), SegmentFault>
     requires room { place + 2 < 2 ^ 32 }
     requires some { 0 < length listings.now }

@@ -1,6 +1,6 @@
 -- When the bytes of a segment are refused: the tests in order, each with the place and the kind of its fault. Places
 -- count from the segment's first byte, and a length is always at place 4.
-use Rattle.std.specs.Prelude.{◌≡◌, ℕ, ◌+◌, ◌*◌, ◌/◌, ◌%◌, ◌==◌, nat_lt, not, ◌&&◌, ◌||◌, Bool, true, false, List, [], ◌∷◌, ◌++◌, length, take, drop, Option, Some, None, suc, zero, if◌then◌else◌}
+use Rattle.std.specs.Prelude.{◌≡◌, ℕ, ◌+◌, ◌/◌, ◌%◌, ◌==◌, nat_lt, not, ◌&&◌, ◌||◌, Bool, true, false, List, [], ◌∷◌, ◌++◌, length, take, drop, Some, None, suc, zero, if◌then◌else◌}
 use Rattle.stream_syntax.specs.declared.segment_fault.SegmentFault.{SegmentFault}
 use Rattle.stream_syntax.specs.declared.segment_fault.SegmentKind.{SegmentKind}
 use Rattle.stream_syntax.specs.declared.segment_fault.SegmentKind.TheVariants.{NoSync, Cut, BadLength, ReservedState, BadDepth, CharacterObject, HeldObject, Progressive, ReservedMethod, Code, BadWindow, ZeroSize}

@@ -83,7 +83,7 @@ abbrev pub flag : Bool → ℕ
 flag false = 0
 flag true = 1
 
--- the head of a segment (7.2.1): sync byte, segment type, page id, segment length in bytes
+-- the head of a segment (7.2): sync byte, segment type, page id, segment length in bytes
 abbrev pub head_fields : ℕ → ℕ → ℕ → List Field
 head_fields kind page size =
     number 8 15
@@ -212,14 +212,19 @@ object_fields padded object =
     ∷ number 16 (length object.bottom)
     ∷ (bytes_fields object.top ++ (bytes_fields object.bottom ++ padding padded))
 
--- display definition segment (7.2.7), with so many further bytes
+-- display definition segment (7.2.1), with so many further bytes
 abbrev pub window_flag : Option Window → ℕ
 window_flag None = 0
 window_flag (Some window) = 1
 
 abbrev pub window_fields : Option Window → List Field
 window_fields None = []
-window_fields (Some window) = number 16 window.left ∷ number 16 window.right ∷ number 16 window.top ∷ number 16 window.bottom ∷ []
+window_fields (Some window) =
+    number 16 window.left
+    ∷ number 16 window.right
+    ∷ number 16 window.top
+    ∷ number 16 window.bottom
+    ∷ []
 
 abbrev pub display_fields : ℕ → Display → List Field
 display_fields further display =
@@ -232,24 +237,27 @@ display_fields further display =
 
 -- ---- when bytes are a segment with a value
 
--- the segment types (7.2.1)
+-- a segment type (7.2) of none of these kinds
 abbrev pub IsPassedOver : ℕ → Type 0
-IsPassedOver kind = (kind < 256) × (kind ≢ 16) × (kind ≢ 17) × (kind ≢ 18) × (kind ≢ 19) × (kind ≢ 20) × (kind ≢ 128)
+IsPassedOver kind = (kind < 256) × (kind ≢ 0x10) × (kind ≢ 0x11) × (kind ≢ 0x12) × (kind ≢ 0x13) × (kind ≢ 0x14) × (kind ≢ 0x80)
 
--- the segment types and the tables of bodies that have the value: what the value leaves open is free
+-- the segment types and the tables of bodies that have the value: what the value leaves open, as the level of
+-- compatibility, the coding of colours and further bytes, is free
 abbrev pub IsBody : SegmentValue → ℕ → List Field → Type 0
-IsBody (of_page value) kind body = (kind ≡ 16) × (body ≡ page_fields value)
-IsBody (of_region value) kind body = (kind ≡ 17) × (compatibility : ℕ) × (body ≡ region_fields compatibility value)
-IsBody (of_clut value) kind body = (kind ≡ 18) × (coded : List CodedEntry) × (map entry_of coded ≡ value.entries) × (body ≡ clut_fields value.clut value.version coded)
-IsBody (of_object value) kind body = (kind ≡ 19) × (padded : Bool) × (body ≡ object_fields padded value)
-IsBody (of_display value) kind body = (kind ≡ 20) × (further : ℕ) × (body ≡ display_fields further value)
-IsBody end_of_set kind body = (kind ≡ 128) × (further : ℕ) × (body ≡ free_bytes further)
+IsBody (of_page value) kind body = (kind ≡ 0x10) × (body ≡ page_fields value)
+IsBody (of_region value) kind body = (kind ≡ 0x11) × (compatibility : ℕ) × (body ≡ region_fields compatibility value)
+IsBody (of_clut value) kind body =
+    (kind ≡ 0x12) × (coded : List CodedEntry) × (map entry_of coded ≡ value.entries) × (body ≡ clut_fields value.clut value.version coded)
+IsBody (of_object value) kind body = (kind ≡ 0x13) × (padded : Bool) × (body ≡ object_fields padded value)
+IsBody (of_display value) kind body = (kind ≡ 0x14) × (further : ℕ) × (body ≡ display_fields further value)
+IsBody end_of_set kind body = (kind ≡ 0x80) × (further : ℕ) × (body ≡ free_bytes further)
 IsBody passed_over kind body = IsPassedOver kind × (further : ℕ) × (body ≡ free_bytes further)
 
 -- the window is not empty, and inside the display
 abbrev pub IsWindowOf : ℕ → ℕ → Option Window → Type 0
 IsWindowOf width height None = Unit {0}
-IsWindowOf width height (Some window) = (window.left ≤ window.right) × (window.right < width) × (window.top ≤ window.bottom) × (window.bottom < height)
+IsWindowOf width height (Some window) =
+    (window.left ≤ window.right) × (window.right < width) × (window.top ≤ window.bottom) × (window.bottom < height)
 
 -- what is asked of a value beyond its table: sides are at least 1, the blocks of an object are in their grammar, and a
 -- window lies inside the display

@@ -1,6 +1,5 @@
-use thiserror::Error;
-
 use crate::code_fault::CodeFault;
+use thiserror::Error;
 
 /// What is wrong with the bytes of a segment.
 #[derive(Clone, Copy, Debug, PartialEq, Eq)]

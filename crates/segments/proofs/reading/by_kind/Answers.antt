@@ -1,4 +1,4 @@
-use Rattle.std.proofs.Common.{arith, refl, sym, ap, ◌∙◌}
+use Rattle.std.proofs.Common.{arith, sym, ◌∙◌}
 use Rattle.std.proofs.lemmas.Result.{err_from_is_err_and}
 use Rattle.segments.proofs.Bodies.{is_body_fault, page_kind, region_kind, clut_kind, object_kind, display_kind, region_is, region_found, object_found, object_fault, display_found}
 use Rattle.segments.proofs.reading.by_kind.Goals as goal

@@ -1,6 +1,5 @@
-use Rattle.std.proofs.Common.{◌<◌, ◌≡◌, length, arith, sym, ◌∙◌}
+use Rattle.std.proofs.Common.{arith}
 use Rattle.segments.specs.Contents.{value_of}
-use Rattle.segments.specs.Writing.{body_bytes}
 use Rattle.segments.proofs.Spellings.{body_small, appended, written_segment, spelled_size}
 use Rattle.segments.proofs.writing.write_segment.Goals as goal
 

@@ -1,0 +1,15 @@
+//! Laws of the layout of segments, over all bytes.
+
+ghost use Rattle.std.specs.Prelude.{◌≡◌, ◌++◌, List, ℕ, length, take};
+ghost use Rattle.stream_syntax.specs.Segments.{IsSegment, IsWritable, SegmentValue, spelled};
+
+/// No segment begins another one, and bytes are a segment with one value at most.
+pub fn one_reading()
+    ensures { (a b x y : List ℕ) (one other : SegmentValue) → IsSegment a one → IsSegment b other → a ++ x ≡ b ++ y → (a ≡ b) × (one ≡ other) }
+{}
+
+/// What was written is read again, whatever follows it.
+pub fn read_again()
+    ensures { (page : ℕ) (value : SegmentValue) (rest : List ℕ) → IsWritable page value
+        → IsSegment (take (length (spelled page value)) (spelled page value ++ rest)) value }
+{}
