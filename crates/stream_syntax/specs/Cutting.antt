@@ -1,9 +1,10 @@
 -- A unit that is cut into packets of a PID, in any way (ISO/IEC 13818-1, 2.4.3.2 to 2.4.3.6).
-use Rattle.std.specs.Prelude.{◌≡◌, ◌≢◌, ℕ, ◌+◌, ◌-◌, ◌%◌, ◌<◌, ◌≤◌, ◌⊎◌, Bool, true, false, List, [], ◌∷◌, ◌++◌, length, replicate, Option, Some, None, ⊤}
-use Rattle.std.specs.List.{concat}
+use Rattle.std.specs.Prelude.{◌≡◌, ◌≢◌, ℕ, ◌+◌, ◌-◌, ◌%◌, ◌<◌, ◌≤◌, ◌⊎◌, Bool, true, false, if◌then◌else◌, List, [], ◌∷◌, ◌++◌, length, replicate, Option, Some, None, ⊤}
+use Rattle.std.specs.List.{concat, AllByRecursion}
 use Rattle.byteorder.specs.Endian.{big_number}
+use Rattle.stream_syntax.specs.declared.transport.Event.{Event}
 use Rattle.stream_syntax.specs.TransportPackets.{pid_of, has_error_flag, has_payload, has_start_flag, counter_of, payload_of}
-use Rattle.stream_syntax.specs.Units.{last_counter, need_of, each_after, unit_at}
+use Rattle.stream_syntax.specs.Units.{is_payload, last_counter, Succession, Next, Again, Missing, succession, need_of, each_after, hand_after, unit_at, event_at, is_loss}
 
 -- a unit that a demultiplexer of this size hands out whole: it has the start code prefix, and as many bytes as its length says
 pub record IsUnit (size : ℕ) (unit : List ℕ) : Type 0 where
@@ -46,9 +47,34 @@ IsCut pid last start (piece ∷ pieces) (packet ∷ packets) =
 abbrev pub units_behind : ℕ → ℕ → List (List ℕ) → List (List ℕ) → List (Option (List ℕ))
 units_behind pid size before packets = each_after (unit_at pid size) before packets
 
--- however a unit is cut, and whatever came before, it comes out whole, once, at the last of its packets
+-- however a unit is cut, and whatever came before, it comes out whole, once, at the last of its packets, and no unit is in hand
+-- behind them
 abbrev pub AnyCutting : ℕ → ℕ → Type 0
 AnyCutting pid size =
     (before packets pieces : List (List ℕ)) (unit : List ℕ) → IsUnit size unit → unit ≡ concat pieces
     → IsCut pid (last_counter pid before) true pieces packets
-    → units_behind pid size before packets ≡ replicate (length packets - 1) None ++ Some unit ∷ []
+    → (units_behind pid size before packets ≡ replicate (length packets - 1) None ++ Some unit ∷ []) × (hand_after pid size (before ++ packets) ≡ None)
+
+-- the packet is not behind missing ones
+abbrev pub IsUnbroken : Succession → Type 0
+IsUnbroken Next = ⊤
+IsUnbroken Again = ⊤
+IsUnbroken (Missing expected found) = ⊥
+
+-- behind a payload packet with this counter no counter is missing
+abbrev pub IsGapless : ℕ → Option ℕ → List (List ℕ) → Type 0
+IsGapless pid last [] = ⊤
+IsGapless pid last (packet ∷ packets) =
+    (is_payload pid packet ≡ true → IsUnbroken (succession last (counter_of packet)))
+    × IsGapless pid (if is_payload pid packet then Some (counter_of packet) else last) packets
+
+-- the events at the packets of a list behind others
+abbrev pub events_behind : ℕ → ℕ → List (List ℕ) → List (List ℕ) → List Event
+events_behind pid size before packets = each_after (event_at pid size) before packets
+
+-- where no unit is in hand and no counter is missing, none of the packets of a cut unit means a loss
+abbrev pub NothingLost : ℕ → ℕ → Type 0
+NothingLost pid size =
+    (before packets pieces : List (List ℕ)) (unit : List ℕ) → IsUnit size unit → unit ≡ concat pieces
+    → IsCut pid (last_counter pid before) true pieces packets → IsGapless pid (last_counter pid before) packets
+    → hand_after pid size before ≡ None → AllByRecursion (λ event. is_loss event ≡ false) (events_behind pid size before packets)

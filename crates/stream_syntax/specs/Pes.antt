@@ -1,5 +1,5 @@
 -- PES packets (ISO/IEC 13818-1, 2.4.3.6 and 2.4.3.7) that carry subtitles (EN 300 743, 6 and 7.1).
-use Rattle.std.specs.Prelude.{◌≡◌, ℕ, ◌+◌, ◌-◌, ◌*◌, ◌/◌, ◌%◌, ◌^◌, ◌<◌, ◌≤◌, Bool, ◌==◌, ◌||◌, not, nat_lt, List, [], ◌∷◌, ◌++◌, length, drop, slice_index, find, Option, Some, None, Result, Ok, Err}
+use Rattle.std.specs.Prelude.{◌≡◌, ℕ, ◌+◌, ◌*◌, ◌/◌, ◌%◌, ◌^◌, ◌≤◌, Bool, ◌==◌, ◌||◌, not, nat_lt, List, [], ◌∷◌, ◌++◌, length, drop, slice_index, find, Option, Some, None, Result, Ok, Err}
 use Rattle.std.specs.Option.{option_map}
 use Rattle.byteorder.specs.Endian.{big_number}
 use Rattle.stream_syntax.specs.declared.pes.PesFault.{PesFault}
@@ -68,9 +68,21 @@ pub record IsPes (bytes : List ℕ) (pts : ℕ) (segments : List ℕ) : Type 0 w
 -- what a writer writes: data alignment, no further flags and no further header bytes
 abbrev pub written_form : ℕ → List ℕ → PesForm
 written_form time field_bytes = record {
-    stream_id = 0xBD; packet_length = 8 + length field_bytes; scrambling = 0; priority = 0; alignment = 1; copyright = 0; original = 0;
-    pts_dts_flags = 2; further_flags = 0; header_length = 5; pts_prefix = 2; pts = time; further_header = []; data_field = field_bytes
-  }
+  stream_id = 0xBD;
+  packet_length = 8 + length field_bytes;
+  scrambling = 0;
+  priority = 0;
+  alignment = 1;
+  copyright = 0;
+  original = 0;
+  pts_dts_flags = 2;
+  further_flags = 0;
+  header_length = 5;
+  pts_prefix = 2;
+  pts = time;
+  further_header = [];
+  data_field = field_bytes;
+}
 
 -- the bytes before the data field of a packet of this length
 abbrev pub written_header : ℕ → ℕ → List ℕ

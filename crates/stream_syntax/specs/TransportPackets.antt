@@ -1,5 +1,5 @@
 -- Transport packets (ISO/IEC 13818-1, 2.4.3.2 to 2.4.3.5). A packet is a list of 188 bytes.
-use Rattle.std.specs.Prelude.{ℕ, zero, suc, ◌+◌, ◌-◌, ◌*◌, ◌/◌, ◌%◌, Bool, false, ◌==◌, ◌||◌, ◌&&◌, not, nat_lt, if◌then◌else◌, List, [], ◌∷◌, ◌++◌, length, drop, replicate, slice_index, find, Option, Some, None}
+use Rattle.std.specs.Prelude.{ℕ, zero, suc, ◌+◌, ◌-◌, ◌*◌, ◌/◌, ◌%◌, Bool, false, ◌==◌, ◌||◌, ◌&&◌, not, nat_lt, if◌then◌else◌, List, [], ◌∷◌, ◌++◌, length, drop, replicate, slice_index, find, Option}
 use Rattle.std.specs.Option.{option_map}
 use Rattle.stream_syntax.specs.declared.transport.PacketFault.{PacketFault}
 use Rattle.stream_syntax.specs.declared.transport.PacketFault.TheVariants.{NoSync, ReservedControl, BadAdaptation, Scrambled}
@@ -97,8 +97,14 @@ adaptation_field (suc (suc stuffing)) = (stuffing + 1) ∷ 0 ∷ replicate stuff
 -- a head without error flag, priority and scrambling
 abbrev pub written_head : ℕ → Bool → ℕ → ℕ → PacketHead
 written_head number start kind count = record {
-    error_flag = 0; start_flag = if start then 1 else 0; priority = 0; pid = number; scrambling = 0; control = kind; counter = count
-  }
+  error_flag = 0;
+  start_flag = if start then 1 else 0;
+  priority = 0;
+  pid = number;
+  scrambling = 0;
+  control = kind;
+  counter = count;
+}
 
 -- a packet with this piece of a unit: an adaptation field takes the place that the piece leaves
 abbrev pub written_packet : ℕ → Bool → ℕ → List ℕ → List ℕ

@@ -67,6 +67,25 @@ fn worked_stream_gives_its_two_units(rt: HostRuntime) -> Result<(), Fail> {
 }
 
 #[test]
+fn unit_behind_missing_packets_comes_out(rt: HostRuntime) -> Result<(), Fail> {
+    let mut demux = Demux::make(rt.alloc(), 256, 24_576)?;
+    assert_eq!(rt;
+        demux.feed(&packet_of(&FIRST_HEAD, &FIRST_UNIT))?.event,
+        Event::Followed
+    );
+    let fed = demux.feed(&packet_of(&[0x47, 0x41, 0x00, 0x33, 0x98, 0x00], &SECOND_UNIT))?;
+    assert_eq!(rt;
+        fed.event,
+        Event::Gap {
+            expected: 1,
+            found: 3
+        }
+    );
+    assert_eq!(rt; fed.unit.ok_or("no unit")?, SECOND_UNIT.as_slice());
+    Ok(())
+}
+
+#[test]
 fn each_event_has_its_numbers(rt: HostRuntime) -> Result<(), Fail> {
     let waiting = packet_of(&[], &[]);
     let mut demux = Demux::make(rt.alloc(), 256, 24_576)?;
