@@ -6,11 +6,11 @@ use Rattle.std.proofs.lemmas.List.Elements.{All-head, All-tail, All-weaker}
 use Rattle.sub_base.specs.declared.depth.Depth.{Depth}
 use Rattle.sub_base.specs.declared.depth.Depth.TheVariants.{Two, Four, Eight}
 use Rattle.sub_base.specs.Picture.{Picture, IsPicture, IsRow, row_of, every_second_row, top_field, bottom_field, HasEqualFields}
-use Rattle.sub_base.proofs.PictureLaws.{length-every_second_row, get_or-every_second_row}
+use Rattle.sub_base.proofs.PictureLaws.{length-every_second_row, get_or-every_second_row, All-every_second_row}
 use Rattle.stream_syntax.specs.PixelBlocks.{line_end_type}
 use Rattle.stream_syntax.specs.FieldBlocks.{identity_table, IsRowBlock, AreRowBlocks, IsFieldBlock, AreFieldBlocks, AreRowSizes, IsFieldSize, AreFieldSizes}
 use Rattle.pixel_codes.proofs.RowStrings.{row_size}
-use Rattle.set_coder.specs.Rows.{IsRowOf, AreRows, Extends}
+use Rattle.set_coder.specs.Rows.{IsRowOf, AreRows, Extends, room_of}
 
 -- ---- bytes that grow
 
@@ -145,3 +145,26 @@ both_sizes picture region old new a b h = record {
 
 pub top_of : (picture : Picture) (region depth : Depth) (rows : List (List ℕ)) (bytes : List ℕ) → depth ≡ picture.depth → rows ≡ top_field picture → IsFieldBlock depth region rows bytes → IsFieldBlock picture.depth region (top_field picture) bytes
 top_of picture region depth rows bytes d r b = subst (λ (x : Depth). IsFieldBlock x region (top_field picture) bytes) d (subst (λ (x : List (List ℕ)). IsFieldBlock depth region x bytes) r b)
+
+-- ---- how much room the blocks of a picture want
+
+-- rows of one width
+room_all : (width : ℕ) (rows : List (List ℕ)) → All (λ row. length row ≡ width) rows → room_of rows ≡ length rows * (3 * width + 10)
+room_all width [] h = grind arith
+room_all width (row ∷ rows) h =
+    let first = All-head (λ (r : List ℕ). length r ≡ width) row rows h in
+    let rest = room_all width rows (All-tail (λ (r : List ℕ). length r ≡ width) row rows h) in
+    grind arith
+
+shared_out : (a b whole share : ℕ) → a + b ≡ whole → a * share + b * share ≡ whole * share
+shared_out a b whole share e = rw (← e) (grind arith)
+
+-- the rows of both fields are those of the picture
+pub room_fields : (picture : Picture) → IsPicture picture → room_of (top_field picture) + room_of (bottom_field picture) ≡ picture.height * (3 * picture.width + 10)
+room_fields picture p =
+    let room = λ (first : ℕ). room_all picture.width (every_second_row picture first) (All-weaker (IsRow picture) (λ row. length row ≡ picture.width) (λ row r. r.whole) _ (All-every_second_row picture p first)) in
+    let top = room 0 in
+    let bottom = room 1 in
+    let rows : length (top_field picture) + length (bottom_field picture) ≡ picture.height =
+      omega (arith, length-every_second_row picture 0, length-every_second_row picture 1) in
+    omega (arith, top, bottom, shared_out (length (top_field picture)) (length (bottom_field picture)) picture.height (3 * picture.width + 10) rows)

@@ -1,9 +1,9 @@
 ghost use Rattle.std.specs.Prelude.{◌≡◌, ℕ, ◌+◌, ◌*◌, ◌^◌, ◌<◌, ◌≤◌, List, [], ◌∷◌, ◌++◌, length, All, OnOk, OnErr, IfOk};
 ghost use Rattle.sub_base.specs.Depth.{code_count};
-ghost use Rattle.sub_base.specs.Picture.{bottom_field};
+ghost use Rattle.sub_base.specs.Picture.{IsPicture, top_field, bottom_field};
 ghost use Rattle.stream_syntax.specs.PixelBlocks.{IsNoDeeper, string_type};
 ghost use Rattle.stream_syntax.specs.FieldBlocks.{identity_table, IsRowBlock, AreRowBlocks, IsFieldBlock, AreFieldBlocks, AreFieldSizes, DrawsPicture};
-ghost use Rattle.set_coder.specs.Rows.{AreRows, Extends};
+ghost use Rattle.set_coder.specs.Rows.{AreRows, Extends, room_of};
 
 use indexed_picture::{FieldRows, Indexed};
 use pixel_codes::write_row;
@@ -35,6 +35,9 @@ pub fn write_fields(
         × AreFieldBlocks picture.now region top bottom) }
     ensures kept { OnErr result (out.new.items ≡ out.old.items) }
 
+    // One and a half bytes a pixel, five a row, and the bytes of two tables and an empty field are enough.
+    ensures short { OnOk result (2 * length out.new.items ≤ 2 * length out.old.items + 70 + picture.now.height * (3 * picture.now.width + 10)) }
+
     // What follows of the blocks: their sizes, and that they draw the picture.
     ensures sizes { IfOk result (λ lengths. AreFieldSizes picture.now region lengths.top lengths.bottom) }
     ensures drawn { IfOk result (λ lengths. (top : List ℕ) × (bottom : List ℕ)
@@ -60,6 +63,8 @@ fn append_fields(
         × (out.new.items ≡ out.old.items ++ (top ++ bottom))
         × (lengths.top ≡ length top) × (lengths.bottom ≡ length bottom)
         × AreFieldBlocks picture.now region top bottom) }
+    ensures short { OnOk result (2 * length out.new.items ≤ 2 * length out.old.items + 70 + room_of (top_field picture.now) + room_of (bottom_field picture.now)) }
+    ensures picture { IsPicture picture.now }
     ensures extends { Extends out.old.items out.new.items }
 {
     let start = out.len();
@@ -79,6 +84,7 @@ fn append_bottom_field(picture: &Indexed, region: Depth, out: &mut Vec<u8>) -> R
     requires { IsNoDeeper picture.now.depth region }
     ensures block { OnOk result ((bytes : List ℕ) × (out.new.items ≡ out.old.items ++ bytes)
         × (length bytes < 2 ^ 32) × IsFieldBlock picture.now.depth region (bottom_field picture.now) bytes) }
+    ensures short { OnOk result (2 * length out.new.items ≤ 2 * length out.old.items + 34 + room_of (bottom_field picture.now)) }
     ensures extends { Extends out.old.items out.new.items }
 {
     if picture.height() == 1 {
@@ -100,6 +106,7 @@ fn append_field(
     requires rows { AreRows depth rows }
     ensures block { OnOk result ((bytes : List ℕ) × (out.new.items ≡ out.old.items ++ bytes)
         × (length bytes < 2 ^ 32) × IsFieldBlock depth region rows.entry bytes) }
+    ensures short { OnOk result (2 * length out.new.items ≤ 2 * length out.old.items + 34 + room_of rows.entry) }
     ensures extends { Extends out.old.items out.new.items }
 {
     out.extend_from_slice(table_bytes(depth, region))?;
@@ -114,6 +121,7 @@ fn append_row(depth: Depth, row: &[u8], out: &mut Vec<u8>) -> Result<(), NoMemor
     requires { All (λ code. code < code_count depth) row.now }
     ensures block { OnOk result ((bytes : List ℕ) × (out.new.items ≡ out.old.items ++ bytes)
         × (2 * length bytes ≤ 3 * length row.now + 10) × IsRowBlock depth row.now bytes) }
+    ensures short { OnOk result (2 * length out.new.items ≤ 2 * length out.old.items + 3 * length row.now + 10) }
     ensures extends { Extends out.old.items out.new.items }
 {
     out.push(type_of_string(depth))?;

@@ -1,5 +1,11 @@
+use Rattle.std.proofs.Common.{◌+◌, ◌*◌, ◌≤◌, length}
+use Rattle.set_coder.specs.Rows.{room_of}
 use Rattle.set_coder.proofs.FieldLaws.{Written}
 use Rattle.set_coder.proofs.fields.append_field.Given as goal
 
 abbrev pub invariant-loop-row : goal.invariant-loop-row
-invariant-loop-row l = Written l.depth l.fn.region l.fn.out.items l.out.items l.row-iterator l.fn.rows
+invariant-loop-row l =
+    record {
+      written : Written l.depth l.fn.region l.fn.out.items l.out.items l.row-iterator l.fn.rows;
+      short : 2 * length l.out.items + room_of l.row-iterator ≤ 2 * length l.fn.out.items + 34 + room_of l.fn.rows;
+    }

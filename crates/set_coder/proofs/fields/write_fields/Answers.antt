@@ -1,5 +1,6 @@
-use Rattle.std.proofs.lemmas.Result.{IfOk-weaker}
-use Rattle.set_coder.proofs.FieldLaws.{both_sizes}
+use Rattle.std.proofs.Common.{arith}
+use Rattle.std.proofs.lemmas.Result.{IfOk-weaker, on_ok_weaker}
+use Rattle.set_coder.proofs.FieldLaws.{both_sizes, room_fields}
 use Rattle.set_coder.proofs.Drawing.{both_drawn}
 use Rattle.set_coder.proofs.fields.write_fields.Goals as goal
 
@@ -10,3 +11,8 @@ returns-else-is_err-clause-sizes c =
 pub returns-else-is_err-clause-drawn : goal.returns-else-is_err-clause-drawn
 returns-else-is_err-clause-drawn c =
     IfOk-weaker c.append_fields-written.result _ _ (λ lengths b. both_drawn c.args.picture.now c.args.region c.args.out.now.items c.append_fields-written.new.out.items lengths.top lengths.bottom c.requires b) c.append_fields-written.ensures.blocks
+
+pub returns-else-is_err-clause-short : goal.returns-else-is_err-clause-short
+returns-else-is_err-clause-short c =
+    let room = room_fields c.args.picture.now c.append_fields-written.ensures.picture in
+    on_ok_weaker c.append_fields-written.result (λ h. omega (arith, room, h)) c.append_fields-written.ensures.short
