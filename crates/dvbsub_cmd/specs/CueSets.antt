@@ -1,8 +1,10 @@
 -- The two display sets of a script of one cue (EN 300 743, clause 5): a mode change that brings the whole page as the cue
 -- starts, and a page without regions as it ends.
-use Rattle.std.specs.Prelude.{ℕ, ◌+◌, ◌*◌, ◌/◌, false, true, List, [], ◌∷◌, ◌++◌, None}
+use Rattle.std.specs.Prelude.{◌≡◌, ℕ, ◌+◌, ◌*◌, ◌/◌, false, true, List, [], ◌∷◌, ◌++◌, None}
 use Rattle.std.specs.List.{flat_map}
 use Rattle.cue_list.specs.declared.one_cue.OneCue.{OneCue}
+use Rattle.stream_syntax.specs.FieldBlocks.{AreFieldBlocks}
+use Rattle.stream_syntax.specs.Pes.{written_pes}
 use Rattle.stream_syntax.specs.Segments.{SegmentValue, of_page, of_region, of_object, of_display, end_of_set, spelled}
 use Rattle.stream_syntax.specs.declared.page.State.TheVariants.{Normal, ModeChange}
 
@@ -49,3 +51,11 @@ field_of page segments = 0x20 ∷ 0x00 ∷ (flat_map (spelled page) segments ++ 
 -- the ticks that painting a region takes: 64 pixels a tick
 abbrev pub painted_of : OneCue → ℕ
 painted_of cue = (cue.picture.width * cue.picture.height + 63) / 64
+
+-- the PES packets of the two sets: the first has the blocks of the picture's fields, and each its time
+pub record AreUnits (page : ℕ) (cue : OneCue) (first last : List ℕ) : Type 0 where
+  pub top : List ℕ
+  pub bottom : List ℕ
+  pub blocks : AreFieldBlocks cue.picture cue.depth top bottom
+  pub first_is : first ≡ written_pes cue.start (field_of page (first_segments cue top bottom))
+  pub last_is : last ≡ written_pes cue.end (field_of page (last_segments cue))

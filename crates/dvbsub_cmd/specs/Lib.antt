@@ -1,3 +1,4 @@
+pub mod BothBlocks
 pub mod Command
 pub mod Compiled
 pub mod CueSets

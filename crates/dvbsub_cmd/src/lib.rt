@@ -14,3 +14,6 @@ mod units;
 pub use carry_out::top;
 pub use command::{Command, InputPlaces, inputs};
 pub use status::{Status, Which};
+
+#[cfg(test)]
+mod tests;

@@ -1,4 +1,4 @@
-ghost use Rattle.std.specs.Prelude.{◌≡◌, ◌++◌, ◌<◌, ◌≤◌, ◌+◌, ◌*◌, length, OnOk, IfOk};
+ghost use Rattle.std.specs.Prelude.{◌≡◌, ◌++◌, ◌<◌, ◌≤◌, ◌+◌, ◌*◌, [], ◌∷◌, take, length, OnOk, IfOk};
 ghost use Rattle.cue_list.specs.OneCue.{IsSound};
 ghost use Rattle.stream_syntax.specs.Segments.{spelled, end_of_set};
 ghost use Rattle.stream_syntax.specs.SegmentTests.{AreBlocks};
@@ -134,7 +134,7 @@ const FIELD_START: [u8; 2] = [0x20, 0x00];
 const FIELD_END: u8 = 0xFF;
 
 /// The field with the display set that brings the whole page.
-fn first_field(
+pub fn first_field(
     alloc: Global,
     page: u16,
     cue: &OneCue,
@@ -145,6 +145,7 @@ fn first_field(
     requires blocks { AreBlocks top.now bottom.now }
     requires short { length top.now + length bottom.now < 60000 }
     ensures field { IfOk result (λ field. field.items ≡ field_of page (first_segments cue.now top.now bottom.now)) }
+    ensures start { IfOk result (λ field. take 2 field.items ≡ 0x20 ∷ 0 ∷ []) }
     ensures short { IfOk result (λ field. length field.items ≤ 65000) }
 {
     let mut field = Vec::from_slice(alloc, &FIELD_START)?;
@@ -158,9 +159,10 @@ fn first_field(
 }
 
 /// The field with the display set that shows no region.
-fn last_field(alloc: Global, page: u16, cue: &OneCue) -> Result<Vec<u8>, NoMemory>
+pub fn last_field(alloc: Global, page: u16, cue: &OneCue) -> Result<Vec<u8>, NoMemory>
     requires { IsSound cue.now }
     ensures field { IfOk result (λ field. field.items ≡ field_of page (last_segments cue.now)) }
+    ensures start { IfOk result (λ field. take 2 field.items ≡ 0x20 ∷ 0 ∷ []) }
     ensures short { IfOk result (λ field. length field.items ≤ 65000) }
 {
     let mut field = Vec::from_slice(alloc, &FIELD_START)?;
