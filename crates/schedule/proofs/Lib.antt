@@ -1,0 +1,5 @@
+pub mod BufferLaws
+pub mod MakeLaws
+pub mod SendLaws
+pub mod SlotLaws
+pub mod SumLaws

@@ -1,0 +1,5 @@
+pub mod Packets
+pub mod Refusals
+pub mod Safe
+pub mod Search
+pub mod Slots

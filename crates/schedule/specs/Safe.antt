@@ -1,0 +1,19 @@
+-- What the search for one slot relies on.
+use Rattle.std.specs.Prelude.{ℕ, ◌^◌, ◌<◌, ◌≤◌, List, length, slice_index}
+use Rattle.schedule.specs.declared.pace.Pace.{Pace}
+
+-- the numbers of a profile with a step, and an origin below 2^62
+pub record IsSound (pace : Pace) : Type 0 where
+  pub step : (360 ≤ pace.step) × (pace.step ≤ 705)
+  pub coded : pace.coded ≤ 61440
+  pub origin : pace.origin < 2 ^ 62
+
+-- done ticks below 2^62 that do not fall
+pub record AreOrdered (dones : List ℕ) : Type 0 where
+  pub rise : (a b : ℕ) → a ≤ b → b < length dones → slice_index dones a ≤ slice_index dones b
+  pub small : (a : ℕ) → a < length dones → slice_index dones a < 2 ^ 62
+
+-- the first so many sets are done by a tick
+pub record AreDone (dones : List ℕ) (count tick : ℕ) : Type 0 where
+  pub within : count ≤ length dones
+  pub each : (j : ℕ) → j < count → slice_index dones j ≤ tick

@@ -1,0 +1,26 @@
+-- Where the search for slots stands between two sets.
+use Rattle.std.specs.Prelude.{◌≡◌, ℕ, ◌+◌, ◌^◌, ◌<◌, ◌≤◌, List, length, slice_index}
+use Rattle.sub_base.specs.declared.load.SetLoad.{SetLoad}
+use Rattle.schedule.specs.declared.pace.Pace.{Pace}
+use Rattle.schedule.specs.declared.place.Search.{Search}
+use Rattle.schedule.specs.Safe.{AreDone}
+use Rattle.schedule.specs.Packets.{sum_below, load_of, size_of, first_packet}
+use Rattle.schedule.specs.Slots.{tick_of, slot_of, CanStand}
+
+-- a slot is the first one after all of these
+pub record Follows (slots : List ℕ) (slot : ℕ) : Type 0 where
+  pub above : (n : ℕ) → n < length slots → slice_index slots n < slot
+  pub first : (other : ℕ) → ((n : ℕ) → n + 1 ≡ length slots → slice_index slots n < other) → slot ≤ other
+
+-- the first so many packets of set i stand in the least slots in which they can
+pub record HaveStood (loads : List SetLoad) (pace : Pace) (slots dones : List ℕ) (i count : ℕ) : Type 0 where
+  pub stands : (k : ℕ) → k < count → CanStand loads pace slots dones i k (slot_of loads slots i k)
+  pub least : (k slot : ℕ) → k < count → CanStand loads pace slots dones i k slot → slot_of loads slots i k ≤ slot
+
+-- where the search stands once the packets of the first n sets have their slots
+pub record IsBetween (loads : List SetLoad) (pace : Pace) (slots dones : List ℕ) (n : ℕ) (search : Search) : Type 0 where
+  pub packets : length slots ≡ first_packet loads n
+  pub next : Follows slots search.slot
+  pub total : search.level + sum_below (size_of loads) search.gone ≡ sum_below (size_of loads) n
+  pub level : search.level ≤ pace.coded
+  pub gone : AreDone dones search.gone (tick_of pace search.slot)

@@ -1,0 +1,15 @@
+//! The earliest schedule of the packets of display sets: the slots in which they are sent such that the receiver's
+//! coded data buffer never overflows, and the ticks at which the sets are done.
+#![tactic(auto)]
+
+mod fault;
+mod pace;
+mod place;
+mod schedule;
+mod send;
+
+pub use fault::ScheduleFault;
+pub use schedule::Schedule;
+
+#[cfg(test)]
+mod tests;

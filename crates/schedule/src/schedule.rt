@@ -1,0 +1,123 @@
+ghost use Rattle.std.specs.Prelude.{◌≡◌, ℕ, ◌+◌, ◌*◌, ◌^◌, ◌<◌, ◌≤◌, max, length, slice_index, IfOk, IfErr, All};
+ghost use Rattle.std.specs.List.Sorted.{IsStrictlyIncreasing};
+ghost use Rattle.schedule.specs.Slots.{tick_of, pace_of, slots_of as slots_of_set, IsSending, IsSchedule, IsOnTime, IsLoad};
+ghost use Rattle.schedule.specs.Safe.{IsSound};
+ghost use Rattle.schedule.specs.Refusals.{IsCause};
+
+use crate::fault::ScheduleFault;
+use crate::pace::Pace;
+use crate::place::Search;
+use crate::send::send_set;
+use std::alloc::Global;
+use std::marker::Model;
+use sub_base::{Profile, SetLoad};
+
+/// The slots of the packets of display sets, and the ticks at which the sets are done.
+#[derive(Drop)]
+pub struct Schedule {
+    slots: Vec<u64>,
+    /// Where the slots of each set end.
+    ends: Vec<usize>,
+    dones: Vec<u64>,
+}
+
+impl Model for Schedule {
+    ghost use Rattle.schedule.specs.Slots.{Timetable, IsTable};
+
+    ghost Value = { Timetable };
+
+    ghost view = { λ s. record { slots = s.slots.items; ends = s.ends.items; dones = s.dones.items } };
+
+    ghost invariant = { λ s. IsTable s.slots.items s.ends.items s.dones.items };
+}
+
+impl Schedule {
+    /// The earliest schedule of these sets from the origin on, a tick of 90 kHz, in a profile with a step.
+    ///
+    /// The sets are tested in order: a set must fit the coded data buffer, and be done by its presentation time.
+    pub fn make(
+        alloc: Global,
+        loads: &[SetLoad],
+        origin: u64,
+        profile: &Profile,
+    ) -> Result<Schedule, ScheduleFault>
+        requires profile { IsSending profile.now }
+        requires origin { origin < 2 ^ 62 }
+        requires loads { All IsLoad loads.now }
+        ensures schedule { IfOk result (IsSchedule loads.now (length loads.now) (pace_of origin profile.now)) }
+        ensures on_time { IfOk result (IsOnTime loads.now (length loads.now) (pace_of origin profile.now)) }
+        ensures cause { IfErr result (IsCause loads.now (pace_of origin profile.now)) }
+        ensures rise { IfOk result (λ table. IsStrictlyIncreasing table.slots) }
+        ensures small { IfOk result (λ table. All (λ slot. slot < 2 ^ 54) table.slots) }
+    {
+        let pace = pace_for(origin, profile);
+        let mut slots = Vec::new(alloc);
+        let mut ends = Vec::new(alloc);
+        let mut dones = Vec::new(alloc);
+        let mut shown = 0;
+        let mut search = Search {
+            slot: 0,
+            level: 0,
+            gone: 0,
+        };
+        for (set, load) in loads.iter().enumerate() {
+            if load.size > pace.coded {
+                return Err(ScheduleFault::CodedFull {
+                    set: set as u64,
+                    size: load.size,
+                });
+            }
+            search = send_set(&pace, loads, &dones, search, &mut slots)?;
+            let done = pace.tick(search.slot - 1).max(shown) + load.size + load.painted;
+            if done > load.pts {
+                return Err(ScheduleFault::Late {
+                    set: set as u64,
+                    done,
+                    pts: load.pts,
+                });
+            }
+            ends.push(slots.len())?;
+            dones.push(done)?;
+            shown = load.pts;
+        }
+        Ok(Schedule { slots, ends, dones })
+    }
+
+    /// The slots of all packets, in order. They rise.
+    pub fn all_slots(&self) -> &[u64]
+        ensures { result.now ≡ self.now.slots }
+    {
+        self.slots.as_slice()
+    }
+
+    /// The slots of the packets of a set, in order.
+    pub fn slots_of(&self, set: usize) -> &[u64]
+        requires { set < length self.now.dones }
+        ensures { result.now ≡ slots_of_set self.now set }
+    {
+        let start = if set == 0 { 0 } else { self.ends[set - 1] };
+        &self.slots[start..self.ends[set]]
+    }
+
+    /// The tick at which a set is done.
+    pub fn done(&self, set: usize) -> u64
+        requires { set < length self.now.dones }
+        ensures { result ≡ slice_index self.now.dones set }
+    {
+        self.dones[set]
+    }
+}
+
+/// How a profile with a step sends from the origin on.
+fn pace_for(origin: u64, profile: &Profile) -> Pace
+    requires profile { IsSending profile.now }
+    requires origin { origin < 2 ^ 62 }
+    ensures value { result ≡ pace_of origin profile.now }
+    ensures sound { IsSound result }
+{
+    Pace {
+        origin,
+        step: profile.step.unwrap(),
+        coded: profile.coded,
+    }
+}
