@@ -1,4 +1,6 @@
+pub mod BlockLaws
 pub mod ObjectLaws
 pub mod PieceLaws
+pub mod SendLaws
 pub mod SlotLaws
 pub mod WordsLaws

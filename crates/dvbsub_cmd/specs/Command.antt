@@ -1,8 +1,9 @@
 -- The commands of the program.
-use Rattle.std.specs.Prelude.{ℕ, ◌==◌, not, Bool, ◌&&◌, nat_lt, if◌then◌else◌, List, [], length, slice_index, slice_index_or, Option, Some, None, codes}
+use Rattle.std.specs.Prelude.{ℕ, ◌==◌, not, Bool, ◌&&◌, nat_lt, if◌then◌else◌, List, [], length, slice_index, slice_index_or, Option, Some, None, IsSome, ◌<◌, codes}
 use Rattle.std.specs.List.{list_all}
 use Rattle.std.specs.Str.{bytes_eq}
 use Rattle.sub_base.specs.Number.{number_in}
+use Rattle.sub_base.specs.Profile.{profile_of}
 use Rattle.sub_base.specs.declared.profile.ProfileName.TheVariants.{Sd}
 use Rattle.dvbsub_cmd.specs.declared.command.Command.{Command}
 use Rattle.dvbsub_cmd.specs.declared.command.Command.TheVariants.{Compile}
@@ -41,3 +42,7 @@ command_of words = if list_all is_plain words && is_compile words then (do
 abbrev pub places_of : Option Command → InputPlaces
 places_of None = record { first = None; second = None; out = None }
 places_of (Some (Compile profile pid page)) = record { first = Some 4; second = None; out = Some 6 }
+
+-- a command that sends packets has a PID of 13 bits, and a profile with a step from packet to packet
+abbrev pub IsSending : Command → Type 0
+IsSending (Compile profile pid page) = (pid < 8192) × IsSome (profile_of profile).step

@@ -4,5 +4,6 @@ pub mod Compiled
 pub mod CueSets
 pub mod Outcome
 pub mod PieceView
+pub mod Sending
 pub mod SlotStream
 pub mod StatusText

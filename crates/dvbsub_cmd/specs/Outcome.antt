@@ -9,7 +9,7 @@ use Rattle.cue_list.specs.declared.fault.ScriptFault.{ScriptFault}
 use Rattle.cue_list.specs.declared.fault.ScriptFault.TheVariants as script
 use Rattle.cue_list.specs.declared.one_cue.OneCue.{OneCue}
 use Rattle.dvbsub_cmd.specs.Command.{command_of}
-use Rattle.dvbsub_cmd.specs.Compiled.{IsCompiled}
+use Rattle.dvbsub_cmd.specs.Compiled.{IsCompiled, IsRefusedBySchedule}
 use Rattle.dvbsub_cmd.specs.StatusText.{status_line}
 use Rattle.dvbsub_cmd.specs.declared.command.Command.{Command}
 use Rattle.dvbsub_cmd.specs.declared.command.Command.TheVariants.{Compile}
@@ -65,6 +65,8 @@ abbrev pub IsCaused : List (List ℕ) → Shown → Shown → Status → Type 0
 IsCaused words before now (status.Done cut) = (packets : List ℕ) × Compiles words before now packets × Appends before.written now.written packets × (cut ≡ 0)
 IsCaused words before now status.Usage = (command_of words ≡ None) × WroteNothing before now
 IsCaused words before now (status.ScriptRefused fault) = IsCommand words × (text : List ℕ) × WasRead before now text × IsRefused fault text × WroteNothing before now
+IsCaused words before now (status.ScheduleRefused row fault) = (command : Command) × (command_of words ≡ Some command) × (text : List ℕ) × WasRead before now text
+    × (cue : OneCue) × (cue_of (rows_of text) ≡ Some cue) × IsRefusedBySchedule command cue row fault × WroteNothing before now
 IsCaused words before now (status.ReadFault which.First) = IsCommand words × HasRisen before.faults now.faults × WroteNothing before now
 IsCaused words before now (status.ReadFault which.Second) = ⊥
 IsCaused words before now (status.ReadFault which.Out) = ⊥

@@ -6,6 +6,8 @@ use Rattle.cue_list.specs.declared.fault.ScriptFault.{ScriptFault}
 use Rattle.cue_list.specs.declared.fault.ScriptFault.TheVariants as script
 use Rattle.cue_list.specs.declared.fault.ScriptKind.{ScriptKind}
 use Rattle.cue_list.specs.declared.fault.ScriptKind.TheVariants as kind
+use Rattle.schedule.specs.declared.fault.ScheduleFault.{ScheduleFault}
+use Rattle.schedule.specs.declared.fault.ScheduleFault.TheVariants as schedule
 use Rattle.dvbsub_cmd.specs.declared.status.Status.{Status}
 use Rattle.dvbsub_cmd.specs.declared.status.Status.TheVariants as status
 use Rattle.dvbsub_cmd.specs.declared.status.Which.{Which}
@@ -36,6 +38,12 @@ abbrev pub script_text : ScriptFault → List ℕ
 script_text script.Memory = codes "memory"
 script_text (script.Refused row kind) = (codes "script" ++ then_number row) ++ codes " " ++ kind_text kind
 
+-- why a schedule is refused, at that record
+abbrev pub schedule_text : ℕ → ScheduleFault → List ℕ
+schedule_text row schedule.Memory = codes "memory"
+schedule_text row (schedule.CodedFull set size) = (codes "schedule CodedFull" ++ then_number row) ++ then_number size
+schedule_text row (schedule.Late set done pts) = ((codes "schedule Late" ++ then_number row) ++ then_number done) ++ then_number pts
+
 -- the end of a command that did all, with the count of the bytes after the last whole packet
 abbrev pub done_text : ℕ → List ℕ
 done_text cut = if cut == 0 then codes "done" else codes "done cut" ++ then_number cut
@@ -45,6 +53,7 @@ abbrev pub status_text : Status → List ℕ
 status_text (status.Done cut) = done_text cut
 status_text status.Usage = codes "usage"
 status_text (status.ScriptRefused fault) = script_text fault
+status_text (status.ScheduleRefused row fault) = schedule_text row fault
 status_text (status.ReadFault which) = codes "read " ++ which_name which
 status_text (status.WriteFault which) = codes "write " ++ which_name which
 status_text status.Memory = codes "memory"
@@ -59,6 +68,7 @@ abbrev pub code_of : Status → ℕ
 code_of (status.Done cut) = 0
 code_of status.Usage = 2
 code_of (status.ScriptRefused fault) = 3
+code_of (status.ScheduleRefused row fault) = 3
 code_of (status.ReadFault which) = 5
 code_of (status.WriteFault which) = 6
 code_of status.Memory = 7

@@ -1,7 +1,7 @@
-ghost use Rattle.std.specs.Prelude.{◌≡◌, ◌<◌, length};
+ghost use Rattle.std.specs.Prelude.{◌≡◌, ◌<◌, length, IfSome};
 ghost use Rattle.std.specs.List.{list_all};
 ghost use Rattle.std.specs.Str.{bytes_eq};
-ghost use Rattle.dvbsub_cmd.specs.Command.{command_of as command_of_words, is_plain as is_plain_word, is_compile as is_compile_words, has_word as has_word_at, word_at, places_of};
+ghost use Rattle.dvbsub_cmd.specs.Command.{command_of as command_of_words, is_plain as is_plain_word, is_compile as is_compile_words, has_word as has_word_at, word_at, places_of, IsSending};
 
 use sub_base::{ProfileName, Words, number_in};
 
@@ -46,7 +46,8 @@ pub fn inputs(words: &Words) -> InputPlaces
 /// The command that the words are, if they are one.
 #[tactic(auto, unfolding(crate::specs::Command::command_of))]
 pub fn command_of(words: &Words) -> Option<Command>
-    ensures { result ≡ command_of_words words.now }
+    ensures command { result ≡ command_of_words words.now }
+    ensures sending { IfSome result IsSending }
 {
     if !are_plain(words) || !is_compile(words) {
         return None;

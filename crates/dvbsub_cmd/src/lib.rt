@@ -2,9 +2,9 @@
 #![tactic(auto)]
 
 mod carry_out;
+mod compile;
 mod command;
 mod line;
-mod packets;
 mod pieces;
 mod sets;
 mod slot_stream;

@@ -1,7 +1,8 @@
 ghost use Rattle.std.specs.Prelude.{◌≡◌, ◌≤◌, ◌+◌, ◌++◌, length};
-ghost use Rattle.dvbsub_cmd.specs.StatusText.{which_name as which_name_of, then_number, kind_text, done_text as done_text_of, script_text as script_text_of, status_text, status_line as line_of_status, code_of};
+ghost use Rattle.dvbsub_cmd.specs.StatusText.{which_name as which_name_of, then_number, kind_text, done_text as done_text_of, schedule_text as schedule_text_of, script_text as script_text_of, status_text, status_line as line_of_status, code_of};
 
 use cue_list::{ScriptFault, ScriptKind};
+use schedule::ScheduleFault;
 
 use crate::line::Line;
 
@@ -24,6 +25,8 @@ pub enum Status {
     Usage,
     /// The script is refused.
     ScriptRefused(ScriptFault),
+    /// The schedule is refused at a set, which comes from that record of the script.
+    ScheduleRefused { row: u64, fault: ScheduleFault },
     /// The source could not be read.
     ReadFault(Which),
     /// The sink could not be written.
@@ -43,6 +46,7 @@ impl Status {
             Status::Done { .. } => 0,
             Status::Usage => 2,
             Status::ScriptRefused(_) => 3,
+            Status::ScheduleRefused { .. } => 3,
             Status::ReadFault(_) => 5,
             Status::WriteFault(_) => 6,
             Status::Memory => 7,
@@ -68,6 +72,7 @@ fn text_of(status: Status) -> Line
         Status::Done { cut } => done_text(cut),
         Status::Usage => line_of("usage"),
         Status::ScriptRefused(fault) => script_text(fault),
+        Status::ScheduleRefused { row, fault } => schedule_text(row, fault),
         Status::ReadFault(which) => named_text("read ", which),
         Status::WriteFault(which) => named_text("write ", which),
         Status::Memory => line_of("memory"),
@@ -130,6 +135,28 @@ fn script_text(fault: ScriptFault) -> Line
             push_then_number(&mut line, row);
             line.push_text(" ");
             push_kind(&mut line, kind);
+            line
+        }
+    }
+}
+
+fn schedule_text(row: u64, fault: ScheduleFault) -> Line
+    ensures text { result ≡ schedule_text_of row fault }
+    ensures short { length result ≤ 100 }
+{
+    match fault {
+        ScheduleFault::Memory => line_of("memory"),
+        ScheduleFault::CodedFull { size, .. } => {
+            let mut line = line_of("schedule CodedFull");
+            push_then_number(&mut line, row);
+            push_then_number(&mut line, size);
+            line
+        }
+        ScheduleFault::Late { done, pts, .. } => {
+            let mut line = line_of("schedule Late");
+            push_then_number(&mut line, row);
+            push_then_number(&mut line, done);
+            push_then_number(&mut line, pts);
             line
         }
     }
