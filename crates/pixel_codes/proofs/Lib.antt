@@ -11,3 +11,4 @@ pub mod Parts
 pub mod Walk
 pub mod Blocks
 pub mod Steps
+pub mod Sizes

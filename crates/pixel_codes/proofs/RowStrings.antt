@@ -134,7 +134,7 @@ least_sum depth (s ∷ ss) h =
     (table_bits depth s.code s.count, table_sum depth ss, table_least depth s.code s.count (All-head (λ (span : Span). span.code < code_count depth) s ss h), least_sum depth ss (All-tail (λ (span : Span). span.code < code_count depth) s ss h), refl)
 
 -- some pixels before the runs of a row
-abbrev joined : ℕ → ℕ → List Span → List Span
+abbrev pub joined : ℕ → ℕ → List Span → List Span
 joined n c [] = span_of n c ∷ []
 joined n c (s ∷ ss) = if_same (eqb c s.code)
   where
@@ -153,7 +153,7 @@ extended-joined n c (s ∷ ss) = by (eqb c s.code) refl
     by true e = let k : n + s.count + 1 ≡ n + 1 + s.count = omega arith in rw (e, k) refl
     by false e = let f = eq-eqb c c refl in rw f refl
 
-runs_of-more : (n c : ℕ) (rest : List ℕ) → runs_of (replicate (suc n) c ++ rest) ≡ joined (n + 1) c (runs_of rest)
+pub runs_of-more : (n c : ℕ) (rest : List ℕ) → runs_of (replicate (suc n) c ++ rest) ≡ joined (n + 1) c (runs_of rest)
 unfolding runs_of
 runs_of-more zero c rest = let e : 0 + 1 ≡ 1 = omega arith in joined-one c (runs_of rest)
 runs_of-more (suc n) c rest =
@@ -271,7 +271,7 @@ apart_none : (s : Span) (ss : List Span) → s.code ≡ 0 → AreApart (s ∷ ss
 apart_none s [] e h = refl
 apart_none s (t ∷ ss) e h = let f : eqb t.code 0 ≡ false = ne_eqb t.code 0 (λ z. h.0 (e ∙ sym z)) in rw f refl
 
-apart_rest : (s : Span) (ss : List Span) → AreApart (s ∷ ss) → AreApart ss
+pub apart_rest : (s : Span) (ss : List Span) → AreApart (s ∷ ss) → AreApart ss
 apart_rest s [] h = tt
 apart_rest s (t ∷ ss) h = h.1
 

@@ -1,6 +1,7 @@
 -- Blocks of fields, row by row, and their sizes.
-use Rattle.std.proofs.Common.{◌≡◌, ℕ, suc, ◌+◌, ◌-◌, ◌*◌, ◌<◌, ◌≤◌, List, [], ◌∷◌, ◌++◌, length, refl, sym, ap, subst, ◌∙◌, append_assoc, arith}
-use Rattle.std.specs.Prelude.{All}
+use Rattle.std.proofs.Common.{eqb, ◌≡◌, ℕ, suc, ◌+◌, ◌-◌, ◌*◌, ◌<◌, ◌≤◌, List, [], ◌∷◌, ◌++◌, length, refl, sym, ap, subst, ◌∙◌, append_assoc, arith}
+use Rattle.std.specs.Prelude.{Bool, true, false, All}
+use Rattle.std.proofs.lemmas.Bool.{eqb-true, eqb-false}
 use Rattle.std.proofs.lemmas.List.{length-append, append-nil, ext_get_or}
 use Rattle.std.proofs.lemmas.List.Elements.{All-head, All-tail, All-weaker}
 use Rattle.sub_base.specs.declared.depth.Depth.{Depth}
@@ -10,6 +11,7 @@ use Rattle.sub_base.proofs.PictureLaws.{length-every_second_row, get_or-every_se
 use Rattle.stream_syntax.specs.PixelBlocks.{line_end_type}
 use Rattle.stream_syntax.specs.FieldBlocks.{identity_table, IsRowBlock, AreRowBlocks, IsFieldBlock, AreFieldBlocks, AreRowSizes, IsFieldSize, AreFieldSizes}
 use Rattle.pixel_codes.proofs.RowStrings.{row_size}
+use Rattle.pixel_codes.proofs.Sizes.{one_row_size}
 use Rattle.set_coder.specs.Rows.{IsRowOf, AreRows, Extends, room_of}
 
 -- ---- bytes that grow
@@ -168,3 +170,24 @@ room_fields picture p =
     let rows : length (top_field picture) + length (bottom_field picture) ≡ picture.height =
       omega (arith, length-every_second_row picture 0, length-every_second_row picture 1) in
     omega (arith, top, bottom, shared_out (length (top_field picture)) (length (bottom_field picture)) picture.height (3 * picture.width + 10) rows)
+
+-- ---- sizes are one number
+
+one_row_sum : (depth : Depth) (rows : List (List ℕ)) (sum other : ℕ) → AreRowSizes depth rows sum → AreRowSizes depth rows other → sum ≡ other
+one_row_sum depth [] sum other p q = p ∙ sym q
+one_row_sum depth (row ∷ rows) sum other p q = omega (arith, p.4, q.4, one_row_size depth row p.0 q.0 p.2 q.2, one_row_sum depth rows p.1 q.1 p.3 q.3)
+
+one_field_size : (depth region : Depth) (rows : List (List ℕ)) (size other : ℕ) → IsFieldSize depth region rows size → IsFieldSize depth region rows other → size ≡ other
+one_field_size depth region [] size other p q = p ∙ sym q
+one_field_size depth region (row ∷ rows) size other p q = omega (arith, p.2, q.2, one_row_sum depth (row ∷ rows) p.0 q.0 p.1 q.1)
+
+-- the sizes that the blocks of a picture's fields have are the only ones
+pub one_sizes : (picture : Picture) (region : Depth) (a b c d : ℕ) → AreFieldSizes picture region a b → AreFieldSizes picture region c d → (a ≡ c) × (b ≡ d)
+one_sizes picture region a b c d p q = (one_field_size picture.depth region (top_field picture) a c p.top_size q.top_size, by (eqb b d) refl)
+  where
+    by : (t : Bool) → eqb b d ≡ t → b ≡ d
+    by true e = eqb-true b d e
+    by false e =
+        let other = eqb-false b d e in
+        let apart : HasEqualFields picture → ⊥ = λ f. other (p.shared f ∙ sym (q.shared f)) in
+        absurd (other (one_field_size picture.depth region (bottom_field picture) b d (p.own apart) (q.own apart)))

@@ -40,6 +40,8 @@ pub fn write_fields(
 
     // What follows of the blocks: their sizes, and that they draw the picture.
     ensures sizes { IfOk result (λ lengths. AreFieldSizes picture.now region lengths.top lengths.bottom) }
+    ensures only_sizes { IfOk result (λ lengths. (top : ℕ) (bottom : ℕ) → AreFieldSizes picture.now region top bottom
+        → (lengths.top ≡ top) × (lengths.bottom ≡ bottom)) }
     ensures drawn { IfOk result (λ lengths. (top : List ℕ) × (bottom : List ℕ)
         × (out.new.items ≡ out.old.items ++ (top ++ bottom))
         × (lengths.top ≡ length top) × (lengths.bottom ≡ length bottom)

@@ -1,6 +1,6 @@
 use Rattle.std.proofs.Common.{arith}
 use Rattle.std.proofs.lemmas.Result.{IfOk-weaker, on_ok_weaker}
-use Rattle.set_coder.proofs.FieldLaws.{both_sizes, room_fields}
+use Rattle.set_coder.proofs.FieldLaws.{both_sizes, one_sizes, room_fields}
 use Rattle.set_coder.proofs.Drawing.{both_drawn}
 use Rattle.set_coder.proofs.fields.write_fields.Goals as goal
 
@@ -16,3 +16,9 @@ pub returns-else-is_err-clause-short : goal.returns-else-is_err-clause-short
 returns-else-is_err-clause-short c =
     let room = room_fields c.args.picture.now c.append_fields-written.ensures.picture in
     on_ok_weaker c.append_fields-written.result (λ h. omega (arith, room, h)) c.append_fields-written.ensures.short
+
+pub returns-else-is_err-clause-only_sizes : goal.returns-else-is_err-clause-only_sizes
+returns-else-is_err-clause-only_sizes c =
+    IfOk-weaker c.append_fields-written.result _ _
+    (λ lengths b top bottom h. one_sizes c.args.picture.now c.args.region lengths.top lengths.bottom top bottom (both_sizes c.args.picture.now c.args.region c.args.out.now.items c.append_fields-written.new.out.items lengths.top lengths.bottom b) h)
+    c.append_fields-written.ensures.blocks
