@@ -1,5 +1,5 @@
 -- No arrival of the same packets is earlier than the schedule.
-use Rattle.std.proofs.Common.{◌≡◌, ℕ, zero, suc, max, ◌+◌, ◌-◌, ◌*◌, ◌<◌, ◌≤◌, ◌⊎◌, inl, inr, List, length, refl, ap, sym, ◌∙◌, subst, arith, below_more, add-one}
+use Rattle.std.proofs.Common.{◌≡◌, ℕ, zero, suc, ◌+◌, ◌-◌, ◌<◌, ◌≤◌, inl, inr, List, length, ap, ◌∙◌, arith, add-one}
 use Rattle.std.specs.Prelude.{slice_index, All}
 use Rattle.std.specs.List.Sorted.{IsStrictlyIncreasing}
 use Rattle.std.proofs.lemmas.Bool.{cases_lt}
@@ -8,13 +8,13 @@ use Rattle.sub_base.specs.declared.load.SetLoad.{SetLoad}
 use Rattle.schedule.specs.declared.pace.Pace.{Pace}
 use Rattle.schedule.specs.declared.fault.ScheduleFault.{ScheduleFault}
 use Rattle.schedule.specs.declared.fault.ScheduleFault.TheVariants.{Memory, CodedFull, Late}
-use Rattle.schedule.specs.Arrivals.{payload_by, arrived_of, level_at, IsArrival, IsEarliest, IsHopeless}
-use Rattle.schedule.specs.Packets.{sum_below, size_of, load_of, first_packet, packets_of, payload_of, packet_count, bytes_with}
-use Rattle.schedule.specs.Refusals.{IsCause, IsFirstFull, IsFirstLate}
-use Rattle.schedule.specs.Slots.{CanStand, tick_of, slot_of, left_of, done_of, shown_before, Timetable, IsSchedule, IsLoad}
+use Rattle.schedule.specs.Arrivals.{payload_by, arrived_of, IsArrival, IsEarliest, IsHopeless}
+use Rattle.schedule.specs.Packets.{sum_below, size_of, first_packet, packets_of, payload_of, bytes_with}
+use Rattle.schedule.specs.Refusals.{IsCause}
+use Rattle.schedule.specs.Slots.{tick_of, slot_of, left_of, done_of, Timetable, IsSchedule, IsLoad}
 use Rattle.schedule.proofs.SumLaws.{sum_below-more, sum_below-zero, sum_below-rises, sum_below-same, sum_below-le, sum_below-ends}
 use Rattle.schedule.proofs.BufferLaws.{tick_of-rises, left_of-no, left_of-most}
-use Rattle.schedule.proofs.SendLaws.{payloads, payloads-front}
+use Rattle.schedule.proofs.SendLaws.{payloads}
 use Rattle.schedule.proofs.MakeLaws.{load_at, some_packets, within_packets}
 
 -- of rising slots, a later one is not less

@@ -1,5 +1,5 @@
 -- One set more is scheduled.
-use Rattle.std.proofs.Common.{◌≡◌, ℕ, zero, suc, max, ◌+◌, ◌-◌, ◌*◌, ◌^◌, ◌<◌, ◌≤◌, ◌⊎◌, inl, inr, List, [], ◌∷◌, ◌++◌, length, refl, ap, sym, ◌∙◌, subst, arith, below_more, length-append, add-one, mul-le-mul_left}
+use Rattle.std.proofs.Common.{◌≡◌, ℕ, max, ◌+◌, ◌-◌, ◌^◌, ◌<◌, ◌≤◌, inl, inr, List, [], ◌∷◌, ◌++◌, length, refl, ap, sym, ◌∙◌, subst, arith, below_more, length-append, add-one, mul-le-mul_left}
 use Rattle.std.specs.Prelude.{slice_index, All}
 use Rattle.std.specs.List.Sorted.{IsStrictlyIncreasing}
 use Rattle.std.proofs.Math.ListN.{get_or-append}
@@ -12,7 +12,7 @@ use Rattle.schedule.specs.declared.place.Search.{Search}
 use Rattle.schedule.specs.Packets.{sum_below, size_of, load_of, no_load, first_packet, packets_of}
 use Rattle.schedule.specs.Slots.{CanStand, tick_of, slot_of, done_of, shown_before, Timetable, IsSchedule, IsOnTime, IsLoad, IsTable}
 use Rattle.schedule.specs.Refusals.{IsFirstFull, IsFirstLate}
-use Rattle.schedule.specs.Safe.{AreOrdered, AreDone, IsSound}
+use Rattle.schedule.specs.Safe.{AreOrdered, IsSound}
 use Rattle.schedule.specs.Search.{HaveStood, Follows, IsBetween}
 use Rattle.schedule.proofs.SumLaws.{sum_below-more, sum_below-rises, sum_below-zero}
 use Rattle.schedule.proofs.BufferLaws.{tick_of-rises}

@@ -1,12 +1,11 @@
-use Rattle.std.proofs.Common.{◌≡◌, ℕ, ◌+◌, ◌*◌, ◌<◌, ◌≤◌, List, [], ◌∷◌, ◌++◌, length, arith, sym, subst, ap, ◌∙◌}
+use Rattle.std.proofs.Common.{◌≡◌, ℕ, ◌+◌, List, [], ◌∷◌, ◌++◌, length, arith, sym, subst, ap, ◌∙◌}
 use Rattle.schedule.specs.declared.pace.Pace.{Pace}
 use Rattle.schedule.specs.Packets.{size_of, load_of}
-use Rattle.schedule.specs.declared.fault.ScheduleFault.{ScheduleFault}
 use Rattle.schedule.specs.declared.fault.ScheduleFault.TheVariants.{CodedFull, Late}
 use Rattle.schedule.specs.Arrivals.{IsArrival, IsEarliest, IsHopeless}
 use Rattle.schedule.specs.Slots.{IsSchedule, pace_of}
 use Rattle.schedule.specs.Refusals.{IsFirstLate}
-use Rattle.schedule.proofs.MakeLaws.{table_of, full-cause, IsScheduled, IsSent, IsScheduled-none, IsScheduled-more, late-cause, last_of, load_at, All-small, IsTable-of, some_slot}
+use Rattle.schedule.proofs.MakeLaws.{table_of, full-cause, IsScheduled, IsSent, IsScheduled-none, IsScheduled-more, late-cause, All-small, IsTable-of, some_slot}
 use Rattle.schedule.proofs.EarliestLaws.{arrival, earliest, hopeless}
 use Rattle.schedule.proofs.schedule.Schedule.make.Goals as goal
 
