@@ -1,4 +1,5 @@
 pub mod BufferLaws
+pub mod EarliestLaws
 pub mod MakeLaws
 pub mod SendLaws
 pub mod SlotLaws

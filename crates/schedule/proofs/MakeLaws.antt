@@ -1,5 +1,5 @@
 -- One set more is scheduled.
-use Rattle.std.proofs.Common.{◌≡◌, ℕ, zero, suc, max, ◌+◌, ◌-◌, ◌*◌, ◌^◌, ◌<◌, ◌≤◌, ◌⊎◌, inl, inr, List, [], ◌∷◌, ◌++◌, length, refl, ap, sym, ◌∙◌, subst, arith, below_more, length-append, add-one, mul-le-mul_left}
+use Rattle.std.proofs.Common.{◌≡◌, ℕ, max, ◌+◌, ◌-◌, ◌^◌, ◌<◌, ◌≤◌, inl, inr, List, [], ◌∷◌, ◌++◌, length, refl, ap, sym, ◌∙◌, subst, arith, below_more, length-append, add-one, mul-le-mul_left}
 use Rattle.std.specs.Prelude.{slice_index, All}
 use Rattle.std.specs.List.Sorted.{IsStrictlyIncreasing}
 use Rattle.std.proofs.Math.ListN.{get_or-append}
@@ -11,8 +11,8 @@ use Rattle.schedule.specs.declared.pace.Pace.{Pace}
 use Rattle.schedule.specs.declared.place.Search.{Search}
 use Rattle.schedule.specs.Packets.{sum_below, size_of, load_of, no_load, first_packet, packets_of}
 use Rattle.schedule.specs.Slots.{CanStand, tick_of, slot_of, done_of, shown_before, Timetable, IsSchedule, IsOnTime, IsLoad, IsTable}
-use Rattle.schedule.specs.Refusals.{IsFirstLate}
-use Rattle.schedule.specs.Safe.{AreOrdered, AreDone, IsSound}
+use Rattle.schedule.specs.Refusals.{IsFirstFull, IsFirstLate}
+use Rattle.schedule.specs.Safe.{AreOrdered, IsSound}
 use Rattle.schedule.specs.Search.{HaveStood, Follows, IsBetween}
 use Rattle.schedule.proofs.SumLaws.{sum_below-more, sum_below-rises, sum_below-zero}
 use Rattle.schedule.proofs.BufferLaws.{tick_of-rises}
@@ -284,3 +284,9 @@ late-cause loads pace n slots ends dones slots' shown search search' done each b
       is_shown = refl;
       late = late;
     }
+
+-- a set that is larger than the buffer is the cause of a refusal
+pub full-cause : (loads : List SetLoad) (pace : Pace) (n : ℕ) (slots ends dones : List ℕ) (shown : ℕ) (search : Search) →
+    n < length loads → IsScheduled loads pace n slots ends dones shown search → pace.coded < size_of loads n → IsFirstFull loads pace n (size_of loads n)
+full-cause loads pace n slots ends dones shown search below at full =
+    record { table = table_of slots ends dones; among = below; schedule = at.schedule; before = at.on_time; is_size = refl; full = full }

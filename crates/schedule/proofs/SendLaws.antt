@@ -1,5 +1,5 @@
 -- The packets of one set, put into their slots one after the other.
-use Rattle.std.proofs.Common.{◌≡◌, ℕ, zero, suc, min, max, ◌-◌, ◌+◌, ◌*◌, ◌^◌, ◌<◌, ◌≤◌, ◌⊎◌, inl, inr, List, [], ◌∷◌, ◌++◌, length, ap, sym, ◌∙◌, subst, refl, arith, below_more, length-append}
+use Rattle.std.proofs.Common.{◌≡◌, ℕ, zero, suc, min, max, ◌-◌, ◌+◌, ◌*◌, ◌^◌, ◌<◌, ◌≤◌, inl, inr, List, [], ◌∷◌, ◌++◌, length, ap, sym, ◌∙◌, subst, refl, arith, below_more, length-append}
 use Rattle.std.specs.Prelude.{slice_index}
 use Rattle.std.specs.List.Sorted.{IsStrictlyIncreasing}
 use Rattle.std.proofs.Math.ListN.{get_or-append}
@@ -11,7 +11,7 @@ use Rattle.schedule.specs.declared.place.Search.{Search}
 use Rattle.schedule.specs.Packets.{sum_below, size_of, load_of, first_packet, packets_of, payload_of, packet_count, bytes_with}
 use Rattle.schedule.specs.Slots.{CanStand, left_of, tick_of, slot_of}
 use Rattle.schedule.specs.Safe.{IsSound, AreDone}
-use Rattle.schedule.specs.Search.{HaveStood, Follows, IsBetween}
+use Rattle.schedule.specs.Search.{HaveStood, IsBetween}
 use Rattle.schedule.proofs.SumLaws.{sum_below-more, sum_below-suc, sum_below-zero}
 use Rattle.schedule.proofs.BufferLaws.{tick_of-rises, tick_of-max}
 use Rattle.schedule.proofs.SlotLaws.{CanStand-along}

@@ -1,9 +1,9 @@
 -- Packets that stand keep standing while further packets and sets are put behind them.
-use Rattle.std.proofs.Common.{◌≡◌, ℕ, zero, suc, ◌+◌, ◌-◌, ◌*◌, ◌<◌, ◌≤◌, List, [], ◌∷◌, ◌++◌, length, ap, sym, ◌∙◌, arith, nat_le, if◌then◌else◌}
+use Rattle.std.proofs.Common.{◌≡◌, ℕ, ◌+◌, ◌<◌, List, ap, arith, nat_le, if◌then◌else◌}
 use Rattle.std.specs.Prelude.{slice_index}
 use Rattle.sub_base.specs.declared.load.SetLoad.{SetLoad}
 use Rattle.schedule.specs.declared.pace.Pace.{Pace}
-use Rattle.schedule.specs.Packets.{sum_below, size_of, load_of, first_packet, bytes_with}
+use Rattle.schedule.specs.Packets.{sum_below, size_of, first_packet}
 use Rattle.schedule.specs.Slots.{CanStand, left_of, tick_of}
 use Rattle.schedule.proofs.SumLaws.{sum_below-same}
 

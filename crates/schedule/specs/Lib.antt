@@ -1,3 +1,4 @@
+pub mod Arrivals
 pub mod Packets
 pub mod Refusals
 pub mod Safe

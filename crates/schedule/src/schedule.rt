@@ -1,6 +1,7 @@
 ghost use Rattle.std.specs.Prelude.{◌≡◌, ℕ, ◌+◌, ◌*◌, ◌^◌, ◌<◌, ◌≤◌, max, length, slice_index, IfOk, IfErr, All};
 ghost use Rattle.std.specs.List.Sorted.{IsStrictlyIncreasing};
 ghost use Rattle.schedule.specs.Slots.{tick_of, pace_of, slots_of as slots_of_set, IsSending, IsSchedule, IsOnTime, IsLoad};
+ghost use Rattle.schedule.specs.Arrivals.{IsArrival, IsEarliest, IsHopeless};
 ghost use Rattle.schedule.specs.Safe.{IsSound};
 ghost use Rattle.schedule.specs.Refusals.{IsCause};
 
@@ -47,6 +48,13 @@ impl Schedule {
         ensures schedule { IfOk result (IsSchedule loads.now (length loads.now) (pace_of origin profile.now)) }
         ensures on_time { IfOk result (IsOnTime loads.now (length loads.now) (pace_of origin profile.now)) }
         ensures cause { IfErr result (IsCause loads.now (pace_of origin profile.now)) }
+
+        // The buffer never overflows, and no other arrival of the same packets has a packet or a set earlier.
+        ensures arrival { IfOk result (λ table. IsArrival loads.now (length loads.now) (pace_of origin profile.now) table.slots table.dones) }
+        ensures earliest { IfOk result (IsEarliest loads.now (length loads.now) (pace_of origin profile.now)) }
+        ensures hopeless { IfErr result (IsHopeless loads.now (pace_of origin profile.now)) }
+
+        // What callers count with.
         ensures rise { IfOk result (λ table. IsStrictlyIncreasing table.slots) }
         ensures small { IfOk result (λ table. All (λ slot. slot < 2 ^ 54) table.slots) }
     {

@@ -1,10 +1,8 @@
-use Rattle.std.proofs.Common.{◌≡◌, ℕ, ◌+◌, ◌*◌, ◌<◌, ◌≤◌, length, arith, ap, sym, ◌∙◌, true, false}
+use Rattle.std.proofs.Common.{◌≡◌, ◌+◌, ◌<◌, ◌≤◌, length, arith, ap, sym, ◌∙◌, true, false}
 use borrow.Author.Tests.{ltb-true, le-leb}
 use Rattle.std.specs.Prelude.{slice_index}
-use Rattle.sub_base.specs.declared.load.SetLoad.{SetLoad}
 use Rattle.schedule.specs.Packets.{sum_below, size_of}
-use Rattle.schedule.specs.Slots.{tick_of, left_of}
-use Rattle.schedule.specs.Safe.{AreDone, AreOrdered}
+use Rattle.schedule.specs.Slots.{tick_of}
 use Rattle.schedule.proofs.SumLaws.{sum_below-more, sum_below-rises}
 use Rattle.schedule.proofs.BufferLaws.{ltb-false, left-least, AreDone-more, needs_next, tick_of-max, tick_of-rises}
 use Rattle.schedule.proofs.place.place.Goals as goal

@@ -1,4 +1,4 @@
-use Rattle.std.proofs.Common.{length, ◌-◌, ◌≡◌, ℕ, ◌+◌, ◌*◌, ◌^◌, ◌<◌, ◌≤◌, max}
+use Rattle.std.proofs.Common.{length, ◌-◌, ◌≡◌, ℕ, ◌+◌, ◌^◌, ◌≤◌, max}
 use Rattle.schedule.specs.Packets.{sum_below, size_of}
 use Rattle.schedule.specs.Slots.{tick_of, left_of}
 use Rattle.schedule.specs.Safe.{AreDone}

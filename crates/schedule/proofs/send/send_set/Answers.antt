@@ -1,7 +1,5 @@
-use Rattle.std.proofs.Common.{◌≡◌, ℕ, ◌+◌, ◌*◌, ◌<◌, ◌≤◌, List, length, arith, sym, subst}
-use Rattle.schedule.specs.Packets.{sum_below, size_of, load_of, packets_of, payload_of}
-use Rattle.schedule.specs.Slots.{tick_of}
-use Rattle.schedule.specs.Search.{IsBetween}
+use Rattle.std.proofs.Common.{◌≡◌, ℕ, ◌+◌, List, length, arith, sym, subst}
+use Rattle.schedule.specs.Packets.{size_of, packets_of, payload_of}
 use Rattle.schedule.proofs.SendLaws.{IsSending, IsSending-begins, IsSending-more, IsSending-ends, payloads-front}
 use Rattle.schedule.proofs.SumLaws.{sum_below-more}
 use Rattle.schedule.proofs.send.send_set.Goals as goal

@@ -1,9 +1,12 @@
-use Rattle.std.proofs.Common.{◌≡◌, ℕ, ◌+◌, ◌*◌, ◌<◌, ◌≤◌, List, [], ◌∷◌, ◌++◌, length, arith, sym, subst, ap, ◌∙◌}
+use Rattle.std.proofs.Common.{◌≡◌, ℕ, ◌+◌, List, [], ◌∷◌, ◌++◌, length, arith, sym, subst, ap, ◌∙◌}
 use Rattle.schedule.specs.declared.pace.Pace.{Pace}
 use Rattle.schedule.specs.Packets.{size_of, load_of}
-use Rattle.schedule.specs.Slots.{pace_of}
+use Rattle.schedule.specs.declared.fault.ScheduleFault.TheVariants.{CodedFull, Late}
+use Rattle.schedule.specs.Arrivals.{IsArrival, IsEarliest, IsHopeless}
+use Rattle.schedule.specs.Slots.{IsSchedule, pace_of}
 use Rattle.schedule.specs.Refusals.{IsFirstLate}
-use Rattle.schedule.proofs.MakeLaws.{IsScheduled, IsSent, IsScheduled-none, IsScheduled-more, late-cause, last_of, load_at, All-small, IsTable-of, some_slot}
+use Rattle.schedule.proofs.MakeLaws.{table_of, full-cause, IsScheduled, IsSent, IsScheduled-none, IsScheduled-more, late-cause, All-small, IsTable-of, some_slot}
+use Rattle.schedule.proofs.EarliestLaws.{arrival, earliest, hopeless}
 use Rattle.schedule.proofs.schedule.Schedule.make.Goals as goal
 
 pub loop-set-init : goal.loop-set-init
@@ -59,3 +62,36 @@ invariant_of-result c = IsTable-of c.args.loads.now c.pace_for-pace.result c.loo
 
 pub returns-clause-small : goal.returns-clause-small
 returns-clause-small c = All-small c.pace_for-pace.result c.loop-set.slots.items c.pace_for-pace.ensures.sound c.loop-set.invariant.small
+
+pub returns-then-load-pace-clause-hopeless : goal.returns-then-load-pace-clause-hopeless
+returns-then-load-pace-clause-hopeless c =
+    let size = size_of c.args.loads.now c.loop-set.set in
+    let Hopeless : Pace → Type 0 = λ pace. IsHopeless c.args.loads.now pace (CodedFull c.loop-set.set size) in
+    subst Hopeless c.pace_for-pace.ensures.value
+    (hopeless c.args.loads.now c.pace_for-pace.result (CodedFull c.loop-set.set size) c.requires.loads
+    (full-cause c.args.loads.now c.pace_for-pace.result c.loop-set.set c.loop-set.slots.items c.loop-set.ends.items c.loop-set.dones.items
+    c.loop-set.shown c.loop-set.search (omega arith) c.loop-set.invariant (omega arith)))
+
+pub returns-then-done-load-clause-hopeless : goal.returns-then-done-load-clause-hopeless
+returns-then-done-load-clause-hopeless c =
+    hopeless c.args.loads.now (pace_of c.args.origin c.args.profile.now)
+    (Late c.loop-set.set (c.max.result + size_of c.args.loads.now c.loop-set.set + (load_of c.args.loads.now c.loop-set.set).painted) (load_of c.args.loads.now c.loop-set.set).pts)
+    c.requires.loads (returns-then-done-load-clause-cause c)
+
+pub returns-clause-arrival : goal.returns-clause-arrival
+returns-clause-arrival c =
+    let Arrives : Pace → Type 0 = λ pace. IsArrival c.args.loads.now (length c.args.loads.now) pace c.loop-set.slots.items c.loop-set.dones.items in
+    let all : c.loop-set.set ≡ length c.args.loads.now = omega arith in
+    let Scheduled : ℕ → Type 0 = λ n. IsSchedule c.args.loads.now n c.pace_for-pace.result (table_of c.loop-set.slots.items c.loop-set.ends.items c.loop-set.dones.items) in
+    subst Arrives c.pace_for-pace.ensures.value
+    (arrival c.args.loads.now (length c.args.loads.now) c.pace_for-pace.result (table_of c.loop-set.slots.items c.loop-set.ends.items c.loop-set.dones.items)
+    c.loop-set.invariant.rise (subst Scheduled all c.loop-set.invariant.schedule))
+
+pub returns-clause-earliest : goal.returns-clause-earliest
+returns-clause-earliest c =
+    let table = table_of c.loop-set.slots.items c.loop-set.ends.items c.loop-set.dones.items in
+    let Earliest : Pace → Type 0 = λ pace. IsEarliest c.args.loads.now (length c.args.loads.now) pace table in
+    let all : c.loop-set.set ≡ length c.args.loads.now = omega arith in
+    let Scheduled : ℕ → Type 0 = λ n. IsSchedule c.args.loads.now n c.pace_for-pace.result table in
+    subst Earliest c.pace_for-pace.ensures.value
+    (earliest c.args.loads.now (length c.args.loads.now) c.pace_for-pace.result table c.requires.loads (subst Scheduled all c.loop-set.invariant.schedule))
