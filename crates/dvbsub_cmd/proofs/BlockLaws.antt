@@ -1,10 +1,9 @@
 -- The blocks of a picture's fields are blocks of an object.
-use Rattle.std.proofs.Common.{◌≡◌, ℕ, ◌≤◌, Bool, true, false, List, [], ◌∷◌, ◌++◌, length, take, drop, ◌⊎◌, inl, inr, refl, sym, ap, subst, ◌∙◌, ◌↔◌, IsTrue, arith}
+use Rattle.std.proofs.Common.{◌≡◌, ℕ, Bool, true, false, List, [], ◌∷◌, ◌++◌, length, take, drop, ◌⊎◌, inl, inr, refl, sym, ap, subst, ◌∙◌, ◌↔◌, IsTrue, arith}
 use Rattle.std.proofs.Math.Seq.{take-append_seam, drop-append_seam}
 use Rattle.sub_base.specs.Picture.{Picture, HasEqualFields}
 use Rattle.sub_base.specs.declared.depth.Depth.{Depth}
 use Rattle.sub_base.specs.declared.depth.Depth.TheVariants.{Two, Four, Eight}
-use Rattle.stream_syntax.specs.FieldBlocks.{AreFieldBlocks, DrawsPicture, IsDrawnAs}
 use Rattle.stream_syntax.specs.PixelBlocks.{Part, string, table, line_end, IsPart, AreParts, IsNoDeeper, IsBlock, runs_after}
 use Rattle.stream_syntax.specs.SegmentTests.{AreBlocks}
 use Rattle.stream_syntax.specs.declared.pixel_run.Run.{Run}

@@ -1,9 +1,9 @@
 -- The object of a cue can be written.
-use Rattle.std.proofs.Common.{◌≡◌, ℕ, suc, ◌+◌, ◌<◌, ◌≤◌, ◌^◌, Bool, true, false, List, [], ◌∷◌, ◌++◌, length, get_or, ap, sym, ◌∙◌, length-append, arith, Result, Ok, Err, OnOk}
-use Rattle.stream_syntax.specs.Fields.{Field, number, reserved, FitsFields}
+use Rattle.std.proofs.Common.{◌≡◌, ℕ, suc, ◌+◌, ◌<◌, ◌≤◌, ◌^◌, Bool, true, false, List, [], ◌∷◌, ◌++◌, length, get_or, ap, length-append, arith, Result, Ok, Err, OnOk}
+use Rattle.stream_syntax.specs.Fields.{Field, FitsFields}
 use Rattle.stream_syntax.specs.SegmentTests.{AreBlocks}
-use Rattle.stream_syntax.specs.Segments.{Object, SegmentValue, bytes_fields, padding, object_fields, is_odd, written_body, byte_count, IsWritable}
-use Rattle.segments.specs.Writing.{body_bytes, padding_bytes, object_head_bytes}
+use Rattle.stream_syntax.specs.Segments.{bytes_fields, padding, object_fields, is_odd, written_body, byte_count, IsWritable}
+use Rattle.segments.specs.Writing.{padding_bytes}
 use Rattle.segments.proofs.Spellings.{size_is}
 use Rattle.dvbsub_cmd.specs.CueSets.{object_of}
 

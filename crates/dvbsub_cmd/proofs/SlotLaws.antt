@@ -1,5 +1,5 @@
 -- Which piece a slot is that of.
-use Rattle.std.proofs.Common.{◌++◌, take, drop, append_assoc, length-append, ◌-◌, subst, ◌≡◌, ◌≢◌, ℕ, zero, suc, ◌+◌, ◌<◌, ◌≤◌, ◌==◌, List, [], ◌∷◌, length, get_or, map, Bool, true, false, Option, Some, None, refl, ap, sym, ◌∙◌, ◌⊎◌, inl, inr, arith, add-one}
+use Rattle.std.proofs.Common.{◌++◌, take, drop, append_assoc, length-append, ◌-◌, subst, ◌≡◌, ◌≢◌, ℕ, zero, suc, ◌+◌, ◌<◌, ◌≤◌, ◌==◌, List, [], ◌∷◌, length, get_or, map, true, false, Option, Some, None, refl, ap, sym, ◌∙◌, ◌⊎◌, inl, inr, arith, add-one}
 use Rattle.std.proofs.lemmas.Bool.Decides.{nat_tests}
 use Rattle.std.proofs.lemmas.List.Kept.{AllPairs-from_increasing}
 use Rattle.std.specs.List.Sorted.{IsStrictlyIncreasing}

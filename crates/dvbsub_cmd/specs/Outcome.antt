@@ -12,10 +12,8 @@ use Rattle.dvbsub_cmd.specs.Command.{command_of}
 use Rattle.dvbsub_cmd.specs.Compiled.{IsCompiled, IsRefusedBySchedule}
 use Rattle.dvbsub_cmd.specs.StatusText.{status_line}
 use Rattle.dvbsub_cmd.specs.declared.command.Command.{Command}
-use Rattle.dvbsub_cmd.specs.declared.command.Command.TheVariants.{Compile}
 use Rattle.dvbsub_cmd.specs.declared.status.Status.{Status}
 use Rattle.dvbsub_cmd.specs.declared.status.Status.TheVariants as status
-use Rattle.dvbsub_cmd.specs.declared.status.Which.{Which}
 use Rattle.dvbsub_cmd.specs.declared.status.Which.TheVariants as which
 
 -- the most bytes of a script

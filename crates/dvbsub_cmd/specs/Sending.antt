@@ -1,5 +1,5 @@
 -- How the writing of a script's packets ends.
-use Rattle.std.specs.Prelude.{◌≡◌, ℕ, List, Option}
+use Rattle.std.specs.Prelude.{ℕ, List, Option}
 use Rattle.std.specs.Io.KnownBytes.{Appends, Keeps}
 use Rattle.cue_list.specs.declared.one_cue.OneCue.{OneCue}
 use Rattle.sub_base.specs.Counts.{HasRisen}

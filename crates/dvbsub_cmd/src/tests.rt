@@ -1,3 +1,5 @@
+use cue_list::{ScriptFault, ScriptKind};
+use schedule::ScheduleFault;
 use std::alloc::Global;
 use std::process::Abort;
 use std::test::Fail;
@@ -8,6 +10,12 @@ use super::*;
 
 /// The script of the first run: one cue of one picture of 8 bits.
 const FIRST_SCRIPT: &str = "origin,0\ndisplay,4,2\nrefresh,5\nepoch,90000\nregion,0,0,0,4,2,8,0\npicture,a,8,4,2,0102020203030303\nplace,90000,180000,0,0,0,solid,a\n";
+
+/// Its first set, of 98 bytes, is shown a tick before it is done.
+const SCRIPT_AT_98: &str = "origin,0\ndisplay,4,2\nrefresh,5\nepoch,98\nregion,0,0,0,4,2,8,0\npicture,a,8,4,2,0102020203030303\nplace,98,180000,0,0,0,solid,a\n";
+
+/// Its first set is shown at the tick at which it is done.
+const SCRIPT_AT_99: &str = "origin,0\ndisplay,4,2\nrefresh,5\nepoch,99\nregion,0,0,0,4,2,8,0\npicture,a,8,4,2,0102020203030303\nplace,99,180000,0,0,0,solid,a\n";
 
 /// What stands in its first packet behind the head, `55 00` and 84 bytes FF.
 #[rattlefmt::skip]
@@ -29,6 +37,7 @@ const SECOND_UNIT: [u8; 31] = [
 ];
 
 /// How a command ended over a script in memory: the status, what `out` received, and the note.
+#[derive(Drop)]
 struct Outcome {
     status: Status,
     out: MemSink,
@@ -96,5 +105,64 @@ fn one_cue_becomes_two_packets(rt: HostRuntime) -> Result<(), Fail> {
     assert_eq!(rt; &packets[188..194], [0x47, 0x41, 0x00, 0x31, 0x98, 0x00].as_slice());
     assert!(rt; packets[194..345].iter().all(|byte| *byte == 0xFF));
     assert_eq!(rt; &packets[345..376], SECOND_UNIT.as_slice());
+    Ok(())
+}
+
+#[test]
+fn a_set_done_a_tick_late_is_refused(rt: HostRuntime) -> Result<(), Fail> {
+    let late = run(&rt, rt.alloc(), COMPILE, SCRIPT_AT_98)?;
+    assert_eq!(rt; late.status, Status::ScheduleRefused { row: 4, fault: ScheduleFault::Late { set: 0, done: 99, pts: 98 } });
+    assert_eq!(rt; late.notes.written(), b"schedule Late 4 99 98\n".as_slice());
+    assert!(rt; late.out.written().is_empty());
+    let timely = run(&rt, rt.alloc(), COMPILE, SCRIPT_AT_99)?;
+    assert_eq!(rt; timely.status, Status::Done { cut: 0 });
+    assert_eq!(rt; timely.out.written().len(), 376);
+    Ok(())
+}
+
+#[test]
+fn other_words_are_answered_with_the_usage(rt: HostRuntime) -> Result<(), Fail> {
+    let lines = [
+        "",
+        "compile",
+        "compile wide 256 1 script.csv none out.ts",
+        "compile sd 8192 1 script.csv none out.ts",
+        "compile sd 256 65536 script.csv none out.ts",
+        "compile sd 256 1 -script.csv none out.ts",
+        "compile sd 256 1  none out.ts",
+        "compile sd 256 1 script.csv none out.ts more",
+        "dump sd 256 1 script.csv none out.ts",
+    ];
+    for line in lines {
+        let refused = run(&rt, rt.alloc(), line, FIRST_SCRIPT)?;
+        assert_eq!(rt; refused.status, Status::Usage);
+        assert_eq!(rt; refused.notes.written(), b"usage\n".as_slice());
+        assert!(rt; refused.out.written().is_empty());
+    }
+    Ok(())
+}
+
+#[test]
+fn other_scripts_are_refused(rt: HostRuntime) -> Result<(), Fail> {
+    let refused = run(&rt, rt.alloc(), COMPILE, "")?;
+    assert_eq!(rt; refused.status, Status::ScriptRefused(ScriptFault::Refused { row: 1, kind: ScriptKind::NotYet }));
+    assert_eq!(rt; refused.notes.written(), b"script 1 NotYet\n".as_slice());
+    assert!(rt; refused.out.written().is_empty());
+    Ok(())
+}
+
+#[test]
+fn sources_and_sinks_that_fail_are_told(rt: HostRuntime) -> Result<(), Fail> {
+    let unread = run_failing(&rt, rt.alloc(), COMPILE, FIRST_SCRIPT, [2, 0, 0])?;
+    assert_eq!(rt; unread.status, Status::ReadFault(Which::First));
+    assert_eq!(rt; unread.notes.written(), b"read first\n".as_slice());
+    assert!(rt; unread.out.written().is_empty());
+    let unwritten = run_failing(&rt, rt.alloc(), COMPILE, FIRST_SCRIPT, [0, 1, 0])?;
+    assert_eq!(rt; unwritten.status, Status::WriteFault(Which::Out));
+    assert_eq!(rt; unwritten.notes.written(), b"write out\n".as_slice());
+    assert!(rt; unwritten.out.written().is_empty());
+    let untold = run_failing(&rt, rt.alloc(), COMPILE, FIRST_SCRIPT, [0, 0, 1])?;
+    assert_eq!(rt; untold.status, Status::WriteFault(Which::Notes));
+    assert_eq!(rt; untold.out.written().len(), 376);
     Ok(())
 }

@@ -1,4 +1,4 @@
-use Rattle.std.proofs.Common.{◌≡◌, List, ℕ, length, refl, ap, sym, ◌∙◌, subst, All, ◌<◌, ◌^◌}
+use Rattle.std.proofs.Common.{◌≡◌, List, ℕ, length, ap, sym, ◌∙◌, subst, ◌<◌, ◌^◌}
 use Rattle.std.proofs.KnownBytes.{Keeps-refl}
 use Rattle.schedule.specs.Packets.{first_packet}
 use Rattle.dvbsub_cmd.specs.SlotStream.{slot_count}

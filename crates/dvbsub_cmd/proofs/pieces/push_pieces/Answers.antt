@@ -1,4 +1,3 @@
-use Rattle.std.proofs.Common.{◌≡◌}
 use Rattle.std.proofs.lemmas.List.Elements.{All-push}
 use Rattle.dvbsub_cmd.specs.PieceView.{plain}
 use Rattle.dvbsub_cmd.specs.SlotStream.{IsPiece}

@@ -1,4 +1,4 @@
-use Rattle.std.proofs.Common.{◌≡◌, ◌≢◌, ℕ, ◌<◌, length, get_or, [], false, sym, ap, ◌∙◌, arith}
+use Rattle.std.proofs.Common.{[], false, sym, ◌∙◌, arith}
 use Rattle.dvbsub_cmd.specs.declared.slot_stream.Piece.{Piece as Lent}
 use Rattle.dvbsub_cmd.proofs.SlotLaws.{slot_packet-next, slot_packet-idle, IsNext-sent, IsNext-idle}
 use Rattle.dvbsub_cmd.proofs.slot_stream.packet_at.Goals as goal

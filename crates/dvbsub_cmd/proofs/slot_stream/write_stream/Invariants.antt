@@ -1,4 +1,4 @@
-use Rattle.std.proofs.Common.{◌≡◌, ◌%◌, ◌*◌, ◌≤◌, ◌++◌, ℕ, List, length, map}
+use Rattle.std.proofs.Common.{◌≡◌, ◌%◌, ◌≤◌, map}
 use Rattle.std.specs.List.{flat_map, range_with_len}
 use Rattle.dvbsub_cmd.specs.SlotStream.{IsNext, Sent, slot_packet}
 use Rattle.dvbsub_cmd.specs.PieceView.{plain}
