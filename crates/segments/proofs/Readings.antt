@@ -8,7 +8,8 @@ use Rattle.pixel_codes.proofs.Parts.{same_fault}
 use Rattle.stream_syntax.specs.declared.code_fault.CodeFault.{CodeFault}
 use Rattle.stream_syntax.specs.declared.segment_fault.SegmentFault.{SegmentFault}
 use Rattle.stream_syntax.specs.declared.segment_fault.SegmentKind.TheVariants.{Code}
-use Rattle.stream_syntax.specs.Segments.{SegmentValue, IsSegment}
+use Rattle.stream_syntax.specs.Segments.{SegmentValue, of_page, of_region, of_clut, of_object, of_display, end_of_set, passed_over, IsBody, IsKindOf, IsSegment}
+use Rattle.stream_syntax.specs.Fields.{Field}
 use Rattle.stream_syntax.specs.SegmentTests.{frame_tests, body_tests, body_of, top_in, bottom_in, AreBlocks, IsBlocksFault, in_top, in_bottom, IsBodyFault, in_tests, in_blocks, IsSegmentFault, in_head, in_body}
 use Rattle.stream_syntax.specs.Tests.{first_fault, byte_at, word_at}
 use Rattle.segments.specs.declared.reading.Segment.{Segment}
@@ -85,6 +86,21 @@ found bytes (Ok r) fits was =
     let laid = body_laid (byte_at 1 bytes) (body_of bytes) (contents r.0) (AreBytes-body bytes fits) (fits 1) was.body.0 was.body.1 in
     subst (λ (n : ℕ). IsSegment (take n bytes) (contents r.0)) (sym was.whole) (is_segment bytes (contents r.0) fits was.head laid)
 found bytes (Err fault) fits was = tt
+
+kind_of_body : (value : SegmentValue) (kind : ℕ) (fields : List Field) → IsBody value kind fields → IsKindOf value kind
+kind_of_body (of_page value) kind fields is = is.0
+kind_of_body (of_region value) kind fields is = is.0
+kind_of_body (of_clut value) kind fields is = is.0
+kind_of_body (of_object value) kind fields is = is.0
+kind_of_body (of_display value) kind fields is = is.0
+kind_of_body end_of_set kind fields is = is.0
+kind_of_body passed_over kind fields is = is.0
+
+pub kind_found : (bytes : List ℕ) (result : Outcome) → AreBytes bytes → WasAllRead bytes result → IfOk result (λ r. IsKindOf (contents r.0) (byte_at 1 bytes))
+kind_found bytes (Ok r) fits was =
+    let laid = body_laid (byte_at 1 bytes) (body_of bytes) (contents r.0) (AreBytes-body bytes fits) (fits 1) was.body.0 was.body.1 in
+    kind_of_body (contents r.0) (byte_at 1 bytes) laid.fields laid.is_body
+kind_found bytes (Err fault) fits was = tt
 
 same_value : (kind : ℕ) (body : List ℕ) (one other : SegmentValue) → Reads kind body one → Reads kind body other → one ≡ other
 same_value kind body one other a b = a.0.0 ∙ sym b.0.0

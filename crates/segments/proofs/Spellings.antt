@@ -9,7 +9,7 @@ use Rattle.stream_syntax.specs.declared.display.Window.{Window}
 use Rattle.stream_syntax.specs.declared.page.PageEntry.{PageEntry}
 use Rattle.stream_syntax.specs.declared.region.Listing.{Listing}
 use Rattle.stream_syntax.specs.Fields.{Field, FitsFields}
-use Rattle.stream_syntax.specs.Segments.{Page, Region, Clut, Object, Display, SegmentValue, of_page, of_region, of_clut, of_object, of_display, end_of_set, passed_over, page_entry_fields, page_fields, listing_fields, region_fields, coded_entry_fields, clut_fields, in_full, entry_of, object_fields, bytes_fields, padding, is_odd, display_fields, window_fields, window_flag, free_bytes, state_number, depth_number, flag, written_body, written_fields, segment_kind, byte_count, spelled, IsWritable, IsBody, IsSegment, AreShown}
+use Rattle.stream_syntax.specs.Segments.{Page, Region, Clut, Object, Display, SegmentValue, of_page, of_region, of_clut, of_object, of_display, end_of_set, passed_over, page_entry_fields, page_fields, listing_fields, region_fields, coded_entry_fields, clut_fields, in_full, entry_of, object_fields, bytes_fields, padding, is_odd, display_fields, window_fields, window_flag, free_bytes, state_number, depth_number, flag, written_body, written_fields, segment_kind, byte_count, spelled, IsWritable, IsHeadedBy, IsBody, IsSegment, AreShown}
 use Rattle.segments.specs.Writing.{page_entry_bytes, page_bytes, listing_bytes, region_bytes, clut_entry_bytes, clut_bytes, padding_bytes, object_bytes, window_bytes, display_bytes, body_bytes, frame_bytes, segment_bytes}
 use Rattle.segments.proofs.Frames.{byte_count_is}
 use Rattle.segments.proofs.Shapes.{AreBytes}
@@ -156,3 +156,9 @@ spelled_size page value writable = ap length (spelled_as page value writable.fit
 pub read_again : (page : ℕ) (value : SegmentValue) (rest : List ℕ) → IsWritable page value → IsSegment (take (length (spelled page value)) (spelled page value ++ rest)) value
 read_again page value rest writable =
     subst (λ (bytes : List ℕ). IsSegment bytes value) (sym (take_at (spelled page value) rest (length (spelled page value)) refl)) (written_segment page value writable)
+
+pub spelled_head : (page : ℕ) (value : SegmentValue) → IsWritable page value → IsHeadedBy (segment_kind value) page (spelled page value)
+spelled_head page value writable =
+    let small = body_small page value writable in
+    let headed : IsHeadedBy (segment_kind value) page (segment_bytes page value) = record { kind_is = refl; page_is = omega (arith, writable.fits.1.1.0); size_is = omega (arith, small) } in
+    subst (λ (bytes : List ℕ). IsHeadedBy (segment_kind value) page bytes) (sym (spelled_as page value writable.fits)) headed

@@ -11,7 +11,7 @@ ghost use Rattle.stream_syntax.specs.SegmentTests.{
   frame_tests,
   top_in,
 };
-ghost use Rattle.stream_syntax.specs.Segments.{IsSegment, SegmentValue};
+ghost use Rattle.stream_syntax.specs.Segments.{IsKindOf, IsSegment, SegmentValue};
 ghost use Rattle.stream_syntax.specs.Tests.{byte_at, first_fault, word_at};
 
 use crate::clut::{ClutSeg, clut_of};
@@ -42,6 +42,8 @@ pub enum Segment<'a> {
 pub fn read_segment(bytes: &[u8]) -> Result<(Segment<'_>, usize), SegmentFault>
     // The bytes so far are a segment with that value.
     ensures segment { IfOk result (λ found. IsSegment (take found.1 bytes.now) (contents found.0)) }
+    ensures kind { IfOk result (λ found. IsKindOf (contents found.0) (byte_at 1 bytes.now)) }
+    ensures size { IfOk result (λ found. found.1 ≡ 6 + word_at 4 bytes.now) }
     ensures within { IfOk result (λ found. found.1 ≤ length bytes.now) }
     // No other bytes at the front are a segment, and none with another value.
     ensures every_segment { (value : SegmentValue) (size : ℕ) → size ≤ length bytes.now → IsSegment (take size bytes.now) value

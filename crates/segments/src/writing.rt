@@ -17,7 +17,7 @@ ghost use Rattle.segments.specs.Writing.{
   region_bytes,
 };
 ghost use Rattle.stream_syntax.specs.Fields.{FitsFields};
-ghost use Rattle.stream_syntax.specs.Segments.{IsRight, IsSegment, IsWritable, byte_count, segment_kind, is_odd, spelled, state_number, depth_number, written_body};
+ghost use Rattle.stream_syntax.specs.Segments.{IsHeadedBy, IsRight, IsSegment, IsWritable, byte_count, segment_kind, is_odd, spelled, state_number, depth_number, written_body};
 
 use crate::append::{append, word};
 use crate::frame::{HEAD, SYNC};
@@ -65,6 +65,7 @@ pub fn write_segment(page: u16, segment: &SegmentOut<'_>, out: &mut Vec<u8>) -> 
     ensures bytes { OnOk result (out.new.items ≡ out.old.items ++ spelled page (value_of segment.now)) }
     // What was appended is a segment with this value.
     ensures segment { OnOk result (IsSegment (spelled page (value_of segment.now)) (value_of segment.now)) }
+    ensures head { OnOk result (IsHeadedBy (segment_kind (value_of segment.now)) page (spelled page (value_of segment.now))) }
     ensures size { OnOk result (length (spelled page (value_of segment.now)) ≡ 6 + byte_count (written_body (value_of segment.now))) }
     ensures err { OnErr result (out.new.items ≡ out.old.items) }
 {

@@ -9,6 +9,7 @@ use Rattle.sub_base.specs.declared.depth.Depth.TheVariants.{Two, Four, Eight}
 use Rattle.stream_syntax.specs.Fields.{Field, number, reserved, HasFields, FitsFields, written, bytes_of}
 use Rattle.stream_syntax.specs.PixelCodes.{bits_of}
 use Rattle.stream_syntax.specs.SegmentTests.{AreBlocks}
+use Rattle.stream_syntax.specs.Tests.{byte_at, word_at}
 use Rattle.stream_syntax.specs.declared.clut.ClutEntry.{ClutEntry}
 use Rattle.stream_syntax.specs.declared.display.Window.{Window}
 use Rattle.stream_syntax.specs.declared.page.PageEntry.{PageEntry}
@@ -241,6 +242,16 @@ display_fields further display =
 abbrev pub IsPassedOver : ℕ → Type 0
 IsPassedOver kind = (kind < 256) × (kind ≢ 0x10) × (kind ≢ 0x11) × (kind ≢ 0x12) × (kind ≢ 0x13) × (kind ≢ 0x14) × (kind ≢ 0x80)
 
+-- the segment types that have the value
+abbrev pub IsKindOf : SegmentValue → ℕ → Type 0
+IsKindOf (of_page value) kind = kind ≡ 0x10
+IsKindOf (of_region value) kind = kind ≡ 0x11
+IsKindOf (of_clut value) kind = kind ≡ 0x12
+IsKindOf (of_object value) kind = kind ≡ 0x13
+IsKindOf (of_display value) kind = kind ≡ 0x14
+IsKindOf end_of_set kind = kind ≡ 0x80
+IsKindOf passed_over kind = IsPassedOver kind
+
 -- the segment types and the tables of bodies that have the value: what the value leaves open, as the level of
 -- compatibility, the coding of colours and further bytes, is free
 abbrev pub IsBody : SegmentValue → ℕ → List Field → Type 0
@@ -319,6 +330,12 @@ written_fields page value = segment_fields (segment_kind value) page (written_bo
 -- the bytes
 unfoldable pub spelled : ℕ → SegmentValue → List ℕ
 spelled page value = bytes_of (written (written_fields page value))
+
+-- the bytes begin with a head of this segment type and this page, whose length ends with the bytes
+pub record IsHeadedBy (kind page : ℕ) (bytes : List ℕ) : Type 0 where
+  pub kind_is : byte_at 1 bytes ≡ kind
+  pub page_is : word_at 2 bytes ≡ page
+  pub size_is : 6 + word_at 4 bytes ≡ length bytes
 
 -- the colours of a CLUT are as they are shown
 abbrev pub AreShown : SegmentValue → Type 0

@@ -1,6 +1,6 @@
 use Rattle.std.proofs.Common.{arith}
 use Rattle.segments.specs.Contents.{value_of}
-use Rattle.segments.proofs.Spellings.{body_small, appended, written_segment, spelled_size}
+use Rattle.segments.proofs.Spellings.{body_small, appended, written_segment, spelled_size, spelled_head}
 use Rattle.segments.proofs.writing.write_segment.Goals as goal
 
 pub body_size-size-requires : goal.body_size-size-requires
@@ -20,3 +20,6 @@ returns-clause-segment c = written_segment c.args.page (value_of c.args.segment.
 
 pub returns-clause-size : goal.returns-clause-size
 returns-clause-size c = spelled_size c.args.page (value_of c.args.segment.now) c.requires
+
+pub returns-clause-head : goal.returns-clause-head
+returns-clause-head c = spelled_head c.args.page (value_of c.args.segment.now) c.requires
