@@ -1,0 +1,4 @@
+pub mod Font
+pub mod Setting
+pub mod Layout
+pub mod Drawing
