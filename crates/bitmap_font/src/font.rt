@@ -1,5 +1,8 @@
 ghost use Rattle.std.specs.Prelude.{◌≡◌, ◌≤◌, ◌<◌, ◌*◌, ℕ, [], IfOk, IfErr, OnOk, IsOkUnless, chars, option_map, pos, length, map, replicate, slice_index_or};
-ghost use Rattle.bitmap_font.specs.Font.{glyph_of};
+ghost use Rattle.std.specs.Ordering.{nat_cmp};
+ghost use Rattle.std.specs.BTreeMap.{get};
+ghost use Rattle.bitmap_font.specs.Font.{Indexes, glyph_of};
+ghost use Rattle.bitmap_font.specs.Values.{IsBox};
 ghost use Rattle.bitmap_font.specs.declared.layout.PlacedGlyph.{PlacedGlyph};
 ghost use Rattle.bitmap_font.specs.Drawing.{PaintsWhere};
 ghost use Rattle.bitmap_font.specs.Setting.{IsInked, IsDrawn, HasSides, drawn_of, IsSetting, HasRoom, AllCanBeSet, IsSetFault};
@@ -7,6 +10,7 @@ ghost use Rattle.sub_base.specs.Depth.{code_count};
 ghost use Rattle.sub_base.specs.Picture.{IsPicture};
 ghost use Rattle.bitmap_font.specs.Layout.{IsLayout};
 
+use crate::bounds::BoundingBox;
 use crate::drawing::draw_glyph;
 use crate::glyph::Glyph;
 use crate::layout::{Layout, PlacedGlyph};
@@ -60,6 +64,32 @@ impl Model for Font {
 }
 
 impl Font {
+    // The font with this box and these glyphs.
+    pub(crate) fn new(
+        bounds: BoundingBox,
+        glyphs: Vec<Glyph>,
+        places: BTreeMap<char, usize>,
+    ) -> Font
+        requires bounds { IsBox 1 bounds }
+        requires indexed { Indexes (get nat_cmp places) glyphs.items }
+        ensures { result ≡ record {
+          width = bounds.width;
+          height = bounds.height;
+          left = bounds.left;
+          bottom = bounds.bottom;
+          glyphs = glyphs.items;
+        } }
+    {
+        Font {
+            width: bounds.width,
+            height: bounds.height,
+            left: bounds.left,
+            bottom: bounds.bottom,
+            glyphs,
+            places,
+        }
+    }
+
     /// The font without glyphs, whose box is one pixel.
     pub fn empty(alloc: Global) -> Font
         ensures { result ≡ record { width = 1; height = 1; left = pos 0; bottom = pos 0; glyphs = [] } }

@@ -1,6 +1,8 @@
-ghost use Rattle.std.specs.Prelude.{◌≡◌, ◌<◌, pos, negsuc, ◌+ℤ◌, ◌≤ℤ◌};
-ghost use Rattle.bitmap_font.specs.Font.{IsGlyph, is_set};
+ghost use Rattle.std.specs.Prelude.{◌≡◌, ◌<◌, ◌*◌, length, pos, negsuc, ◌+ℤ◌, ◌≤ℤ◌};
+ghost use Rattle.bitmap_font.specs.Font.{IsGlyph, is_set, row_bytes};
+ghost use Rattle.bitmap_font.specs.Values.{IsBox};
 
+use crate::bounds::BoundingBox;
 use std::marker::Model;
 
 /// The glyph of a character: how far it moves the pen, its sides in pixels, the offsets of its lower left corner from
@@ -43,6 +45,30 @@ impl Model for Glyph {
 }
 
 impl Glyph {
+    pub(crate) fn new(character: char, advance: u8, shape: BoundingBox, bytes: Vec<u8>) -> Glyph
+        requires shape { IsBox 0 shape }
+        requires whole { length bytes.items ≡ shape.height * row_bytes shape.width }
+        ensures { result ≡ record {
+          character = character;
+          advance = advance;
+          width = shape.width;
+          height = shape.height;
+          left = shape.left;
+          bottom = shape.bottom;
+          bytes = bytes.items;
+        } }
+    {
+        Glyph {
+            character,
+            advance,
+            width: shape.width,
+            height: shape.height,
+            left: shape.left,
+            bottom: shape.bottom,
+            bytes,
+        }
+    }
+
     pub(crate) fn character(&self) -> char
         ensures { result ≡ self.now.character }
     {
