@@ -19,3 +19,6 @@ mod words;
 pub use font::Font;
 pub use font_fault::{FontFault, FontKind};
 pub use set_fault::SetFault;
+
+#[cfg(test)]
+mod tests;

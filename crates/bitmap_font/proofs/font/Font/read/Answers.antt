@@ -11,7 +11,7 @@ use Rattle.bitmap_font.specs.Reader.{IsLineFault, state_of}
 use Rattle.bitmap_font.specs.State.{fault_by}
 use Rattle.bitmap_font.proofs.SettingLaws.{IfOk-with}
 use Rattle.bitmap_font.proofs.LineLaws.{length-lines}
-use Rattle.bitmap_font.proofs.ReadLaws.{HasRead-first, HasRead-line, IsRefused-line, IsRefused-all, IsFont-end, length-font_lines}
+use Rattle.bitmap_font.proofs.ReadLaws.{HasRead-first, HasRead-line, IsRefused-line, IsRefused-first, IsRefused-all, IsFont-end, length-font_lines}
 use Rattle.bitmap_font.proofs.font.Font.read.Goals as goal
 use Rattle.bitmap_font.proofs.font.Font.read.Goals.{then-number-eq0+else-not-begins_font, else-number-eq0+in-Ok-false}
 
@@ -74,3 +74,17 @@ loop-text-preserved c =
           (HasRead-line c.args.bytes.now c.loop-text.number c.loop-text.text-iterator c.next.new.self c.in-Some.text.now c.loop-text.reader c.loop-text.invariant c.in-Some.ensures.steps
           later w.take.new.self w.in-Ok-false.ensures.reader w.in-Ok-false.ensures.right w.in-Ok-false.ensures.next (sym w.in-Ok-false.ensures.end ∙ w.in-Ok-false.field-0-test))
     ]
+
+pub returns-then-not-begins_font-clause-refused : goal.returns-then-not-begins_font-clause-refused
+returns-then-not-begins_font-clause-refused c =
+    let IsRefusal : Result Font FontFault → Type 0 = λ outcome. IfErr outcome (IsFontFault c.args.bytes.now) in
+    subst IsRefusal (sym c.refusal.ensures)
+    (IsRefused-first c.args.bytes.now c.loop-text.number c.loop-text.text-iterator c.next.new.self c.in-Some.text.now c.loop-text.reader c.loop-text.invariant c.in-Some.ensures.steps
+    c.if-number-eq0.true (c.begins_font.ensures.no c.if-not-begins_font.true))
+
+pub finished-requires-clause-bounds : goal.finished-requires-clause-bounds
+finished-requires-clause-bounds c =
+    let later : 1 ≤ c.loop-text.number = omega arith in
+    let law = IsFont-end c.args.bytes.now c.loop-text.number c.loop-text.text-iterator c.next.new.self c.in-Some.text.now c.loop-text.reader c.loop-text.invariant c.in-Some.ensures.steps
+    later c.take.new.self c.in-Ok-true.ensures.reader c.in-Ok-true.ensures.right c.in-Ok-true.ensures.next (sym c.in-Ok-true.ensures.end ∙ c.in-Ok-true.field-0-test) in
+    law.0
