@@ -39,17 +39,17 @@ IsPainted-from_rows under over x y see_through new rows = record {
 }
 
 -- an earlier row ends before a later one begins
-row_before : (width row later : ℕ) → row < later → row * width + width ≤ later * width
+pub row_before : (width row later : ℕ) → row < later → row * width + width ≤ later * width
 row_before width row later before =
     let gap = later - (row + 1) in
     let split : row + 1 + gap ≡ later = omega arith in
     subst (λ (n : ℕ). row * width + width ≤ n * width) split (grind arith)
 
-lt_or_le : (a b : ℕ) → (a < b) ⊎ (b ≤ a)
+pub lt_or_le : (a b : ℕ) → (a < b) ⊎ (b ≤ a)
 lt_or_le a b = grind arith
 
 -- a place that is not in the part of a row lies before it or after it
-beside : (width x across y column row : ℕ) → x + across ≤ width → column < width →
+pub beside : (width x across y column row : ℕ) → x + across ≤ width → column < width →
     (column < x) ⊎ (x + across ≤ column) ⊎ (row < y) ⊎ (y + 1 ≤ row) →
     (row * width + column < y * width + x) ⊎ (y * width + x + across ≤ row * width + column)
 beside width x across y column row fits inside where_it_lies =
