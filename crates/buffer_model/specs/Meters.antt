@@ -1,0 +1,54 @@
+-- What a meter of levels has to do with what happened.
+use Rattle.std.specs.Prelude.{◌≡◌, ℕ, ◌+◌, ◌^◌, ◌<◌, ◌≤◌, nat_le, if◌then◌else◌, List, Option, None, sum_by, All}
+use Rattle.buffer_model.specs.declared.breach.Breach.{Breach}
+use Rattle.buffer_model.specs.declared.pace.Pace.{Pace}
+use Rattle.buffer_model.specs.declared.waiting.Waiting.{Waiting}
+use Rattle.buffer_model.specs.Calls.{Call, tick_of, last_slot, last_shown, unassigned, arrived, left, breaching, greatest, first_breach_of}
+
+-- what a meter keeps: the sets that may wait in the buffer, the bytes that arrived since the last set or drop, the slot
+-- of the last packet and the first one that may come, when the last set is shown, the greatest level, the level over
+-- the buffer, and the first breach
+pub record Meter : Type 0 where
+  pub pace : Pace
+  pub waiting : List Waiting
+  pub pending : ℕ
+  pub last : ℕ
+  pub next : ℕ
+  pub shown : ℕ
+  pub peak : ℕ
+  pub full : Option ℕ
+  pub breach : Option Breach
+
+-- the bytes of a set that is not done by a tick
+abbrev pub held_of : ℕ → Waiting → ℕ
+held_of tick set = if nat_le set.done tick then 0 else set.bytes
+
+-- the bytes of the sets that are not done by a tick
+abbrev pub held : ℕ → List Waiting → ℕ
+held tick sets = sum_by (held_of tick) sets
+
+-- the numbers of a profile with a step, and an origin below 2^62
+pub record IsSound (pace : Pace) : Type 0 where
+  pub step : (360 ≤ pace.step) × (pace.step ≤ 705)
+  pub coded : pace.coded ≤ 61440
+  pub origin : pace.origin < 2 ^ 62
+
+-- what waits fits the buffer
+pub record IsMeter (meter : Meter) : Type 0 where
+  pub sound : IsSound meter.pace
+  pub slots : (meter.last < 2 ^ 50) × (meter.next ≤ 2 ^ 50) × (meter.last ≤ meter.next)
+  pub shown : meter.shown < 2 ^ 62
+  pub some : All (λ set. 1 ≤ set.bytes) meter.waiting
+  pub bytes : sum_by (λ set. set.bytes) meter.waiting ≤ 61440
+  pub level : (meter.full ≡ None → meter.pending + held (tick_of meter.pace meter.last) meter.waiting ≤ meter.pace.coded)
+
+-- the meter is that of this past
+pub record Stands (past : List Call) (meter : Meter) : Type 0 where
+  pub last : meter.last ≡ last_slot past
+  pub shown : meter.shown ≡ last_shown past
+  pub full : meter.full ≡ breaching meter.pace past
+  pub breach : meter.breach ≡ first_breach_of meter.pace past
+  pub peak : meter.peak ≡ greatest meter.pace past
+  pub pending : meter.full ≡ None → meter.pending ≡ unassigned past
+  pub waiting : meter.full ≡ None → (tick : ℕ) → tick_of meter.pace meter.last ≤ tick →
+      arrived past ≡ left meter.pace tick past + meter.pending + held tick meter.waiting

@@ -1,0 +1,53 @@
+use crate::{Breach, Levels};
+use std::test::Fail;
+use sub_base::{Profile, ProfileName, SetLoad};
+
+/// A set of 20,000 bytes leaves where it is done, at the tick of slot 29; a packet that does not fit is a breach.
+#[test]
+fn set_leaves_when_done(rt: HostRuntime) -> Result<(), Fail> {
+    let mut levels = Levels::make(rt.alloc(), &Profile::of(ProfileName::Sd), 0)?;
+    assert_eq!(rt; levels.arrive(0, 20_000), 20_000);
+    let load = SetLoad {
+        pts: 300_000,
+        size: 20_000,
+        painted: 7,
+    };
+    assert_eq!(rt; levels.set_whole(load), 20_007);
+    assert_eq!(rt; levels.arrive(1, 4_416), 24_416);
+    assert_eq!(rt; levels.arrive(29, 184), 4_600);
+    levels.drop_unit();
+    assert_eq!(rt; levels.peak(), 24_416);
+    assert_eq!(rt; levels.first_breach(), None);
+    assert_eq!(rt; levels.arrive(30, 24_577), 24_577);
+    assert_eq!(rt; levels.arrive(31, 1), 24_577);
+    assert_eq!(rt; levels.peak(), 24_577);
+    assert_eq!(rt;
+        levels.first_breach(),
+        Some(Breach::Coded {
+            slot: 30,
+            level: 24_577
+        })
+    );
+    Ok(())
+}
+
+/// A packet of 184 bytes is done at 184, too late for a set that is shown at 183.
+#[test]
+fn set_done_late(rt: HostRuntime) -> Result<(), Fail> {
+    let mut levels = Levels::make(rt.alloc(), &Profile::of(ProfileName::Sd), 0)?;
+    assert_eq!(rt; levels.arrive(0, 184), 184);
+    let load = SetLoad {
+        pts: 183,
+        size: 184,
+        painted: 0,
+    };
+    assert_eq!(rt; levels.set_whole(load), 184);
+    assert_eq!(rt;
+        levels.first_breach(),
+        Some(Breach::Late {
+            done: 184,
+            pts: 183
+        })
+    );
+    Ok(())
+}
