@@ -1,8 +1,7 @@
 -- The cells of a record.
-use Rattle.std.specs.Prelude.{ℕ, ◌==◌, nat_le, Bool, ◌&&◌, if◌then◌else◌, List, [], length, Option, Some, None, unwrap_or}
+use Rattle.std.specs.Prelude.{ℕ, ◌==◌, Bool, ◌&&◌, List, [], length, Option, Some, None, unwrap_or}
 use Rattle.std.specs.Str.{bytes_eq}
 use Rattle.csv.specs.Records.{field_at}
-use Rattle.sub_base.specs.Number.{number_of}
 use Rattle.cue_list.specs.Rows.{Row}
 
 -- a step that may fail, and what follows it

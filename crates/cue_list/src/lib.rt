@@ -11,3 +11,6 @@ mod rows;
 
 pub use fault::{ScriptFault, ScriptKind};
 pub use one_cue::{OneCue, read_one_cue};
+
+#[cfg(test)]
+mod tests;

@@ -5,14 +5,12 @@
 mod output;
 
 use dvbsub_cmd::{Status, inputs, top};
-use std::env;
+use output::Output;
 use std::fs::File;
-use std::io;
 use std::process::ExitCode;
 use std::thread::Threads;
+use std::{env, io};
 use sub_base::{FileSink, FileSource, NoGate, NoMemory, Words};
-
-use output::Output;
 
 /// The commands, one a line.
 const COMMANDS: &str = "compile sd PID PAGE SCRIPT none OUT";

@@ -40,9 +40,10 @@ either false = inr refl
 
 -- what stands before and after a place
 pub halves : (blocks front back top bottom : List ℕ) (end : ℕ) → front ≡ take end blocks → back ≡ drop end blocks → blocks ≡ top ++ bottom → end ≡ length top → (front ≡ top) × (back ≡ bottom)
-halves blocks front back top bottom end f b e l =
-    ( f ∙ (ap (λ n. take n blocks) l ∙ (ap (take (length top)) e ∙ take-append_seam top bottom))
-    , b ∙ (ap (λ n. drop n blocks) l ∙ (ap (drop (length top)) e ∙ drop-append_seam top bottom)) )
+halves blocks front back top bottom end f b e l = (
+  f ∙ (ap (λ n. take n blocks) l ∙ (ap (take (length top)) e ∙ take-append_seam top bottom)),
+  b ∙ (ap (λ n. drop n blocks) l ∙ (ap (drop (length top)) e ∙ drop-append_seam top bottom)),
+)
 
 -- the two halves are the blocks of an object
 pub are_blocks : (picture : Picture) (region : Depth) (blocks front back : List ℕ) (end : ℕ) (equal : Bool) → AreBothBlocks picture region blocks end → front ≡ take end blocks → back ≡ drop end blocks → (IsTrue equal ↔ HasEqualFields picture) → AreBlocks front back

@@ -34,7 +34,7 @@ object_writable page top bottom page_fits blocks each_top each_bottom short =
     let body = fits_object padded top bottom each_top each_bottom short in
     let pad = short_padding padded in
     let size : byte_count (written_body (object_of top bottom)) < 2 ^ 16 =
-      omega (arith, size_is (object_of top bottom) body, length-append top (bottom ++ padding_bytes padded), length-append bottom (padding_bytes padded)) in
+    omega (arith, size_is (object_of top bottom) body, length-append top (bottom ++ padding_bytes padded), length-append bottom (padding_bytes padded)) in
     record { fits = (omega arith, (omega arith, (page_fits, (size, body)))); right = blocks; shown = tt }
 
 -- how many bytes the body of the object has at most

@@ -34,15 +34,15 @@ first_packet-both cue first last = omega arith
 pub slots_pair : (cue : OneCue) (first last slots : List ℕ) (pieces : List Lent) → length slots ≡ first_packet (loads_of cue first last) 2 → map plain pieces ≡ all_pieces (first ∷ last ∷ []) → length slots ≡ length pieces
 slots_pair cue first last slots pieces packets are =
     let count : length (all_pieces (first ∷ last ∷ [])) ≡ piece_count first + piece_count last =
-      omega (arith, length-append (pieces_of first) (pieces_of last ++ []), length-append (pieces_of last) [], length-map-range_with_len (piece_of first) 0 (piece_count first), length-map-range_with_len (piece_of last) 0 (piece_count last)) in
+    omega (arith, length-append (pieces_of first) (pieces_of last ++ []), length-append (pieces_of last) [], length-map-range_with_len (piece_of first) 0 (piece_count first), length-map-range_with_len (piece_of last) 0 (piece_count last)) in
     packets ∙ (first_packet-both cue first last ∙ (sym count ∙ (ap length (sym are) ∙ length-map pieces plain)))
 
 -- the packets of both sets in the slots of their schedule are those that the cue is compiled to
 pub compiled : (name : ProfileName) (pid page : ℕ) (cue : OneCue) (first last : List ℕ) (loads : List SetLoad) (profile : Profile) (table : Timetable) (pieces : List Lent)
-  → AreUnits page cue first last → loads ≡ loads_of cue first last → profile ≡ profile_of name
-  → IsSchedule loads (length loads) (pace_of cue.origin profile) table → IsOnTime loads (length loads) (pace_of cue.origin profile) table
-  → map plain pieces ≡ all_pieces (first ∷ last ∷ [])
-  → IsCompiledTo name pid page cue (stream_of pid (map plain pieces) table.slots)
+    → AreUnits page cue first last → loads ≡ loads_of cue first last → profile ≡ profile_of name
+    → IsSchedule loads (length loads) (pace_of cue.origin profile) table → IsOnTime loads (length loads) (pace_of cue.origin profile) table
+    → map plain pieces ≡ all_pieces (first ∷ last ∷ [])
+    → IsCompiledTo name pid page cue (stream_of pid (map plain pieces) table.slots)
 compiled name pid page cue first last loads profile table pieces units loads_are profile_is schedule on_time are =
     record {
       first = first;
@@ -50,9 +50,9 @@ compiled name pid page cue first last loads profile table pieces units loads_are
       units = units;
       table = table;
       schedule = subst (λ (p : Profile). IsSchedule (loads_of cue first last) 2 (pace_of cue.origin p) table) profile_is
-        (subst (λ (all : List SetLoad). IsSchedule all (length all) (pace_of cue.origin profile) table) loads_are schedule);
+          (subst (λ (all : List SetLoad). IsSchedule all (length all) (pace_of cue.origin profile) table) loads_are schedule);
       on_time = subst (λ (p : Profile). IsOnTime (loads_of cue first last) 2 (pace_of cue.origin p) table) profile_is
-        (subst (λ (all : List SetLoad). IsOnTime all (length all) (pace_of cue.origin profile) table) loads_are on_time);
+          (subst (λ (all : List SetLoad). IsOnTime all (length all) (pace_of cue.origin profile) table) loads_are on_time);
       sent = ap (λ all. stream_of pid all table.slots) are;
     }
 
@@ -62,13 +62,13 @@ packets_are loads all slots are packets = subst (λ (l : List SetLoad). length s
 
 -- a refusal of the schedule of both sets is one of the cue
 pub refused : (name : ProfileName) (pid page : ℕ) (cue : OneCue) (first last : List ℕ) (loads : List SetLoad) (profile : Profile) (before now : Option (List ℕ)) (faults_before faults_now : ℕ) (fault : ScheduleFault)
-  → AreUnits page cue first last → loads ≡ loads_of cue first last → profile ≡ profile_of name
-  → IsCause loads (pace_of cue.origin profile) fault → Keeps before now
-  → IsRefusal name pid page cue before now faults_before faults_now (fault_of fault)
+    → AreUnits page cue first last → loads ≡ loads_of cue first last → profile ≡ profile_of name
+    → IsCause loads (pace_of cue.origin profile) fault → Keeps before now
+    → IsRefusal name pid page cue before now faults_before faults_now (fault_of fault)
 refused name pid page cue first last loads profile before now faults_before faults_now fault units loads_are profile_is cause keeps =
     let of_cue : IsCause (loads_of cue first last) (pace_of cue.origin (profile_of name)) fault =
-      subst (λ (p : Profile). IsCause (loads_of cue first last) (pace_of cue.origin p) fault) profile_is
-        (subst (λ (all : List SetLoad). IsCause all (pace_of cue.origin profile) fault) loads_are cause) in
+    subst (λ (p : Profile). IsCause (loads_of cue first last) (pace_of cue.origin p) fault) profile_is
+    (subst (λ (all : List SetLoad). IsCause all (pace_of cue.origin profile) fault) loads_are cause) in
     by_fault fault of_cue
   where
     by_fault : (fault : ScheduleFault) → IsCause (loads_of cue first last) (pace_of cue.origin (profile_of name)) fault → IsRefusal name pid page cue before now faults_before faults_now (fault_of fault)

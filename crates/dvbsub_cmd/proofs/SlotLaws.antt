@@ -132,15 +132,15 @@ Sent-front start now next pending bytes rest all sent front joined =
     let n = front.0 in
     let here : Appends start next (sent.written ++ take n pending) = Appends-trans start now next sent.written (take n pending) sent.appended front.2 in
     let both : sent.written ++ (take n pending ++ (drop n pending ++ rest)) ≡ all =
-      ap (λ k. sent.written ++ k) (sym (append_assoc (take n pending) (drop n pending) rest) ∙ ap (λ k. k ++ rest) (take-append-drop n pending))
-      ∙ (sym (append_assoc sent.written pending rest) ∙ (ap (λ k. k ++ rest) sent.whole ∙ joined)) in
+    ap (λ k. sent.written ++ k) (sym (append_assoc (take n pending) (drop n pending) rest) ∙ ap (λ k. k ++ rest) (take-append-drop n pending))
+    ∙ (sym (append_assoc sent.written pending rest) ∙ (ap (λ k. k ++ rest) sent.whole ∙ joined)) in
     let count : length (sent.written ++ take n pending) ≡ length sent.written + n = length-append sent.written (take n pending) ∙ ap (λ k. length sent.written + k) (length-take-le n pending front.1) in
     let Front : List ℕ → Type 0 = λ bytes. Appends start next bytes in
     let within : length sent.written + n ≤ length all =
-      omega (arith, ap length both, length-append sent.written (take n pending ++ (drop n pending ++ rest)), length-append (take n pending) (drop n pending ++ rest), length-take-le n pending front.1) in
+    omega (arith, ap length both, length-append sent.written (take n pending ++ (drop n pending ++ rest)), length-append (take n pending) (drop n pending ++ rest), length-take-le n pending front.1) in
     let taken : take (length sent.written + n) all ≡ sent.written ++ take n pending =
-      ap (λ k. take k all) (sym count) ∙ (ap (λ k. take (length (sent.written ++ take n pending)) k) (sym both ∙ sym (append_assoc sent.written (take n pending) (drop n pending ++ rest)))
-      ∙ take-append_seam (sent.written ++ take n pending) (drop n pending ++ rest)) in
+    ap (λ k. take k all) (sym count) ∙ (ap (λ k. take (length (sent.written ++ take n pending)) k) (sym both ∙ sym (append_assoc sent.written (take n pending) (drop n pending ++ rest)))
+    ∙ take-append_seam (sent.written ++ take n pending) (drop n pending ++ rest)) in
     (length sent.written + n, within, subst Front (sym taken) here)
 
 -- one number more
@@ -167,7 +167,8 @@ stream-more f slot =
 
 -- the packets of the slots so far, and those of the slots after them
 pub stream-rest : (f : ℕ → List ℕ) (slot count : ℕ) → slot ≤ count → (rest : List ℕ) × (flat_map f (range_with_len 0 slot) ++ rest ≡ flat_map f (range_with_len 0 count))
-stream-rest f slot count within =
-    ( flat_map f (range_with_len (0 + slot) (count - slot))
-    , sym (flat_map-append f (range_with_len 0 slot) (range_with_len (0 + slot) (count - slot)))
-      ∙ ap (λ (slots : List ℕ). flat_map f slots) (sym (range-split slot 0 (count - slot)) ∙ ap (range_with_len 0) (omega arith)) )
+stream-rest f slot count within = (
+  flat_map f (range_with_len (0 + slot) (count - slot)),
+  sym (flat_map-append f (range_with_len 0 slot) (range_with_len (0 + slot) (count - slot)))
+      ∙ ap (λ (slots : List ℕ). flat_map f slots) (sym (range-split slot 0 (count - slot)) ∙ ap (range_with_len 0) (omega arith)),
+)

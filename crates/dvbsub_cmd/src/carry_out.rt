@@ -2,13 +2,12 @@ ghost use Rattle.dvbsub_cmd.specs.Command.{command_of as command_of_words};
 ghost use Rattle.dvbsub_cmd.specs.Outcome.{HasCause, IsCaused, Tells, Shown, Noted};
 ghost use Rattle.std.specs.Prelude.{◌≡◌, Some};
 
-use std::alloc::Global;
-use std::thread::Threads;
-use sub_base::{BandGate, Sink, Source, Words, write_whole};
-
 use crate::command::{Command, command_of};
 use crate::compile::compile;
 use crate::status::{Status, Which, status_line};
+use std::alloc::Global;
+use std::thread::Threads;
+use sub_base::{BandGate, Sink, Source, Words, write_whole};
 
 /// Carries out the command that the words are: reads its sources, writes its output to `out`, and tells how it
 /// ended, by its answer and by one line to `notes`.

@@ -9,15 +9,16 @@ ghost use Rattle.dvbsub_cmd.specs.PieceView.{plain};
 ghost use Rattle.dvbsub_cmd.specs.Sending.{Sends, IsRefusal, fault_of as fault_of_schedule};
 ghost use Rattle.dvbsub_cmd.specs.SlotStream.{IsPiece, all_pieces};
 
-use cue_list::{OneCue, ScriptFault, read_one_cue};
-use schedule::{Schedule, ScheduleFault};
-use std::alloc::Global;
-use sub_base::{NoMemory, Profile, ProfileName, ReadAllFault, SetLoad, Sink, Source, Words, read_all};
-
 use crate::pieces::push_pieces;
 use crate::slot_stream::{Piece, StreamFault, write_stream};
 use crate::status::{Status, Which};
 use crate::units::{Units, units_of};
+use cue_list::{OneCue, ScriptFault, read_one_cue};
+use schedule::{Schedule, ScheduleFault};
+use std::alloc::Global;
+use sub_base::{
+    NoMemory, Profile, ProfileName, ReadAllFault, SetLoad, Sink, Source, Words, read_all,
+};
 
 /// The most bytes of a script.
 const SCRIPT_LIMIT: u64 = 67_108_864;

@@ -2,8 +2,8 @@
 #![tactic(auto)]
 
 mod carry_out;
-mod compile;
 mod command;
+mod compile;
 mod line;
 mod pieces;
 mod sets;

@@ -2,9 +2,8 @@ ghost use Rattle.std.specs.Prelude.{◌≡◌, ◌++◌, ◌*◌, ◌<◌, ◌�
 ghost use Rattle.dvbsub_cmd.specs.PieceView.{plain};
 ghost use Rattle.dvbsub_cmd.specs.SlotStream.{IsPiece, pieces_of, piece_of, piece_count};
 
-use sub_base::NoMemory;
-
 use crate::slot_stream::Piece;
+use sub_base::NoMemory;
 
 /// The most bytes of a piece.
 const PIECE: usize = 184;

@@ -98,12 +98,7 @@ fn append_region(page: u16, cue: &OneCue, field: &mut Vec<u8>) -> Result<(), NoM
 }
 
 /// Appends the object with the blocks of its two fields.
-fn append_object(
-    page: u16,
-    top: &[u8],
-    bottom: &[u8],
-    field: &mut Vec<u8>,
-) -> Result<(), NoMemory>
+fn append_object(page: u16, top: &[u8], bottom: &[u8], field: &mut Vec<u8>) -> Result<(), NoMemory>
     requires blocks { AreBlocks top.now bottom.now }
     requires short { length top.now + length bottom.now < 60000 }
     ensures bytes { OnOk result (field.new.items ≡ field.old.items ++ spelled page (object_of top.now bottom.now)) }

@@ -1,10 +1,9 @@
 ghost use Rattle.std.specs.Prelude.{◌≡◌, ◌≤◌, ◌+◌, ◌++◌, length};
 ghost use Rattle.dvbsub_cmd.specs.StatusText.{which_name as which_name_of, then_number, kind_text, done_text as done_text_of, schedule_text as schedule_text_of, script_text as script_text_of, status_text, status_line as line_of_status, code_of};
 
+use crate::line::Line;
 use cue_list::{ScriptFault, ScriptKind};
 use schedule::ScheduleFault;
-
-use crate::line::Line;
 
 /// One of the sources and sinks of a command.
 #[derive(Clone, Copy, Debug, PartialEq, Eq)]

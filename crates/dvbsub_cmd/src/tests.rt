@@ -1,3 +1,4 @@
+use super::*;
 use cue_list::{ScriptFault, ScriptKind};
 use schedule::ScheduleFault;
 use std::alloc::Global;
@@ -6,16 +7,17 @@ use std::test::Fail;
 use std::thread::Threads;
 use sub_base::{MemSink, MemSource, NoGate, Words};
 
-use super::*;
-
 /// The script of the first run: one cue of one picture of 8 bits.
-const FIRST_SCRIPT: &str = "origin,0\ndisplay,4,2\nrefresh,5\nepoch,90000\nregion,0,0,0,4,2,8,0\npicture,a,8,4,2,0102020203030303\nplace,90000,180000,0,0,0,solid,a\n";
+const FIRST_SCRIPT: &str =
+    "origin,0\ndisplay,4,2\nrefresh,5\nepoch,90000\nregion,0,0,0,4,2,8,0\npicture,a,8,4,2,0102020203030303\nplace,90000,180000,0,0,0,solid,a\n";
 
 /// Its first set, of 98 bytes, is shown a tick before it is done.
-const SCRIPT_AT_98: &str = "origin,0\ndisplay,4,2\nrefresh,5\nepoch,98\nregion,0,0,0,4,2,8,0\npicture,a,8,4,2,0102020203030303\nplace,98,180000,0,0,0,solid,a\n";
+const SCRIPT_AT_98: &str =
+    "origin,0\ndisplay,4,2\nrefresh,5\nepoch,98\nregion,0,0,0,4,2,8,0\npicture,a,8,4,2,0102020203030303\nplace,98,180000,0,0,0,solid,a\n";
 
 /// Its first set is shown at the tick at which it is done.
-const SCRIPT_AT_99: &str = "origin,0\ndisplay,4,2\nrefresh,5\nepoch,99\nregion,0,0,0,4,2,8,0\npicture,a,8,4,2,0102020203030303\nplace,99,180000,0,0,0,solid,a\n";
+const SCRIPT_AT_99: &str =
+    "origin,0\ndisplay,4,2\nrefresh,5\nepoch,99\nregion,0,0,0,4,2,8,0\npicture,a,8,4,2,0102020203030303\nplace,99,180000,0,0,0,solid,a\n";
 
 /// What stands in its first packet behind the head, `55 00` and 84 bytes FF.
 #[rattlefmt::skip]
@@ -99,10 +101,16 @@ fn one_cue_becomes_two_packets(rt: HostRuntime) -> Result<(), Fail> {
     assert_eq!(rt; done.notes.written(), b"done\n".as_slice());
     let packets = done.out.written();
     assert_eq!(rt; packets.len(), 376);
-    assert_eq!(rt; &packets[..6], [0x47, 0x41, 0x00, 0x30, 0x55, 0x00].as_slice());
+    assert_eq!(rt;
+        &packets[..6],
+        [0x47, 0x41, 0x00, 0x30, 0x55, 0x00].as_slice()
+    );
     assert!(rt; packets[6..90].iter().all(|byte| *byte == 0xFF));
     assert_eq!(rt; &packets[90..188], FIRST_UNIT.as_slice());
-    assert_eq!(rt; &packets[188..194], [0x47, 0x41, 0x00, 0x31, 0x98, 0x00].as_slice());
+    assert_eq!(rt;
+        &packets[188..194],
+        [0x47, 0x41, 0x00, 0x31, 0x98, 0x00].as_slice()
+    );
     assert!(rt; packets[194..345].iter().all(|byte| *byte == 0xFF));
     assert_eq!(rt; &packets[345..376], SECOND_UNIT.as_slice());
     Ok(())
@@ -111,7 +119,17 @@ fn one_cue_becomes_two_packets(rt: HostRuntime) -> Result<(), Fail> {
 #[test]
 fn a_set_done_a_tick_late_is_refused(rt: HostRuntime) -> Result<(), Fail> {
     let late = run(&rt, rt.alloc(), COMPILE, SCRIPT_AT_98)?;
-    assert_eq!(rt; late.status, Status::ScheduleRefused { row: 4, fault: ScheduleFault::Late { set: 0, done: 99, pts: 98 } });
+    assert_eq!(rt;
+        late.status,
+        Status::ScheduleRefused {
+            row: 4,
+            fault: ScheduleFault::Late {
+                set: 0,
+                done: 99,
+                pts: 98
+            }
+        }
+    );
     assert_eq!(rt; late.notes.written(), b"schedule Late 4 99 98\n".as_slice());
     assert!(rt; late.out.written().is_empty());
     let timely = run(&rt, rt.alloc(), COMPILE, SCRIPT_AT_99)?;
@@ -145,7 +163,13 @@ fn other_words_are_answered_with_the_usage(rt: HostRuntime) -> Result<(), Fail> 
 #[test]
 fn other_scripts_are_refused(rt: HostRuntime) -> Result<(), Fail> {
     let refused = run(&rt, rt.alloc(), COMPILE, "")?;
-    assert_eq!(rt; refused.status, Status::ScriptRefused(ScriptFault::Refused { row: 1, kind: ScriptKind::NotYet }));
+    assert_eq!(rt;
+        refused.status,
+        Status::ScriptRefused(ScriptFault::Refused {
+            row: 1,
+            kind: ScriptKind::NotYet
+        })
+    );
     assert_eq!(rt; refused.notes.written(), b"script 1 NotYet\n".as_slice());
     assert!(rt; refused.out.written().is_empty());
     Ok(())

@@ -6,13 +6,12 @@ ghost use Rattle.stream_syntax.specs.SegmentTests.{AreBlocks};
 ghost use Rattle.dvbsub_cmd.specs.BothBlocks.{AreBothBlocks};
 ghost use Rattle.dvbsub_cmd.specs.CueSets.{AreUnits, first_segments, field_of};
 
+use crate::sets::{first_field, last_field};
 use cue_list::OneCue;
 use pes_packets::write_pes;
 use set_coder::write_fields;
 use std::alloc::Global;
 use sub_base::NoMemory;
-
-use crate::sets::{first_field, last_field};
 
 /// The PES packets of the two display sets of a script of one cue.
 #[derive(Drop)]

@@ -168,7 +168,7 @@ room_fields picture p =
     let top = room 0 in
     let bottom = room 1 in
     let rows : length (top_field picture) + length (bottom_field picture) ≡ picture.height =
-      omega (arith, length-every_second_row picture 0, length-every_second_row picture 1) in
+    omega (arith, length-every_second_row picture 0, length-every_second_row picture 1) in
     omega (arith, top, bottom, shared_out (length (top_field picture)) (length (bottom_field picture)) picture.height (3 * picture.width + 10) rows)
 
 -- ---- sizes are one number

@@ -16,9 +16,9 @@ returns-then-slots-next-clause-next c =
 pub returns-else-next-slots-clause-packet : goal.returns-else-next-slots-clause-packet
 returns-else-next-slots-clause-packet c =
     c.null_packet.ensures.bytes ∙ sym (slot_packet-idle c.args.packetiser.now.pid c.args.pieces.now c.args.slots.now c.args.next c.args.slot c.requires.rising c.requires.next
-      (λ h e. elim c.else-next-slots.branch [ else-next-slots-via-then-next-slots+else-slots-next w ↦ w.if-slots-next.false e | else-next-slots-via-else-next-slots w ↦ let not_less = w.if-next-slots.false in absurd (omega arith) ]))
+    (λ h e. elim c.else-next-slots.branch [ else-next-slots-via-then-next-slots+else-slots-next w ↦ w.if-slots-next.false e | else-next-slots-via-else-next-slots w ↦ let not_less = w.if-next-slots.false in absurd (omega arith) ]))
 
 pub returns-else-next-slots-clause-next : goal.returns-else-next-slots-clause-next
 returns-else-next-slots-clause-next c =
     IsNext-idle c.args.slots.now c.args.next c.args.slot c.requires.rising c.requires.next
-      (λ h e. elim c.else-next-slots.branch [ else-next-slots-via-then-next-slots+else-slots-next w ↦ w.if-slots-next.false e | else-next-slots-via-else-next-slots w ↦ let not_less = w.if-next-slots.false in absurd (omega arith) ])
+    (λ h e. elim c.else-next-slots.branch [ else-next-slots-via-then-next-slots+else-slots-next w ↦ w.if-slots-next.false e | else-next-slots-via-else-next-slots w ↦ let not_less = w.if-next-slots.false in absurd (omega arith) ])
