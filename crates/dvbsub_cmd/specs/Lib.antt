@@ -1,6 +1,7 @@
 pub mod BothBlocks
 pub mod Command
 pub mod Compiled
+pub mod Completeness
 pub mod CueSets
 pub mod Outcome
 pub mod PieceView

@@ -1,4 +1,5 @@
 ghost use Rattle.dvbsub_cmd.specs.Command.{command_of as command_of_words};
+ghost use Rattle.dvbsub_cmd.specs.Completeness.{IsComplete};
 ghost use Rattle.dvbsub_cmd.specs.Outcome.{HasCause, IsCaused, Tells, Shown, Noted};
 ghost use Rattle.std.specs.Prelude.{◌≡◌, Some};
 
@@ -29,6 +30,14 @@ where
     N: Sink,
     G: BandGate + Sync,
     ensures cause { HasCause words.now
+        (record { left = A.left first.old; given = A.given first.old; faults = A.faults first.old; written = K.written out.old; out_faults = K.faults out.old })
+        (record { left = A.left first.new; given = A.given first.new; faults = A.faults first.new; written = K.written out.new; out_faults = K.faults out.new })
+        (record { written = N.written notes.old; faults = N.faults notes.old })
+        (record { written = N.written notes.new; faults = N.faults notes.new })
+        result }
+
+    // Where nothing gives a cause of refusal, the command is done whole, or memory is wanting.
+    ensures complete { IsComplete words.now
         (record { left = A.left first.old; given = A.given first.old; faults = A.faults first.old; written = K.written out.old; out_faults = K.faults out.old })
         (record { left = A.left first.new; given = A.given first.new; faults = A.faults first.new; written = K.written out.new; out_faults = K.faults out.new })
         (record { written = N.written notes.old; faults = N.faults notes.old })

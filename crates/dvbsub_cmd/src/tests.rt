@@ -19,6 +19,10 @@ const SCRIPT_AT_98: &str =
 const SCRIPT_AT_99: &str =
     "origin,0\ndisplay,4,2\nrefresh,5\nepoch,99\nregion,0,0,0,4,2,8,0\npicture,a,8,4,2,0102020203030303\nplace,99,180000,0,0,0,solid,a\n";
 
+/// The picture of the first run, of 8 bits, in a region of 4 bits.
+const SCRIPT_TOO_DEEP: &str =
+    "origin,0\ndisplay,4,2\nrefresh,5\nepoch,90000\nregion,0,0,0,4,2,4,0\npicture,a,8,4,2,0102020203030303\nplace,90000,180000,0,0,0,solid,a\n";
+
 /// What stands in its first packet behind the head, `55 00` and 84 bytes FF.
 #[rattlefmt::skip]
 const FIRST_UNIT: [u8; 98] = [
@@ -162,16 +166,18 @@ fn other_words_are_answered_with_the_usage(rt: HostRuntime) -> Result<(), Fail> 
 
 #[test]
 fn other_scripts_are_refused(rt: HostRuntime) -> Result<(), Fail> {
-    let refused = run(&rt, rt.alloc(), COMPILE, "")?;
-    assert_eq!(rt;
-        refused.status,
-        Status::ScriptRefused(ScriptFault::Refused {
-            row: 1,
-            kind: ScriptKind::NotYet
-        })
-    );
-    assert_eq!(rt; refused.notes.written(), b"script 1 NotYet\n".as_slice());
-    assert!(rt; refused.out.written().is_empty());
+    for script in ["", SCRIPT_TOO_DEEP] {
+        let refused = run(&rt, rt.alloc(), COMPILE, script)?;
+        assert_eq!(rt;
+            refused.status,
+            Status::ScriptRefused(ScriptFault::Refused {
+                row: 1,
+                kind: ScriptKind::NotYet
+            })
+        );
+        assert_eq!(rt; refused.notes.written(), b"script 1 NotYet\n".as_slice());
+        assert!(rt; refused.out.written().is_empty());
+    }
     Ok(())
 }
 
