@@ -2,18 +2,13 @@
 use Rattle.std.specs.Prelude.{ℕ, ◌==◌, not, Bool, ◌&&◌, nat_lt, if◌then◌else◌, List, [], length, slice_index, slice_index_or, Option, Some, None, IsSome, ◌<◌, codes}
 use Rattle.std.specs.List.{list_all}
 use Rattle.std.specs.Str.{bytes_eq}
+use Rattle.cue_list.specs.Cells.{◌>>=◌}
 use Rattle.sub_base.specs.Number.{number_in}
 use Rattle.sub_base.specs.Profile.{profile_of}
 use Rattle.sub_base.specs.declared.profile.ProfileName.TheVariants.{Sd}
 use Rattle.dvbsub_cmd.specs.declared.command.Command.{Command}
 use Rattle.dvbsub_cmd.specs.declared.command.Command.TheVariants.{Compile}
 use Rattle.dvbsub_cmd.specs.declared.command.InputPlaces.{InputPlaces}
-
--- a step that may fail, and what follows it
-infixl 10 ◌>>=◌
-abbrev pub ◌>>=◌ : {A B : Type 0} → Option A → (A → Option B) → Option B
-None >>= f = None
-(Some x) >>= f = f x
 
 -- a word that has a byte, and does not begin with `-`
 abbrev pub is_plain : List ℕ → Bool

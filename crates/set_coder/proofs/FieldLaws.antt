@@ -12,7 +12,8 @@ use Rattle.stream_syntax.specs.PixelBlocks.{line_end_type}
 use Rattle.stream_syntax.specs.FieldBlocks.{identity_table, IsRowBlock, AreRowBlocks, IsFieldBlock, AreFieldBlocks, AreRowSizes, IsFieldSize, AreFieldSizes}
 use Rattle.pixel_codes.proofs.RowStrings.{row_size}
 use Rattle.pixel_codes.proofs.Sizes.{one_row_size}
-use Rattle.set_coder.specs.Rows.{IsRowOf, AreRows, Extends, room_of}
+use Rattle.pixel_codes.specs.Lists.{Extends}
+use Rattle.set_coder.specs.Rows.{IsRowOf, AreRows, room_of}
 
 -- ---- bytes that grow
 

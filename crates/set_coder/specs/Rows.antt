@@ -1,5 +1,5 @@
--- Rows of a picture, and bytes that grow at their end.
-use Rattle.std.specs.Prelude.{[], ◌∷◌, ◌*◌, ◌+◌, ◌≡◌, ℕ, ◌<◌, ◌≤◌, List, ◌++◌, length, All}
+-- Rows of a picture, and the room that their bytes want.
+use Rattle.std.specs.Prelude.{[], ◌∷◌, ◌*◌, ◌+◌, ℕ, ◌<◌, ◌≤◌, List, length, All}
 use Rattle.sub_base.specs.declared.depth.Depth.{Depth}
 use Rattle.sub_base.specs.Depth.{code_count}
 
@@ -10,10 +10,6 @@ pub record IsRowOf (depth : Depth) (row : List ℕ) : Type 0 where
 
 abbrev pub AreRows : Depth → List (List ℕ) → Type 0
 AreRows depth rows = All (IsRowOf depth) rows
-
--- something was put at the end, perhaps nothing
-abbrev pub Extends : List ℕ → List ℕ → Type 0
-Extends old new = (more : List ℕ) × (new ≡ old ++ more)
 
 -- twice the most bytes that the sub-blocks of rows have: one and a half a pixel, and five a row
 abbrev pub room_of : List (List ℕ) → ℕ

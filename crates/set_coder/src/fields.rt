@@ -3,7 +3,8 @@ ghost use Rattle.sub_base.specs.Depth.{code_count};
 ghost use Rattle.sub_base.specs.Picture.{IsPicture, top_field, bottom_field};
 ghost use Rattle.stream_syntax.specs.PixelBlocks.{IsNoDeeper, string_type};
 ghost use Rattle.stream_syntax.specs.FieldBlocks.{identity_table, IsRowBlock, AreRowBlocks, IsFieldBlock, AreFieldBlocks, AreFieldSizes, DrawsPicture};
-ghost use Rattle.set_coder.specs.Rows.{AreRows, Extends, room_of};
+ghost use Rattle.pixel_codes.specs.Lists.{Extends};
+ghost use Rattle.set_coder.specs.Rows.{AreRows, room_of};
 
 use indexed_picture::{FieldRows, Indexed};
 use pixel_codes::write_row;
