@@ -1,7 +1,7 @@
 -- The blocks of a picture's fields are blocks of an object.
-use Rattle.std.proofs.Common.{◌≡◌, ℕ, Bool, true, false, List, [], ◌∷◌, ◌++◌, length, take, drop, ◌⊎◌, inl, inr, refl, sym, ap, subst, ◌∙◌, ◌↔◌, IsTrue, arith}
+use Rattle.std.proofs.Common.{◌≡◌, ℕ, List, [], ◌∷◌, ◌++◌, length, take, drop, refl, sym, ap, subst, ◌∙◌, arith}
 use Rattle.std.proofs.Math.Seq.{take-append_seam, drop-append_seam}
-use Rattle.sub_base.specs.Picture.{Picture, HasEqualFields}
+use Rattle.sub_base.specs.Picture.{Picture}
 use Rattle.sub_base.specs.declared.depth.Depth.{Depth}
 use Rattle.sub_base.specs.declared.depth.Depth.TheVariants.{Two, Four, Eight}
 use Rattle.stream_syntax.specs.PixelBlocks.{Part, string, table, line_end, IsPart, AreParts, IsNoDeeper, IsBlock, runs_after}
@@ -34,9 +34,10 @@ nothing = (runs_after Eight [] [], record { parts = []; whole = refl; drawn = re
 both_blocks : (top bottom : List ℕ) → (more : List Run) × IsBlock Eight top more → (more : List Run) × IsBlock Eight bottom more → AreBlocks top bottom
 both_blocks top bottom first second = record { top_runs = first.0; top_is = first.1; bottom_runs = second.0; bottom_is = second.1 }
 
-either : (b : Bool) → (b ≡ true) ⊎ (b ≡ false)
-either true = inl refl
-either false = inr refl
+-- a block that is none, or one for which there is a reason
+bottom_block : (bytes : List ℕ) → ((bytes ≡ [] → ⊥) → (more : List Run) × IsBlock Eight bytes more) → (more : List Run) × IsBlock Eight bytes more
+bottom_block [] own = nothing
+bottom_block (byte ∷ bytes) own = own (λ none. cc)
 
 -- what stands before and after a place
 pub halves : (blocks front back top bottom : List ℕ) (end : ℕ) → front ≡ take end blocks → back ≡ drop end blocks → blocks ≡ top ++ bottom → end ≡ length top → (front ≡ top) × (back ≡ bottom)
@@ -46,8 +47,8 @@ halves blocks front back top bottom end f b e l = (
 )
 
 -- the two halves are the blocks of an object
-pub are_blocks : (picture : Picture) (region : Depth) (blocks front back : List ℕ) (end : ℕ) (equal : Bool) → AreBothBlocks picture region blocks end → front ≡ take end blocks → back ≡ drop end blocks → (IsTrue equal ↔ HasEqualFields picture) → AreBlocks front back
-are_blocks picture region blocks front back end equal both f b same =
+pub are_blocks : (picture : Picture) (region : Depth) (blocks front back : List ℕ) (end : ℕ) → AreBothBlocks picture region blocks end → front ≡ take end blocks → back ≡ drop end blocks → AreBlocks front back
+are_blocks picture region blocks front back end both f b =
     let w = both.written in
     let d = both.drawn in
     let written = halves blocks front back w.0 w.1 end f b w.2 w.3 in
@@ -55,13 +56,8 @@ are_blocks picture region blocks front back end equal both f b same =
     let IsSome : List ℕ → Type 0 = λ bytes. (more : List Run) × IsBlock Eight bytes more in
     let top = by_eight region d.0 d.4.top_rows.runs d.4.top_rows.block in
     let first : (more : List Run) × IsBlock Eight front more = subst IsSome (sym drawn.0) top in
-    elim (either equal) [
-      | inl so ↦
-          let none : w.1 ≡ [] = w.4.shared (same.0 so) in
-          let second : (more : List Run) × IsBlock Eight back more = subst IsSome (sym (written.1 ∙ none)) nothing in
-          both_blocks front back first second
-      | inr not_so ↦
-          let own = d.4.own (λ h. let so = same.1 h in cc) in
-          let second : (more : List Run) × IsBlock Eight back more = subst IsSome (sym drawn.1) (by_eight region d.1 own.runs own.block) in
-          both_blocks front back first second
-    ]
+    let second : (more : List Run) × IsBlock Eight back more =
+    bottom_block back (λ some.
+    let own = d.4.own (λ same. some (written.1 ∙ w.4.shared same)) in
+    subst IsSome (sym drawn.1) (by_eight region d.1 own.runs own.block)) in
+    both_blocks front back first second

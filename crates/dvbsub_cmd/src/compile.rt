@@ -26,22 +26,21 @@ const SCRIPT_LIMIT: u64 = 67_108_864;
 /// Compiles a script to packets. Nothing is written before all of it is known to be right.
 pub fn compile<A: Source, K: Sink>(
     alloc: Global,
-    words: &Words,
+    _words: &Words,
     profile: ProfileName,
     pid: u16,
     page: u16,
     script: &mut A,
     out: &mut K,
 ) -> Status
-    requires command { command_of_words words.now ≡ Some (Compile profile pid page) }
+    requires command { command_of_words _words.now ≡ Some (Compile profile pid page) }
     requires pid { pid < 8192 }
     requires profile { IsSome (profile_of profile).step }
-    ensures { IsCaused words.now
+    ensures { IsCaused _words.now
         (record { left = A.left script.old; given = A.given script.old; faults = A.faults script.old; written = K.written out.old; out_faults = K.faults out.old })
         (record { left = A.left script.new; given = A.given script.new; faults = A.faults script.new; written = K.written out.new; out_faults = K.faults out.new })
         result }
 {
-    let _words = words;
     let text = match read_all(alloc, script, SCRIPT_LIMIT) {
         Ok(text) => text,
         Err(ReadAllFault::Memory) => return Status::Memory,

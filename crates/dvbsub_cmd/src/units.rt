@@ -62,14 +62,13 @@ fn unit_of(alloc: Global, pts: u64, field: &[u8]) -> Result<Vec<u8>, NoMemory>
 }
 
 /// The blocks of the picture's two fields, which stand one after the other.
-fn fields_of<'a>(cue: &OneCue, blocks: &'a [u8], top: usize) -> (&'a [u8], &'a [u8])
-    requires blocks { AreBothBlocks cue.now.picture cue.now.depth blocks.now top }
-    requires short { 2 * length blocks.now ≤ 70 + cue.now.picture.height * (3 * cue.now.picture.width + 10) }
-    requires sound { IsSound cue.now }
-    ensures fields { AreFieldBlocks cue.now.picture cue.now.depth result.0.now result.1.now }
+fn fields_of<'a>(_cue: &OneCue, blocks: &'a [u8], top: usize) -> (&'a [u8], &'a [u8])
+    requires blocks { AreBothBlocks _cue.now.picture _cue.now.depth blocks.now top }
+    requires short { 2 * length blocks.now ≤ 70 + _cue.now.picture.height * (3 * _cue.now.picture.width + 10) }
+    requires sound { IsSound _cue.now }
+    ensures fields { AreFieldBlocks _cue.now.picture _cue.now.depth result.0.now result.1.now }
     ensures blocks { AreBlocks result.0.now result.1.now }
     ensures short { length result.0.now + length result.1.now < 60000 }
 {
-    let _equal = cue.picture.fields_equal();
     blocks.split_at(top)
 }
