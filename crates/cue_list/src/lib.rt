@@ -4,13 +4,19 @@
 
 mod cells;
 mod codes;
+mod epoch;
 mod fault;
+mod items;
 mod kind_rows;
 mod one_cue;
 mod rows;
+mod script;
 
+pub use epoch::{ColourRow, Cue, Epoch, Region};
 pub use fault::{ScriptFault, ScriptKind};
+pub use items::Items;
 pub use one_cue::{OneCue, read_one_cue};
+pub use script::Script;
 
 #[cfg(test)]
 mod tests;

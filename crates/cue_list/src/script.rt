@@ -1,0 +1,23 @@
+ghost use Rattle.cue_list.specs.Sound.{IsSound};
+
+use crate::epoch::Epoch;
+use crate::items::Items;
+use indexed_picture::Indexed;
+
+/// A cue script: the subtitles of a programme. Its values pass every test of a script's records, so whoever has one
+/// tests nothing again.
+#[derive(Drop)]
+pub struct Script {
+    /// The tick from which packets are sent.
+    pub origin: u64,
+    /// The sides of the display in pixels.
+    pub width: u16,
+    pub height: u16,
+    /// The ticks after which a page that stays is sent again.
+    pub refresh: u64,
+    /// The epochs, in order of their starts.
+    pub epochs: Items<Epoch>,
+    /// The pictures of the script's picture and cue records, in the order of the records.
+    pub pictures: Items<Indexed>,
+    pub ghost sound: { ∥ IsSound origin width height refresh epochs pictures ∥₁ },
+}
