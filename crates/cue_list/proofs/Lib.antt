@@ -2,3 +2,9 @@ pub mod CodesLaws
 pub mod OneCueLaws
 pub mod RowsLaws
 pub mod TextLaws
+pub mod PlaneLaws
+pub mod EntryLaws
+pub mod RegionLaws
+pub mod PlaneRows
+pub mod SoundLaws
+pub mod SceneLaws

@@ -9,6 +9,7 @@ mod fault;
 mod items;
 mod kind_rows;
 mod one_cue;
+mod painting;
 mod rows;
 mod script;
 
@@ -16,6 +17,7 @@ pub use epoch::{ColourRow, Cue, Epoch, Region};
 pub use fault::{ScriptFault, ScriptKind};
 pub use items::Items;
 pub use one_cue::{OneCue, read_one_cue};
+pub use painting::picture_at;
 pub use script::Script;
 
 #[cfg(test)]
