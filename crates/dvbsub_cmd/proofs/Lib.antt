@@ -1,4 +1,5 @@
 pub mod BlockLaws
+pub mod CauseLaws
 pub mod ObjectLaws
 pub mod PieceLaws
 pub mod SendLaws

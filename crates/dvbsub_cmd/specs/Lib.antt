@@ -1,10 +1,13 @@
 pub mod BothBlocks
 pub mod Command
+pub mod CompileOutcome
 pub mod Compiled
 pub mod Completeness
 pub mod CueSets
+pub mod KindNames
 pub mod Outcome
 pub mod PieceView
 pub mod Sending
+pub mod Shown
 pub mod SlotStream
 pub mod StatusText

@@ -4,6 +4,7 @@
 mod carry_out;
 mod command;
 mod compile;
+mod kind_names;
 mod line;
 mod pieces;
 mod sets;
