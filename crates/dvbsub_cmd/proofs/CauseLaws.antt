@@ -15,7 +15,7 @@ use Rattle.dvbsub_cmd.specs.Completeness.{IsComplete, IsUntroubled}
 use Rattle.dvbsub_cmd.specs.Outcome.{HasCause, IsCausedBy, Tells, untold}
 use Rattle.dvbsub_cmd.specs.Shown.{Shown, Supplied, Received, WasRead}
 use Rattle.dvbsub_cmd.specs.declared.command.Command.{Command}
-use Rattle.dvbsub_cmd.specs.declared.command.Command.TheVariants.{Compile}
+use Rattle.dvbsub_cmd.specs.declared.command.Command.TheVariants as command
 use Rattle.dvbsub_cmd.specs.declared.status.Status.{Status}
 use Rattle.dvbsub_cmd.specs.declared.status.Status.TheVariants as status
 use Rattle.dvbsub_cmd.specs.declared.status.Which.TheVariants as which
@@ -33,7 +33,7 @@ not_refused profile page before now text (script.Refused row kind) read refused 
     cc
 
 compile_whole : (profile : ProfileName) (pid page : ℕ) (before now : Shown) (notes_before notes_now : Received) (run : Status)
-    → IsCausedBy (Some (Compile profile pid page)) before now run → IsUntroubled (Some (Compile profile pid page)) before now notes_before notes_now → IsWhole run
+    → IsCausedBy (Some (command.Compile profile pid page)) before now run → IsUntroubled (Some (command.Compile profile pid page)) before now notes_before notes_now → IsWhole run
 compile_whole profile pid page before now notes_before notes_now (status.Done cut) cause calm = inl (cut, refl)
 compile_whole profile pid page before now notes_before notes_now status.Usage cause calm = absurd cause
 compile_whole profile pid page before now notes_before notes_now (status.FontRefused fault) cause calm = absurd cause
@@ -59,10 +59,33 @@ compile_whole profile pid page before now notes_before notes_now (status.InputTo
 compile_whole profile pid page before now notes_before notes_now (status.InputTooLong which.Out) cause calm = absurd cause
 compile_whole profile pid page before now notes_before notes_now (status.InputTooLong which.Notes) cause calm = absurd cause
 
+list_whole : (pid : ℕ) (before now : Shown) (notes_before notes_now : Received) (run : Status)
+    → IsCausedBy (Some (command.List pid)) before now run → IsUntroubled (Some (command.List pid)) before now notes_before notes_now → IsWhole run
+list_whole pid before now notes_before notes_now (status.Done cut) cause calm = inl (cut, refl)
+list_whole pid before now notes_before notes_now status.Usage cause calm = absurd cause
+list_whole pid before now notes_before notes_now (status.FontRefused fault) cause calm = absurd cause
+list_whole pid before now notes_before notes_now (status.ScriptRefused fault) cause calm = absurd cause
+list_whole pid before now notes_before notes_now (status.ScheduleRefused row fault) cause calm = absurd cause
+list_whole pid before now notes_before notes_now (status.StreamRefused packet fault) cause calm = absurd (calm.right.right cause.packets cause.refused cause.rest fault cause.taken cause.whole cause.fault_is)
+list_whole pid before now notes_before notes_now (status.ReadFault which.First) cause calm = absurd (calm.read cause.0)
+list_whole pid before now notes_before notes_now (status.ReadFault which.Second) cause calm = absurd cause
+list_whole pid before now notes_before notes_now (status.ReadFault which.Out) cause calm = absurd cause
+list_whole pid before now notes_before notes_now (status.ReadFault which.Notes) cause calm = absurd cause
+list_whole pid before now notes_before notes_now (status.WriteFault which.Out) cause calm = absurd (calm.written cause.0)
+list_whole pid before now notes_before notes_now (status.WriteFault which.First) cause calm = absurd cause
+list_whole pid before now notes_before notes_now (status.WriteFault which.Second) cause calm = absurd cause
+list_whole pid before now notes_before notes_now (status.WriteFault which.Notes) cause calm = absurd cause
+list_whole pid before now notes_before notes_now status.Memory cause calm = inr refl
+list_whole pid before now notes_before notes_now (status.InputTooLong which.First) cause calm = absurd (calm.right.within cause.0)
+list_whole pid before now notes_before notes_now (status.InputTooLong which.Second) cause calm = absurd cause
+list_whole pid before now notes_before notes_now (status.InputTooLong which.Out) cause calm = absurd cause
+list_whole pid before now notes_before notes_now (status.InputTooLong which.Notes) cause calm = absurd cause
+
 -- each command
 run_whole : (command : Option Command) (before now : Shown) (notes_before notes_now : Received) (run : Status) → IsCausedBy command before now run → IsUntroubled command before now notes_before notes_now → IsWhole run
 run_whole None before now notes_before notes_now run cause calm = absurd calm.right
-run_whole (Some (Compile profile pid page)) before now notes_before notes_now run cause calm = compile_whole profile pid page before now notes_before notes_now run cause calm
+run_whole (Some (command.Compile profile pid page)) before now notes_before notes_now run cause calm = compile_whole profile pid page before now notes_before notes_now run cause calm
+run_whole (Some (command.List pid)) before now notes_before notes_now run cause calm = list_whole pid before now notes_before notes_now run cause calm
 
 -- the line of the status is written where the notes do not fail
 told : (before now : Received) (run answer : Status) → Tells before now run answer → (HasRisen before.faults now.faults → ⊥) → IsWhole run → IsWhole answer

@@ -5,9 +5,15 @@ pub mod Compiled
 pub mod Completeness
 pub mod CueSets
 pub mod KindNames
+pub mod ListLines
+pub mod ListOutcome
+pub mod ListText
+pub mod Listing
 pub mod Outcome
 pub mod PieceView
+pub mod Putting
 pub mod Sending
 pub mod Shown
 pub mod SlotStream
 pub mod StatusText
+pub mod Walking

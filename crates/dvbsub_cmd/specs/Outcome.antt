@@ -5,10 +5,11 @@ use Rattle.sub_base.specs.Counts.{HasRisen}
 use Rattle.sub_base.specs.Transfer.{AppendsFront}
 use Rattle.dvbsub_cmd.specs.Command.{command_of}
 use Rattle.dvbsub_cmd.specs.CompileOutcome.{IsCompileCause}
+use Rattle.dvbsub_cmd.specs.ListOutcome.{IsListCause}
 use Rattle.dvbsub_cmd.specs.Shown.{Shown, Received, WroteNothing}
 use Rattle.dvbsub_cmd.specs.StatusText.{status_line}
 use Rattle.dvbsub_cmd.specs.declared.command.Command.{Command}
-use Rattle.dvbsub_cmd.specs.declared.command.Command.TheVariants.{Compile}
+use Rattle.dvbsub_cmd.specs.declared.command.Command.TheVariants as command
 use Rattle.dvbsub_cmd.specs.declared.status.Status.{Status}
 use Rattle.dvbsub_cmd.specs.declared.status.Status.TheVariants as status
 use Rattle.dvbsub_cmd.specs.declared.status.Which.TheVariants as which
@@ -17,7 +18,8 @@ use Rattle.dvbsub_cmd.specs.declared.status.Which.TheVariants as which
 -- the usage, and no command does
 abbrev pub IsCausedBy : Option Command → Shown → Shown → Status → Type 0
 IsCausedBy None before now answer = (answer ≡ status.Usage) × WroteNothing before.out now.out
-IsCausedBy (Some (Compile profile pid page)) before now answer = IsCompileCause profile pid page before.first now.first before.out now.out answer
+IsCausedBy (Some (command.Compile profile pid page)) before now answer = IsCompileCause profile pid page before.first now.first before.out now.out answer
+IsCausedBy (Some (command.List pid)) before now answer = IsListCause pid before.first now.first before.out now.out answer
 
 -- the cause of a status by the words
 abbrev pub IsCaused : List (List ℕ) → Shown → Shown → Status → Type 0
@@ -26,7 +28,8 @@ IsCaused words before now answer = IsCausedBy (command_of words) before now answ
 -- a command that reads one source does not call the second: these are the values of the second before and now
 abbrev pub IsSecondKept : {Origin : Type 0} → Option Command → Origin → Origin → Type 0
 IsSecondKept None before now = now ≡ before
-IsSecondKept (Some (Compile profile pid page)) before now = now ≡ before
+IsSecondKept (Some (command.Compile profile pid page)) before now = now ≡ before
+IsSecondKept (Some (command.List pid)) before now = now ≡ before
 
 -- the answer where the line of a status could not be written: what was done whole is a write fault of the notes
 abbrev pub untold : Status → Status

@@ -6,6 +6,7 @@ ghost use Rattle.std.specs.Prelude.{◌≡◌, Some};
 
 use crate::command::{Command, command_of};
 use crate::compile::compile;
+use crate::list::list;
 use crate::status::{Status, Which, status_line};
 use std::alloc::Global;
 use std::thread::Threads;
@@ -113,5 +114,6 @@ fn run<A: Source, B: Source, K: Sink>(
         Some(Command::Compile { profile, pid, page }) => {
             compile(alloc, profile, pid, page, first, out)
         }
+        Some(Command::List { pid }) => list(alloc, pid, first, out),
     }
 }

@@ -6,10 +6,15 @@ mod command;
 mod compile;
 mod kind_names;
 mod line;
+mod list;
+mod list_lines;
+mod list_packets;
+mod list_units;
 mod pieces;
 mod sets;
 mod slot_stream;
 mod status;
+mod text_buffer;
 mod units;
 
 pub use carry_out::top;

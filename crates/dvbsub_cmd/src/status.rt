@@ -90,7 +90,8 @@ fn text_of(status: Status) -> Line
     }
 }
 
-fn line_of(text: &str) -> Line
+/// A line that begins with the text.
+pub fn line_of(text: &str) -> Line
     requires { length text.now ≤ 60 }
     ensures text { result ≡ text.now }
     ensures length { length result ≡ length text.now }
@@ -211,7 +212,7 @@ fn push_kind(line: &mut Line, kind: ScriptKind)
 }
 
 /// Puts a space and the number at the end.
-fn push_then_number(line: &mut Line, number: u64)
+pub fn push_then_number(line: &mut Line, number: u64)
     requires { length line.old ≤ 80 }
     ensures line { line.new ≡ line.old ++ then_number number }
     ensures short { length line.new ≤ length line.old + 21 }
