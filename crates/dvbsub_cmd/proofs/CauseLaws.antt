@@ -1,18 +1,15 @@
 -- Where nothing gives a cause of refusal, each command is done whole, or memory is wanting.
-use Rattle.std.proofs.Common.{◌≡◌, ℕ, List, Option, Some, None, ◌⊎◌, inl, inr, refl, sym, ap, subst, ◌∙◌}
-use Rattle.cue_list.specs.Rows.{rows_of}
-use Rattle.cue_list.specs.OneCue.{cue_of}
+use Rattle.std.proofs.Common.{◌≡◌, ℕ, List, Option, Some, None, ◌⊎◌, inl, inr, refl, sym, subst, ◌∙◌}
 use Rattle.cue_list.specs.declared.fault.ScriptFault.{ScriptFault}
 use Rattle.cue_list.specs.declared.fault.ScriptFault.TheVariants as script
 use Rattle.cue_list.specs.declared.one_cue.OneCue.{OneCue}
-use Rattle.schedule.specs.declared.fault.ScheduleFault.{ScheduleFault}
 use Rattle.sub_base.specs.Counts.{HasRisen}
 use Rattle.sub_base.specs.declared.profile.ProfileName.{ProfileName}
 use Rattle.dvbsub_cmd.specs.Command.{command_of}
-use Rattle.dvbsub_cmd.specs.CompileOutcome.{IsCompileCause, IsRightScript, IsRefused, script_limit}
+use Rattle.dvbsub_cmd.specs.CompileOutcome.{IsRightScript, IsRefused, script_limit}
 use Rattle.dvbsub_cmd.specs.Compiled.{IsScheduleRefused}
 use Rattle.dvbsub_cmd.specs.Completeness.{IsComplete, IsUntroubled}
-use Rattle.dvbsub_cmd.specs.Outcome.{HasCause, IsCausedBy, Tells, untold}
+use Rattle.dvbsub_cmd.specs.Outcome.{HasCause, IsCausedBy, Tells}
 use Rattle.dvbsub_cmd.specs.Shown.{Shown, Supplied, Received, WasRead}
 use Rattle.dvbsub_cmd.specs.declared.command.Command.{Command}
 use Rattle.dvbsub_cmd.specs.declared.command.Command.TheVariants as command

@@ -1,5 +1,5 @@
 -- The lines of the segments of a field.
-use Rattle.std.proofs.Common.{◌≡◌, ℕ, ◌+◌, ◌-◌, ◌<◌, ◌≤◌, true, false, List, [], ◌++◌, length, take, drop, Some, None, append-nil, append_assoc, refl, sym, ap, subst, ◌∙◌, arith}
+use Rattle.std.proofs.Common.{◌≡◌, ℕ, ◌+◌, ◌-◌, true, false, List, [], ◌++◌, length, take, drop, Some, None, append-nil, append_assoc, refl, sym, ap, subst, ◌∙◌, arith}
 use Rattle.stream_syntax.specs.Pes.{IsPes}
 use Rattle.stream_syntax.specs.Segments.{IsSegment, SegmentValue}
 use Rattle.stream_syntax.specs.SegmentTests.{frame_tests}

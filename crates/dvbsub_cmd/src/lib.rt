@@ -22,4 +22,6 @@ pub use command::{Command, InputPlaces, inputs};
 pub use status::{Status, Which};
 
 #[cfg(test)]
+mod list_tests;
+#[cfg(test)]
 mod tests;

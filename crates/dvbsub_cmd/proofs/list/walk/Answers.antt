@@ -1,4 +1,4 @@
-use Rattle.std.proofs.Common.{◌≡◌, ◌+◌, ◌*◌, ◌/◌, ◌%◌, ◌≤◌, ℕ, List, length, take, drop, length-take-le, length-drop, refl, subst, sym, ap, ◌∙◌, arith}
+use Rattle.std.proofs.Common.{◌≡◌, ◌+◌, ◌*◌, ◌/◌, ℕ, List, length, take, drop, length-take-le, length-drop, refl, subst, sym, ◌∙◌, arith}
 use Rattle.dvbsub_cmd.specs.Shown.{Supplied, Received}
 use Rattle.dvbsub_cmd.specs.Walking.{HasWalked}
 use Rattle.dvbsub_cmd.proofs.WalkLaws.{nothing_walked, read_more, read_too_long, read_chunks, read_refused, walked_told}

@@ -1,5 +1,5 @@
 use Rattle.std.proofs.Common.{sym, ◌∙◌}
-use Rattle.dvbsub_cmd.proofs.CloseLaws.{closed_whole, closed_failed}
+use Rattle.dvbsub_cmd.proofs.CloseLaws.{closed_failed}
 use Rattle.dvbsub_cmd.proofs.list.write_rest.Goals as goal
 
 pub returns-then-has_failed : goal.returns-then-has_failed

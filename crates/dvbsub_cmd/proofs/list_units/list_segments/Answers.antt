@@ -1,4 +1,4 @@
-use Rattle.std.proofs.Common.{◌≡◌, ◌+◌, List, ℕ, subst, sym, ◌∙◌, length-drop, arith, ap, length}
+use Rattle.std.proofs.Common.{List, ℕ, subst, sym, ◌∙◌, length-drop, arith, ap, length}
 use Rattle.dvbsub_cmd.specs.ListText.{IsSegmentLine}
 use Rattle.dvbsub_cmd.proofs.ListLaws.{line_more, lines_ended, lines_broken}
 use Rattle.dvbsub_cmd.proofs.list_units.list_segments.Goals as goal
