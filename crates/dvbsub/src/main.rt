@@ -13,7 +13,7 @@ use std::{env, io};
 use sub_base::{FileSink, FileSource, NoGate, NoMemory, Words};
 
 /// The commands, one a line.
-const COMMANDS: &str = "compile sd PID PAGE SCRIPT none OUT";
+const COMMANDS: &str = "compile sd PID PAGE SCRIPT none OUT\nlist PID STREAM OUT";
 
 /// Why the words of the command line were not read.
 #[derive(Drop)]

@@ -10,8 +10,6 @@ use Rattle.sub_base.specs.declared.profile.ProfileName.{ProfileName}
 use Rattle.sub_base.specs.declared.load.SetLoad.{SetLoad}
 use Rattle.dvbsub_cmd.specs.CueSets.{AreUnits, painted_of}
 use Rattle.dvbsub_cmd.specs.SlotStream.{all_pieces, stream_of}
-use Rattle.dvbsub_cmd.specs.declared.command.Command.{Command}
-use Rattle.dvbsub_cmd.specs.declared.command.Command.TheVariants.{Compile}
 
 -- what the two sets ask of a receiver: the first paints its region, the last paints nothing
 abbrev pub loads_of : OneCue → List ℕ → List ℕ → List SetLoad
@@ -29,9 +27,6 @@ pub record IsCompiledTo (profile : ProfileName) (pid page : ℕ) (cue : OneCue) 
   pub schedule : IsSchedule (loads_of cue first last) 2 (pace_of cue.origin (profile_of profile)) table
   pub on_time : IsOnTime (loads_of cue first last) 2 (pace_of cue.origin (profile_of profile)) table
   pub sent : packets ≡ stream_of pid (all_pieces (first ∷ last ∷ [])) table.slots
-
-abbrev pub IsCompiled : Command → OneCue → List ℕ → Type 0
-IsCompiled (Compile profile pid page) cue packets = IsCompiledTo profile pid page cue packets
 
 -- the record of the script from which a set comes: that of the epoch for the first, and that of the cue for the last
 abbrev pub row_of_set : ℕ → ℕ
@@ -57,6 +52,3 @@ pub record IsScheduleRefused (profile : ProfileName) (page : ℕ) (cue : OneCue)
   pub cause : IsCause (loads_of cue first last) (pace_of cue.origin (profile_of profile)) fault
   pub of_set : IsOfSet fault
   pub row_is : row ≡ row_of fault
-
-abbrev pub IsRefusedBySchedule : Command → OneCue → ℕ → ScheduleFault → Type 0
-IsRefusedBySchedule (Compile profile pid page) cue row fault = IsScheduleRefused profile page cue row fault

@@ -1,6 +1,8 @@
 -- The line that tells how a command ended.
 use Rattle.std.specs.Prelude.{ℕ, ◌==◌, if◌then◌else◌, List, [], ◌∷◌, ◌++◌, codes}
 use Rattle.std.specs.Fmt.{decimal}
+use Rattle.bitmap_font.specs.declared.font_fault.FontFault.{FontFault}
+use Rattle.bitmap_font.specs.declared.font_fault.FontFault.TheVariants as font
 use Rattle.cue_list.specs.KindNames.{kind_name}
 use Rattle.cue_list.specs.declared.fault.ScriptFault.{ScriptFault}
 use Rattle.cue_list.specs.declared.fault.ScriptFault.TheVariants as script
@@ -8,6 +10,8 @@ use Rattle.cue_list.specs.declared.fault.ScriptKind.{ScriptKind}
 use Rattle.cue_list.specs.declared.fault.ScriptKind.TheVariants as kind
 use Rattle.schedule.specs.declared.fault.ScheduleFault.{ScheduleFault}
 use Rattle.schedule.specs.declared.fault.ScheduleFault.TheVariants as schedule
+use Rattle.stream_syntax.specs.declared.transport.PacketFault.{PacketFault}
+use Rattle.dvbsub_cmd.specs.KindNames.{font_kind_name, packet_fault_name}
 use Rattle.dvbsub_cmd.specs.declared.status.Status.{Status}
 use Rattle.dvbsub_cmd.specs.declared.status.Status.TheVariants as status
 use Rattle.dvbsub_cmd.specs.declared.status.Which.{Which}
@@ -33,6 +37,11 @@ glyph_number other = []
 abbrev pub kind_text : ScriptKind → List ℕ
 kind_text kind = kind_name kind ++ glyph_number kind
 
+-- how the reading of a font ended
+abbrev pub font_text : FontFault → List ℕ
+font_text font.Memory = codes "memory"
+font_text (font.Refused line kind) = (codes "font" ++ then_number line) ++ codes " " ++ font_kind_name kind
+
 -- how the reading of a script ended
 abbrev pub script_text : ScriptFault → List ℕ
 script_text script.Memory = codes "memory"
@@ -44,6 +53,10 @@ schedule_text row schedule.Memory = codes "memory"
 schedule_text row (schedule.CodedFull set size) = (codes "schedule CodedFull" ++ then_number row) ++ then_number size
 schedule_text row (schedule.Late set done pts) = ((codes "schedule Late" ++ then_number row) ++ then_number done) ++ then_number pts
 
+-- the place, from 0, of the first packet of a stream that cannot be taken, and why
+abbrev pub stream_text : ℕ → PacketFault → List ℕ
+stream_text packet fault = (codes "stream" ++ then_number packet) ++ codes " " ++ packet_fault_name fault
+
 -- the end of a command that did all, with the count of the bytes after the last whole packet
 abbrev pub done_text : ℕ → List ℕ
 done_text cut = if cut == 0 then codes "done" else codes "done cut" ++ then_number cut
@@ -52,8 +65,10 @@ done_text cut = if cut == 0 then codes "done" else codes "done cut" ++ then_numb
 abbrev pub status_text : Status → List ℕ
 status_text (status.Done cut) = done_text cut
 status_text status.Usage = codes "usage"
+status_text (status.FontRefused fault) = font_text fault
 status_text (status.ScriptRefused fault) = script_text fault
 status_text (status.ScheduleRefused row fault) = schedule_text row fault
+status_text (status.StreamRefused packet fault) = stream_text packet fault
 status_text (status.ReadFault which) = codes "read " ++ which_name which
 status_text (status.WriteFault which) = codes "write " ++ which_name which
 status_text status.Memory = codes "memory"
@@ -67,8 +82,10 @@ status_line status = status_text status ++ (10 ∷ [])
 abbrev pub code_of : Status → ℕ
 code_of (status.Done cut) = 0
 code_of status.Usage = 2
+code_of (status.FontRefused fault) = 3
 code_of (status.ScriptRefused fault) = 3
 code_of (status.ScheduleRefused row fault) = 3
+code_of (status.StreamRefused packet fault) = 4
 code_of (status.ReadFault which) = 5
 code_of (status.WriteFault which) = 6
 code_of status.Memory = 7

@@ -1,10 +1,12 @@
 ghost use Rattle.dvbsub_cmd.specs.Command.{command_of as command_of_words};
 ghost use Rattle.dvbsub_cmd.specs.Completeness.{IsComplete};
-ghost use Rattle.dvbsub_cmd.specs.Outcome.{HasCause, IsCaused, Tells, Shown, Noted};
+ghost use Rattle.dvbsub_cmd.specs.Outcome.{HasCause, IsCaused, IsSecondKept, Tells};
+ghost use Rattle.dvbsub_cmd.specs.Shown.{Shown, Supplied, Received};
 ghost use Rattle.std.specs.Prelude.{◌≡◌, Some};
 
 use crate::command::{Command, command_of};
 use crate::compile::compile;
+use crate::list::list;
 use crate::status::{Status, Which, status_line};
 use std::alloc::Global;
 use std::thread::Threads;
@@ -30,25 +32,40 @@ where
     N: Sink,
     G: BandGate + Sync,
     ensures cause { HasCause words.now
-        (record { left = A.left first.old; given = A.given first.old; faults = A.faults first.old; written = K.written out.old; out_faults = K.faults out.old })
-        (record { left = A.left first.new; given = A.given first.new; faults = A.faults first.new; written = K.written out.new; out_faults = K.faults out.new })
+        (record {
+          first = record { left = A.left first.old; given = A.given first.old; faults = A.faults first.old };
+          second = record { left = B.left second.old; given = B.given second.old; faults = B.faults second.old };
+          out = record { written = K.written out.old; faults = K.faults out.old };
+        })
+        (record {
+          first = record { left = A.left first.new; given = A.given first.new; faults = A.faults first.new };
+          second = record { left = B.left second.new; given = B.given second.new; faults = B.faults second.new };
+          out = record { written = K.written out.new; faults = K.faults out.new };
+        })
         (record { written = N.written notes.old; faults = N.faults notes.old })
         (record { written = N.written notes.new; faults = N.faults notes.new })
         result }
 
     // Where nothing gives a cause of refusal, the command is done whole, or memory is wanting.
     ensures complete { IsComplete words.now
-        (record { left = A.left first.old; given = A.given first.old; faults = A.faults first.old; written = K.written out.old; out_faults = K.faults out.old })
-        (record { left = A.left first.new; given = A.given first.new; faults = A.faults first.new; written = K.written out.new; out_faults = K.faults out.new })
+        (record {
+          first = record { left = A.left first.old; given = A.given first.old; faults = A.faults first.old };
+          second = record { left = B.left second.old; given = B.given second.old; faults = B.faults second.old };
+          out = record { written = K.written out.old; faults = K.faults out.old };
+        })
+        (record {
+          first = record { left = A.left first.new; given = A.given first.new; faults = A.faults first.new };
+          second = record { left = B.left second.new; given = B.given second.new; faults = B.faults second.new };
+          out = record { written = K.written out.new; faults = K.faults out.new };
+        })
         (record { written = N.written notes.old; faults = N.faults notes.old })
         (record { written = N.written notes.new; faults = N.faults notes.new })
         result }
 
-    // The second source is not called.
-    ensures second { second.new ≡ second.old }
+    // A command that reads one source does not call the second.
+    ensures second { IsSecondKept (command_of_words words.now) second.old second.new }
 {
-    let _second = second;
-    let status = run(alloc, words, first, out);
+    let status = run(alloc, words, first, second, out);
     tell(status, notes)
 }
 
@@ -69,16 +86,34 @@ fn tell<N: Sink>(status: Status, notes: &mut N) -> Status
     }
 }
 
-fn run<A: Source, K: Sink>(alloc: Global, words: &Words, first: &mut A, out: &mut K) -> Status
-    ensures { IsCaused words.now
-        (record { left = A.left first.old; given = A.given first.old; faults = A.faults first.old; written = K.written out.old; out_faults = K.faults out.old })
-        (record { left = A.left first.new; given = A.given first.new; faults = A.faults first.new; written = K.written out.new; out_faults = K.faults out.new })
+/// Carries out the command without telling how it ended.
+fn run<A: Source, B: Source, K: Sink>(
+    alloc: Global,
+    words: &Words,
+    first: &mut A,
+    second: &mut B,
+    out: &mut K,
+) -> Status
+    ensures cause { IsCaused words.now
+        (record {
+          first = record { left = A.left first.old; given = A.given first.old; faults = A.faults first.old };
+          second = record { left = B.left second.old; given = B.given second.old; faults = B.faults second.old };
+          out = record { written = K.written out.old; faults = K.faults out.old };
+        })
+        (record {
+          first = record { left = A.left first.new; given = A.given first.new; faults = A.faults first.new };
+          second = record { left = B.left second.new; given = B.given second.new; faults = B.faults second.new };
+          out = record { written = K.written out.new; faults = K.faults out.new };
+        })
         result }
+    ensures second { IsSecondKept (command_of_words words.now) second.old second.new }
 {
+    let _second = second;
     match command_of(words) {
         None => Status::Usage,
         Some(Command::Compile { profile, pid, page }) => {
-            compile(alloc, words, profile, pid, page, first, out)
+            compile(alloc, profile, pid, page, first, out)
         }
+        Some(Command::List { pid }) => list(alloc, pid, first, out),
     }
 }

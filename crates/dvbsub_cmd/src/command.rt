@@ -1,7 +1,7 @@
 ghost use Rattle.std.specs.Prelude.{◌≡◌, ◌<◌, length, IfSome};
 ghost use Rattle.std.specs.List.{list_all};
 ghost use Rattle.std.specs.Str.{bytes_eq};
-ghost use Rattle.dvbsub_cmd.specs.Command.{command_of as command_of_words, is_plain as is_plain_word, is_compile as is_compile_words, has_word as has_word_at, word_at, places_of, IsSending};
+ghost use Rattle.dvbsub_cmd.specs.Command.{command_of as command_of_words, is_plain as is_plain_word, is_compile as is_compile_words, is_list as is_list_words, compile_of as compile_of_words, list_of as list_of_words, has_word as has_word_at, word_at, places_of, IsSending};
 
 use sub_base::{ProfileName, Words, number_in};
 
@@ -13,6 +13,10 @@ pub enum Command {
         profile: ProfileName,
         pid: u16,
         page: u16,
+    },
+    /// Lists the losses, units and segments of that PID in a stream.
+    List {
+        pid: u16,
     },
 }
 
@@ -40,18 +44,37 @@ pub fn inputs(words: &Words) -> InputPlaces
             second: None,
             out: Some(6),
         },
+        Some(Command::List { .. }) => InputPlaces {
+            first: Some(2),
+            second: None,
+            out: Some(3),
+        },
     }
 }
 
 /// The command that the words are, if they are one.
-#[tactic(auto, unfolding(crate::specs::Command::command_of))]
 pub fn command_of(words: &Words) -> Option<Command>
     ensures command { result ≡ command_of_words words.now }
     ensures sending { IfSome result IsSending }
 {
-    if !are_plain(words) || !is_compile(words) {
-        return None;
+    if !are_plain(words) {
+        None
+    } else if is_compile(words) {
+        compile_of(words)
+    } else if is_list(words) {
+        list_of(words)
+    } else {
+        None
     }
+}
+
+/// The numbers of a `compile`.
+#[tactic(auto, unfolding(crate::specs::Command::compile_of))]
+fn compile_of(words: &Words) -> Option<Command>
+    requires { 3 < length words.now }
+    ensures command { result ≡ compile_of_words words.now }
+    ensures sending { IfSome result IsSending }
+{
     let pid = number_in(words.word(2).as_bytes(), 32, 8_190)? as u16;
     let page = number_in(words.word(3).as_bytes(), 1, 65_535)? as u16;
     Some(Command::Compile {
@@ -59,6 +82,23 @@ pub fn command_of(words: &Words) -> Option<Command>
         pid,
         page,
     })
+}
+
+/// The number of a `list`.
+#[tactic(auto, unfolding(crate::specs::Command::list_of))]
+fn list_of(words: &Words) -> Option<Command>
+    requires { 1 < length words.now }
+    ensures command { result ≡ list_of_words words.now }
+    ensures sending { IfSome result IsSending }
+{
+    let pid = number_in(words.word(1).as_bytes(), 32, 8_190)? as u16;
+    Some(Command::List { pid })
+}
+
+fn is_list(words: &Words) -> bool
+    ensures { result ≡ is_list_words words.now }
+{
+    words.count() == 4 && has_word(words, 0, "list")
 }
 
 fn is_compile(words: &Words) -> bool

@@ -1,10 +1,9 @@
 ghost use Rattle.std.specs.Prelude.{◌≡◌, ◌<◌, [], ◌∷◌, Some, IfOk, IfErr, IsSome, OnOk, All, map};
 ghost use Rattle.cue_list.specs.OneCue.{IsSound};
 ghost use Rattle.sub_base.specs.Profile.{profile_of};
-ghost use Rattle.dvbsub_cmd.specs.declared.command.Command.TheVariants.{Compile};
-ghost use Rattle.dvbsub_cmd.specs.Command.{command_of as command_of_words};
 ghost use Rattle.dvbsub_cmd.specs.Compiled.{loads_of as loads_of_units, row_of as row_of_fault};
-ghost use Rattle.dvbsub_cmd.specs.Outcome.{IsCaused};
+ghost use Rattle.dvbsub_cmd.specs.CompileOutcome.{IsCompileCause};
+ghost use Rattle.dvbsub_cmd.specs.Shown.{Supplied, Received};
 ghost use Rattle.dvbsub_cmd.specs.PieceView.{plain};
 ghost use Rattle.dvbsub_cmd.specs.Sending.{Sends, IsRefusal, fault_of as fault_of_schedule};
 ghost use Rattle.dvbsub_cmd.specs.SlotStream.{IsPiece, all_pieces};
@@ -16,9 +15,7 @@ use crate::units::{Units, units_of};
 use cue_list::{OneCue, ScriptFault, read_one_cue};
 use schedule::{Schedule, ScheduleFault};
 use std::alloc::Global;
-use sub_base::{
-    NoMemory, Profile, ProfileName, ReadAllFault, SetLoad, Sink, Source, Words, read_all,
-};
+use sub_base::{NoMemory, Profile, ProfileName, ReadAllFault, SetLoad, Sink, Source, read_all};
 
 /// The most bytes of a script.
 const SCRIPT_LIMIT: u64 = 67_108_864;
@@ -26,19 +23,19 @@ const SCRIPT_LIMIT: u64 = 67_108_864;
 /// Compiles a script to packets. Nothing is written before all of it is known to be right.
 pub fn compile<A: Source, K: Sink>(
     alloc: Global,
-    _words: &Words,
     profile: ProfileName,
     pid: u16,
     page: u16,
     script: &mut A,
     out: &mut K,
 ) -> Status
-    requires command { command_of_words _words.now ≡ Some (Compile profile pid page) }
     requires pid { pid < 8192 }
     requires profile { IsSome (profile_of profile).step }
-    ensures { IsCaused _words.now
-        (record { left = A.left script.old; given = A.given script.old; faults = A.faults script.old; written = K.written out.old; out_faults = K.faults out.old })
-        (record { left = A.left script.new; given = A.given script.new; faults = A.faults script.new; written = K.written out.new; out_faults = K.faults out.new })
+    ensures { IsCompileCause profile pid page
+        (record { left = A.left script.old; given = A.given script.old; faults = A.faults script.old })
+        (record { left = A.left script.new; given = A.given script.new; faults = A.faults script.new })
+        (record { written = K.written out.old; faults = K.faults out.old })
+        (record { written = K.written out.new; faults = K.faults out.new })
         result }
 {
     let text = match read_all(alloc, script, SCRIPT_LIMIT) {

@@ -4,16 +4,24 @@
 mod carry_out;
 mod command;
 mod compile;
+mod kind_names;
 mod line;
+mod list;
+mod list_lines;
+mod list_packets;
+mod list_units;
 mod pieces;
 mod sets;
 mod slot_stream;
 mod status;
+mod text_buffer;
 mod units;
 
 pub use carry_out::top;
 pub use command::{Command, InputPlaces, inputs};
 pub use status::{Status, Which};
 
+#[cfg(test)]
+mod list_tests;
 #[cfg(test)]
 mod tests;

@@ -1,4 +1,4 @@
-ghost use Rattle.std.specs.Prelude.{◌≡◌, ◌+◌, ◌≤◌, ◌++◌, [], length};
+ghost use Rattle.std.specs.Prelude.{◌≡◌, ◌+◌, ◌<◌, ◌≤◌, ◌∷◌, ◌++◌, [], length};
 ghost use Rattle.std.specs.Fmt.{decimal};
 
 use itoa::Buffer;
@@ -45,6 +45,16 @@ impl Line {
         let end = self.length + text.len();
         self.bytes[self.length..end].copy_from_slice(text);
         self.length = end;
+    }
+
+    /// Puts the byte at the end.
+    pub fn push_byte(&mut self, byte: u8)
+        requires { length self.old < 128 }
+        ensures line { self.new ≡ self.old ++ (byte ∷ []) }
+        ensures length { length self.new ≡ length self.old + 1 }
+    {
+        self.bytes[self.length] = byte;
+        self.length += 1;
     }
 
     /// Puts the number at the end, in decimal.

@@ -1,9 +1,12 @@
 ghost use Rattle.std.specs.Prelude.{◌≡◌, ◌≤◌, ◌+◌, ◌++◌, length};
-ghost use Rattle.dvbsub_cmd.specs.StatusText.{which_name as which_name_of, then_number, kind_text, done_text as done_text_of, schedule_text as schedule_text_of, script_text as script_text_of, status_text, status_line as line_of_status, code_of};
+ghost use Rattle.dvbsub_cmd.specs.StatusText.{which_name as which_name_of, then_number, kind_text, done_text as done_text_of, font_text as font_text_of, schedule_text as schedule_text_of, script_text as script_text_of, stream_text as stream_text_of, status_text, status_line as line_of_status, code_of};
 
+use crate::kind_names::{font_kind_name, packet_fault_name};
 use crate::line::Line;
+use bitmap_font::FontFault;
 use cue_list::{ScriptFault, ScriptKind};
 use schedule::ScheduleFault;
+use stream_syntax::PacketFault;
 
 /// One of the sources and sinks of a command.
 #[derive(Clone, Copy, Debug, PartialEq, Eq)]
@@ -22,10 +25,14 @@ pub enum Status {
     Done { cut: u64 },
     /// The words are no command.
     Usage,
+    /// The font is refused.
+    FontRefused(FontFault),
     /// The script is refused.
     ScriptRefused(ScriptFault),
     /// The schedule is refused at a set, which comes from that record of the script.
     ScheduleRefused { row: u64, fault: ScheduleFault },
+    /// The packet at that place, counted from 0, is the first of the stream that cannot be taken.
+    StreamRefused { packet: u64, fault: PacketFault },
     /// The source could not be read.
     ReadFault(Which),
     /// The sink could not be written.
@@ -44,8 +51,10 @@ impl Status {
         match self {
             Status::Done { .. } => 0,
             Status::Usage => 2,
+            Status::FontRefused(_) => 3,
             Status::ScriptRefused(_) => 3,
             Status::ScheduleRefused { .. } => 3,
+            Status::StreamRefused { .. } => 4,
             Status::ReadFault(_) => 5,
             Status::WriteFault(_) => 6,
             Status::Memory => 7,
@@ -70,8 +79,10 @@ fn text_of(status: Status) -> Line
     match status {
         Status::Done { cut } => done_text(cut),
         Status::Usage => line_of("usage"),
+        Status::FontRefused(fault) => font_text(fault),
         Status::ScriptRefused(fault) => script_text(fault),
         Status::ScheduleRefused { row, fault } => schedule_text(row, fault),
+        Status::StreamRefused { packet, fault } => stream_text(packet, fault),
         Status::ReadFault(which) => named_text("read ", which),
         Status::WriteFault(which) => named_text("write ", which),
         Status::Memory => line_of("memory"),
@@ -79,7 +90,8 @@ fn text_of(status: Status) -> Line
     }
 }
 
-fn line_of(text: &str) -> Line
+/// A line that begins with the text.
+pub fn line_of(text: &str) -> Line
     requires { length text.now ≤ 60 }
     ensures text { result ≡ text.now }
     ensures length { length result ≡ length text.now }
@@ -121,6 +133,33 @@ fn which_name(which: Which) -> &'static str
         Which::Out => "out",
         Which::Notes => "notes",
     }
+}
+
+fn font_text(fault: FontFault) -> Line
+    ensures text { result ≡ font_text_of fault }
+    ensures short { length result ≤ 100 }
+{
+    match fault {
+        FontFault::Memory => line_of("memory"),
+        FontFault::Refused { line: place, kind } => {
+            let mut line = line_of("font");
+            push_then_number(&mut line, place);
+            line.push_text(" ");
+            line.push_text(font_kind_name(kind));
+            line
+        }
+    }
+}
+
+fn stream_text(packet: u64, fault: PacketFault) -> Line
+    ensures text { result ≡ stream_text_of packet fault }
+    ensures short { length result ≤ 100 }
+{
+    let mut line = line_of("stream");
+    push_then_number(&mut line, packet);
+    line.push_text(" ");
+    line.push_text(packet_fault_name(fault));
+    line
 }
 
 fn script_text(fault: ScriptFault) -> Line
@@ -173,7 +212,7 @@ fn push_kind(line: &mut Line, kind: ScriptKind)
 }
 
 /// Puts a space and the number at the end.
-fn push_then_number(line: &mut Line, number: u64)
+pub fn push_then_number(line: &mut Line, number: u64)
     requires { length line.old ≤ 80 }
     ensures line { line.new ≡ line.old ++ then_number number }
     ensures short { length line.new ≤ length line.old + 21 }

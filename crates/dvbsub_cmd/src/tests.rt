@@ -25,7 +25,7 @@ const SCRIPT_TOO_DEEP: &str =
 
 /// What stands in its first packet behind the head, `55 00` and 84 bytes FF.
 #[rattlefmt::skip]
-const FIRST_UNIT: [u8; 98] = [
+pub(crate) const FIRST_UNIT: [u8; 98] = [
     0x00, 0x00, 0x01, 0xBD, 0x00, 0x5C, 0x84, 0x80, 0x05, 0x21, 0x00, 0x05, 0xBF, 0x21, 0x20, 0x00,
     0x0F, 0x14, 0x00, 0x01, 0x00, 0x05, 0x07, 0x00, 0x03, 0x00, 0x01, 0x0F, 0x10, 0x00, 0x01, 0x00,
     0x08, 0x0C, 0x0B, 0x00, 0xFF, 0x00, 0x00, 0x00, 0x00, 0x0F, 0x11, 0x00, 0x01, 0x00, 0x10, 0x00,
@@ -37,7 +37,7 @@ const FIRST_UNIT: [u8; 98] = [
 
 /// What stands in its second packet behind the head, `98 00` and 151 bytes FF.
 #[rattlefmt::skip]
-const SECOND_UNIT: [u8; 31] = [
+pub(crate) const SECOND_UNIT: [u8; 31] = [
     0x00, 0x00, 0x01, 0xBD, 0x00, 0x19, 0x84, 0x80, 0x05, 0x21, 0x00, 0x0B, 0x7E, 0x41, 0x20, 0x00,
     0x0F, 0x10, 0x00, 0x01, 0x00, 0x02, 0x0C, 0x13, 0x0F, 0x80, 0x00, 0x01, 0x00, 0x00, 0xFF,
 ];
@@ -50,7 +50,7 @@ struct Outcome {
     notes: MemSink,
 }
 
-fn words_of(alloc: Global, line: &str) -> Result<Words, Fail> {
+pub(crate) fn words_of(alloc: Global, line: &str) -> Result<Words, Fail> {
     let mut words = Words::make(alloc);
     for word in line.split(' ') {
         words.push(word)?;
@@ -154,6 +154,12 @@ fn other_words_are_answered_with_the_usage(rt: HostRuntime) -> Result<(), Fail> 
         "compile sd 256 1  none out.ts",
         "compile sd 256 1 script.csv none out.ts more",
         "dump sd 256 1 script.csv none out.ts",
+        "list",
+        "list 31 in.ts out.txt",
+        "list 8191 in.ts out.txt",
+        "list 0256 in.ts out.txt",
+        "list 256 in.ts",
+        "list 256 in.ts out.txt more",
     ];
     for line in lines {
         let refused = run(&rt, rt.alloc(), line, FIRST_SCRIPT)?;

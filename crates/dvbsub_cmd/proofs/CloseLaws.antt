@@ -1,0 +1,138 @@
+-- The end of a walk over a stream, with the text that waits.
+use Rattle.std.proofs.Common.{◌≡◌, ℕ, ◌+◌, ◌*◌, ◌≤◌, ◌⊎◌, inl, inr, Bool, true, false, List, [], ◌++◌, length, take, Option, append-nil, length-append, refl, sym, ap, subst, ◌∙◌, arith}
+use Rattle.std.specs.Io.KnownBytes.{Appends}
+use Rattle.std.proofs.Math.Seq.{take-append_seam}
+use Rattle.sub_base.specs.Counts.{HasRisen, counted}
+use Rattle.sub_base.specs.Transfer.{AppendsFront}
+use Rattle.stream_syntax.specs.declared.transport.PacketFault.{PacketFault}
+use Rattle.dvbsub_cmd.specs.ListOutcome.{IsListCause, IsFront, AreWithin, stream_limit}
+use Rattle.dvbsub_cmd.specs.Putting.{Buffered, IsPutOut, PutsOut}
+use Rattle.dvbsub_cmd.specs.Shown.{Supplied, Received}
+use Rattle.dvbsub_cmd.specs.SlotStream.{Sent}
+use Rattle.dvbsub_cmd.specs.Walking.{IsTold, IsEnd, Closes}
+use Rattle.dvbsub_cmd.specs.declared.list.End.{End}
+use Rattle.dvbsub_cmd.specs.declared.list.End.TheVariants as end
+use Rattle.dvbsub_cmd.specs.declared.status.Status.{Status}
+use Rattle.dvbsub_cmd.specs.declared.status.Status.TheVariants as status
+use Rattle.dvbsub_cmd.specs.declared.status.Which.TheVariants as which
+
+-- what was written of a text that is put out is a front of it
+sent_front : (start now : Option (List ℕ)) (waits text : List ℕ) → Sent start now waits text → AppendsFront start now text
+sent_front start now waits text sent =
+    let count : length sent.written ≤ length text = omega (arith, ap (λ (l : List ℕ). length l) sent.whole, length-append sent.written waits) in
+    let front : take (length sent.written) text ≡ sent.written = ap (λ (l : List ℕ). take (length sent.written) l) (sym sent.whole) ∙ take-append_seam sent.written waits in
+    (length sent.written, count, subst (λ (l : List ℕ). Appends start now l) (sym front) sent.appended)
+
+put_front : (start now : Received) (buffer : Buffered) (text : List ℕ) (failed : Bool) → failed ≡ buffer.failed → IsPutOut start now buffer text → AppendsFront start.written now.written text
+put_front start now buffer text true is out = (out.front (sym is)).0
+put_front start now buffer text false is out = sent_front start.written now.written buffer.waits text (out.sent (sym is))
+
+-- a front of what was told was written
+told_front : (pid : ℕ) (before now : Supplied) (start out : Received) (buffer : Buffered) (packets : List (List ℕ)) (rest : List ℕ) → IsTold pid before now start out buffer packets rest → IsFront pid before now start out
+told_front pid before now start out buffer packets rest told =
+    record { packets = packets; rest = rest; taken = told.taken; text = told.text; told = told.told; written = put_front start out buffer told.text buffer.failed refl told.put_out }
+
+-- the source gave at most its limit
+at_most : (start had now limit : ℕ) → had ≤ limit → now ≡ counted start had → now ≤ counted start limit
+at_most start had now limit within given = grind arith
+
+given_at_most : (before now : Supplied) (packets : List (List ℕ)) (rest : List ℕ) → AreWithin before now packets rest → now.given ≤ counted before.given stream_limit
+given_at_most before now packets rest within = at_most before.given (188 * length packets + length rest) now.given stream_limit within.short within.count
+
+-- the text that waits was written, or the sink failed
+pub closed_whole : (before now : Received) (old new : Buffered) (run : Status) → PutsOut before now old new [] → new.failed ≡ false → new.waits ≡ [] → Closes before now old run run
+closed_whole before now old new run puts well empty = λ start text. λ out.
+    let ended : IsPutOut start now new (text ++ []) = puts.extends start text out in
+    let sent : Sent start.written now.written new.waits (text ++ []) = ended.sent well in
+    let whole : sent.written ≡ text =
+    sym (append-nil sent.written) ∙ (ap (λ (w : List ℕ). sent.written ++ w) (sym empty) ∙ (sent.whole ∙ append-nil text)) in
+    inl (refl, subst (λ (l : List ℕ). Appends start.written now.written l) whole sent.appended)
+
+pub closed_failed : (before now : Received) (old new : Buffered) (run : Status) → PutsOut before now old new [] → new.failed ≡ true → Closes before now old run (status.WriteFault which.Out)
+closed_failed before now old new run puts failed = λ start text. λ out.
+    let ended : IsPutOut start now new (text ++ []) = puts.extends start text out in
+    let front = ended.front failed in
+    inr (refl, subst (λ (l : List ℕ). AppendsFront start.written now.written l) (append-nil text) front.0, front.1)
+
+-- a write fault where the text was told
+write_fault : (pid : ℕ) (before now : Supplied) (start out next : Received) (buffer : Buffered) (packets : List (List ℕ)) (rest : List ℕ) (told : IsTold pid before now start out buffer packets rest) → AreWithin before now packets rest
+    → AppendsFront start.written next.written told.text → HasRisen start.faults next.faults → IsListCause pid before now start next (status.WriteFault which.Out)
+write_fault pid before now start out next buffer packets rest told within front risen = (
+  risen,
+  record { packets = packets; rest = rest; taken = told.taken; text = told.text; told = told.told; written = front },
+  given_at_most before now packets rest within,
+)
+
+pub ended_whole : (pid : ℕ) (before now : Supplied) (start out next : Received) (buffer : Buffered) (cut : ℕ) (answer : Status) → IsEnd pid before now start out buffer (end.Whole cut) → Closes out next buffer (status.Done cut) answer
+    → IsListCause pid before now start next answer
+ended_whole pid before now start out next buffer cut answer ended closes = by_close (closes start ended.2.text ended.2.put_out)
+  where
+    by_close : ((answer ≡ status.Done cut) × Appends start.written next.written ended.2.text) ⊎ ((answer ≡ status.WriteFault which.Out) × AppendsFront start.written next.written ended.2.text × HasRisen start.faults next.faults)
+        → IsListCause pid before now start next answer
+    by_close (inl whole) = subst (λ (s : Status). IsListCause pid before now start next s) (sym whole.0) (record {
+      packets = ended.0;
+      rest = ended.1;
+      taken = ended.2.taken;
+      within = ended.3;
+      end = ended.6;
+      short = ended.4;
+      cut_is = ended.5;
+      text = ended.2.text;
+      told = ended.2.told;
+      written = whole.1;
+    })
+    by_close (inr front) = subst (λ (s : Status). IsListCause pid before now start next s) (sym front.0) (write_fault pid before now start out next buffer ended.0 ended.1 ended.2 ended.3 front.1 front.2)
+
+pub ended_refused : (pid : ℕ) (before now : Supplied) (start out next : Received) (buffer : Buffered) (place : ℕ) (fault : PacketFault) (answer : Status) → IsEnd pid before now start out buffer (end.Refused place fault) → Closes out next buffer (status.StreamRefused place fault) answer
+    → IsListCause pid before now start next answer
+ended_refused pid before now start out next buffer place fault answer ended closes = by_close (closes start ended.3.text ended.3.put_out)
+  where
+    by_close : ((answer ≡ status.StreamRefused place fault) × Appends start.written next.written ended.3.text) ⊎ ((answer ≡ status.WriteFault which.Out) × AppendsFront start.written next.written ended.3.text × HasRisen start.faults next.faults)
+        → IsListCause pid before now start next answer
+    by_close (inl whole) = subst (λ (s : Status). IsListCause pid before now start next s) (sym whole.0) (record {
+      packets = ended.0;
+      refused = ended.1;
+      rest = ended.2;
+      taken = ended.3.taken;
+      within = ended.4;
+      whole = ended.5;
+      place_is = ended.6;
+      fault_is = ended.7;
+      text = ended.3.text;
+      told = ended.3.told;
+      written = whole.1;
+    })
+    by_close (inr front) = subst (λ (s : Status). IsListCause pid before now start next s) (sym front.0) (write_fault pid before now start out next buffer ended.0 (ended.1 ++ ended.2) ended.3 ended.4 front.1 front.2)
+
+pub ended_unread : (pid : ℕ) (before now : Supplied) (start out next : Received) (buffer : Buffered) (answer : Status) → IsEnd pid before now start out buffer end.Unread → Closes out next buffer (status.ReadFault which.First) answer
+    → IsListCause pid before now start next answer
+ended_unread pid before now start out next buffer answer ended closes = by_close (closes start ended.2.text ended.2.put_out)
+  where
+    by_close : ((answer ≡ status.ReadFault which.First) × Appends start.written next.written ended.2.text) ⊎ ((answer ≡ status.WriteFault which.Out) × AppendsFront start.written next.written ended.2.text × HasRisen start.faults next.faults)
+        → IsListCause pid before now start next answer
+    by_close (inl whole) = subst (λ (s : Status). IsListCause pid before now start next s) (sym whole.0) (
+      ended.5,
+      record {
+        packets = ended.0;
+        rest = ended.1;
+        taken = ended.2.taken;
+        within = ended.3;
+        short = ended.4;
+        text = ended.2.text;
+        told = ended.2.told;
+        written = whole.1;
+      },
+    )
+    by_close (inr front) = subst (λ (s : Status). IsListCause pid before now start next s) (sym front.0) (write_fault pid before now start out next buffer ended.0 ended.1 ended.2 ended.3 front.1 front.2)
+
+pub ended_unwritten : (pid : ℕ) (before now : Supplied) (start out : Received) (buffer : Buffered) → IsEnd pid before now start out buffer end.Unwritten → IsListCause pid before now start out (status.WriteFault which.Out)
+ended_unwritten pid before now start out buffer ended =
+    let front = ended.2.put_out.front ended.4 in
+    write_fault pid before now start out out buffer ended.0 ended.1 ended.2 ended.3 front.0 front.1
+
+pub ended_too_long : (pid : ℕ) (before now : Supplied) (start out : Received) (buffer : Buffered) → IsEnd pid before now start out buffer end.TooLong → IsListCause pid before now start out (status.InputTooLong which.First)
+ended_too_long pid before now start out buffer ended = (ended.3, told_front pid before now start out buffer ended.0 ended.1 ended.2)
+
+-- how a walk has ended, by another name
+pub as_end : (pid : ℕ) (before now : Supplied) (start out : Received) (buffer : Buffered) (one other : End) → one ≡ other → IsEnd pid before now start out buffer one → IsEnd pid before now start out buffer other
+as_end pid before now start out buffer one other same ended = subst (λ (e : End). IsEnd pid before now start out buffer e) same ended

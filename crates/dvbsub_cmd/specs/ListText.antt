@@ -1,0 +1,64 @@
+-- What `list` tells of the packets of a stream: the losses, the units of the PID, and their segments.
+use Rattle.std.specs.Prelude.{◌≡◌, ℕ, ◌+◌, ◌<◌, ◌==◌, Bool, true, false, List, [], ◌∷◌, ◌++◌, length, take, drop, slice_index_or, Option, Some, None}
+use Rattle.std.specs.List.{flat_map}
+use Rattle.stream_syntax.specs.Pes.{IsPes, pes_fault}
+use Rattle.stream_syntax.specs.Segments.{IsSegment, SegmentValue}
+use Rattle.stream_syntax.specs.SegmentTests.{IsSegmentFault, frame_tests}
+use Rattle.stream_syntax.specs.Tests.{byte_at, word_at, first_fault}
+use Rattle.stream_syntax.specs.Units.{event_at, unit_at}
+use Rattle.stream_syntax.specs.declared.pes.PesFault.{PesFault}
+use Rattle.stream_syntax.specs.declared.segment_fault.SegmentFault.{SegmentFault}
+use Rattle.dvbsub_cmd.specs.ListLines.{loss_line, unit_line, pes_line, segment_line, fault_line}
+
+-- units that need more bytes are dropped: the coded data buffer of the widest profile
+abbrev pub unit_limit : ℕ
+unit_limit = 262144
+
+-- no segment begins here: the field has ended, or its end marker FF stands in a segment's place
+abbrev pub ends_segments : List ℕ → Bool
+ends_segments [] = true
+ends_segments (byte ∷ bytes) = byte == 0xFF
+
+-- the bytes of the segment that begins these bytes, its head included
+abbrev pub whole_segment : List ℕ → ℕ
+whole_segment bytes = 6 + word_at 4 bytes
+
+-- the line of the segment that begins these bytes, at that place of its field: of what its head says, or of its first fault
+pub data IsSegmentLine : ℕ → List ℕ → List ℕ → Type 0 where
+  right : {place : ℕ} {bytes line : List ℕ} (value : SegmentValue) → IsSegment (take (whole_segment bytes) bytes) value
+      → line ≡ segment_line place (byte_at 1 bytes) (word_at 2 bytes) (word_at 4 bytes) → IsSegmentLine place bytes line
+  refused : {place : ℕ} {bytes line : List ℕ} (fault : SegmentFault) → IsSegmentFault bytes fault → line ≡ fault_line place fault → IsSegmentLine place bytes line
+
+-- the lines of the segments that stand one after the other in these bytes, the first at that place of the field. A segment
+-- that has no sync byte, or is cut, has the last line.
+pub data AreSegmentLines : ℕ → List ℕ → List ℕ → Type 0 where
+  none_left : {place : ℕ} {bytes lines : List ℕ} → ends_segments bytes ≡ true → lines ≡ [] → AreSegmentLines place bytes lines
+  unframed : {place : ℕ} {bytes lines : List ℕ} (fault : SegmentFault) → ends_segments bytes ≡ false → first_fault (frame_tests bytes) ≡ Some fault
+      → lines ≡ fault_line place fault → AreSegmentLines place bytes lines
+  one_more : {place : ℕ} {bytes lines : List ℕ} (line rest : List ℕ) → ends_segments bytes ≡ false → first_fault (frame_tests bytes) ≡ None
+      → IsSegmentLine place bytes line → AreSegmentLines (place + whole_segment bytes) (drop (whole_segment bytes) bytes) rest
+      → lines ≡ line ++ rest → AreSegmentLines place bytes lines
+
+-- the lines of a unit that ends with the packet of that place. The segments begin at place 2 of the field.
+pub data AreUnitLines : ℕ → List ℕ → List ℕ → Type 0 where
+  of_subtitles : {place : ℕ} {unit lines : List ℕ} (pts : ℕ) (segments rest : List ℕ) → IsPes unit pts segments → AreSegmentLines 2 segments rest
+      → lines ≡ unit_line place pts (length unit) ++ rest → AreUnitLines place unit lines
+  of_others : {place : ℕ} {unit lines : List ℕ} (fault : PesFault) → pes_fault unit ≡ Some fault → lines ≡ pes_line place fault → AreUnitLines place unit lines
+
+-- the lines of the unit that a packet ends, where it ends one
+abbrev pub AreEndLines : ℕ → Option (List ℕ) → List ℕ → Type 0
+AreEndLines place None lines = lines ≡ []
+AreEndLines place (Some unit) lines = AreUnitLines place unit lines
+
+-- the lines at a packet, by the packets before it: of its loss, and then of the unit that it ends
+pub record ArePacketLines (pid : ℕ) (before : List (List ℕ)) (packet lines : List ℕ) : Type 0 where
+  pub of_unit : List ℕ
+  pub ended : AreEndLines (length before) (unit_at pid unit_limit before packet) of_unit
+  pub whole : lines ≡ loss_line (length before) (event_at pid unit_limit before packet) ++ of_unit
+
+-- the text of a list of packets: the lines at each of them, in order
+pub record IsListText (pid : ℕ) (packets : List (List ℕ)) (text : List ℕ) : Type 0 where
+  pub lines : List (List ℕ)
+  pub count : length lines ≡ length packets
+  pub each : (k : ℕ) → k < length packets → ArePacketLines pid (take k packets) (slice_index_or packets k []) (slice_index_or lines k [])
+  pub whole : text ≡ flat_map (λ at_one. at_one) lines

@@ -1,0 +1,247 @@
+ghost use Rattle.std.specs.Prelude.{◌≤◌};
+
+use super::*;
+use crate::tests::{FIRST_UNIT, SECOND_UNIT, words_of};
+use std::alloc::Global;
+use std::process::Abort;
+use std::test::Fail;
+use std::thread::Threads;
+use stream_syntax::PacketFault;
+use sub_base::{MemSink, MemSource, NoGate};
+
+const LIST: &str = "list 256 in.ts out.txt";
+
+const FIRST_HEAD: [u8; 6] = [0x47, 0x41, 0x00, 0x30, 0x55, 0x00];
+
+const SECOND_HEAD: [u8; 6] = [0x47, 0x41, 0x00, 0x31, 0x98, 0x00];
+
+/// The second packet with its counter raised by two.
+const LATER_HEAD: [u8; 6] = [0x47, 0x41, 0x00, 0x33, 0x98, 0x00];
+
+/// The second packet with its error flag set.
+const DAMAGED_HEAD: [u8; 6] = [0x47, 0xC1, 0x00, 0x31, 0x98, 0x00];
+
+/// The second packet with another byte in place of its sync byte.
+const UNSYNCED_HEAD: [u8; 6] = [0x48, 0x41, 0x00, 0x31, 0x98, 0x00];
+
+const ENCODER_HEAD: [u8; 6] = [0x47, 0x41, 0x00, 0x30, 0x63, 0x00];
+
+/// A unit as a usual encoder makes it, with a stuffing segment.
+#[rattlefmt::skip]
+const ENCODER_UNIT: [u8; 84] = [
+    0x00, 0x00, 0x01, 0xBD, 0x00, 0x4E, 0x84, 0x80, 0x05, 0x21, 0x00, 0x05, 0xBF, 0x21, 0x20, 0x00,
+    0x0F, 0x10, 0x00, 0x01, 0x00, 0x08, 0x0A, 0x08, 0x01, 0x00, 0x00, 0x00, 0x00, 0x00, 0x0F, 0x11,
+    0x00, 0x01, 0x00, 0x10, 0x01, 0x08, 0x00, 0x02, 0x00, 0x01, 0x24, 0x00, 0x00, 0x00, 0x00, 0x05,
+    0x00, 0x00, 0x00, 0x00, 0x0F, 0xFF, 0x00, 0x01, 0x00, 0x02, 0xAA, 0xAA, 0x0F, 0x13, 0x00, 0x01,
+    0x00, 0x0B, 0x00, 0x05, 0x00, 0x00, 0x04, 0x00, 0x00, 0x10, 0x70, 0x00, 0xF0, 0x0F, 0x80, 0x00,
+    0x01, 0x00, 0x00, 0xFF,
+];
+
+const BROKEN_HEAD: [u8; 6] = [0x47, 0x41, 0x00, 0x30, 0x97, 0x00];
+
+/// A unit with a page segment of a wrong length, an end segment, and a byte that begins no segment.
+#[rattlefmt::skip]
+const BROKEN_UNIT: [u8; 32] = [
+    0x00, 0x00, 0x01, 0xBD, 0x00, 0x1A, 0x84, 0x80, 0x05, 0x21, 0x00, 0x05, 0xBF, 0x21, 0x20, 0x00,
+    0x0F, 0x10, 0x00, 0x01, 0x00, 0x03, 0x0A, 0x08, 0x00, 0x0F, 0x80, 0x00, 0x01, 0x00, 0x00, 0x0E,
+];
+
+const OTHER_HEAD: [u8; 6] = [0x47, 0x41, 0x00, 0x31, 0xAE, 0x00];
+
+/// A unit of another stream id.
+const OTHER_UNIT: [u8; 9] = [0x00, 0x00, 0x01, 0xC0, 0x00, 0x03, 0x80, 0x00, 0x00];
+
+const FIRST_LINES: &str =
+    "unit 0 pts 90000 length 98\nsegment 2 14 1 5\nsegment 13 10 1 8\nsegment 27 11 1 16\nsegment 49 13 1 22\nsegment 77 80 1 0\n";
+
+const BOTH_LINES: &str =
+    "unit 0 pts 90000 length 98\nsegment 2 14 1 5\nsegment 13 10 1 8\nsegment 27 11 1 16\nsegment 49 13 1 22\nsegment 77 80 1 0\nunit 1 pts 180000 length 31\nsegment 2 10 1 2\nsegment 10 80 1 0\n";
+
+const GAP_LINES: &str =
+    "unit 0 pts 90000 length 98\nsegment 2 14 1 5\nsegment 13 10 1 8\nsegment 27 11 1 16\nsegment 49 13 1 22\nsegment 77 80 1 0\ngap 1 1 3\nunit 1 pts 180000 length 31\nsegment 2 10 1 2\nsegment 10 80 1 0\n";
+
+const ERROR_LINES: &str =
+    "unit 0 pts 90000 length 98\nsegment 2 14 1 5\nsegment 13 10 1 8\nsegment 27 11 1 16\nsegment 49 13 1 22\nsegment 77 80 1 0\nerror 1\n";
+
+const ENCODER_LINES: &str =
+    "unit 0 pts 90000 length 84\nsegment 2 10 1 8\nsegment 16 11 1 16\nsegment 38 FF 1 2\nsegment 46 13 1 11\nsegment 63 80 1 0\n";
+
+const BROKEN_LINES: &str =
+    "unit 0 pts 90000 length 32\nfault 6 BadLength\nsegment 11 80 1 0\nfault 17 NoSync\npes 1 OtherStream\n";
+
+/// How a command ended over a stream in memory: the status, what `out` received, and the note.
+#[derive(Drop)]
+struct Outcome {
+    status: Status,
+    out: MemSink,
+    notes: MemSink,
+}
+
+/// A packet that begins with this head and ends with the unit, with FF between.
+fn packet_of(head: &[u8], unit: &[u8]) -> [u8; 188] {
+    let mut packet = [0xFF; 188];
+    for (byte, given) in packet.iter_mut().zip(head) {
+        *byte = *given;
+    }
+    for (byte, given) in packet.iter_mut().rev().zip(unit.iter().rev()) {
+        *byte = *given;
+    }
+    packet
+}
+
+/// The bytes of two packets, and so many further bytes.
+fn stream_of(
+    alloc: Global,
+    first: [u8; 188],
+    second: [u8; 188],
+    further: &[u8],
+) -> Result<Vec<u8>, Fail> {
+    let mut stream = Vec::from_slice(alloc, &first)?;
+    stream.extend_from_slice(&second)?;
+    stream.extend_from_slice(further)?;
+    Ok(stream)
+}
+
+/// Lists the stream, whose source gives at most `most` bytes a read and fails at the read, the write and the note of these
+/// numbers.
+fn run<R: Threads + Sync>(
+    rt: &R,
+    alloc: Global,
+    stream: &[u8],
+    most: usize,
+    fails: [u64; 3],
+) -> Result<Outcome, Fail>
+    requires { 1 ≤ most }
+{
+    let words = words_of(alloc, LIST)?;
+    let [bad_read, bad_write, bad_note] = fails;
+    let bytes = Vec::from_slice(alloc, stream)?;
+    let mut first = MemSource::make(alloc, bytes, most, vec![in alloc; bad_read]?);
+    let mut second = MemSource::make(alloc, Vec::new(alloc), 1, vec![in alloc; 1u64]?);
+    let mut out = MemSink::make(alloc, vec![in alloc; bad_write]?);
+    let mut notes = MemSink::make(alloc, vec![in alloc; bad_note]?);
+    let status = top(
+        rt,
+        alloc,
+        &words,
+        &mut first,
+        &mut second,
+        &mut out,
+        &mut notes,
+        &NoGate,
+    );
+    Ok(Outcome { status, out, notes })
+}
+
+/// A stream, and how its listing ends.
+#[derive(Drop)]
+struct Row<'a> {
+    stream: &'a [u8],
+    status: Status,
+    note: &'a str,
+    text: &'a str,
+}
+
+/// Lists each stream, in reads of few bytes, of a packet, and of all at once.
+fn are_listed<R: Threads + Sync + Abort>(
+    rt: &R,
+    alloc: Global,
+    rows: &[Row<'_>],
+) -> Result<(), Fail> {
+    for row in rows {
+        for most in [7, 188, 100_000] {
+            let listed = run(rt, alloc, row.stream, most, [0, 0, 0])?;
+            assert_eq!(rt; listed.status, row.status);
+            assert_eq!(rt; listed.notes.written(), row.note.as_bytes());
+            assert_eq!(rt; listed.out.written(), row.text.as_bytes());
+        }
+    }
+    Ok(())
+}
+
+fn listing_of<'a>(stream: &'a [u8], status: Status, note: &'a str, text: &'a str) -> Row<'a> {
+    Row {
+        stream,
+        status,
+        note,
+        text,
+    }
+}
+
+fn done_with<'a>(stream: &'a [u8], text: &'a str) -> Row<'a> {
+    listing_of(stream, Status::Done { cut: 0 }, "done\n", text)
+}
+
+fn cut_with<'a>(stream: &'a [u8], text: &'a str) -> Row<'a> {
+    listing_of(stream, Status::Done { cut: 100 }, "done cut 100\n", text)
+}
+
+#[test]
+fn whole_and_cut_streams_are_listed(rt: HostRuntime) -> Result<(), Fail> {
+    let alloc = rt.alloc();
+    let first = packet_of(&FIRST_HEAD, &FIRST_UNIT);
+    let second = packet_of(&SECOND_HEAD, &SECOND_UNIT);
+    let begun = [0x47; 100];
+    let whole = stream_of(alloc, first, second, &[])?;
+    let cut = stream_of(alloc, first, second, &begun)?;
+    let encoder = packet_of(&ENCODER_HEAD, &ENCODER_UNIT);
+    let rows = [
+        done_with(whole.as_slice(), BOTH_LINES),
+        cut_with(cut.as_slice(), BOTH_LINES),
+        done_with(&encoder, ENCODER_LINES),
+        done_with(&[], ""),
+        cut_with(&begun, ""),
+    ];
+    are_listed(&rt, alloc, &rows)
+}
+
+#[test]
+fn losses_and_faults_are_listed(rt: HostRuntime) -> Result<(), Fail> {
+    let alloc = rt.alloc();
+    let first = packet_of(&FIRST_HEAD, &FIRST_UNIT);
+    let gap = stream_of(alloc, first, packet_of(&LATER_HEAD, &SECOND_UNIT), &[])?;
+    let damaged = stream_of(alloc, first, packet_of(&DAMAGED_HEAD, &SECOND_UNIT), &[])?;
+    let unsynced = stream_of(alloc, first, packet_of(&UNSYNCED_HEAD, &SECOND_UNIT), &[])?;
+    let broken = stream_of(
+        alloc,
+        packet_of(&BROKEN_HEAD, &BROKEN_UNIT),
+        packet_of(&OTHER_HEAD, &OTHER_UNIT),
+        &[],
+    )?;
+    let refused = Status::StreamRefused {
+        packet: 1,
+        fault: PacketFault::NoSync,
+    };
+    let rows = [
+        done_with(gap.as_slice(), GAP_LINES),
+        done_with(damaged.as_slice(), ERROR_LINES),
+        done_with(broken.as_slice(), BROKEN_LINES),
+        listing_of(
+            unsynced.as_slice(),
+            refused,
+            "stream 1 NoSync\n",
+            FIRST_LINES,
+        ),
+    ];
+    are_listed(&rt, alloc, &rows)
+}
+
+#[test]
+fn a_stream_that_fails_is_told(rt: HostRuntime) -> Result<(), Fail> {
+    let alloc = rt.alloc();
+    let first = packet_of(&FIRST_HEAD, &FIRST_UNIT);
+    let second = packet_of(&SECOND_HEAD, &SECOND_UNIT);
+    let stream = stream_of(alloc, first, second, &[])?;
+    let unread = run(&rt, alloc, stream.as_slice(), 7, [40, 0, 0])?;
+    assert_eq!(rt; unread.status, Status::ReadFault(Which::First));
+    assert_eq!(rt; unread.notes.written(), b"read first\n".as_slice());
+    assert_eq!(rt; unread.out.written(), FIRST_LINES.as_bytes());
+    let unwritten = run(&rt, alloc, stream.as_slice(), 7, [0, 1, 0])?;
+    assert_eq!(rt; unwritten.status, Status::WriteFault(Which::Out));
+    assert_eq!(rt; unwritten.notes.written(), b"write out\n".as_slice());
+    assert!(rt; unwritten.out.written().is_empty());
+    let untold = run(&rt, alloc, stream.as_slice(), 7, [0, 0, 1])?;
+    assert_eq!(rt; untold.status, Status::WriteFault(Which::Notes));
+    assert_eq!(rt; untold.out.written(), BOTH_LINES.as_bytes());
+    Ok(())
+}
