@@ -9,6 +9,8 @@ mod fault;
 mod items;
 mod kind_rows;
 mod one_cue;
+mod row_cells;
+mod row_kind;
 mod rows;
 mod script;
 
