@@ -157,10 +157,6 @@ ended_epochs font (row ∷ earlier) =
 
 -- ---- all of it
 
-abbrev pub is_epoch_kind : RowKind → Bool
-is_epoch_kind kinds.Epoch = true
-is_epoch_kind _ = false
-
 abbrev pub is_colour_kind : RowKind → Bool
 is_colour_kind kinds.Colour = true
 is_colour_kind _ = false
@@ -183,7 +179,6 @@ pub record Past : Type 0 where
   pub seconds : ℕ
   pub ended : List Epoch
   pub epoch : Option Epoch
-  pub epochs : ℕ
   pub colours : ℕ
   pub pictures : ℕ
   pub cues : ℕ
@@ -201,7 +196,6 @@ looking_back font earlier = record {
   seconds = number_in kinds.Refresh 1 earlier;
   ended = ended_epochs font earlier;
   epoch = last_epoch font earlier;
-  epochs = how_many is_epoch_kind earlier;
   colours = how_many is_colour_kind earlier;
   pictures = how_many is_picture_kind earlier;
   cues = how_many is_cue_kind earlier;

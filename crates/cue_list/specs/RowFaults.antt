@@ -50,9 +50,13 @@ abbrev pub regions_of : Option Epoch → List Region
 regions_of None = []
 regions_of (Some epoch) = epoch.regions
 
+-- how many epochs there are
+abbrev pub epoch_count : Past → ℕ
+epoch_count past = length past.ended + (if is_some past.epoch then 1 else 0)
+
 -- one more of that kind would be too many
 abbrev pub is_full : Past → RowKind → Bool
-is_full past kinds.Epoch = nat_le 512 past.epochs
+is_full past kinds.Epoch = nat_le 512 (epoch_count past)
 is_full past kinds.Region = nat_le 64 (length (regions_of past.epoch))
 is_full past kinds.Colour = nat_le 8192 past.colours
 is_full past kinds.Picture = nat_le 1024 past.pictures

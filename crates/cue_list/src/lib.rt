@@ -13,6 +13,7 @@ mod row_cells;
 mod row_kind;
 mod rows;
 mod script;
+mod ticks;
 
 pub use epoch::{ColourRow, Cue, Epoch, Region};
 pub use fault::{ScriptFault, ScriptKind};
