@@ -67,11 +67,11 @@ near-with old new tick other spans apart updated =
     let t = span_of tick in
     let here : is_close_to tick (old t) ≡ false = middle (is_close_to tick (old (t - 1))) (is_close_to tick (old t)) (is_close_to tick (old (t + 1))) apart in
     let at : (span : ℕ) → is_close_to other (new span) ≡ (if span == t then is_close other tick else is_close_to other (old span)) =
-        λ span. ap (is_close_to other) (updated span) ∙ slot_of old tick other span (span == t) in
+    λ span. ap (is_close_to other) (updated span) ∙ slot_of old tick other span (span == t) in
     let fact : (span : ℕ) → (span == t) ≡ true → is_close_to other (old span) ≡ true → is_close other tick ≡ true =
-        λ span h close.
-            let same : span ≡ t = same_span span tick h in
-            close_in tick other (old t) (λ u e. spans t u e) here (ap (λ s. is_close_to other (old s)) (sym same) ∙ close) in
+    λ span h close.
+    let same : span ≡ t = same_span span tick h in
+    close_in tick other (old t) (λ u e. spans t u e) here (ap (λ s. is_close_to other (old s)) (sym same) ∙ close) in
     let put = slots (is_close other tick) (is_close_to other (old (b - 1))) (is_close_to other (old b)) (is_close_to other (old (b + 1)))
-        (b - 1 == t) (b == t) (b + 1 == t) (fact (b - 1)) (fact b) (fact (b + 1)) (spans_meet other tick) in
+    (b - 1 == t) (b == t) (b + 1 == t) (fact (b - 1)) (fact b) (fact (b + 1)) (spans_meet other tick) in
     (λ i. at (b - 1) i || at b i || at (b + 1) i) ∙ put

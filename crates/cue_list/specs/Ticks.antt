@@ -19,10 +19,6 @@ abbrev pub is_near_by : (ℕ → Option ℕ) → ℕ → Bool
 is_near_by named_in tick =
     is_close_to tick (named_in (span_of tick - 1)) || is_close_to tick (named_in (span_of tick)) || is_close_to tick (named_in (span_of tick + 1))
 
--- the same with one more tick
-abbrev pub with_tick : ℕ → (ℕ → Option ℕ) → ℕ → Option ℕ
-with_tick tick named_in span = if span == span_of tick then Some tick else named_in span
-
 -- each tick is kept by its own span
 abbrev pub AreSpans : (ℕ → Option ℕ) → Type 0
 AreSpans named_in = (span tick : ℕ) → named_in span ≡ Some tick → span_of tick ≡ span
@@ -35,3 +31,7 @@ near_by ticks = is_near_by (named_by ticks)
 
 abbrev pub IsTicks : Ticks → Type 0
 IsTicks ticks = AreSpans (named_by ticks)
+
+-- the ticks that are near, with one more that was named
+abbrev pub near_with : ℕ → (ℕ → Bool) → ℕ → Bool
+near_with named is_near tick = is_close tick named || is_near tick

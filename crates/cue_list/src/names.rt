@@ -1,6 +1,5 @@
 ghost use Rattle.std.specs.Prelude.{◌≡◌, ℕ, List, None, Some, IfOk, OnOk, if◌then◌else◌};
-ghost use Rattle.std.specs.Str.{bytes_eq};
-ghost use Rattle.cue_list.specs.Names.{place_by};
+ghost use Rattle.cue_list.specs.Names.{place_by, named_with};
 
 use crate::row_fault::RowFault;
 use std::alloc::Global;
@@ -30,7 +29,7 @@ impl Names {
 
     /// Notes the place of a picture of that name.
     pub(crate) fn add(&mut self, alloc: Global, name: &str, place: u32) -> Result<(), RowFault>
-        ensures { OnOk result ((other : List ℕ) → place_by self.new other ≡ (if bytes_eq other name.now then Some place else place_by self.old other)) }
+        ensures { OnOk result (place_by self.new ≡ named_with name.now place (place_by self.old)) }
     {
         let name = String::from_str(alloc, name)?;
         self.places.insert(name, place)?;

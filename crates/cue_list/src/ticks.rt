@@ -1,7 +1,7 @@
 ghost use Rattle.std.specs.Prelude.{◌≡◌, ◌||◌, ◌<◌, ◌^◌, ℕ, false, IfOk, OnOk, option_copied};
 ghost use Rattle.std.specs.Ordering.{nat_cmp};
 ghost use Rattle.cue_list.specs.Past.{is_close as is_close_of};
-ghost use Rattle.cue_list.specs.Ticks.{IsTicks, near_by, named_by, is_close_to, span_of};
+ghost use Rattle.cue_list.specs.Ticks.{IsTicks, near_by, near_with, named_by, is_close_to, span_of};
 
 use std::alloc::{AllocFailed, Global};
 use std::collections::BTreeMap;
@@ -52,7 +52,7 @@ impl Ticks {
         requires spans { IsTicks self.old }
         requires apart { near_by self.old tick ≡ false }
         ensures spans { OnOk result (IsTicks self.new) }
-        ensures added { OnOk result ((other : ℕ) → near_by self.new other ≡ (is_close_of other tick || near_by self.old other)) }
+        ensures added { OnOk result (near_by self.new ≡ near_with tick (near_by self.old)) }
     {
         self.spans.insert(tick / SPAN, tick)?;
         Ok(())
