@@ -1,5 +1,8 @@
 pub mod CodesLaws
+pub mod CueLaws
+pub mod HexLaws
 pub mod OneCueLaws
 pub mod RowsLaws
+pub mod SettingLaws
 pub mod TextLaws
 pub mod TicksLaws

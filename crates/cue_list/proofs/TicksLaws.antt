@@ -1,7 +1,7 @@
 use Rattle.std.proofs.Common.{◌≡◌, ◌∙◌, refl, sym, ap, ℕ, ◌+◌, ◌-◌, ◌/◌, ◌<◌, ◌≤◌, ◌==◌, Bool, true, false, cond, ◌||◌, if◌then◌else◌, Option, Some, None, arith}
 use Rattle.std.proofs.lemmas.Bool.Decides.{nat_tests}
 use Rattle.cue_list.specs.Past.{is_close}
-use Rattle.cue_list.specs.Ticks.{span_of, is_close_to, is_near_by, AreSpans}
+use Rattle.cue_list.specs.Ticks.{span_of, is_close_to, is_near_by, near_with, AreSpans}
 
 -- one slot, where a tick that is not close replaces one
 kept : (e s : Bool) → (e ≡ true → s ≡ true → ⊥) → (if e then false else s) ≡ s
@@ -75,3 +75,7 @@ near-with old new tick other spans apart updated =
     let put = slots (is_close other tick) (is_close_to other (old (b - 1))) (is_close_to other (old b)) (is_close_to other (old (b + 1)))
     (b - 1 == t) (b == t) (b + 1 == t) (fact (b - 1)) (fact b) (fact (b + 1)) (spans_meet other tick) in
     (λ i. at (b - 1) i || at b i || at (b + 1) i) ∙ put
+
+-- a tick is not near one more that it is not close to
+pub near_with-not : (near more : ℕ → Bool) (tick named : ℕ) → more ≡ near_with named near → near tick ≡ false → is_close tick named ≡ false → more tick ≡ false
+near_with-not near more tick named is far apart = rw (is, apart, far) refl

@@ -222,11 +222,16 @@ kind_fault font past kinds.Place number cells = place_fault past (placing_in cel
 kind_fault font past kinds.Cue number cells = cue_fault font past (placing_in cells) (value_at cells 6) (value_at cells 7) (chars (cell_at cells 8))
 kind_fault font past _ number cells = None
 
+-- a first cell that names no kind
+abbrev pub is_unknown : RowKind → Bool
+is_unknown kinds.Other = true
+is_unknown _ = false
+
 -- the tests that a record's text, first word and number of cells have to pass
 unfoldable pub shape_fault : RowKind → Row → Option ScriptKind
-shape_fault kinds.Other cells = first_of (fails (not (is_text_row cells)) faults.NotUtf8 ∷ Some faults.Unknown ∷ [])
 shape_fault kind cells = first_of (
     fails (not (is_text_row cells)) faults.NotUtf8
+    ∷ fails (is_unknown kind) faults.Unknown
     ∷ fails (not (length cells == cells_of kind)) faults.Count
     ∷ [])
 

@@ -19,6 +19,7 @@ use Rattle.cue_list.specs.CellFaults.{first_of, value_at, cells_fault}
 use Rattle.cue_list.specs.Cells.{cell_at}
 use Rattle.cue_list.specs.Names.{place_by, named_with}
 use Rattle.cue_list.specs.Past.{Past, area, is_close, with_last, region_with, head_by, cue_by}
+use Rattle.cue_list.specs.Records.{Record}
 use Rattle.cue_list.specs.RowFaults.{regions_of, kind_fault}
 use Rattle.cue_list.specs.RowValues.{region_in, colour_in, head_in}
 use Rattle.cue_list.specs.Rows.{Row}
@@ -141,6 +142,10 @@ pub record IsTaken (fault : Option ScriptKind) (kept : Past) (new : Reader) : Ty
   pub reader : IsReader new
   pub right : fault ≡ None
   pub next : past_of new ≡ kept
+
+-- what is found by looking back, with one more record
+abbrev pub next_with : FontValue → Past → Record → Past
+next_with font past row = record (next_by font past row.kind row.number row.cells) { rows = past.rows + 1 }
 
 -- the tests of a record after those of its shape and place
 abbrev pub content_fault : FontValue → Past → RowKind → ℕ → Row → Option ScriptKind

@@ -4,12 +4,14 @@
 
 mod cells;
 mod codes;
+mod cue_rows;
 mod epoch;
 mod fault;
 mod items;
 mod kind_rows;
 mod names;
 mod one_cue;
+mod picture_rows;
 mod reader;
 mod row_cells;
 mod row_fault;
@@ -18,6 +20,9 @@ mod row_steps;
 mod row_tests;
 mod rows;
 mod script;
+mod setting;
+mod take;
+mod texts;
 mod ticks;
 
 pub use epoch::{ColourRow, Cue, Epoch, Region};

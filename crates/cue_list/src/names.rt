@@ -1,4 +1,5 @@
-ghost use Rattle.std.specs.Prelude.{◌≡◌, ℕ, List, None, Some, IfOk, OnOk, if◌then◌else◌};
+ghost use Rattle.std.specs.Prelude.{◌≡◌, ℕ, List, None, OnOk, IfErr};
+ghost use Rattle.cue_list.specs.State.{IsRowFault};
 ghost use Rattle.cue_list.specs.Names.{place_by, named_with};
 
 use crate::row_fault::RowFault;
@@ -29,7 +30,8 @@ impl Names {
 
     /// Notes the place of a picture of that name.
     pub(crate) fn add(&mut self, alloc: Global, name: &str, place: u32) -> Result<(), RowFault>
-        ensures { OnOk result (place_by self.new ≡ named_with name.now place (place_by self.old)) }
+        ensures memory { IfErr result (IsRowFault None) }
+        ensures added { OnOk result (place_by self.new ≡ named_with name.now place (place_by self.old)) }
     {
         let name = String::from_str(alloc, name)?;
         self.places.insert(name, place)?;

@@ -3,6 +3,7 @@ ghost use Rattle.cue_list.specs.declared.row_fault.RowFault.TheVariants.{OutOfMe
 
 use crate::fault::ScriptKind;
 use std::alloc::{AllocError, AllocFailed};
+use sub_base::NoMemory;
 
 /// Why a record was not taken.
 #[derive(Clone, Copy, Debug)]
@@ -32,6 +33,14 @@ impl<T: Drop> From<AllocFailed<T>> for RowFault {
     ghost from_gives = { λ _ fault. fault ≡ OutOfMemory };
 
     fn from(_error: AllocFailed<T>) -> RowFault {
+        RowFault::OutOfMemory
+    }
+}
+
+impl From<NoMemory> for RowFault {
+    ghost from_gives = { λ _ fault. fault ≡ OutOfMemory };
+
+    fn from(_error: NoMemory) -> RowFault {
         RowFault::OutOfMemory
     }
 }

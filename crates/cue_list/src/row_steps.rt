@@ -142,15 +142,17 @@ fn add_colour(epoch: &mut Option<Epoch>, colour: ColourRow) -> Result<(), RowFau
     Ok(())
 }
 
-/// Adds a cue to an epoch, where there is one.
-pub(crate) fn add_cue(epoch: &mut Option<Epoch>, cue: Cue) -> Result<(), RowFault>
-    ensures added { OnOk result (epoch.new ≡ option_map (with_cue (Some cue)) epoch.old) }
+/// Adds a cue to an epoch, where there are both.
+pub(crate) fn add_cue(epoch: &mut Option<Epoch>, cue: Option<Cue>) -> Result<(), RowFault>
+    ensures added { OnOk result (epoch.new ≡ option_map (with_cue cue) epoch.old) }
     ensures memory { IfErr result (IsRowFault None) }
 {
     let Some(mut last) = epoch.take() else {
         return Ok(());
     };
-    last.cues.push(cue)?;
+    if let Some(cue) = cue {
+        last.cues.push(cue)?;
+    }
     *epoch = Some(last);
     Ok(())
 }

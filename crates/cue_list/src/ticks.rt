@@ -57,6 +57,20 @@ impl Ticks {
         self.spans.insert(tick / SPAN, tick)?;
         Ok(())
     }
+
+    /// Adds the two ticks of a span, that are not too close to any or to each other.
+    pub(crate) fn add_both(&mut self, start: u64, end: u64) -> Result<(), AllocFailed<(u64, u64)>>
+        requires spans { IsTicks self.old }
+        requires start { near_by self.old start ≡ false }
+        requires end { near_by self.old end ≡ false }
+        requires apart { is_close_of start end ≡ false }
+        ensures spans { OnOk result (IsTicks self.new) }
+        ensures added { OnOk result (near_by self.new ≡ near_with start (near_with end (near_by self.old))) }
+    {
+        self.add(end)?;
+        self.add(start)?;
+        Ok(())
+    }
 }
 
 /// Whether two ticks differ by 1 to 3,600.
