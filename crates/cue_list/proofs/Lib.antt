@@ -2,6 +2,7 @@ pub mod CodesLaws
 pub mod CueLaws
 pub mod HexLaws
 pub mod OneCueLaws
+pub mod PastLaws
 pub mod RowsLaws
 pub mod SettingLaws
 pub mod TextLaws
