@@ -3,6 +3,7 @@ pub mod CueLaws
 pub mod HexLaws
 pub mod OneCueLaws
 pub mod PastLaws
+pub mod ReadLaws
 pub mod RowsLaws
 pub mod SettingLaws
 pub mod TextLaws

@@ -12,6 +12,7 @@ mod kind_rows;
 mod names;
 mod one_cue;
 mod picture_rows;
+mod read;
 mod reader;
 mod row_cells;
 mod row_fault;

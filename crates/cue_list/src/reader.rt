@@ -1,5 +1,7 @@
-ghost use Rattle.std.specs.Prelude.{◌≡◌};
-ghost use Rattle.cue_list.specs.State.{IsReader};
+ghost use Rattle.std.specs.Prelude.{◌≡◌, []};
+ghost use Rattle.bitmap_font.specs.Font.{FontValue};
+ghost use Rattle.cue_list.specs.Past.{looking_back};
+ghost use Rattle.cue_list.specs.State.{IsReader, past_of};
 
 use crate::epoch::Epoch;
 use crate::names::Names;
@@ -35,6 +37,8 @@ impl Reader {
     pub(crate) fn new(alloc: Global) -> Reader
         ensures reader { IsReader result }
         ensures rows { result.rows ≡ 0 }
+        ensures pictures { result.pictures.items ≡ [] }
+        ensures past { (font : FontValue) → past_of result ≡ looking_back font [] }
     {
         Reader {
             rows: 0,
