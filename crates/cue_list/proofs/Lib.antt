@@ -1,10 +1,16 @@
 pub mod CodesLaws
 pub mod CueLaws
+pub mod EpochLaws
+pub mod FactLaws
 pub mod HexLaws
 pub mod OneCueLaws
 pub mod PastLaws
 pub mod ReadLaws
 pub mod RowsLaws
+pub mod ScriptLaws
 pub mod SettingLaws
+pub mod SoundLaws
+pub mod SoundSteps
 pub mod TextLaws
+pub mod TicksApartLaws
 pub mod TicksLaws

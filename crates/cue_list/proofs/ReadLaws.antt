@@ -105,7 +105,7 @@ not-none None h = absurd (let never : true ≡ false = h in cc)
 not-none (Some x) h = refl
 
 -- a right cue stands in an epoch
-cue-open : (font : FontValue) (past : Past) (kind : RowKind) (number : ℕ) (cells : Row) → fault_with font past (record { number = number; kind = kind; cells = cells }) ≡ None → kind ≡ kinds.Cue → is_some past.epoch ≡ true
+pub cue-open : (font : FontValue) (past : Past) (kind : RowKind) (number : ℕ) (cells : Row) → fault_with font past (record { number = number; kind = kind; cells = cells }) ≡ None → kind ≡ kinds.Cue → is_some past.epoch ≡ true
 cue-open font past kind number cells right is =
     let placed : is_misplaced past kind ≡ false = passes _ _ (second-none _ _ _ _ _ right) in
     not-none past.epoch (ap (is_misplaced past) (sym is) ∙ placed)
