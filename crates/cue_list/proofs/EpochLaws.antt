@@ -117,14 +117,14 @@ epoch-region origin width height heads epoch region old sides few unused new lie
     record {
       starts = old.starts;
       many = omega (arith, length-last epoch.regions region);
-      regions = λ other m. elim (Member-append other epoch.regions (region ∷ []) m) [ | inl first ↦ old.regions other first | inr last ↦ subst (IsRegion width height) (sym (last-of other region last)) is_region ];
+      regions = λ other m. elim (Member-append other epoch.regions (region ∷ []) m) [ inl first ↦ old.regions other first | inr last ↦ subst (IsRegion width height) (sym (last-of other region last)) is_region ];
       apart = all_pairs_push AreApart epoch.regions region old.apart (λ k other within.
-        let m = Member-at epoch.regions k other within in
-        let first = get_or epoch.regions k other in
-        record {
-          ids = different first region (find-none (λ (r : Region). r.id == region.id) epoch.regions first new m);
-          rows = below-or-above first region (any-none (share_row region) epoch.regions first alone m);
-        });
+          let m = Member-at epoch.regions k other within in
+          let first = get_or epoch.regions k other in
+          record {
+            ids = different first region (find-none (λ (r : Region). r.id == region.id) epoch.regions first new m);
+            rows = below-or-above first region (any-none (share_row region) epoch.regions first alone m);
+          });
       colours = old.colours;
       cues = λ cue m. absurd (subst (λ (cues : List Cue). Member cue cues) unused m);
     }
@@ -191,7 +191,7 @@ epoch-colour origin width height heads epoch row old is = record {
   many = old.many;
   regions = old.regions;
   apart = old.apart;
-  colours = λ other m. elim (Member-append other epoch.colours (row ∷ []) m) [ | inl first ↦ old.colours other first | inr last ↦ subst (IsColourRow origin epoch.start) (sym (last-of other row last)) is ];
+  colours = λ other m. elim (Member-append other epoch.colours (row ∷ []) m) [ inl first ↦ old.colours other first | inr last ↦ subst (IsColourRow origin epoch.start) (sym (last-of other row last)) is ];
   cues = old.cues;
 }
 
@@ -205,7 +205,7 @@ epoch-cue origin width height heads epoch cue old is = record {
   regions = old.regions;
   apart = old.apart;
   colours = old.colours;
-  cues = λ other m. elim (Member-append other epoch.cues (cue ∷ []) m) [ | inl first ↦ old.cues other first | inr last ↦ subst (IsCueOf origin epoch.start epoch.regions heads) (sym (last-of other cue last)) is ];
+  cues = λ other m. elim (Member-append other epoch.cues (cue ∷ []) m) [ inl first ↦ old.cues other first | inr last ↦ subst (IsCueOf origin epoch.start epoch.regions heads) (sym (last-of other cue last)) is ];
 }
 
 -- one more picture changes no cue

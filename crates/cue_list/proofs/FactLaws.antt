@@ -67,6 +67,7 @@ number-range least most cell h =
   where
     least-of : nat_le least (value_of cell) ≡ true → least ≤ value_of cell
     least-of e = grind (arith, nat_tests)
+
     most-of : nat_le (value_of cell) most ≡ true → value_of cell ≤ most
     most-of e = grind (arith, nat_tests)
 

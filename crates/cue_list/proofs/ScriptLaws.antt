@@ -26,14 +26,14 @@ use Rattle.cue_list.specs.Records.{Record, cells_of, records_of, records_before,
 use Rattle.cue_list.specs.RowFaults.{fault_with, fault_of, shape_fault}
 use Rattle.cue_list.specs.RowValues.{colour_in, placing_in}
 use Rattle.cue_list.specs.Rows.{Row}
-use Rattle.cue_list.specs.ScriptRows.{AreRight, AreDrawn}
+use Rattle.cue_list.specs.ScriptRows.{AreRight, AreDrawn, Lists, IsScript}
 use Rattle.cue_list.specs.Authored.{picture_at_place}
 use Rattle.cue_list.specs.Sound.{IsSound, IsEpoch, AreRegions, IsCue, FitsRegion, IsColourRow, IsRegion, Follows, AreTicksApart, ticks_of}
 use Rattle.cue_list.specs.State.{IsReader, past_of, head_of, next_with}
 use Rattle.cue_list.proofs.EpochLaws.{IsEpochOf, IsCueOf}
 use Rattle.cue_list.proofs.FactLaws.{IsRightRow-from, passed, right}
 use Rattle.cue_list.proofs.PastLaws.{row_with, looking-back-more}
-use Rattle.cue_list.proofs.ReadLaws.{before-more, cue-open}
+use Rattle.cue_list.proofs.ReadLaws.{before-more, cue-open, all-read}
 use Rattle.cue_list.proofs.SoundLaws.{EpochFacts, EpochFacts-none, TickFacts, member-last, member-flat, colours_of, cues_of, in_last, sum-last, length-push}
 use Rattle.cue_list.proofs.SoundSteps.{SoundPast, given-epoch, sound-origin, sound-display, sound-refresh, sound-epoch, sound-region, sound-colour, sound-picture, sound-place, sound-cue}
 use Rattle.cue_list.proofs.TicksApartLaws.{Member, Member-at, AreApartTicks}
@@ -100,9 +100,9 @@ whole-brought font regions kinds.Refresh cells old new each same p m = each p (s
 whole-brought font regions kinds.Epoch cells old new each same p m = each p (subst (Member p) same m)
 whole-brought font regions kinds.Region cells old new each same p m = each p (subst (Member p) same m)
 whole-brought font regions kinds.Colour cells old new each same p m = each p (subst (Member p) same m)
-whole-brought font regions kinds.Picture cells old new each brings p m = elim (member-last p old brings.picture (subst (Member p) brings.added m)) [ | inl before ↦ each p before | inr same ↦ subst IsPicture (sym same) brings.drawn.whole ]
+whole-brought font regions kinds.Picture cells old new each brings p m = elim (member-last p old brings.picture (subst (Member p) brings.added m)) [ inl before ↦ each p before | inr same ↦ subst IsPicture (sym same) brings.drawn.whole ]
 whole-brought font regions kinds.Place cells old new each same p m = each p (subst (Member p) same m)
-whole-brought font regions kinds.Cue cells old new each brings p m = elim (member-last p old brings.picture (subst (Member p) brings.added m)) [ | inl before ↦ each p before | inr same ↦ subst IsPicture (sym same) brings.set.whole ]
+whole-brought font regions kinds.Cue cells old new each brings p m = elim (member-last p old brings.picture (subst (Member p) brings.added m)) [ inl before ↦ each p before | inr same ↦ subst IsPicture (sym same) brings.set.whole ]
 whole-brought font regions kinds.Other cells old new each same p m = each p (subst (Member p) same m)
 
 pub whole-pictures : (font : FontValue) (rows : List Record) (pictures : List Picture) → AreDrawn font rows pictures → (p : Picture) → Member p pictures → IsPicture p
@@ -197,7 +197,7 @@ IsSound-kept kept ticks reader sound some whole counted = with-epoch kept.epoch 
           | inl before ↦ epoch-of kept.origin kept.width kept.height pictures e (facts.each e before)
           | inr same ↦ subst (IsEpoch kept.origin kept.width kept.height pictures) (sym same) (epoch-of kept.origin kept.width kept.height pictures epoch (facts.last epoch is))
         ] in
-        let tick : (u : ℕ) → Member u (flat_map ticks_of (ended ++ epoch ∷ [])) → Member u ticks = λ u m. elim (member-flat ticks_of u ended epoch m) [ | inl before ↦ named.each u before | inr last ↦ named.last epoch is u last ] in
+        let tick : (u : ℕ) → Member u (flat_map ticks_of (ended ++ epoch ∷ [])) → Member u ticks = λ u m. elim (member-flat ticks_of u ended epoch m) [ inl before ↦ named.each u before | inr last ↦ named.last epoch is u last ] in
         record {
           early = reader.origin;
           wide = (display.0, display.1);
@@ -229,3 +229,29 @@ IsSound-read bytes font left kept read some =
     let heads : map head_of kept.pictures.items ≡ (looking_back font rows).heads = ap (λ (past : Past). past.heads) read.stands in
     let codes : kept.codes ≡ (looking_back font rows).codes = ap (λ (past : Past). past.codes) read.stands in
     IsSound-kept kept (ticks_in rows) read.reader sound some (whole-pictures font rows kept.pictures.items read.drawn) (codes ∙ ap (sum_by area) (sym heads))
+
+-- what a reader keeps after the last record is what the records list
+pub IsScript-read : (bytes : List ℕ) (font : FontValue) (kept : Reader) → HasRead bytes font [] kept → is_some kept.epoch ≡ true
+    → IsScript bytes font kept.origin kept.width kept.height (90000 * kept.seconds) (with_last kept.ended.items kept.epoch) kept.pictures.items
+IsScript-read bytes font kept read some =
+    let all = records_of bytes in
+    let count : kept.rows ≡ length all = all-read bytes font [] kept read refl in
+    let rows = records_before all kept.rows in
+    let stands = read.stands in
+    let lists : Lists font rows kept.origin kept.width kept.height (90000 * kept.seconds) (with_last kept.ended.items kept.epoch) kept.pictures.items = record {
+      origin_is = ap (λ (past : Past). past.origin) stands;
+      width_is = ap (λ (past : Past). past.width) stands;
+      height_is = ap (λ (past : Past). past.height) stands;
+      refresh_is = ap (λ (past : Past). 90000 * past.seconds) stands;
+      some_epoch = ap (λ (past : Past). is_some past.epoch) (sym stands) ∙ some;
+      epochs_are = ap (λ (past : Past). with_last past.ended past.epoch) stands;
+      pictures_are = read.drawn;
+    } in
+    record {
+      right = subst (AreRight font all) count read.right;
+      lists = subst (λ (n : ℕ). Lists font (records_before all n) kept.origin kept.width kept.height (90000 * kept.seconds) (with_last kept.ended.items kept.epoch) kept.pictures.items) count lists;
+    }
+
+-- the seconds of a refresh are few
+pub few-seconds : (origin width height refresh : ℕ) (epochs : List Epoch) (pictures : List Picture) → IsSound origin width height refresh epochs pictures → refresh ≤ 5400000
+few-seconds origin width height refresh epochs pictures sound = let whole = sound.whole in let often = sound.often in omega arith

@@ -34,19 +34,19 @@ pub member-last : {A : Type 0} (x : A) (xs : List A) (y : A) → Member x (xs ++
 member-last x [] y (inl e) = inr e
 member-last x [] y (inr m) = absurd m
 member-last x (z ∷ xs) y (inl e) = inl (inl e)
-member-last x (z ∷ xs) y (inr m) = elim (member-last x xs y m) [ | inl first ↦ inl (inr first) | inr last ↦ inr last ]
+member-last x (z ∷ xs) y (inr m) = elim (member-last x xs y m) [ inl first ↦ inl (inr first) | inr last ↦ inr last ]
 
 member-map : {A : Type 0} (f : A → ℕ) (u : ℕ) (xs : List A) (y : A) → Member u (map f (xs ++ y ∷ [])) → Member u (map f xs) ⊎ (u ≡ f y)
 member-map f u [] y (inl e) = inr e
 member-map f u [] y (inr m) = absurd m
 member-map f u (z ∷ xs) y (inl e) = inl (inl e)
-member-map f u (z ∷ xs) y (inr m) = elim (member-map f u xs y m) [ | inl first ↦ inl (inr first) | inr last ↦ inr last ]
+member-map f u (z ∷ xs) y (inr m) = elim (member-map f u xs y m) [ inl first ↦ inl (inr first) | inr last ↦ inr last ]
 
 pub member-flat : {A : Type 0} (f : A → List ℕ) (u : ℕ) (xs : List A) (y : A) → Member u (flat_map f (xs ++ y ∷ [])) → Member u (flat_map f xs) ⊎ Member u (f y)
-member-flat f u [] y m = elim (Member-append u (f y) [] m) [ | inl first ↦ inr first | inr none ↦ absurd none ]
+member-flat f u [] y m = elim (Member-append u (f y) [] m) [ inl first ↦ inr first | inr none ↦ absurd none ]
 member-flat f u (z ∷ xs) y m = elim (Member-append u (f z) (flat_map f (xs ++ y ∷ [])) m) [
   | inl first ↦ inl (Member-left u (f z) (flat_map f xs) first)
-  | inr more ↦ elim (member-flat f u xs y more) [ | inl inner ↦ inl (Member-right u (f z) (flat_map f xs) inner) | inr last ↦ inr last ]
+  | inr more ↦ elim (member-flat f u xs y more) [ inl inner ↦ inl (Member-right u (f z) (flat_map f xs) inner) | inr last ↦ inr last ]
 ]
 
 some-is : {A : Type 0} (x y : A) → Some x ≡ Some y → y ≡ x
@@ -88,7 +88,7 @@ EpochFacts-new origin width height start number heads ended (Some last) old tick
     let over_last : Follows last fresh = follows-last start last fresh refl starts over in
     let later : last.start ≤ fresh.start = let before = over_last.starts in omega arith in
     record {
-      each = λ e m. elim (member-last e ended last m) [ | inl before ↦ old.each e before | inr same ↦ subst (IsEpochOf origin width height heads) (sym same) (old.last last refl) ];
+      each = λ e m. elim (member-last e ended last m) [ inl before ↦ old.each e before | inr same ↦ subst (IsEpochOf origin width height heads) (sym same) (old.last last refl) ];
       last = λ e is. subst (IsEpochOf origin width height heads) (sym (some-is fresh e is)) (epoch-new origin width height start number heads tick);
       follow = all_pairs_push Follows ended last old.follow (λ k other within. old.follow_last last (get_or ended k other) refl (Member-at ended k other within));
       follow_last = λ e x is m. subst (Follows x) (sym (some-is fresh e is)) (elim (member-last x ended last m) [
@@ -136,7 +136,8 @@ TickFacts-new ended epoch ticks start number old far = record {
   where
     ended-in : (o : Option Epoch) → TickFacts ended o ticks → (u : ℕ) → Member u (flat_map ticks_of (with_last ended o)) → Member u ticks
     ended-in None facts u m = facts.each u m
-    ended-in (Some last) facts u m = elim (member-flat ticks_of u ended last m) [ | inl before ↦ facts.each u before | inr here ↦ facts.last last refl u here ]
+    ended-in (Some last) facts u m = elim (member-flat ticks_of u ended last m) [ inl before ↦ facts.each u before | inr here ↦ facts.last last refl u here ]
+
     fresh-in : (u : ℕ) → Member u (start ∷ []) → Member u (start ∷ ticks)
     fresh-in u (inl e) = inl e
     fresh-in u (inr m) = absurd m
@@ -158,6 +159,7 @@ TickFacts-colour ended epoch row ticks old far = record {
   where
     tick : ColourRow → ℕ
     tick r = r.tick
+
     here : (u : ℕ) → Member u (epoch.start ∷ (map (λ (r : ColourRow). r.tick) (epoch.colours ++ row ∷ []) ++ flat_map ticks_of_cue epoch.cues)) → Member u (row.tick ∷ ticks)
     here u (inl e) = inr (old.last epoch refl u (inl e))
     here u (inr m) = elim (Member-append u (map (λ (r : ColourRow). r.tick) (epoch.colours ++ row ∷ [])) (flat_map ticks_of_cue epoch.cues) m) [
@@ -181,6 +183,7 @@ TickFacts-cue ended epoch cue ticks old start_far end_far apart = record {
     own u (inl e) = inl e
     own u (inr (inl e)) = inr (inl e)
     own u (inr (inr m)) = absurd m
+
     here : (u : ℕ) → Member u (epoch.start ∷ (map (λ (r : ColourRow). r.tick) epoch.colours ++ flat_map ticks_of_cue (epoch.cues ++ cue ∷ []))) → Member u (cue.start ∷ cue.end ∷ ticks)
     here u (inl e) = inr (inr (old.last epoch refl u (inl e)))
     here u (inr m) = elim (Member-append u (map (λ (r : ColourRow). r.tick) epoch.colours) (flat_map ticks_of_cue (epoch.cues ++ cue ∷ [])) m) [

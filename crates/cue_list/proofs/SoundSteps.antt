@@ -215,7 +215,7 @@ sound-region font past ticks number cells sound row =
     let few : length epoch.regions < 64 = not-least _ _ (ap (λ (o : Option Epoch). nat_le 64 (length (regions_of o))) (sym is) ∙ row.room) in
     let old : EpochFacts past.origin past.width past.height past.heads past.ended (Some epoch) = subst (EpochFacts past.origin past.width past.height past.heads past.ended) is sound.epochs in
     let better = epoch-region past.origin past.width past.height past.heads epoch region (old.last epoch refl) (region-cells cells row.cells_right) few (unused epoch (ap is_used (sym is) ∙ place.1))
-        (ap (λ (rs : List Region). is_some (region_with region.id rs)) (sym regions) ∙ tests.0) tests.1 (ap (list_any (share_row region)) (sym regions) ∙ tests.2) in
+    (ap (λ (rs : List Region). is_some (region_with region.id rs)) (sym regions) ∙ tests.0) tests.1 (ap (list_any (share_row region)) (sym regions) ∙ tests.2) in
     let new : EpochFacts past.origin past.width past.height past.heads past.ended (Some (with_region region epoch)) = EpochFacts-changed past.origin past.width past.height past.heads past.ended epoch (with_region region epoch) old refl better in
     let ticks_old : TickFacts past.ended (Some epoch) ticks = subst (λ (o : Option Epoch). TickFacts past.ended o ticks) is sound.ticks_named in
     let count : (f : Epoch → ℕ) → f (with_region region epoch) ≡ f epoch → in_last f (option_map (with_region region) past.epoch) ≡ in_last f past.epoch = λ (f : Epoch → ℕ) same. ap (in_last f) new_is ∙ (same ∙ sym (ap (in_last f) is)) in
@@ -296,7 +296,7 @@ sound-cue-with past new ticks epoch cue more sound is made right start_far end_f
     let three : 3 ≤ past.rows = sound.late (ap is_some is) in
     let heads = past.heads ++ more in
     let old : EpochFacts past.origin past.width past.height heads past.ended (Some epoch) =
-        subst (EpochFacts past.origin past.width past.height heads past.ended) is (EpochFacts-heads past.origin past.width past.height past.heads more past.ended past.epoch sound.epochs) in
+    subst (EpochFacts past.origin past.width past.height heads past.ended) is (EpochFacts-heads past.origin past.width past.height past.heads more past.ended past.epoch sound.epochs) in
     let better = epoch-cue past.origin past.width past.height heads epoch cue (old.last epoch refl) right in
     let new_epochs : EpochFacts past.origin past.width past.height heads past.ended (Some (with_cue (Some cue) epoch)) = EpochFacts-changed past.origin past.width past.height heads past.ended epoch (with_cue (Some cue) epoch) old refl better in
     let ticks_old : TickFacts past.ended (Some epoch) ticks = subst (λ (o : Option Epoch). TickFacts past.ended o ticks) is sound.ticks_named in
@@ -342,7 +342,7 @@ sound-place font past ticks number cells sound row near =
     let drawn = subst (λ (hs : List PictureHead). slice_get hs place.0 ≡ Some head) heads_same place.2 in
     let cue_is : cue_by past.named (length past.heads) kinds.Place number cells ≡ Some cue = ap (option_map (λ (k : ℕ). cue_with number cells k (is_through cells))) place.1 in
     let epoch_is : option_map (with_cue (cue_by past.named (length past.heads) kinds.Place number cells)) past.epoch ≡ Some (with_cue (Some cue) epoch) =
-        ap (λ (c : Option Cue). option_map (with_cue c) past.epoch) cue_is ∙ ap (option_map (with_cue (Some cue))) is in
+    ap (λ (c : Option Cue). option_map (with_cue c) past.epoch) cue_is ∙ ap (option_map (with_cue (Some cue))) is in
     let new = next_with font past (row_with kinds.Place number cells) in
     sound-cue-with past new ticks epoch cue [] sound is
     (λ i. record new { epoch = epoch_is i; heads = heads_same i })

@@ -14,7 +14,7 @@ Member x (y ∷ ys) = (x ≡ y) ⊎ Member x ys
 pub Member-append : {A : Type 0} (x : A) (xs ys : List A) → Member x (xs ++ ys) → Member x xs ⊎ Member x ys
 Member-append x [] ys m = inr m
 Member-append x (z ∷ xs) ys (inl e) = inl (inl e)
-Member-append x (z ∷ xs) ys (inr m) = elim (Member-append x xs ys m) [ | inl first ↦ inl (inr first) | inr second ↦ inr second ]
+Member-append x (z ∷ xs) ys (inr m) = elim (Member-append x xs ys m) [ inl first ↦ inl (inr first) | inr second ↦ inr second ]
 
 pub Member-at : {A : Type 0} (xs : List A) (i : ℕ) (other : A) → i < length xs → Member (get_or xs i other) xs
 Member-at [] i other within = absurd (omega arith)

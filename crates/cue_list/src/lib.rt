@@ -1,5 +1,8 @@
-//! Cue scripts: records of CSV that list the epochs, regions, colours, pictures and cues of a programme. For now
-//! scripts of one cue are read: one picture, shown over the whole display.
+//! Cue scripts: records of CSV that list the epochs, regions, colours, pictures and cues of a programme.
+//!
+//! `Script::read` reads a whole script. Each record is judged by looking back over those before it; the first wrong one is
+//! refused by the first of its tests that fails. `read_one_cue` reads scripts of one picture that is shown over the whole
+//! display.
 #![tactic(auto)]
 
 mod cells;
@@ -32,5 +35,7 @@ pub use items::Items;
 pub use one_cue::{OneCue, read_one_cue};
 pub use script::Script;
 
+#[cfg(test)]
+mod read_tests;
 #[cfg(test)]
 mod tests;
