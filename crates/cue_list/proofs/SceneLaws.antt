@@ -4,7 +4,7 @@ use Rattle.std.specs.Option.{option_or}
 use Rattle.std.proofs.lemmas.Bool.Decides.{nat_tests}
 use Rattle.std.proofs.lemmas.List.{take_more, length-reverse, get_or-reverse}
 use Rattle.std.proofs.lemmas.List.Elements.{All-filter, filter_passes}
-use Rattle.cue_list.proofs.SoundLaws.{Found-find, some_codes}
+use Rattle.cue_list.proofs.ShownLaws.{Found-find, some_codes}
 use Rattle.std.proofs.lemmas.List.Folds.{find-append}
 use Rattle.sub_base.specs.Colour.{clear}
 use Rattle.sub_base.specs.Depth.{code_count}

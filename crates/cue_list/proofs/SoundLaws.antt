@@ -1,167 +1,215 @@
--- What follows for an epoch of a script whose values pass their tests.
-use Rattle.std.proofs.Common.{◌≡◌, ◌∙◌, inl, inr, refl, sym, ap, subst, suc, ℕ, ◌+◌, ◌-◌, ◌*◌, ◌<◌, ◌≤◌, ◌==◌, nat_le, Bool, true, false, if◌then◌else◌, List, [], ◌∷◌, length, get_or, take, All, AllPairs, find, reverse, Option, Some, None, arith}
+-- The values of right records are those of a script, one record after another.
+use Rattle.std.proofs.Common.{zero, suc, ◌≡◌, ◌∙◌, ◌⊎◌, inl, inr, refl, sym, ap, subst, ℕ, ◌+◌, ◌*◌, ◌<◌, ◌≤◌, ◌==◌, Bool, true, false, not, if◌then◌else◌, nat_lt, nat_le, List, [], ◌∷◌, ◌++◌, length, map, get_or, chars, sum_by, Option, Some, None, is_some, option_map, arith}
+use Rattle.std.specs.Prelude.{All, AllPairs, slice_get}
+use Rattle.std.specs.List.{list_any, flat_map}
 use Rattle.std.proofs.lemmas.Bool.Decides.{nat_tests}
-use Rattle.std.proofs.lemmas.Grind.{not_there}
-use Rattle.std.proofs.lemmas.List.{get_or_past, length-reverse, length-take, get_or-take, get_or-reverse}
-use Rattle.std.proofs.lemmas.List.Elements.{All-get_or}
-use Rattle.indexed_picture.proofs.PaintingLaws.{lt_or_le}
+use Rattle.std.proofs.lemmas.List.Quantifiers.{all_pairs_push}
+use Rattle.std.proofs.lemmas.List.Sums.{sum_by-append}
+use Rattle.bitmap_font.specs.Font.{FontValue}
 use Rattle.sub_base.specs.Depth.{bits_of, code_count}
-use Rattle.sub_base.specs.Picture.{Picture, IsPicture, code_at, picture_of}
-use Rattle.sub_base.specs.declared.depth.Depth.{Depth}
-use Rattle.sub_base.specs.declared.depth.Depth.TheVariants.{Two, Four, Eight}
-use Rattle.cue_list.specs.Authored.{epoch_at, lies_in, picture_at_place}
-use Rattle.cue_list.specs.Sound.{IsSound, IsEpoch, IsRegion, IsCue, AreApart, FitsRegion}
-use Rattle.cue_list.specs.Planes.{FitsIn, AreCuesOf, ArePaintable}
+use Rattle.cue_list.specs.declared.epoch.ColourRow.{ColourRow}
 use Rattle.cue_list.specs.declared.epoch.Cue.{Cue}
 use Rattle.cue_list.specs.declared.epoch.Epoch.{Epoch}
 use Rattle.cue_list.specs.declared.epoch.Region.{Region}
+use Rattle.cue_list.specs.declared.kind_rows.PictureHead.{PictureHead}
+use Rattle.cue_list.specs.Past.{with_last, is_close, region_with}
+use Rattle.cue_list.specs.RowFaults.{starts_before, lasts_past}
+use Rattle.cue_list.specs.Sound.{IsTick, Follows, ticks_of, ticks_of_cue}
+use Rattle.cue_list.specs.State.{with_region, with_colour, with_cue}
+use Rattle.cue_list.proofs.EpochLaws.{IsEpochOf, IsCueOf, HasSides, epoch-region, epoch-colour, epoch-cue, epoch-heads, epoch-new, follows-last, follows-later}
+use Rattle.cue_list.proofs.TicksApartLaws.{Member, Member-append, Member-at, AreApartTicks, AreApartTicks-more}
 
--- a place at which what is found stands
-pub record Found {X : Type 0} (p : X → Bool) (xs : List X) (x : X) : Type 0 where
-  pub place : ℕ
-  pub inside : place < length xs
-  pub is : (d : X) → get_or xs place d ≡ x
-  pub passes : p x ≡ true
+-- ---- members
 
-found_in : {X : Type 0} (p : X → Bool) (first x : X) (xs : List X) (test : Bool) → p first ≡ test → (if test then Some first else find p xs) ≡ Some x →
-    (find p xs ≡ Some x → Found p xs x) → Found p (first ∷ xs) x
-found_in p first x xs true passes found later =
-    let same : first ≡ x = cc in
-    record { place = 0; inside = omega arith; is = λ d. same; passes = ap p (sym same) ∙ passes }
-found_in p first x xs false fails found later =
-    let there = later found in
-    record { place = suc there.place; inside = omega (arith, there.inside); is = there.is; passes = there.passes }
+pub Member-left : {A : Type 0} (x : A) (xs ys : List A) → Member x xs → Member x (xs ++ ys)
+Member-left x [] ys m = absurd m
+Member-left x (z ∷ xs) ys (inl e) = inl e
+Member-left x (z ∷ xs) ys (inr m) = inr (Member-left x xs ys m)
 
-pub Found-find : {X : Type 0} (p : X → Bool) (xs : List X) (x : X) → find p xs ≡ Some x → Found p xs x
-Found-find p [] x found = absurd cc
-Found-find p (first ∷ xs) x found = found_in p first x xs (p first) refl found (Found-find p xs x)
+pub Member-right : {A : Type 0} (x : A) (xs ys : List A) → Member x ys → Member x (xs ++ ys)
+Member-right x [] ys m = m
+Member-right x (z ∷ xs) ys m = inr (Member-right x xs ys m)
 
--- what is not false is so
-pub decide_le : (a b : ℕ) → ((a ≤ b → ⊥) → ⊥) → a ≤ b
-decide_le a b not_not = elim (lt_or_le b a) [ inl above ↦ absurd (not_not (λ le. omega arith)) | inr le ↦ le ]
+pub member-last : {A : Type 0} (x : A) (xs : List A) (y : A) → Member x (xs ++ y ∷ []) → Member x xs ⊎ (x ≡ y)
+member-last x [] y (inl e) = inr e
+member-last x [] y (inr m) = absurd m
+member-last x (z ∷ xs) y (inl e) = inl (inl e)
+member-last x (z ∷ xs) y (inr m) = elim (member-last x xs y m) [ inl first ↦ inl (inr first) | inr last ↦ inr last ]
 
--- the regions of a right epoch lie on the display
-pub region_within : (origin width height : ℕ) (pictures : List Picture) (epoch : Epoch) (k : ℕ) (other : Region) →
-    IsEpoch origin width height pictures epoch → k < length epoch.regions → IsRegion width height (get_or epoch.regions k other)
-region_within origin width height pictures epoch k other right inside = All-get_or (IsRegion width height) epoch.regions k other inside right.regions.each
+member-map : {A : Type 0} (f : A → ℕ) (u : ℕ) (xs : List A) (y : A) → Member u (map f (xs ++ y ∷ [])) → Member u (map f xs) ⊎ (u ≡ f y)
+member-map f u [] y (inl e) = inr e
+member-map f u [] y (inr m) = absurd m
+member-map f u (z ∷ xs) y (inl e) = inl (inl e)
+member-map f u (z ∷ xs) y (inr m) = elim (member-map f u xs y m) [ inl first ↦ inl (inr first) | inr last ↦ inr last ]
 
--- an epoch that is found is one of the script's, and right
-pub epoch_is_right : (origin width height refresh : ℕ) (epochs : List Epoch) (pictures : List Picture) (tick : ℕ) (epoch : Epoch) →
-    IsSound origin width height refresh epochs pictures → epoch_at epochs tick ≡ Some epoch → IsEpoch origin width height pictures epoch
-epoch_is_right origin width height refresh epochs pictures tick epoch sound found =
-    let there = Found-find (λ (one : Epoch). nat_le one.start tick) (reverse epochs) epoch found in
-    let inside : there.place < length epochs = omega (arith, there.inside, length-reverse epochs) in
-    let back : get_or (reverse epochs) there.place epoch ≡ get_or epochs (length epochs - 1 - there.place) epoch = get_or-reverse epochs there.place epoch inside in
-    subst (IsEpoch origin width height pictures) (sym back ∙ there.is epoch)
-    (All-get_or (IsEpoch origin width height pictures) epochs (length epochs - 1 - there.place) epoch (omega arith) sound.each)
+pub member-flat : {A : Type 0} (f : A → List ℕ) (u : ℕ) (xs : List A) (y : A) → Member u (flat_map f (xs ++ y ∷ [])) → Member u (flat_map f xs) ⊎ Member u (f y)
+member-flat f u [] y m = elim (Member-append u (f y) [] m) [ inl first ↦ inr first | inr none ↦ absurd none ]
+member-flat f u (z ∷ xs) y m = elim (Member-append u (f z) (flat_map f (xs ++ y ∷ [])) m) [
+  | inl first ↦ inl (Member-left u (f z) (flat_map f xs) first)
+  | inr more ↦ elim (member-flat f u xs y more) [ inl inner ↦ inl (Member-right u (f z) (flat_map f xs) inner) | inr last ↦ inr last ]
+]
 
--- a deeper region has at least as many codes
-deeper : (a b : Depth) → bits_of a ≤ bits_of b → code_count a ≤ code_count b
-deeper Two Two le = omega arith
-deeper Two Four le = omega arith
-deeper Two Eight le = omega arith
-deeper Four Two le = absurd (omega arith)
-deeper Four Four le = omega arith
-deeper Four Eight le = omega arith
-deeper Eight Two le = absurd (omega arith)
-deeper Eight Four le = absurd (omega arith)
-deeper Eight Eight le = omega arith
+some-is : {A : Type 0} (x y : A) → Some x ≡ Some y → y ≡ x
+some-is x y h = cc
 
-pub some_codes : (a : Depth) → 0 < code_count a
-some_codes Two = omega arith
-some_codes Four = omega arith
-some_codes Eight = omega arith
+-- ---- epochs
 
--- each code of a picture is one of its depth
-pub code_below : (picture : Picture) → IsPicture picture → (column row : ℕ) → code_at picture column row < code_count picture.depth
-code_below picture right column row =
-    let place = row * picture.width + column in
-    elim (lt_or_le place (length picture.codes)) [
-      | inl inside ↦ All-get_or (λ code. code < code_count picture.depth) picture.codes place 0 inside right.each
-      | inr past ↦ rw (get_or_past picture.codes place 0 past) (some_codes picture.depth)
-    ]
+pub record EpochFacts (origin width height : ℕ) (heads : List PictureHead) (ended : List Epoch) (epoch : Option Epoch) : Type 0 where
+  pub each : (e : Epoch) → Member e ended → IsEpochOf origin width height heads e
+  pub last : (e : Epoch) → epoch ≡ Some e → IsEpochOf origin width height heads e
+  pub follow : AllPairs Follows ended
+  pub follow_last : (e x : Epoch) → epoch ≡ Some e → Member x ended → Follows x e
+  pub first : epoch ≡ None → ended ≡ []
 
--- of regions that are apart, the one that is found by its number
-region_named : (regions : List Region) (k : ℕ) (other found : Region) (name : ℕ) → AllPairs AreApart regions → k < length regions → name ≡ (get_or regions k other).id →
-    find (λ (region : Region). region.id == name) regions ≡ Some found → found ≡ get_or regions k other
-region_named regions k other found name apart inside names is_found =
-    let there = Found-find (λ (region : Region). region.id == name) regions found is_found in
-    let named : found.id ≡ name = same_number found.id name there.passes in
-    elim (lt_or_le there.place k) [
-      | inl before ↦ absurd ((apart there.place k other before inside).ids (ap (λ (r : Region). r.id) (there.is other) ∙ named ∙ names))
-      | inr not_before ↦ elim (lt_or_le k there.place) [
-        | inl behind ↦ absurd ((apart k there.place other behind there.inside).ids (sym names ∙ sym named ∙ ap (λ (r : Region). r.id) (sym (there.is other))))
-        | inr not_behind ↦
-            let same : there.place ≡ k = omega arith in
-            sym (there.is other) ∙ ap (λ (n : ℕ). get_or regions n other) same
-      ]
-    ]
-  where
-    same_number : (a b : ℕ) → (a == b) ≡ true → a ≡ b
-    same_number a b equal = grind (arith, nat_tests)
-
--- the cues of a right epoch that name one of its regions fit in it
-pub cues_fit : (origin width height : ℕ) (pictures : List Picture) (epoch : Epoch) (k : ℕ) (other : Region) →
-    All IsPicture pictures → IsEpoch origin width height pictures epoch → k < length epoch.regions → AreCuesOf pictures (get_or epoch.regions k other) epoch.cues
-cues_fit origin width height pictures epoch k other drawn right inside n any below names =
-    let is_cue = All-get_or (IsCue origin epoch.start epoch.regions pictures) epoch.cues n any below right.cues in
-    let region = region_named epoch.regions k other is_cue.region (get_or epoch.cues n any).region right.regions.apart inside names is_cue.found in
-    let fits = subst (λ (r : Region). FitsRegion r (get_or epoch.cues n any).x (get_or epoch.cues n any).y (picture_at_place pictures (get_or epoch.cues n any).picture)) region is_cue.fits in
-    let is_picture : IsPicture (picture_at_place pictures (get_or epoch.cues n any).picture) =
-    All-get_or IsPicture pictures (get_or epoch.cues n any).picture (picture_of 0 0 Two []) is_cue.picture drawn in
-    record {
-      picture = is_cue.picture;
-      across = fits.across;
-      down = fits.down;
-      codes = λ column row.
-          let code = code_below (picture_at_place pictures (get_or epoch.cues n any).picture) is_picture column row in
-          let more = deeper (picture_at_place pictures (get_or epoch.cues n any).picture).depth (get_or epoch.regions k other).depth fits.shallow in
-          omega arith;
-    }
-
-pub FitsIn-decided : (pictures : List Picture) (region : Region) (cue : Cue) → ((FitsIn pictures region cue → ⊥) → ⊥) → FitsIn pictures region cue
-FitsIn-decided pictures region cue not_not = record {
-  picture = decide_le _ _ (λ fails. not_not (λ fits. fails fits.picture));
-  across = decide_le _ _ (λ fails. not_not (λ fits. fails fits.across));
-  down = decide_le _ _ (λ fails. not_not (λ fits. fails fits.down));
-  codes = λ column row. decide_le _ _ (λ fails. not_not (λ fits. fails (fits.codes column row)));
+pub EpochFacts-none : (origin width height : ℕ) (heads : List PictureHead) (ended : List Epoch) (epoch : Option Epoch) → ended ≡ [] → epoch ≡ None → EpochFacts origin width height heads ended epoch
+EpochFacts-none origin width height heads ended epoch none closed = record {
+  each = λ e m. absurd (subst (λ (xs : List Epoch). Member e xs) none m);
+  last = λ e is. absurd (let never : None ≡ Some e = sym closed ∙ is in cc);
+  follow = λ i j other before within. absurd (let empty = ap length none in omega arith);
+  follow_last = λ e x is m. absurd (subst (λ (xs : List Epoch). Member x xs) none m);
+  first = λ _. none;
 }
 
--- two regions that are apart have no place in common
-pub no_place_in_two : (column row : ℕ) (first second : Region) → AreApart first second → lies_in column row first ≡ true → lies_in column row second ≡ true → ⊥
-no_place_in_two column row first second apart in_first in_second =
-    elim apart.rows [
-      | inl above ↦ grind (arith, nat_tests)
-      | inr below ↦ grind (arith, nat_tests)
+pub EpochFacts-new : (origin width height start number : ℕ) (heads : List PictureHead) (ended : List Epoch) (epoch : Option Epoch) → EpochFacts origin width height heads ended epoch
+    → IsTick origin start → starts_before start epoch ≡ true → lasts_past start epoch ≡ false
+    → EpochFacts origin width height heads (with_last ended epoch) (Some (record { start = start; row = number; regions = []; colours = []; cues = [] }))
+EpochFacts-new origin width height start number heads ended None old tick starts over =
+    let none : ended ≡ [] = old.first refl in
+    let fresh : Epoch = record { start = start; row = number; regions = []; colours = []; cues = [] } in
+    record {
+      each = old.each;
+      last = λ e is. subst (IsEpochOf origin width height heads) (sym (some-is fresh e is)) (epoch-new origin width height start number heads tick);
+      follow = old.follow;
+      follow_last = λ e x is m. absurd (subst (λ (xs : List Epoch). Member x xs) none m);
+      first = λ never. absurd (let no_epoch : Some fresh ≡ None = never in cc);
+    }
+EpochFacts-new origin width height start number heads ended (Some last) old tick starts over =
+    let fresh : Epoch = record { start = start; row = number; regions = []; colours = []; cues = [] } in
+    let over_last : Follows last fresh = follows-last start last fresh refl starts over in
+    let later : last.start ≤ fresh.start = let before = over_last.starts in omega arith in
+    record {
+      each = λ e m. elim (member-last e ended last m) [ inl before ↦ old.each e before | inr same ↦ subst (IsEpochOf origin width height heads) (sym same) (old.last last refl) ];
+      last = λ e is. subst (IsEpochOf origin width height heads) (sym (some-is fresh e is)) (epoch-new origin width height start number heads tick);
+      follow = all_pairs_push Follows ended last old.follow (λ k other within. old.follow_last last (get_or ended k other) refl (Member-at ended k other within));
+      follow_last = λ e x is m. subst (Follows x) (sym (some-is fresh e is)) (elim (member-last x ended last m) [
+        | inl before ↦ follows-later x last fresh (old.follow_last last x refl before) later
+        | inr same ↦ subst (λ (y : Epoch). Follows y fresh) (sym same) over_last
+      ]);
+      first = λ never. absurd (let no_epoch : Some fresh ≡ None = never in cc);
+    }
+
+-- a last epoch that is changed, and starts as before
+pub EpochFacts-changed : (origin width height : ℕ) (heads : List PictureHead) (ended : List Epoch) (epoch changed : Epoch) → EpochFacts origin width height heads ended (Some epoch)
+    → changed.start ≡ epoch.start → IsEpochOf origin width height heads changed → EpochFacts origin width height heads ended (Some changed)
+EpochFacts-changed origin width height heads ended epoch changed old same is = record {
+  each = old.each;
+  last = λ e eq. subst (IsEpochOf origin width height heads) (sym (some-is changed e eq)) is;
+  follow = old.follow;
+  follow_last = λ e x eq m. subst (Follows x) (sym (some-is changed e eq)) (follows-later x epoch changed (old.follow_last epoch x refl m) (omega arith));
+  first = λ never. absurd (let no_epoch : Some changed ≡ None = never in cc);
+}
+
+-- one more picture
+pub EpochFacts-heads : (origin width height : ℕ) (heads more : List PictureHead) (ended : List Epoch) (epoch : Option Epoch) → EpochFacts origin width height heads ended epoch → EpochFacts origin width height (heads ++ more) ended epoch
+EpochFacts-heads origin width height heads more ended epoch old = record {
+  each = λ e m. epoch-heads origin width height heads more e (old.each e m);
+  last = λ e is. epoch-heads origin width height heads more e (old.last e is);
+  follow = old.follow;
+  follow_last = old.follow_last;
+  first = old.first;
+}
+
+-- ---- ticks
+
+pub record TickFacts (ended : List Epoch) (epoch : Option Epoch) (ticks : List ℕ) : Type 0 where
+  pub apart : AreApartTicks ticks
+  pub each : (u : ℕ) → Member u (flat_map ticks_of ended) → Member u ticks
+  pub last : (e : Epoch) → epoch ≡ Some e → (u : ℕ) → Member u (ticks_of e) → Member u ticks
+
+pub TickFacts-new : (ended : List Epoch) (epoch : Option Epoch) (ticks : List ℕ) (start number : ℕ) → TickFacts ended epoch ticks → list_any (is_close start) ticks ≡ false
+    → TickFacts (with_last ended epoch) (Some (record { start = start; row = number; regions = []; colours = []; cues = [] })) (start ∷ ticks)
+TickFacts-new ended epoch ticks start number old far = record {
+  apart = AreApartTicks-more start ticks far old.apart;
+  each = λ u m. inr (ended-in epoch old u m);
+  last = λ e is u m. fresh-in u (subst (λ (x : Epoch). Member u (ticks_of x)) (some-is (record { start = start; row = number; regions = []; colours = []; cues = [] }) e is) m);
+}
+  where
+    ended-in : (o : Option Epoch) → TickFacts ended o ticks → (u : ℕ) → Member u (flat_map ticks_of (with_last ended o)) → Member u ticks
+    ended-in None facts u m = facts.each u m
+    ended-in (Some last) facts u m = elim (member-flat ticks_of u ended last m) [ inl before ↦ facts.each u before | inr here ↦ facts.last last refl u here ]
+
+    fresh-in : (u : ℕ) → Member u (start ∷ []) → Member u (start ∷ ticks)
+    fresh-in u (inl e) = inl e
+    fresh-in u (inr m) = absurd m
+
+pub TickFacts-same : (ended : List Epoch) (epoch changed : Epoch) (ticks : List ℕ) → TickFacts ended (Some epoch) ticks → ticks_of changed ≡ ticks_of epoch → TickFacts ended (Some changed) ticks
+TickFacts-same ended epoch changed ticks old same = record {
+  apart = old.apart;
+  each = old.each;
+  last = λ e is u m. old.last epoch refl u (subst (λ (ts : List ℕ). Member u ts) same (subst (λ (x : Epoch). Member u (ticks_of x)) (some-is changed e is) m));
+}
+
+pub TickFacts-colour : (ended : List Epoch) (epoch : Epoch) (row : ColourRow) (ticks : List ℕ) → TickFacts ended (Some epoch) ticks → list_any (is_close row.tick) ticks ≡ false
+    → TickFacts ended (Some (with_colour row epoch)) (row.tick ∷ ticks)
+TickFacts-colour ended epoch row ticks old far = record {
+  apart = AreApartTicks-more row.tick ticks far old.apart;
+  each = λ u m. inr (old.each u m);
+  last = λ e is u m. here u (subst (λ (x : Epoch). Member u (ticks_of x)) (some-is (with_colour row epoch) e is) m);
+}
+  where
+    tick : ColourRow → ℕ
+    tick r = r.tick
+
+    here : (u : ℕ) → Member u (epoch.start ∷ (map (λ (r : ColourRow). r.tick) (epoch.colours ++ row ∷ []) ++ flat_map ticks_of_cue epoch.cues)) → Member u (row.tick ∷ ticks)
+    here u (inl e) = inr (old.last epoch refl u (inl e))
+    here u (inr m) = elim (Member-append u (map (λ (r : ColourRow). r.tick) (epoch.colours ++ row ∷ [])) (flat_map ticks_of_cue epoch.cues) m) [
+      | inl colours ↦ elim (member-map (λ (r : ColourRow). r.tick) u epoch.colours row colours) [
+        | inl before ↦ inr (old.last epoch refl u (inr (Member-left u (map (λ (r : ColourRow). r.tick) epoch.colours) (flat_map ticks_of_cue epoch.cues) before)))
+        | inr last ↦ inl last
+      ]
+      | inr cues ↦ inr (old.last epoch refl u (inr (Member-right u (map (λ (r : ColourRow). r.tick) epoch.colours) (flat_map ticks_of_cue epoch.cues) cues)))
     ]
 
--- no region before one in which a place lies has this place
-pub none_before : (column row k : ℕ) (other : Region) (regions : List Region) → AllPairs AreApart regions → k < length regions → lies_in column row (get_or regions k other) ≡ true →
-    (found : Region) → find (lies_in column row) (take k regions) ≡ Some found → ⊥
-none_before column row k other regions apart inside lies found is_found =
-    let there = Found-find (lies_in column row) (take k regions) found is_found in
-    let before : there.place < k = omega (arith, there.inside, length-take k regions) in
-    let at : get_or regions there.place other ≡ found = sym (get_or-take k regions there.place other before) ∙ there.is other in
-    no_place_in_two column row (get_or regions there.place other) (get_or regions k other) (apart there.place k other before inside)
-    (ap (lies_in column row) at ∙ there.passes) lies
+pub TickFacts-cue : (ended : List Epoch) (epoch : Epoch) (cue : Cue) (ticks : List ℕ) → TickFacts ended (Some epoch) ticks
+    → list_any (is_close cue.start) ticks ≡ false → list_any (is_close cue.end) ticks ≡ false → is_close cue.start cue.end ≡ false
+    → TickFacts ended (Some (with_cue (Some cue) epoch)) (cue.start ∷ cue.end ∷ ticks)
+TickFacts-cue ended epoch cue ticks old start_far end_far apart = record {
+  apart = AreApartTicks-more cue.start (cue.end ∷ ticks) (rw (apart, start_far) refl) (AreApartTicks-more cue.end ticks end_far old.apart);
+  each = λ u m. inr (inr (old.each u m));
+  last = λ e is u m. here u (subst (λ (x : Epoch). Member u (ticks_of x)) (some-is (with_cue (Some cue) epoch) e is) m);
+}
+  where
+    own : (u : ℕ) → Member u (cue.start ∷ cue.end ∷ []) → Member u (cue.start ∷ cue.end ∷ ticks)
+    own u (inl e) = inl e
+    own u (inr (inl e)) = inr (inl e)
+    own u (inr (inr m)) = absurd m
 
-pub none_from : {X : Type 0} (option : Option X) → ((x : X) → option ≡ Some x → ⊥) → option ≡ None
-none_from None never = refl
-none_from (Some x) never = absurd (never x refl)
+    here : (u : ℕ) → Member u (epoch.start ∷ (map (λ (r : ColourRow). r.tick) epoch.colours ++ flat_map ticks_of_cue (epoch.cues ++ cue ∷ []))) → Member u (cue.start ∷ cue.end ∷ ticks)
+    here u (inl e) = inr (inr (old.last epoch refl u (inl e)))
+    here u (inr m) = elim (Member-append u (map (λ (r : ColourRow). r.tick) epoch.colours) (flat_map ticks_of_cue (epoch.cues ++ cue ∷ [])) m) [
+      | inl colours ↦ inr (inr (old.last epoch refl u (inr (Member-left u (map (λ (r : ColourRow). r.tick) epoch.colours) (flat_map ticks_of_cue epoch.cues) colours))))
+      | inr cues ↦ elim (member-flat ticks_of_cue u epoch.cues cue cues) [
+        | inl before ↦ inr (inr (old.last epoch refl u (inr (Member-right u (map (λ (r : ColourRow). r.tick) epoch.colours) (flat_map ticks_of_cue epoch.cues) before))))
+        | inr last ↦ own u last
+      ]
+    ]
 
--- the regions of an epoch that was found in a script can be painted
-pub ArePaintable-found : (origin width height refresh : ℕ) (epochs : List Epoch) (pictures : List Picture) (tick : ℕ) (epoch : Epoch) →
-    ∥ IsSound origin width height refresh epochs pictures ∥₁ → epoch_at epochs tick ≡ Some epoch → ArePaintable width height pictures epoch.cues epoch.regions
-ArePaintable-found origin width height refresh epochs pictures tick epoch sound found =
-    let right : IsSound origin width height refresh epochs pictures → IsEpoch origin width height pictures epoch =
-    λ s. epoch_is_right origin width height refresh epochs pictures tick epoch s found in
-    record {
-      across = λ k other inside. decide_le _ _ (λ fails. not_there sound (λ s. fails (region_within origin width height pictures epoch k other (right s) inside).across));
-      down = λ k other inside. decide_le _ _ (λ fails. not_there sound (λ s. fails (region_within origin width height pictures epoch k other (right s) inside).down));
-      fit = λ k other inside n any below names.
-          FitsIn-decided pictures (get_or epoch.regions k other) (get_or epoch.cues n any)
-          (λ fails. not_there sound (λ s. fails (cues_fit origin width height pictures epoch k other s.drawn (right s) inside n any below names)));
-      alone = λ column row k other inside lies.
-          none_from (find (lies_in column row) (take k epoch.regions))
-          (λ region is_found. not_there sound (λ s. none_before column row k other epoch.regions (right s).regions.apart inside lies region is_found));
-    }
+-- ---- counts
+
+abbrev pub colours_of : Epoch → ℕ
+colours_of epoch = length epoch.colours
+
+abbrev pub cues_of : Epoch → ℕ
+cues_of epoch = length epoch.cues
+
+abbrev pub in_last : (Epoch → ℕ) → Option Epoch → ℕ
+in_last count None = 0
+in_last count (Some epoch) = count epoch
+
+pub sum-last : (count : Epoch → ℕ) (ended : List Epoch) (epoch : Option Epoch) → sum_by count (with_last ended epoch) ≡ sum_by count ended + in_last count epoch
+sum-last count ended None = omega arith
+sum-last count ended (Some epoch) = let split = sum_by-append count ended (epoch ∷ []) in omega (arith, split)
+
+pub length-push : {A : Type 0} (xs : List A) (x : A) → length (xs ++ x ∷ []) ≡ length xs + 1
+length-push [] x = refl
+length-push (y ∷ xs) x = let more = length-push xs x in omega arith

@@ -1,5 +1,10 @@
-use Rattle.std.proofs.Common.{◌≡◌, ℕ, List, Bool, true, false, ◌⊎◌, inl, inr, refl, sym, Result, Ok, Err, MatchResult, is_ok}
+use Rattle.std.proofs.Common.{zero, suc, ◌+◌, ◌<◌, ◌&&◌, [], ◌∷◌, length, drop, unwrap_or, add-one, arith, ◌≡◌, ℕ, List, Bool, true, false, ◌⊎◌, inl, inr, refl, sym, Result, Ok, Err, MatchResult, is_ok}
 use Rattle.std.specs.Str.{IsUtf8, is_utf8}
+use Rattle.std.specs.List.{list_all}
+use Rattle.csv.specs.Records.{field_at}
+use Rattle.cue_list.specs.CellFaults.{is_text_row}
+use Rattle.cue_list.specs.Cells.{cell_at}
+use Rattle.cue_list.specs.Rows.{Row}
 use Rattle.std.proofs.lemmas.Str.{is_utf8-from_IsUtf8, IsUtf8-from_is_utf8}
 
 -- a test is true or false
@@ -15,3 +20,32 @@ is_ok-is_utf8 bytes Q R (Err e) told =
       | inl so ↦ absurd (told.0 (IsUtf8-from_is_utf8 bytes so))
       | inr not_so ↦ sym not_so
     ]
+
+-- the cell at a place and the cells after it
+pub drop-cell : (row : Row) (place : ℕ) → place < length row → drop place row ≡ cell_at row place ∷ drop (place + 1) row
+unfolding field_at
+drop-cell [] place within = absurd (omega arith)
+drop-cell (cell ∷ row) zero within = refl
+drop-cell (cell ∷ row) (suc place) within = rw add-one (rw add-one at (drop-cell row place (omega arith)))
+
+-- each cell of a record of text is text
+pub is_utf8-cell : (row : Row) (place : ℕ) → is_text_row row ≡ true → is_utf8 (cell_at row place) ≡ true
+unfolding field_at
+is_utf8-cell [] place all = is_utf8-from_IsUtf8 [] ([], (refl, refl))
+is_utf8-cell (cell ∷ row) zero all = first (is_utf8 cell) _ all
+  where
+    first : (a b : Bool) → (a && b) ≡ true → a ≡ true
+    first true b h = refl
+    first false b h = absurd (let never : false ≡ true = h in cc)
+is_utf8-cell (cell ∷ row) (suc place) all = is_utf8-cell row place (second (is_utf8 cell) _ all)
+  where
+    second : (a b : Bool) → (a && b) ≡ true → b ≡ true
+    second true b h = h
+    second false b h = absurd (let never : false ≡ true = h in cc)
+
+-- the tests of the cells from a place on
+pub is_text_row-next : (row : Row) (place : ℕ) → place < length row → is_utf8 (cell_at row place) ≡ true → is_text_row (drop place row) ≡ is_text_row (drop (place + 1) row)
+is_text_row-next row place within text = rw (drop-cell row place within, text) refl
+
+pub is_text_row-not : (row : Row) (place : ℕ) → place < length row → is_utf8 (cell_at row place) ≡ false → is_text_row (drop place row) ≡ false
+is_text_row-not row place within text = rw (drop-cell row place within, text) refl

@@ -1,5 +1,6 @@
-ghost use Rattle.std.specs.Prelude.{◌≡◌, length};
+ghost use Rattle.std.specs.Prelude.{◌≡◌, ◌∷◌, [], ◌++◌, OnOk, length};
 
+use std::alloc::AllocFailed;
 use std::marker::Model;
 
 /// A list that lends its items as a slice, and is seen as the list of what they stand for.
@@ -29,6 +30,13 @@ impl<T> Items<T> {
         ensures { result.now ≡ self.now }
     {
         &self.items
+    }
+
+    /// Puts an item last.
+    pub(crate) fn push(&mut self, item: T) -> Result<(), AllocFailed<T>>
+        ensures { OnOk result (self.new ≡ self.old ++ item ∷ []) }
+    {
+        self.items.push(item)
     }
 
     /// How many items there are.

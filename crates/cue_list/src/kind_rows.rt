@@ -195,7 +195,8 @@ pub fn is_name(cell: &[u8]) -> bool
     is_utf8(cell) && !cell.is_empty() && cell.len() <= 64
 }
 
-fn is_utf8(cell: &[u8]) -> bool
+/// Whether a cell is text in UTF-8.
+pub(crate) fn is_utf8(cell: &[u8]) -> bool
     ensures { result ≡ is_utf8_of cell.now }
 {
     std::str::from_utf8(cell).is_ok()

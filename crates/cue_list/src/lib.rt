@@ -1,17 +1,34 @@
-//! Cue scripts: records of CSV that list the epochs, regions, colours, pictures and cues of a programme. For now
-//! scripts of one cue are read: one picture, shown over the whole display.
+//! Cue scripts: records of CSV that list the epochs, regions, colours, pictures and cues of a programme.
+//!
+//! `Script::read` reads a whole script. Each record is judged by looking back over those before it; the first wrong one is
+//! refused by the first of its tests that fails. `read_one_cue` reads scripts of one picture that is shown over the whole
+//! display.
 #![tactic(auto)]
 
 mod cells;
 mod codes;
+mod cue_rows;
 mod epoch;
 mod fault;
 mod items;
 mod kind_rows;
+mod names;
 mod one_cue;
 mod painting;
+mod picture_rows;
+mod read;
+mod reader;
+mod row_cells;
+mod row_fault;
+mod row_kind;
+mod row_steps;
+mod row_tests;
 mod rows;
 mod script;
+mod setting;
+mod take;
+mod texts;
+mod ticks;
 
 pub use epoch::{ColourRow, Cue, Epoch, Region};
 pub use fault::{ScriptFault, ScriptKind};
@@ -20,5 +37,7 @@ pub use one_cue::{OneCue, read_one_cue};
 pub use painting::picture_at;
 pub use script::Script;
 
+#[cfg(test)]
+mod read_tests;
 #[cfg(test)]
 mod tests;

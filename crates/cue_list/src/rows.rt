@@ -7,7 +7,7 @@ use std::alloc::Global;
 use sub_base::NoMemory;
 
 /// A reader over the records of a script: no header, records of any number of cells.
-fn reader_of(alloc: Global, text: &[u8]) -> Reader<&[u8]>
+pub(crate) fn reader_of(alloc: Global, text: &[u8]) -> Reader<&[u8]>
     ensures readable { IsReadable unread result }
     ensures rows { rows_left unread result ≡ rows_of text.now }
 {
@@ -19,7 +19,7 @@ fn reader_of(alloc: Global, text: &[u8]) -> Reader<&[u8]>
 
 /// Reads the next record, and answers whether there was one. Want of memory is the one error: the text is in memory,
 /// and a record may have any number of cells of any bytes.
-fn next_row(reader: &mut Reader<&[u8]>, row: &mut ByteRecord) -> Result<bool, NoMemory>
+pub(crate) fn next_row(reader: &mut Reader<&[u8]>, row: &mut ByteRecord) -> Result<bool, NoMemory>
     requires { IsReadable unread reader.old }
     ensures readable { IfOk result (λ found. found ≡ true → IsReadable unread reader.new) }
     ensures row { IfOk result (λ found. rows_left unread reader.old ≡ (if found then fields_of row.new ∷ rows_left unread reader.new else [])) }

@@ -5,7 +5,7 @@ use Rattle.cue_list.specs.declared.epoch.Region.{Region}
 use Rattle.cue_list.specs.Authored.{authored_at, colour_in_epoch, epoch_at}
 use Rattle.cue_list.specs.Planes.{ArePaintable, ShowsRegions}
 use Rattle.cue_list.proofs.PlaneRows.{plane_is}
-use Rattle.cue_list.proofs.SoundLaws.{ArePaintable-found}
+use Rattle.cue_list.proofs.ShownLaws.{ArePaintable-found}
 use Rattle.cue_list.proofs.painting.picture_at.Goals as goal
 
 pub paint_regions-requires-clause-regions : goal.paint_regions-requires-clause-regions

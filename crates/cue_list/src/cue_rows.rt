@@ -1,0 +1,197 @@
+ghost use Rattle.std.specs.Prelude.{◌≡◌, ◌≤◌, ◌<◌, ◌+◌, ◌^◌, ◌∷◌, [], ◌++◌, true, false, None, Some, chars, length, map, option_map, IfNone, IfSome, OnOk, IfOk, IfErr};
+ghost use Rattle.csv.specs.Records.{fields_of};
+ghost use Rattle.sub_base.specs.Depth.{code_count as depth_codes};
+ghost use Rattle.cue_list.specs.CellFaults.{first_of, is_text_row, value_at, place_cells as place_cells_of, cue_cells as cue_cells_of};
+ghost use Rattle.cue_list.specs.Cells.{cell_at};
+ghost use Rattle.cue_list.specs.Past.{area as area_of_head, region_with as region_with_of, is_close};
+ghost use Rattle.cue_list.specs.RowFaults.{place_fault as place_fault_of, placed_fault as placed_fault_of, head_at as head_at_of, cue_fault as cue_fault_of, text_fault as text_fault_of, regions_of};
+ghost use Rattle.cue_list.specs.RowValues.{placing_in};
+ghost use Rattle.cue_list.specs.State.{IsReader, past_of, head_of as head_of_picture, IsTaken, IsRowFault, place_next, cue_next};
+ghost use Rattle.cue_list.specs.Setting.{IsTextPicture, IsTextOf};
+ghost use Rattle.cue_list.specs.TextSizes.{text_head};
+ghost use Rattle.cue_list.specs.Ticks.{near_by};
+
+use crate::epoch::{Cue, Region};
+use crate::fault::ScriptKind;
+use crate::kind_rows::{PictureHead, PlaceRow};
+use crate::reader::Reader;
+use crate::row_cells::{CueCells, cue_cells, place_cells};
+use crate::row_fault::RowFault;
+use crate::row_steps::add_cue;
+use crate::row_tests::{area, bits_of, code_count, lies_in, region_with};
+use crate::setting::head_of;
+use crate::texts::text_cell;
+use bitmap_font::Font;
+use csv::ByteRecord;
+use indexed_picture::Indexed;
+
+impl Reader {
+    /// The depth and the sides of the picture at that place.
+    fn head_at(&self, place: Option<u32>) -> Option<PictureHead>
+        ensures { result ≡ head_at_of (past_of self.now).heads place }
+    {
+        let place = place? as usize;
+        if place < self.pictures.len() {
+            Some(head_of(&self.pictures[place]))
+        } else {
+            None
+        }
+    }
+
+    /// What is wrong with a picture at a place of a region.
+    fn placed_fault(
+        &self,
+        placing: PlaceRow,
+        region: Option<Region>,
+        head: Option<PictureHead>,
+    ) -> Option<ScriptKind>
+        requires start { placing.start < 2 ^ 62 }
+        requires end { placing.end < 2 ^ 62 }
+        ensures fault { result ≡ placed_fault_of (past_of self.now) placing region head }
+        ensures start { IfNone result (near_by self.now.ticks placing.start ≡ false) }
+        ensures end { IfNone result (near_by self.now.ticks placing.end ≡ false) }
+        ensures apart { IfNone result (is_close placing.start placing.end ≡ false) }
+    {
+        let Some(region) = region else {
+            return Some(ScriptKind::NoRegion);
+        };
+        let Some(head) = head else {
+            return Some(ScriptKind::NoPicture);
+        };
+        if bits_of(region.depth) < bits_of(head.depth) {
+            return Some(ScriptKind::CodeRange);
+        }
+        if !lies_in(region, placing.x, placing.y, head) {
+            return Some(ScriptKind::CueOutside);
+        }
+        self.span_fault(placing.start, placing.end)
+    }
+
+    /// Takes a picture that is placed.
+    #[tactic(auto, unfolding(crate::specs::RowFaults::place_fault, crate::specs::RowValues::placing_in))]
+    pub(crate) fn take_place(&mut self, number: u64, row: &ByteRecord) -> Result<(), RowFault>
+        requires reader { IsReader self.old }
+        requires text { is_text_row (fields_of row.now) ≡ true }
+        requires few { self.old.cues < 4096 }
+        ensures taken { OnOk result (IsTaken (first_of (place_cells_of self.old.origin (fields_of row.now) ∷ place_fault_of (past_of self.old) (placing_in (fields_of row.now)) (cell_at (fields_of row.now) 7) ∷ [])) (place_next (past_of self.old) number (fields_of row.now)) self.new) }
+        ensures pictures { self.new.pictures ≡ self.old.pictures }
+        ensures refused { IfErr result (IsRowFault (first_of (place_cells_of self.old.origin (fields_of row.now) ∷ place_fault_of (past_of self.old) (placing_in (fields_of row.now)) (cell_at (fields_of row.now) 7) ∷ []))) }
+    {
+        let place = place_cells(row, self.origin)?;
+        let found = self.names.place(text_cell(row, 7));
+        let region = region_with(self.regions(), place.placing.region);
+        let head = self.head_at(found);
+        if let Some(kind) = self.placed_fault(place.placing, region, head) {
+            return Err(RowFault::Wrong(kind));
+        }
+        self.ticks.add_both(place.placing.start, place.placing.end)?;
+        let cue = match found {
+            Some(picture) => Some(cue_with(place.placing, number, picture, place.see_through)),
+            None => None,
+        };
+        add_cue(&mut self.epoch, cue)?;
+        self.cues += 1;
+        Ok(())
+    }
+
+    /// What is wrong with a text's picture at a place of a region.
+    fn text_fault(&self, placing: PlaceRow, region: Region, head: PictureHead) -> Option<ScriptKind>
+        requires start { placing.start < 2 ^ 62 }
+        requires end { placing.end < 2 ^ 62 }
+        requires wide { (1 ≤ head.width) × (head.width ≤ 1920) }
+        requires high { head.height ≤ 1080 }
+        requires few { self.now.codes ≤ 268435456 }
+        ensures fault { result ≡ text_fault_of (past_of self.now) placing region head }
+        ensures start { IfNone result (near_by self.now.ticks placing.start ≡ false) }
+        ensures end { IfNone result (near_by self.now.ticks placing.end ≡ false) }
+        ensures apart { IfNone result (is_close placing.start placing.end ≡ false) }
+        ensures room { IfNone result (self.now.codes + area_of_head head ≤ 268435456) }
+    {
+        if !lies_in(region, placing.x, placing.y, head) {
+            return Some(ScriptKind::CueOutside);
+        }
+        if let Some(kind) = self.span_fault(placing.start, placing.end) {
+            return Some(kind);
+        }
+        if self.are_too_many(head) {
+            return Some(ScriptKind::TooMany);
+        }
+        None
+    }
+
+    /// The picture of a cue that passes its tests.
+    #[tactic(auto, unfolding(crate::specs::RowFaults::cue_fault))]
+    fn cue_picture(&self, font: &Font, cue: CueCells, text: &str) -> Result<Indexed, RowFault>
+        requires start { cue.placing.start < 2 ^ 62 }
+        requires end { cue.placing.end < 2 ^ 62 }
+        requires few { self.now.codes ≤ 268435456 }
+        ensures right { OnOk result (cue_fault_of font.now (past_of self.now) cue.placing cue.ink cue.paper (chars text.now) ≡ None) }
+        ensures set { IfOk result (IsTextPicture font.now (regions_of self.now.epoch) cue.placing.region cue.ink cue.paper (chars text.now)) }
+        ensures head { IfOk result (λ picture. option_map (λ region. text_head font.now region.depth (chars text.now)) (region_with_of cue.placing.region (regions_of self.now.epoch)) ≡ Some (head_of_picture picture)) }
+        ensures start { OnOk result (near_by self.now.ticks cue.placing.start ≡ false) }
+        ensures end { OnOk result (near_by self.now.ticks cue.placing.end ≡ false) }
+        ensures apart { OnOk result (is_close cue.placing.start cue.placing.end ≡ false) }
+        ensures room { IfOk result (λ picture. self.now.codes + area_of_head (head_of_picture picture) ≤ 268435456) }
+        ensures refused { IfErr result (IsRowFault (cue_fault_of font.now (past_of self.now) cue.placing cue.ink cue.paper (chars text.now))) }
+    {
+        let Some(region) = region_with(self.regions(), cue.placing.region) else {
+            return Err(RowFault::Wrong(ScriptKind::NoRegion));
+        };
+        if u16::from(cue.ink) >= code_count(region.depth)
+            || u16::from(cue.paper) >= code_count(region.depth)
+        {
+            return Err(RowFault::Wrong(ScriptKind::CodeRange));
+        }
+        let picture = self.set_text(font, text, cue, region)?;
+        let head = head_of(&picture);
+        if let Some(kind) = self.text_fault(cue.placing, region, head) {
+            return Err(RowFault::Wrong(kind));
+        }
+        Ok(picture)
+    }
+
+    /// Takes a text that is shown.
+    #[tactic(auto, unfolding(crate::specs::RowValues::placing_in))]
+    pub(crate) fn take_cue(
+        &mut self,
+        font: &Font,
+        number: u64,
+        row: &ByteRecord,
+    ) -> Result<(), RowFault>
+        requires reader { IsReader self.old }
+        requires text { is_text_row (fields_of row.now) ≡ true }
+        requires few { self.old.cues < 4096 }
+        ensures taken { OnOk result (IsTaken (first_of (cue_cells_of self.old.origin (fields_of row.now) ∷ cue_fault_of font.now (past_of self.old) (placing_in (fields_of row.now)) (value_at (fields_of row.now) 6) (value_at (fields_of row.now) 7) (chars (cell_at (fields_of row.now) 8)) ∷ [])) (cue_next font.now (past_of self.old) number (fields_of row.now)) self.new) }
+        ensures set { OnOk result (IsTextOf font.now (regions_of self.old.epoch) (fields_of row.now) self.old.pictures.items self.new.pictures.items) }
+        ensures refused { IfErr result (IsRowFault (first_of (cue_cells_of self.old.origin (fields_of row.now) ∷ cue_fault_of font.now (past_of self.old) (placing_in (fields_of row.now)) (value_at (fields_of row.now) 6) (value_at (fields_of row.now) 7) (chars (cell_at (fields_of row.now) 8)) ∷ []))) }
+    {
+        let cue = cue_cells(row, self.origin)?;
+        let picture = self.cue_picture(font, cue, text_cell(row, 8))?;
+        self.ticks.add_both(cue.placing.start, cue.placing.end)?;
+        let place = self.pictures.len() as u32;
+        add_cue(
+            &mut self.epoch,
+            Some(cue_with(cue.placing, number, place, false)),
+        )?;
+        self.codes += area(head_of(&picture));
+        self.pictures.push(picture)?;
+        self.cues += 1;
+        Ok(())
+    }
+}
+
+/// The cue that is placed so, with the picture at that place of the list.
+fn cue_with(placing: PlaceRow, number: u64, picture: u32, see_through: bool) -> Cue
+    ensures { result ≡ record { start = placing.start; end = placing.end; row = number; region = placing.region; x = placing.x; y = placing.y; picture = picture; see_through = see_through } }
+{
+    Cue {
+        start: placing.start,
+        end: placing.end,
+        row: number,
+        region: placing.region,
+        x: placing.x,
+        y: placing.y,
+        picture,
+        see_through,
+    }
+}

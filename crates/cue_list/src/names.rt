@@ -1,0 +1,40 @@
+ghost use Rattle.std.specs.Prelude.{◌≡◌, ℕ, List, None, OnOk, IfErr};
+ghost use Rattle.cue_list.specs.State.{IsRowFault};
+ghost use Rattle.cue_list.specs.Names.{place_by, named_with};
+
+use crate::row_fault::RowFault;
+use std::alloc::Global;
+use std::collections::BTreeMap;
+
+/// The last picture of each name: its place in the list of pictures.
+#[derive(Drop)]
+pub(crate) struct Names {
+    places: BTreeMap<String, u32>,
+}
+
+impl Names {
+    pub(crate) fn new(alloc: Global) -> Names
+        ensures { (name : List ℕ) → place_by result name ≡ None }
+    {
+        Names {
+            places: BTreeMap::new(alloc),
+        }
+    }
+
+    /// The place of the last picture of that name.
+    pub(crate) fn place(&self, name: &str) -> Option<u32>
+        ensures { result ≡ place_by self.now name.now }
+    {
+        self.places.get(name).copied()
+    }
+
+    /// Notes the place of a picture of that name.
+    pub(crate) fn add(&mut self, alloc: Global, name: &str, place: u32) -> Result<(), RowFault>
+        ensures memory { IfErr result (IsRowFault None) }
+        ensures added { OnOk result (place_by self.new ≡ named_with name.now place (place_by self.old)) }
+    {
+        let name = String::from_str(alloc, name)?;
+        self.places.insert(name, place)?;
+        Ok(())
+    }
+}

@@ -1,0 +1,114 @@
+ghost use Rattle.std.specs.Prelude.{◌≡◌, ◌+◌, ◌<◌, ◌^◌, [], true, length, is_some, IfOk, IfErr};
+ghost use Rattle.cue_list.specs.HasRead.{HasRead};
+ghost use Rattle.cue_list.specs.Records.{records_of};
+ghost use Rattle.cue_list.specs.ScriptRows.{IsScriptFault};
+ghost use Rattle.std.specs.Prelude.{Err, None};
+ghost use Rattle.cue_list.specs.declared.fault.ScriptKind.TheVariants.{Order};
+ghost use Rattle.cue_list.specs.declared.fault.ScriptFault.TheVariants.{Memory, Refused};
+ghost use Rattle.cue_list.specs.Past.{with_last};
+ghost use Rattle.cue_list.specs.ScriptRows.{IsScript};
+ghost use Rattle.cue_list.specs.Sound.{IsSound};
+
+use crate::epoch::Epoch;
+use crate::fault::{ScriptFault, ScriptKind};
+use crate::items::Items;
+use crate::reader::Reader;
+use crate::row_fault::RowFault;
+use crate::rows::{next_row, reader_of};
+use crate::script::Script;
+use bitmap_font::Font;
+use csv::ByteRecord;
+use std::alloc::Global;
+use sub_base::NoMemory;
+
+/// The ticks of a second.
+const SECOND: u64 = 90_000;
+
+impl Script {
+    /// Reads a cue script: CSV without a header, in records that are judged one after another, each by those before it. The
+    /// texts of cues are set in `font`. The first wrong record is refused, by the first of its tests that fails; a script
+    /// in which no epoch starts is refused at the record after its last.
+    pub fn read(alloc: Global, bytes: &[u8], font: &Font) -> Result<Script, ScriptFault>
+        ensures script { IfOk result (λ script. IsScript bytes.now font.now script.origin script.width script.height script.refresh script.epochs script.pictures) }
+        ensures sound { IfOk result (λ script. IsSound script.origin script.width script.height script.refresh script.epochs script.pictures) }
+        ensures refused { IfErr result (IsScriptFault bytes.now font.now) }
+    {
+        let reader = read_records(alloc, bytes, font)?;
+        let refresh = SECOND * reader.seconds;
+        let epochs = epochs_of(reader.ended, reader.epoch)?;
+        Ok(Script {
+            origin: reader.origin,
+            width: reader.width,
+            height: reader.height,
+            refresh,
+            epochs: Items::new(epochs),
+            pictures: Items::new(reader.pictures),
+        })
+    }
+}
+
+/// The epochs, with the last one.
+fn epochs_of(ended: Vec<Epoch>, last: Option<Epoch>) -> Result<Vec<Epoch>, ScriptFault>
+    ensures epochs { IfOk result (λ epochs. epochs.items ≡ with_last ended.items last) }
+    ensures memory { IfErr result (λ fault. fault ≡ Memory) }
+{
+    let mut epochs = ended;
+    if let Some(epoch) = last {
+        match epochs.push(epoch) {
+            Ok(()) => {}
+            Err(_) => return Err(ScriptFault::Memory),
+        }
+    }
+    Ok(epochs)
+}
+
+/// Reads the records of a script one after another, up to the first that is wrong.
+pub(crate) fn read_records(alloc: Global, bytes: &[u8], font: &Font) -> Result<Reader, ScriptFault>
+    ensures read { IfOk result (HasRead bytes.now font.now []) }
+    ensures epoch { IfOk result (λ reader. is_some reader.epoch ≡ true) }
+    ensures refused { IfErr result (IsScriptFault bytes.now font.now) }
+{
+    let mut rows = reader_of(alloc, bytes);
+    let mut row = ByteRecord::new(alloc);
+    let mut reader = Reader::new(alloc);
+    loop {
+        match next_row(&mut rows, &mut row) {
+            Err(NoMemory) => return Err(ScriptFault::Memory),
+            Ok(false) => return whole(reader),
+            Ok(true) => {}
+        }
+        let before = reader.rows;
+        match reader.take(alloc, font, &row) {
+            Err(RowFault::OutOfMemory) => return Err(ScriptFault::Memory),
+            Err(RowFault::Wrong(kind)) => return refusal(before, kind),
+            Ok(()) => {}
+        }
+    }
+}
+
+/// The reader, where an epoch was started.
+fn whole(reader: Reader) -> Result<Reader, ScriptFault>
+    requires { reader.rows + 1 < 2 ^ 64 }
+    ensures read { IfOk result (λ whole. whole ≡ reader) }
+    ensures epoch { IfOk result (λ whole. is_some whole.epoch ≡ true) }
+    ensures none { IfErr result (λ fault. (reader.epoch ≡ None) × (fault ≡ Refused (reader.rows + 1) Order)) }
+{
+    if reader.epoch.is_none() {
+        return Err(ScriptFault::Refused {
+            row: reader.rows + 1,
+            kind: ScriptKind::Order,
+        });
+    }
+    Ok(reader)
+}
+
+/// The refusal of the record after that many.
+fn refusal(before: u64, kind: ScriptKind) -> Result<Reader, ScriptFault>
+    requires { before + 1 < 2 ^ 64 }
+    ensures { result ≡ Err (Refused (before + 1) kind) }
+{
+    Err(ScriptFault::Refused {
+        row: before + 1,
+        kind,
+    })
+}

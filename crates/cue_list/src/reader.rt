@@ -1,0 +1,60 @@
+ghost use Rattle.std.specs.Prelude.{◌≡◌, []};
+ghost use Rattle.bitmap_font.specs.Font.{FontValue};
+ghost use Rattle.cue_list.specs.Past.{looking_back};
+ghost use Rattle.cue_list.specs.State.{IsReader, past_of};
+
+use crate::epoch::Epoch;
+use crate::names::Names;
+use crate::ticks::Ticks;
+use indexed_picture::Indexed;
+use std::alloc::Global;
+
+/// What is kept of the records of a script so far.
+#[derive(Drop)]
+pub(crate) struct Reader {
+    pub(crate) rows: u64,
+    pub(crate) origin: u64,
+    pub(crate) width: u16,
+    pub(crate) height: u16,
+    pub(crate) seconds: u64,
+    /// The epochs before the last one.
+    pub(crate) ended: Vec<Epoch>,
+    /// The last epoch.
+    pub(crate) epoch: Option<Epoch>,
+    /// How many colours, pictures with a name, and places and cues there are.
+    pub(crate) colours: u32,
+    pub(crate) named: u32,
+    pub(crate) cues: u32,
+    pub(crate) pictures: Vec<Indexed>,
+    /// How many codes the pictures have.
+    pub(crate) codes: u64,
+    pub(crate) ticks: Ticks,
+    pub(crate) names: Names,
+}
+
+impl Reader {
+    /// Before the first record.
+    pub(crate) fn new(alloc: Global) -> Reader
+        ensures reader { IsReader result }
+        ensures rows { result.rows ≡ 0 }
+        ensures pictures { result.pictures.items ≡ [] }
+        ensures past { (font : FontValue) → past_of result ≡ looking_back font [] }
+    {
+        Reader {
+            rows: 0,
+            origin: 0,
+            width: 0,
+            height: 0,
+            seconds: 0,
+            ended: Vec::new(alloc),
+            epoch: None,
+            colours: 0,
+            named: 0,
+            cues: 0,
+            pictures: Vec::new(alloc),
+            codes: 0,
+            ticks: Ticks::new(alloc),
+            names: Names::new(alloc),
+        }
+    }
+}

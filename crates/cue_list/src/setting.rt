@@ -1,0 +1,66 @@
+ghost use Rattle.std.specs.Prelude.{◌≡◌, ◌≤◌, ◌<◌, ◌∷◌, [], None, chars, IfOk, IfErr, OnOk};
+ghost use Rattle.bitmap_font.specs.Setting.{IsSetting};
+ghost use Rattle.sub_base.specs.Depth.{code_count};
+ghost use Rattle.sub_base.specs.Picture.{IsPicture};
+ghost use Rattle.cue_list.specs.RowFaults.{text_fault, glyph_fault};
+ghost use Rattle.cue_list.specs.CellFaults.{first_of};
+ghost use Rattle.cue_list.specs.State.{past_of, head_of as head_of_picture, IsRowFault};
+ghost use Rattle.cue_list.specs.TextSizes.{text_head, missing_glyph};
+ghost use Rattle.cue_list.specs.Setting.{row_fault_of as row_fault_of_set};
+
+use crate::epoch::Region;
+use crate::fault::ScriptKind;
+use crate::kind_rows::PictureHead;
+use crate::reader::Reader;
+use crate::row_cells::CueCells;
+use crate::row_fault::RowFault;
+use bitmap_font::{Font, SetFault};
+use indexed_picture::Indexed;
+
+/// The depth and the sides of a picture.
+pub(crate) fn head_of(picture: &Indexed) -> PictureHead
+    ensures { result ≡ head_of_picture picture.now }
+{
+    PictureHead {
+        depth: picture.depth(),
+        width: picture.width(),
+        height: picture.height(),
+    }
+}
+
+impl Reader {
+    /// The picture of a cue's text, at its region's depth.
+    pub(crate) fn set_text(
+        &self,
+        font: &Font,
+        text: &str,
+        cue: CueCells,
+        region: Region,
+    ) -> Result<Indexed, RowFault>
+        requires ink { cue.ink < code_count region.depth }
+        requires paper { cue.paper < code_count region.depth }
+        ensures glyphs { OnOk result (missing_glyph font.now (chars text.now) ≡ None) }
+        ensures head { IfOk result (λ picture. text_head font.now region.depth (chars text.now) ≡ head_of_picture picture) }
+        ensures setting { IfOk result (IsSetting font.now (chars text.now) cue.ink cue.paper region.depth) }
+        ensures picture { IfOk result IsPicture }
+        ensures small { IfOk result (λ picture. (picture.width ≤ 1920) × (picture.height ≤ 1080)) }
+        ensures refused { IfErr result (IsRowFault (first_of (glyph_fault (missing_glyph font.now (chars text.now)) ∷ text_fault (past_of self.now) cue.placing region (text_head font.now region.depth (chars text.now)) ∷ []))) }
+    {
+        match font.set(text, cue.ink, cue.paper, region.depth) {
+            Ok(picture) => Ok(picture),
+            Err(fault) => Err(row_fault_of(fault)),
+        }
+    }
+}
+
+/// The fault of a record whose text cannot be set.
+fn row_fault_of(fault: SetFault) -> RowFault
+    ensures { result ≡ row_fault_of_set fault }
+{
+    match fault {
+        SetFault::Memory => RowFault::OutOfMemory,
+        SetFault::MissingGlyph(character) => RowFault::Wrong(ScriptKind::Glyph(character)),
+        SetFault::Empty => RowFault::Wrong(ScriptKind::Range),
+        SetFault::TooWide => RowFault::Wrong(ScriptKind::CueOutside),
+    }
+}

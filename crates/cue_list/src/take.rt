@@ -1,0 +1,99 @@
+ghost use Rattle.std.specs.Prelude.{◌≡◌, ◌+◌, ◌<◌, ◌^◌, true, false, None, OnOk, IfErr, IfNone};
+ghost use Rattle.csv.specs.Records.{fields_of};
+ghost use Rattle.cue_list.specs.CellFaults.{is_text_row as is_text_row_of};
+ghost use Rattle.cue_list.specs.Drawn.{Brings};
+ghost use Rattle.cue_list.specs.Records.{record_of, kind_of};
+ghost use Rattle.cue_list.specs.RowFaults.{shape_fault as shape_fault_of, fault_with, is_full as is_full_of, regions_of};
+ghost use Rattle.cue_list.specs.State.{IsReader, past_of, IsTaken, IsRowFault, content_fault, next_by, next_with};
+ghost use Rattle.cue_list.specs.Cells.{cell_at};
+
+use crate::cells::cell;
+use crate::fault::ScriptKind;
+use crate::reader::Reader;
+use crate::row_fault::RowFault;
+use crate::row_kind::RowKind;
+use crate::texts::is_text_row;
+use bitmap_font::Font;
+use csv::ByteRecord;
+use std::alloc::Global;
+
+impl Reader {
+    /// Takes the next record, or says which of its tests is the first that fails.
+    pub(crate) fn take(
+        &mut self,
+        alloc: Global,
+        font: &Font,
+        row: &ByteRecord,
+    ) -> Result<(), RowFault>
+        requires reader { IsReader self.old }
+        requires fits { self.old.rows + 1 < 2 ^ 64 }
+        ensures reader { OnOk result (IsReader self.new) }
+        ensures right { OnOk result (fault_with font.now (past_of self.old) (record_of (self.old.rows + 1) (fields_of row.now)) ≡ None) }
+        ensures next { OnOk result (past_of self.new ≡ next_with font.now (past_of self.old) (record_of (self.old.rows + 1) (fields_of row.now))) }
+        ensures drawn { OnOk result (Brings font.now (regions_of self.old.epoch) (kind_of (cell_at (fields_of row.now) 0)) (fields_of row.now) self.old.pictures.items self.new.pictures.items) }
+        ensures refused { IfErr result (IsRowFault (fault_with font.now (past_of self.old) (record_of (self.old.rows + 1) (fields_of row.now)))) }
+    {
+        let kind = RowKind::of(cell(row, 0));
+        if let Some(fault) = shape_fault(kind, row) {
+            return Err(RowFault::Wrong(fault));
+        }
+        if self.is_misplaced(kind) {
+            return Err(RowFault::Wrong(ScriptKind::Order));
+        }
+        if self.is_full(kind) {
+            return Err(RowFault::Wrong(ScriptKind::TooMany));
+        }
+        let number = self.rows + 1;
+        self.take_content(alloc, font, kind, number, row)?;
+        self.rows = number;
+        Ok(())
+    }
+
+    /// Takes a record of that kind that stands in its place.
+    fn take_content(
+        &mut self,
+        alloc: Global,
+        font: &Font,
+        kind: RowKind,
+        number: u64,
+        row: &ByteRecord,
+    ) -> Result<(), RowFault>
+        requires reader { IsReader self.old }
+        requires text { is_text_row_of (fields_of row.now) ≡ true }
+        requires room { is_full_of (past_of self.old) kind ≡ false }
+        ensures taken { OnOk result (IsTaken (content_fault font.now (past_of self.old) kind number (fields_of row.now)) (next_by font.now (past_of self.old) kind number (fields_of row.now)) self.new) }
+        ensures drawn { OnOk result (Brings font.now (regions_of self.old.epoch) kind (fields_of row.now) self.old.pictures.items self.new.pictures.items) }
+        ensures refused { IfErr result (IsRowFault (content_fault font.now (past_of self.old) kind number (fields_of row.now))) }
+    {
+        match kind {
+            RowKind::Origin => self.take_origin(row),
+            RowKind::Display => self.take_display(row),
+            RowKind::Refresh => self.take_refresh(row),
+            RowKind::Epoch => self.take_epoch(alloc, number, row),
+            RowKind::Region => self.take_region(row),
+            RowKind::Colour => self.take_colour(number, row),
+            RowKind::Picture => self.take_picture(alloc, row),
+            RowKind::Place => self.take_place(number, row),
+            RowKind::Cue => self.take_cue(font, number, row),
+            RowKind::Other => Ok(()),
+        }
+    }
+}
+
+/// What is wrong with a record's text, its first cell or the number of its cells.
+#[tactic(auto, unfolding(crate::specs::RowFaults::shape_fault))]
+fn shape_fault(kind: RowKind, row: &ByteRecord) -> Option<ScriptKind>
+    ensures fault { result ≡ shape_fault_of kind (fields_of row.now) }
+    ensures text { IfNone result (is_text_row_of (fields_of row.now) ≡ true) }
+{
+    if !is_text_row(row) {
+        return Some(ScriptKind::NotUtf8);
+    }
+    if matches!(kind, RowKind::Other) {
+        return Some(ScriptKind::Unknown);
+    }
+    if row.len() != kind.cells() {
+        return Some(ScriptKind::Count);
+    }
+    None
+}

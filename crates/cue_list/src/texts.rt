@@ -1,0 +1,119 @@
+ghost use Rattle.std.specs.Prelude.{◌≡◌, ◌≤◌, true, chars, length};
+ghost use Rattle.std.specs.List.{list_all, list_any};
+ghost use Rattle.csv.specs.Records.{fields_of};
+ghost use Rattle.cue_list.specs.CellFaults.{is_text_row as is_text_row_of};
+ghost use Rattle.cue_list.specs.Cells.{cell_at};
+ghost use Rattle.cue_list.specs.Codes.{hex_value as hex_value_of};
+ghost use Rattle.cue_list.specs.RowFaults.{codes_fault as codes_fault_of, is_hex as is_hex_of, is_large as is_large_of, digits_of};
+
+use crate::cells::cell;
+use crate::fault::ScriptKind;
+use crate::kind_rows::{PictureHead, is_utf8};
+use crate::row_tests::area;
+use csv::ByteRecord;
+use sub_base::Depth;
+
+/// Whether each cell of a record is text in UTF-8.
+pub(crate) fn is_text_row(row: &ByteRecord) -> bool
+    ensures { result ≡ is_text_row_of (fields_of row.now) }
+{
+    for place in 0..row.len() {
+        if !is_utf8(cell(row, place)) {
+            return false;
+        }
+    }
+    true
+}
+
+/// The text of a cell.
+pub(crate) fn text_cell(row: &ByteRecord, place: usize) -> &str
+    requires { is_text_row_of (fields_of row.now) ≡ true }
+    ensures { result.now ≡ cell_at (fields_of row.now) place }
+{
+    match std::str::from_utf8(cell(row, place)) {
+        Ok(text) => text,
+        Err(_) => unreachable!(),
+    }
+}
+
+/// What is wrong with the codes of a picture.
+#[tactic(auto, unfolding(crate::specs::RowFaults::codes_fault))]
+pub(crate) fn codes_fault(head: PictureHead, text: &str) -> Option<ScriptKind>
+    ensures { result ≡ codes_fault_of head (chars text.now) }
+{
+    if character_count(text) != digits(head.depth) * area(head) {
+        return Some(ScriptKind::Count);
+    }
+    if !are_hex(text) {
+        return Some(ScriptKind::Number);
+    }
+    if has_large(head.depth, text) {
+        return Some(ScriptKind::CodeRange);
+    }
+    None
+}
+
+fn character_count(text: &str) -> u64
+    ensures { result ≡ length (chars text.now) }
+{
+    text.chars().count() as u64
+}
+
+/// Whether all characters are hexadecimal digits.
+fn are_hex(text: &str) -> bool
+    ensures { result ≡ list_all is_hex_of (chars text.now) }
+{
+    text.chars().all(is_hex)
+}
+
+/// Whether a digit is too large for the depth.
+fn has_large(depth: Depth, text: &str) -> bool
+    ensures { result ≡ list_any (is_large_of depth) (chars text.now) }
+{
+    text.chars().any(|character| is_large(depth, character))
+}
+
+/// How many digits a code has.
+fn digits(depth: Depth) -> u64
+    ensures value { result ≡ digits_of depth }
+    ensures few { result ≤ 2 }
+{
+    match depth {
+        Depth::Two | Depth::Four => 1,
+        Depth::Eight => 2,
+    }
+}
+
+fn is_hex(character: char) -> bool
+    ensures { result ≡ is_hex_of character }
+{
+    hex_value(character).is_some()
+}
+
+fn is_large(depth: Depth, character: char) -> bool
+    ensures { result ≡ is_large_of depth character }
+{
+    match depth {
+        Depth::Two => match hex_value(character) {
+            Some(value) => value > 3,
+            None => false,
+        },
+        Depth::Four | Depth::Eight => false,
+    }
+}
+
+/// The value of a hexadecimal digit, in capital or small letters.
+fn hex_value(character: char) -> Option<u32>
+    ensures { result ≡ hex_value_of character }
+{
+    let code = u32::from(character);
+    if 48 <= code && code <= 57 {
+        Some(code - 48)
+    } else if 65 <= code && code <= 70 {
+        Some(code - 55)
+    } else if 97 <= code && code <= 102 {
+        Some(code - 87)
+    } else {
+        None
+    }
+}
