@@ -3,5 +3,7 @@ pub mod CourseLaws
 pub mod InstantLaws
 pub mod ListLaws
 pub mod MomentLaws
+pub mod PlanLaws
 pub mod RegionLaws
+pub mod SoundLaws
 pub mod SweepLaws

@@ -79,10 +79,14 @@ pub record AreFirstSets (epochs : List Epoch) (refresh : ℕ) (profile : Profile
   pub each : Stands (IsNext epochs refresh) sets
   pub fit : Stands (Fits epochs profile) sets
 
--- the plan of a script for a receiver: the sets of all instants
+-- the sets of all instants, each of which a receiver can hold
+pub record ArePlanned (epochs : List Epoch) (refresh : ℕ) (profile : Profile) (sets : List PlannedSet) : Type 0 where
+  pub instants : List ℕ
+  pub are_instants : AreInstants epochs refresh instants
+  pub first : AreFirstSets epochs refresh profile instants sets
+  pub all : length sets ≡ length instants
+
+-- the plan of a script for a receiver
 pub record IsPlan (script : Script) (profile : Profile) (sets : List PlannedSet) : Type 0 where
   pub display : HasDisplay script.width script.height profile
-  pub instants : List ℕ
-  pub are_instants : AreInstants script.epochs script.refresh instants
-  pub first : AreFirstSets script.epochs script.refresh profile instants sets
-  pub all : length sets ≡ length instants
+  pub planned : ArePlanned script.epochs script.refresh profile sets

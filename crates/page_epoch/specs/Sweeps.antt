@@ -1,7 +1,8 @@
 -- Where the walk over the instants stands in an epoch. The instants of the epoch so far are given, the latest first.
-use Rattle.std.specs.Prelude.{◌≡◌, ℕ, ◌+◌, ◌%◌, ◌<◌, ◌≤◌, Bool, true, false, not, ◌&&◌, ◌⊎◌, if◌then◌else◌, List, [], ◌∷◌, length, map, All, Some, slice_get}
+use Rattle.std.specs.Prelude.{◌≡◌, ◌≢◌, ℕ, ◌+◌, ◌%◌, ◌^◌, ◌<◌, ◌≤◌, Bool, true, false, not, ◌&&◌, ◌⊎◌, if◌then◌else◌, List, [], ◌∷◌, length, map, All, Some, slice_get}
 use Rattle.stream_syntax.specs.declared.page.State.{State}
 use Rattle.cue_list.specs.declared.epoch.Epoch.{Epoch}
+use Rattle.cue_list.specs.declared.epoch.Region.{Region}
 use Rattle.page_epoch.specs.declared.planned_set.PlannedSet.{PlannedSet}
 use Rattle.page_epoch.specs.declared.region_course.RegionCues.{RegionCues}
 use Rattle.page_epoch.specs.declared.region_course.RegionCourse.{RegionCourse}
@@ -11,7 +12,8 @@ use Rattle.page_epoch.specs.declared.course.Course.{Course}
 use Rattle.page_epoch.specs.declared.course.Sweep.{Sweep}
 use Rattle.page_epoch.specs.declared.course.Step.{Step}
 use Rattle.page_epoch.specs.declared.instants.Instant.{Instant}
-use Rattle.page_epoch.specs.Instants.{is_named}
+use Rattle.std.specs.List.{AllPairs}
+use Rattle.page_epoch.specs.Instants.{is_named, named_ticks}
 use Rattle.page_epoch.specs.States.{is_whole, page_version}
 use Rattle.page_epoch.specs.Courses.{region_courses, clut_courses, is_first, IsSmallCourse, IsSmallVersion}
 use Rattle.page_epoch.specs.Layouts.{IsLayout}
@@ -74,3 +76,37 @@ pub record IsSweep (epochs : List Epoch) (seen : List ℕ) (sweep : Sweep) : Typ
   pub layout : IsLayout epoch sweep.layout
   pub course : IsCourse epochs epoch sweep.layout seen sweep.course
   pub safe : IsSafe sweep.layout sweep.course
+
+-- the regions of an epoch have different numbers, each a byte
+pub record IsNumbered (epoch : Epoch) : Type 0 where
+  pub bytes : All (λ (region : Region). region.id ≤ 255) epoch.regions
+  pub apart : AllPairs (λ (first second : Region). first.id ≢ second.id) epoch.regions
+
+-- what the walk relies on: epochs within the limits, in order of their starts, whose ticks are below 2^33 and begin with
+-- the start of the first one
+pub record IsPlain (epochs : List Epoch) (refresh : ℕ) : Type 0 where
+  pub some : 1 ≤ length epochs
+  pub few : length epochs ≤ 512
+  pub often : 1 ≤ refresh
+  pub rare : refresh < 2 ^ 40
+  pub small : All IsSmallEpoch epochs
+  pub numbered : All IsNumbered epochs
+  pub rise : AllPairs (λ (earlier later : Epoch). earlier.start < later.start) epochs
+  pub early : All (λ tick. tick < 2 ^ 33) (named_ticks epochs)
+  pub begin : (first : Epoch) → slice_get epochs 0 ≡ Some first → All (λ tick. first.start ≤ tick) (named_ticks epochs)
+
+-- the walk goes on to the next epoch, which begins by a tick
+pub record Enters (epochs : List Epoch) (tick : ℕ) (old new : Sweep) : Type 0 where
+  pub next : Epoch
+  pub there : slice_get epochs (old.place + 1) ≡ Some next
+  pub begun : next.start ≤ tick
+  pub place : new.place ≡ old.place + 1
+  pub stands : IsSweep epochs [] new
+
+-- or stays, where none does
+pub record Stays (epochs : List Epoch) (tick : ℕ) (old new : Sweep) : Type 0 where
+  pub same : new ≡ old
+  pub later : (next : Epoch) → slice_get epochs (old.place + 1) ≡ Some next → tick < next.start
+
+abbrev pub GoesOn : List Epoch → ℕ → Sweep → Sweep → Type 0
+GoesOn epochs tick old new = Enters epochs tick old new ⊎ Stays epochs tick old new

@@ -3,7 +3,7 @@ ghost use Rattle.cue_list.specs.declared.epoch.Epoch.{Epoch as EpochValue};
 ghost use Rattle.page_epoch.specs.States.{is_whole as is_whole_of};
 ghost use Rattle.page_epoch.specs.Courses.{IsSmallCourse, IsSmallVersion};
 ghost use Rattle.page_epoch.specs.Layouts.{IsLayout};
-ghost use Rattle.page_epoch.specs.Sweeps.{IsSmallEpoch, IsCourse, IsSafe, IsTimely, IsSetOf, IsAdvanced, first_course, page_after};
+ghost use Rattle.page_epoch.specs.Sweeps.{IsSmallEpoch, IsCourse, IsSafe, IsTimely, IsSetOf, IsAdvanced, IsSweep, GoesOn, first_course, page_after};
 
 use crate::clut_course::ClutRows;
 use crate::clut_step::step_cluts;
@@ -169,5 +169,37 @@ impl Course {
             },
             nodes,
         })
+    }
+}
+
+impl Sweep {
+    /// The walk before the first instant of an epoch.
+    pub fn begin(alloc: Global, epochs: &[Epoch], place: u32) -> Result<Sweep, AllocError>
+        requires there { place < length epochs.now }
+        requires few { All IsSmallEpoch epochs.now }
+        ensures place { IfOk result (λ sweep. sweep.place ≡ place) }
+        ensures sweep { IfOk result (IsSweep epochs.now []) }
+    {
+        let layout = Layout::of(alloc, &epochs[place as usize])?;
+        let course = Course::begin(alloc, &layout)?;
+        Ok(Sweep {
+            place,
+            layout,
+            course,
+        })
+    }
+
+    /// The walk at its next tick: in the next epoch, where that begins by then.
+    pub fn at(self, alloc: Global, epochs: &[Epoch], tick: u64) -> Result<Sweep, AllocError>
+        requires few { All IsSmallEpoch epochs.now }
+        requires many { length epochs.now ≤ 512 }
+        requires there { self.place < length epochs.now }
+        ensures { IfOk result (GoesOn epochs.now tick self) }
+    {
+        let next = self.place + 1;
+        if (next as usize) < epochs.len() && epochs[next as usize].start <= tick {
+            return Sweep::begin(alloc, epochs, next);
+        }
+        Ok(self)
     }
 }

@@ -10,9 +10,11 @@ mod instants;
 mod layout;
 mod live;
 mod moments;
+mod plan;
 mod planned_set;
 mod region_course;
 
 pub use fault::PlanFault;
+pub use plan::Plan;
 pub use planned_set::{PlannedSet, SentClut, SentRegion};
 pub use stream_syntax::State;
