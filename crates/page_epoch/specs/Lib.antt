@@ -1,1 +1,14 @@
+pub mod Instants
+pub mod Live
+pub mod Needs
+pub mod Plan
+pub mod Refusals
+pub mod Rows
 pub mod Sendable
+pub mod SentCluts
+pub mod SentRegions
+pub mod States
+pub mod Courses
+pub mod Layouts
+pub mod Steps
+pub mod Sweeps

@@ -2,7 +2,19 @@
 //! (EN 300 743, clauses 5 and 7).
 #![tactic(auto)]
 
+mod clut_course;
+mod clut_step;
+mod course;
+mod fault;
+mod instants;
+mod layout;
+mod live;
+mod moments;
+mod plan;
 mod planned_set;
+mod region_course;
 
+pub use fault::PlanFault;
+pub use plan::Plan;
 pub use planned_set::{PlannedSet, SentClut, SentRegion};
 pub use stream_syntax::State;

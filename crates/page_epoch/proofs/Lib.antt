@@ -1,0 +1,9 @@
+pub mod ClutLaws
+pub mod CourseLaws
+pub mod InstantLaws
+pub mod ListLaws
+pub mod MomentLaws
+pub mod PlanLaws
+pub mod RegionLaws
+pub mod SoundLaws
+pub mod SweepLaws

@@ -1,0 +1,86 @@
+-- Facts on lists.
+use Rattle.std.proofs.Common.{◌≡◌, ◌∙◌, ℕ, ◌+◌, ◌<◌, ◌≤◌, Bool, true, false, cond, List, [], ◌∷◌, ◌++◌, map, filter, length, take, get_or, All, Result, Ok, Err, IfOk, refl, sym, ap, subst, append_assoc, arith}
+use Rattle.std.specs.List.{range_with_len, flat_map}
+use Rattle.std.proofs.lemmas.List.{map-id, map-append, append-nil, take_more}
+use Rattle.std.proofs.lemmas.List.Sums.{length-filter, count_by-le-length}
+use Rattle.std.proofs.lemmas.List.Concat.{flat_map-append}
+use Rattle.std.proofs.lemmas.List.Elements.{All-filter}
+use Rattle.std.proofs.lemmas.List.FromFn.{filter_of_map_range_with_len_more, map-range_with_len_more, length-range_with_len, get_or-range_with_len}
+
+-- one place more passes a test or not
+pub filter_places_more : (p : ℕ → Bool) (n : ℕ) → filter p (range_with_len 0 (n + 1)) ≡ filter p (range_with_len 0 n) ++ cond (p n) (n ∷ []) []
+filter_places_more p n =
+    ap (filter p) (sym (map-id (range_with_len 0 (n + 1)))) ∙ filter_of_map_range_with_len_more p (λ x. x) 0 n n (omega arith)
+    ∙ ap (λ xs. filter p xs ++ cond (p n) (n ∷ []) []) (map-id (range_with_len 0 n))
+
+pub keep_place : (p : ℕ → Bool) (n : ℕ) (own next : List ℕ) → own ≡ filter p (range_with_len 0 n) → p n ≡ true → next ≡ own ++ n ∷ [] →
+    next ≡ filter p (range_with_len 0 (n + 1))
+keep_place p n own next e t push =
+    push ∙ ap (λ xs. xs ++ n ∷ []) e ∙ sym (filter_places_more p n ∙ ap (λ b. filter p (range_with_len 0 n) ++ cond b (n ∷ []) []) t)
+
+pub pass_place : (p : ℕ → Bool) (n : ℕ) (own : List ℕ) → own ≡ filter p (range_with_len 0 n) → p n ≡ false →
+    own ≡ filter p (range_with_len 0 (n + 1))
+pass_place p n own e t =
+    e ∙ sym (filter_places_more p n ∙ ap (λ b. filter p (range_with_len 0 n) ++ cond b (n ∷ []) []) t ∙ append-nil (filter p (range_with_len 0 n)))
+
+pub keep_mapped : {X : Type 0} (f : ℕ → X) (p : ℕ → Bool) (n : ℕ) (own next : List X) → own ≡ map f (filter p (range_with_len 0 n)) → p n ≡ true → next ≡ own ++ f n ∷ [] →
+    next ≡ map f (filter p (range_with_len 0 (n + 1)))
+keep_mapped f p n own next e t push =
+    push ∙ ap (λ xs. xs ++ f n ∷ []) e ∙ sym (map-append f (filter p (range_with_len 0 n)) (n ∷ [])) ∙ ap (map f) (sym (filter_places_more p n ∙ ap (λ b. filter p (range_with_len 0 n) ++ cond b (n ∷ []) []) t))
+
+pub pass_mapped : {X : Type 0} (f : ℕ → X) (p : ℕ → Bool) (n : ℕ) (own : List X) → own ≡ map f (filter p (range_with_len 0 n)) → p n ≡ false →
+    own ≡ map f (filter p (range_with_len 0 (n + 1)))
+pass_mapped f p n own e t = e ∙ ap (map f) (pass_place p n (filter p (range_with_len 0 n)) refl t)
+
+-- each place of a list is below its length
+pub places_within : (n : ℕ) → All (λ place. place < n) (range_with_len 0 n)
+places_within n k d h =
+    let short : k < n = subst (λ m. k < m) (length-range_with_len 0 n) h in
+    let is = get_or-range_with_len 0 n k d short in
+    omega arith
+
+pub kept_within : (p : ℕ → Bool) (n : ℕ) → All (λ place. place < n) (filter p (range_with_len 0 n))
+kept_within p n = All-filter p (λ place. place < n) (range_with_len 0 n) (places_within n)
+
+-- the same after a second test
+pub twice_within : (p q : ℕ → Bool) (n : ℕ) → All (λ place. place < n) (filter q (filter p (range_with_len 0 n)))
+twice_within p q n = All-filter q (λ place. place < n) (filter p (range_with_len 0 n)) (kept_within p n)
+
+-- a list that grows by mapped numbers
+pub mapped_more : {X : Type 0} (f : ℕ → X) (n : ℕ) (old now next : List X) → now ≡ old ++ map f (range_with_len 0 n) → next ≡ now ++ f n ∷ [] →
+    next ≡ old ++ map f (range_with_len 0 (n + 1))
+mapped_more f n old now next e push =
+    push ∙ ap (λ xs. xs ++ f n ∷ []) e ∙ append_assoc old (map f (range_with_len 0 n)) (f n ∷ []) ∙ ap (λ xs. old ++ xs) (sym (map-range_with_len_more f 0 n n (omega arith)))
+
+-- three lists put behind nothing
+pub three_joined : {X : Type 0} (a b c start one two three : List X) → start ≡ [] → one ≡ start ++ a → two ≡ one ++ b → three ≡ two ++ c → three ≡ a ++ (b ++ c)
+three_joined a b c start one two three none first second third =
+    third ∙ ap (λ xs. xs ++ c) (second ∙ ap (λ xs. xs ++ b) (first ∙ ap (λ xs. xs ++ a) none)) ∙ append_assoc a b c
+
+-- a filter keeps no more
+pub length_kept : {X : Type 0} (p : X → Bool) (xs : List X) → length (filter p xs) ≤ length xs
+length_kept p xs = omega (arith, length-filter p xs, count_by-le-length p xs)
+
+pub length_kept_places : (p : ℕ → Bool) (n : ℕ) → length (filter p (range_with_len 0 n)) ≤ n
+length_kept_places p n = omega (arith, length_kept p (range_with_len 0 n), length-range_with_len 0 n)
+
+-- one piece more
+pub flat_map_next : {X A : Type 0} (f : X → List A) (xs : List X) (i : ℕ) (d : X) → i < length xs →
+    flat_map f (take (i + 1) xs) ≡ flat_map f (take i xs) ++ f (get_or xs i d)
+flat_map_next f xs i d h =
+    ap (flat_map f) (take_more xs i d h) ∙ flat_map-append f (take i xs) (get_or xs i d ∷ []) ∙ ap (λ ys. flat_map f (take i xs) ++ ys) (append-nil (f (get_or xs i d)))
+
+pub flat_map_mapped : {X Y A : Type 0} (f : Y → List A) (g : X → Y) (xs : List X) → flat_map f (map g xs) ≡ flat_map (λ x. f (g x)) xs
+flat_map_mapped f g [] = refl
+flat_map_mapped f g (x ∷ xs) = ap (λ ys. f (g x) ++ ys) (flat_map_mapped f g xs)
+
+-- what holds of a value in an Ok
+pub ok_then : {T E : Type 0} (P Q : T → Type 0) (r : Result T E) → ((x : T) → P x → Q x) → IfOk r P → IfOk r Q
+ok_then P Q (Ok x) step h = step x h
+ok_then P Q (Err e) step h = h
+
+-- a list that grows by mapped numbers from 1 on
+pub refreshes_more : {X : Type 0} (f : ℕ → X) (n : ℕ) (old now next : List X) → now ≡ old ++ map f (range_with_len 1 n) → next ≡ now ++ f (n + 1) ∷ [] →
+    next ≡ old ++ map f (range_with_len 1 (n + 1))
+refreshes_more f n old now next e push =
+    push ∙ ap (λ xs. xs ++ f (n + 1) ∷ []) e ∙ append_assoc old (map f (range_with_len 1 n)) (f (n + 1) ∷ []) ∙ ap (λ xs. old ++ xs) (sym (map-range_with_len_more f 1 n (n + 1) (omega arith)))

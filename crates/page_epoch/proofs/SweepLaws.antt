@@ -1,0 +1,159 @@
+-- An epoch from instant to instant.
+use Rattle.std.proofs.Common.{◌≡◌, ◌∙◌, ℕ, ◌+◌, ◌*◌, ◌%◌, ◌==◌, ◌<◌, ◌≤◌, Bool, true, false, not, ◌&&◌, cond, List, [], ◌∷◌, ◌++◌, map, filter, length, get_or, All, Option, None, sum_by, count_by, nat_lt, refl, sym, ap, subst, arith}
+use Rattle.std.specs.List.{flat_map, list_any}
+use Rattle.std.specs.List.Sorted.{IsPermutation, IsNonDecreasing}
+use Rattle.std.proofs.lemmas.Bool.Decides.{nat_tests}
+use Rattle.std.proofs.lemmas.List.{length-map}
+use Rattle.std.proofs.lemmas.List.Elements.{All-map}
+use Rattle.std.proofs.lemmas.List.Sorted.{length_permutation, sum_by-IsPermutation}
+use Rattle.std.proofs.lemmas.List.Sums.{sum_by-cons}
+use Rattle.cue_list.specs.declared.epoch.Epoch.{Epoch}
+use Rattle.cue_list.specs.declared.epoch.Region.{Region}
+use Rattle.cue_list.specs.declared.epoch.Cue.{Cue}
+use Rattle.cue_list.specs.declared.epoch.ColourRow.{ColourRow}
+use Rattle.page_epoch.specs.declared.planned_set.SentRegion.{SentRegion}
+use Rattle.page_epoch.specs.declared.planned_set.SentClut.{SentClut}
+use Rattle.page_epoch.specs.declared.region_course.RegionCues.{RegionCues}
+use Rattle.page_epoch.specs.declared.region_course.RegionCourse.{RegionCourse}
+use Rattle.page_epoch.specs.declared.clut_course.ClutRows.{ClutRows}
+use Rattle.page_epoch.specs.declared.layout.Layout.{Layout}
+use Rattle.page_epoch.specs.declared.instants.Instant.{Instant}
+use Rattle.page_epoch.specs.Live.{has_some, live_places, own_places}
+use Rattle.page_epoch.specs.Instants.{is_named}
+use Rattle.page_epoch.specs.SentRegions.{sent_region, held, AreSentRegions, AreShown, AreOrdered}
+use Rattle.page_epoch.specs.SentCluts.{sent_clut, sent_cluts, named_cluts, clut_count}
+use Rattle.page_epoch.specs.States.{page_version}
+use Rattle.page_epoch.specs.Layouts.{IsLayout, shown_of}
+use Rattle.page_epoch.specs.Needs.{clut_nodes}
+use Rattle.page_epoch.specs.Courses.{region_cues, region_course, region_courses, clut_rows, clut_course, clut_courses, AreOwn, AreRowsOf, IsSmallCourse, IsSmallVersion, sent_of, is_first}
+use Rattle.page_epoch.specs.Sweeps.{IsTimely, page_after, first_course}
+use Rattle.page_epoch.proofs.ListLaws.{flat_map_mapped, length_kept_places}
+
+-- ---- what stays
+
+pub own_of_layout : (cues : List Cue) (ids : List Region) (regions : List RegionCues) → regions ≡ map (region_cues cues) ids → AreOwn cues regions
+own_of_layout cues ids regions e =
+    subst (AreOwn cues) (sym e) (All-map (λ (region : RegionCues). region.own ≡ own_places cues region.id) (region_cues cues) ids (λ k d h. refl))
+
+pub rows_of_layout : (colours : List ColourRow) (cluts : List ClutRows) → cluts ≡ map (clut_rows colours) (named_cluts colours) → AreRowsOf colours cluts
+rows_of_layout colours cluts e =
+    subst (AreRowsOf colours) (sym e) (All-map (λ (clut : ClutRows). clut ≡ clut_rows colours clut.clut) (clut_rows colours) (named_cluts colours) (λ k d h. refl))
+
+count_is : clut_count ≡ 256
+unfolding clut_count
+count_is = refl
+
+pub few_cluts : (colours : List ColourRow) (cluts : List ClutRows) → cluts ≡ map (clut_rows colours) (named_cluts colours) → length cluts ≤ 256
+few_cluts colours cluts e =
+    let same = ap length e in
+    let long = length-map (named_cluts colours) (clut_rows colours) in
+    let few = length_kept_places (λ clut. list_any (λ row. row.clut == clut) colours) clut_count in
+    let all = count_is in
+    omega arith
+
+pub few_regions : (cues : List Cue) (regions ids : List Region) (by_id : List RegionCues) → IsPermutation regions ids → by_id ≡ map (region_cues cues) ids → length by_id ≡ length regions
+few_regions cues regions ids by_id perm e = ap length e ∙ length-map ids (region_cues cues) ∙ length_permutation regions ids perm
+
+pub small_first : (regions : List RegionCues) → All IsSmallCourse (map (λ _. first_course) regions)
+small_first regions = All-map IsSmallCourse (λ (_ : RegionCues). first_course) regions (λ k d h. record { version = omega arith; held = omega arith })
+
+pub small_none : (cluts : List ClutRows) → All IsSmallVersion (map (λ _. None) cluts)
+small_none cluts = All-map IsSmallVersion (λ (_ : ClutRows). None) cluts (λ k d h. tt)
+
+-- ---- one instant on
+
+pub regions_on : (cues cues' : List Cue) (by by' : List RegionCues) (courses courses' next : List RegionCourse) (seen : List ℕ) (tick : ℕ) → cues' ≡ cues → by' ≡ by → courses' ≡ courses →
+    courses ≡ region_courses cues seen by → (courses' ≡ region_courses cues' seen by' → next ≡ region_courses cues' (tick ∷ seen) by') → next ≡ region_courses cues (tick ∷ seen) by
+regions_on cues cues' by by' courses courses' next seen tick a b e is on =
+    let both : (s : List ℕ) → region_courses cues' s by' ≡ region_courses cues s by = λ s. ap (λ x. region_courses x s by') a ∙ ap (λ x. region_courses cues s x) b in
+    on (e ∙ is ∙ sym (both seen)) ∙ both (tick ∷ seen)
+
+sent_by_id : (cues : List Cue) (whole : Bool) (seen : List ℕ) (ids : List Region) →
+    flat_map (λ (region : RegionCues). sent_region cues whole seen region.id) (map (region_cues cues) ids) ≡ flat_map (λ (region : Region). sent_region cues whole seen region.id) ids
+sent_by_id cues whole seen ids = flat_map_mapped (λ (region : RegionCues). sent_region cues whole seen region.id) (region_cues cues) ids
+
+pub sent_on : (epoch : Epoch) (layout : Layout) (cues' : List Cue) (by' : List RegionCues) (courses courses' : List RegionCourse) (seen : List ℕ) (tick : ℕ) (whole whole' : Bool) (sent : List SentRegion) → IsLayout epoch layout →
+    cues' ≡ epoch.cues → by' ≡ layout.by_id → courses' ≡ courses → whole' ≡ whole → courses ≡ region_courses epoch.cues seen layout.by_id →
+    (courses' ≡ region_courses cues' seen by' → sent ≡ flat_map (λ region. sent_region cues' whole' (tick ∷ seen) region.id) by') → AreSentRegions epoch.cues epoch.regions whole (tick ∷ seen) sent
+sent_on epoch layout cues' by' courses courses' seen tick whole whole' sent lay a b e w is on =
+    let both : region_courses cues' seen by' ≡ region_courses epoch.cues seen layout.by_id = ap (λ x. region_courses x seen by') a ∙ ap (λ x. region_courses epoch.cues seen x) b in
+    record {
+      by_id = lay.ids;
+      ordered = lay.ordered_ids;
+      is = on (e ∙ is ∙ sym both)
+          ∙ ap (λ (x : Bool). flat_map (λ (region : RegionCues). sent_region cues' x (tick ∷ seen) region.id) by') w
+          ∙ ap (λ x. flat_map (λ (region : RegionCues). sent_region x whole (tick ∷ seen) region.id) by') a
+          ∙ ap (λ x. flat_map (λ (region : RegionCues). sent_region epoch.cues whole (tick ∷ seen) region.id) x) (b ∙ lay.by_id)
+          ∙ sent_by_id epoch.cues whole (tick ∷ seen) lay.ids;
+    }
+
+shown_by_y : (cues : List Cue) (tick : ℕ) (ys : List Region) →
+    shown_of cues tick (map (region_cues cues) ys) ≡ map (λ (region : Region). region.id) (filter (λ (region : Region). has_some (live_places cues region.id tick)) ys)
+shown_by_y cues tick [] = refl
+shown_by_y cues tick (y ∷ ys) = shown_one (has_some (live_places cues y.id tick)) cues tick y ys (shown_by_y cues tick ys)
+  where
+    shown_one : (b : Bool) (cues : List Cue) (tick : ℕ) (y : Region) (ys : List Region) → shown_of cues tick (map (region_cues cues) ys) ≡ map (λ (region : Region). region.id) (filter (λ (region : Region). has_some (live_places cues region.id tick)) ys) →
+        map (λ (region : RegionCues). region.id) (cond b (region_cues cues y ∷ filter (λ (region : RegionCues). has_some (live_places cues region.id tick)) (map (region_cues cues) ys)) (filter (λ (region : RegionCues). has_some (live_places cues region.id tick)) (map (region_cues cues) ys)))
+        ≡ map (λ (region : Region). region.id) (cond b (y ∷ filter (λ (region : Region). has_some (live_places cues region.id tick)) ys) (filter (λ (region : Region). has_some (live_places cues region.id tick)) ys))
+    shown_one true cues tick y ys e = ap (λ xs. y.id ∷ xs) e
+    shown_one false cues tick y ys e = e
+
+pub shown_on : (epoch : Epoch) (layout : Layout) (cues' : List Cue) (by' : List RegionCues) (tick : ℕ) (shown : List ℕ) → IsLayout epoch layout → cues' ≡ epoch.cues → by' ≡ layout.by_y →
+    shown ≡ shown_of cues' tick by' → AreShown epoch.cues epoch.regions tick shown
+shown_on epoch layout cues' by' tick shown lay a b is = record {
+  by_y = lay.ys;
+  ordered = lay.ordered_ys;
+  is = is ∙ ap (λ x. shown_of x tick by') a ∙ ap (λ x. shown_of epoch.cues tick x) (b ∙ lay.by_y) ∙ shown_by_y epoch.cues tick lay.ys;
+}
+
+pub versions_on : (colours colours' : List ColourRow) (cluts cluts' : List ClutRows) (versions versions' next : List (Option ℕ)) (seen : List ℕ) (tick : ℕ) → colours' ≡ colours → cluts' ≡ cluts → versions' ≡ versions →
+    versions ≡ clut_courses colours seen cluts → (versions' ≡ clut_courses colours' seen cluts' → next ≡ clut_courses colours' (tick ∷ seen) cluts') → next ≡ clut_courses colours (tick ∷ seen) cluts
+versions_on colours colours' cluts cluts' versions versions' next seen tick a b e is on =
+    let both : (s : List ℕ) → clut_courses colours' s cluts' ≡ clut_courses colours s cluts = λ s. ap (λ x. clut_courses x s cluts') a ∙ ap (λ x. clut_courses colours s x) b in
+    on (e ∙ is ∙ sym (both seen)) ∙ both (tick ∷ seen)
+
+sent_named : (colours : List ColourRow) (whole : Bool) (seen : List ℕ) → sent_of colours whole seen (map (clut_rows colours) (named_cluts colours)) ≡ sent_cluts colours whole seen
+sent_named colours whole seen = flat_map_mapped (λ (clut : ClutRows). sent_clut colours whole seen clut.clut) (clut_rows colours) (named_cluts colours)
+
+-- what the CLUTs are sent as, for a list that is made of them
+pub cluts_on : {X : Type 0} (f : List SentClut → X) (colours colours' : List ColourRow) (cluts cluts' : List ClutRows) (versions versions' : List (Option ℕ)) (seen : List ℕ) (tick : ℕ) (whole whole' : Bool) (made : X) →
+    cluts ≡ map (clut_rows colours) (named_cluts colours) → colours' ≡ colours → cluts' ≡ cluts → versions' ≡ versions → whole' ≡ whole → versions ≡ clut_courses colours seen cluts →
+    (versions' ≡ clut_courses colours' seen cluts' → made ≡ f (sent_of colours' whole' (tick ∷ seen) cluts')) → made ≡ f (sent_cluts colours whole (tick ∷ seen))
+cluts_on f colours colours' cluts cluts' versions versions' seen tick whole whole' made lay a b e w is on =
+    let both : clut_courses colours' seen cluts' ≡ clut_courses colours seen cluts = ap (λ x. clut_courses x seen cluts') a ∙ ap (λ x. clut_courses colours seen x) b in
+    on (e ∙ is ∙ sym both)
+    ∙ ap f (ap (λ (x : Bool). sent_of colours' x (tick ∷ seen) cluts') w ∙ ap (λ x. sent_of x whole (tick ∷ seen) cluts') a ∙ ap (λ x. sent_of colours whole (tick ∷ seen) x) (b ∙ lay) ∙ sent_named colours whole (tick ∷ seen))
+
+page_step : (b : Bool) (n : ℕ) → (cond b 1 0 + n) % 16 ≡ cond b ((n % 16 + 1) % 16) (n % 16)
+page_step true n = omega arith
+page_step false n = omega arith
+
+counted_by : (later first named counts : Bool) (n : ℕ) → later ≡ not first → counts ≡ named → (cond (later && counts) 1 0 + n) % 16 ≡ page_after first named (n % 16)
+counted_by later first named counts n l c =
+    ap (λ (b : Bool). (cond (b && counts) 1 0 + n) % 16) l ∙ ap (λ (b : Bool). (cond (not first && b) 1 0 + n) % 16) c ∙ page_step (not first && named) n
+
+starts_late : (start tick : ℕ) (first : Bool) → (first ≡ true → tick ≡ start) → (first ≡ false → start < tick) → nat_lt start tick ≡ not first
+starts_late start tick true same later = let e = same refl in grind (arith, nat_tests)
+starts_late start tick false same later = let h = later refl in grind (arith, nat_tests)
+
+pub page_on : (epochs : List Epoch) (start : ℕ) (seen : List ℕ) (instant : Instant) (first : Bool) (old new : ℕ) → IsTimely epochs start seen instant → first ≡ is_first seen → old ≡ page_version epochs start seen →
+    new ≡ page_after first instant.named old → new ≡ page_version epochs start (instant.tick ∷ seen)
+page_on epochs start seen instant first old new timely f o n =
+    let counts = λ (tick : ℕ). cond (nat_lt start tick && is_named epochs tick) 1 0 in
+    n ∙ ap (λ (x : ℕ). page_after first instant.named x) o ∙ ap (λ (b : Bool). page_after b instant.named (page_version epochs start seen)) f
+    ∙ sym (ap (λ (x : ℕ). x % 16) (sum_by-cons counts instant.tick seen)
+    ∙ counted_by (nat_lt start instant.tick) (is_first seen) instant.named (is_named epochs instant.tick) (sum_by counts seen) (starts_late start instant.tick (is_first seen) timely.at_start timely.later) (sym timely.named))
+
+-- ---- the nodes
+
+sum_mapped : {X Y : Type 0} (f : Y → ℕ) (g : X → Y) (xs : List X) → sum_by f (map g xs) ≡ sum_by (λ x. f (g x)) xs
+sum_mapped f g [] = refl
+sum_mapped f g (x ∷ xs) = sum_by-cons f (g x) (map g xs) ∙ ap (λ (n : ℕ). f (g x) + n) (sum_mapped f g xs) ∙ sym (sum_by-cons (λ y. f (g y)) x xs)
+
+pub held_on : (epoch : Epoch) (layout : Layout) (seen : List ℕ) (courses : List RegionCourse) → IsLayout epoch layout → courses ≡ region_courses epoch.cues seen layout.by_id →
+    sum_by (λ (course : RegionCourse). course.held) courses ≡ sum_by (λ (region : Region). held epoch.cues region.id seen) epoch.regions
+held_on epoch layout seen courses lay is =
+    ap (λ xs. sum_by (λ (course : RegionCourse). course.held) xs) (is ∙ ap (λ xs. region_courses epoch.cues seen xs) lay.by_id)
+    ∙ sum_mapped (λ (course : RegionCourse). course.held) (λ (region : RegionCues). region_course epoch.cues seen region.id) (map (region_cues epoch.cues) lay.ids)
+    ∙ sum_mapped (λ (region : RegionCues). held epoch.cues region.id seen) (region_cues epoch.cues) lay.ids
+    ∙ sum_by-IsPermutation (λ (region : Region). held epoch.cues region.id seen) epoch.regions lay.ids lay.ordered_ids.same

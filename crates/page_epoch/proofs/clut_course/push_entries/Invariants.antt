@@ -1,0 +1,7 @@
+use Rattle.std.proofs.Common.{◌≡◌, ◌==◌, ◌++◌, filter, take, drop, map}
+use Rattle.std.specs.List.{flat_map, range_with_len, list_any}
+use Rattle.page_epoch.specs.SentCluts.{entries_at}
+use Rattle.page_epoch.proofs.clut_course.push_entries.Given as goal
+
+abbrev pub invariant-loop-number : goal.invariant-loop-number
+invariant-loop-number l = l.entries.items ≡ l.initial.entries.items ++ map (λ number. record { depth = l.depth; number = number }) (range_with_len 0 l.number)

@@ -1,0 +1,7 @@
+use Rattle.std.proofs.Common.{◌≡◌, ◌==◌, ◌++◌, filter, take, drop, map}
+use Rattle.std.specs.List.{flat_map, range_with_len, list_any}
+use Rattle.page_epoch.specs.SentCluts.{row_at}
+use Rattle.page_epoch.proofs.clut_course.rows_of_tick.Given as goal
+
+abbrev pub invariant-loop-place : goal.invariant-loop-place
+invariant-loop-place l = l.found.items ≡ filter (λ place. (row_at l.colours place).tick == l.tick) (take l.place-index l.rows)

@@ -1,0 +1,10 @@
+use Rattle.std.proofs.Common.{◌≡◌, ◌+◌, ◌-◌, ◌*◌, ◌<◌, ◌≤◌, ◌++◌, ℕ, map}
+use Rattle.std.specs.List.{range_with_len}
+use Rattle.page_epoch.proofs.InstantLaws.{AreRefreshing}
+use Rattle.page_epoch.proofs.instants.push_refreshes.Given as goal
+
+abbrev pub invariant-loop-tick : goal.invariant-loop-tick
+invariant-loop-tick l = AreRefreshing l.fn.instants.items l.instants.items l.fn.moment.tick l.fn.moment.row l.next l.refresh l.tick
+
+abbrev pub decreases-loop-tick : goal.decreases-loop-tick
+decreases-loop-tick l = l.next - l.tick

@@ -1,0 +1,35 @@
+-- The cues of an epoch that a region shows, given by their places in the epoch's list.
+use Rattle.std.specs.Prelude.{ℕ, ◌==◌, Bool, false, true, not, ◌&&◌, List, [], ◌∷◌, length, filter, slice_index_or}
+use Rattle.std.specs.List.{range_with_len}
+use Rattle.std.specs.Str.{bytes_eq}
+use Rattle.cue_list.specs.declared.epoch.Cue.{Cue}
+use Rattle.cue_list.specs.Authored.{is_live}
+
+-- a list of places has some
+abbrev pub has_some : List ℕ → Bool
+has_some [] = false
+has_some (place ∷ places) = true
+
+-- two lists of places are the same
+abbrev pub is_same : List ℕ → List ℕ → Bool
+is_same first second = bytes_eq first second
+
+-- the places of a list of that length, from 0
+abbrev pub places_below : ℕ → List ℕ
+places_below count = range_with_len 0 count
+
+-- no cue
+abbrev pub no_cue : Cue
+no_cue = record { start = 0; end = 0; row = 0; region = 0; x = 0; y = 0; picture = 0; see_through = false }
+
+-- the cue at a place
+abbrev pub cue_at : List Cue → ℕ → Cue
+cue_at cues place = slice_index_or cues place no_cue
+
+-- the cues of a region, in the script's order
+abbrev pub own_places : List Cue → ℕ → List ℕ
+own_places cues region = filter (λ place. (cue_at cues place).region == region) (places_below (length cues))
+
+-- the cues of a region that are live at a tick, in the script's order
+abbrev pub live_places : List Cue → ℕ → ℕ → List ℕ
+live_places cues region tick = filter (λ place. is_live tick (cue_at cues place)) (own_places cues region)

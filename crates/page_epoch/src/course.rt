@@ -1,0 +1,205 @@
+ghost use Rattle.std.specs.Prelude.{◌≡◌, ℕ, ◌+◌, ◌<◌, ◌≤◌, ◌^◌, Bool, List, [], ◌∷◌, length, map, All, IfOk, Some, slice_get};
+ghost use Rattle.cue_list.specs.declared.epoch.Epoch.{Epoch as EpochValue};
+ghost use Rattle.page_epoch.specs.States.{is_whole as is_whole_of};
+ghost use Rattle.page_epoch.specs.Courses.{IsSmallCourse, IsSmallVersion};
+ghost use Rattle.page_epoch.specs.Layouts.{IsLayout};
+ghost use Rattle.page_epoch.specs.Sweeps.{IsSmallEpoch, IsCourse, IsSafe, IsTimely, IsSetOf, IsAdvanced, IsSweep, GoesOn, first_course, page_after};
+
+use crate::clut_course::ClutRows;
+use crate::clut_step::step_cluts;
+use crate::instants::Instant;
+use crate::layout::{Layout, held, listed, shown};
+use crate::planned_set::PlannedSet;
+use crate::region_course::{RegionCourse, RegionCues, step_regions};
+use cue_list::{Epoch, Items};
+use std::alloc::{AllocError, Global};
+use stream_syntax::State;
+
+/// What changes in an epoch from instant to instant.
+#[derive(Drop)]
+pub struct Course {
+    pub regions: Items<RegionCourse>,
+    /// The versions of the CLUTs that changed so far.
+    pub versions: Items<Option<u8>>,
+    pub page_version: u8,
+    /// Whether no instant of the epoch was yet.
+    pub first: bool,
+}
+
+/// Where the walk over the instants stands: the place of the epoch in the script, what stays in it, and what changes.
+#[derive(Drop)]
+pub struct Sweep {
+    pub place: u32,
+    pub layout: Layout,
+    pub course: Course,
+}
+
+/// An epoch one instant on, the set of that instant, and the nodes that the set needs.
+#[derive(Drop)]
+pub struct Step {
+    pub course: Course,
+    pub set: PlannedSet,
+    pub nodes: u64,
+}
+
+/// Whether a receiver can begin at a set of that state.
+pub fn is_whole(state: State) -> bool
+    ensures { result ≡ is_whole_of state }
+{
+    match state {
+        State::Normal => false,
+        State::Acquisition | State::ModeChange => true,
+    }
+}
+
+/// Regions before the first instant.
+fn first_courses(alloc: Global, regions: &[RegionCues]) -> Result<Items<RegionCourse>, AllocError>
+    ensures { IfOk result (λ courses. courses ≡ map (λ _. first_course) regions.now) }
+{
+    let mut courses = Vec::new(alloc);
+    for _region in regions {
+        courses.push(RegionCourse {
+            live: Items::new(Vec::new(alloc)),
+            version: 0,
+            held: 0,
+        })?;
+    }
+    Ok(Items::new(courses))
+}
+
+/// The versions of CLUTs before the first instant: there are none.
+fn first_versions(alloc: Global, cluts: &[ClutRows]) -> Result<Items<Option<u8>>, AllocError>
+    ensures { IfOk result (λ versions. versions ≡ map (λ _. None) cluts.now) }
+{
+    let mut versions = Vec::new(alloc);
+    for _clut in cluts {
+        versions.push(None)?;
+    }
+    Ok(Items::new(versions))
+}
+
+/// The version of the page one instant on.
+fn next_page_version(version: u8, first: bool, named: bool) -> u8
+    requires { version < 16 }
+    ensures value { result ≡ page_after first named version }
+    ensures small { result < 16 }
+{
+    if !first && named {
+        (version + 1) % 16
+    } else {
+        version
+    }
+}
+
+impl Course {
+    /// An epoch before its first instant.
+    pub fn begin(alloc: Global, layout: &Layout) -> Result<Course, AllocError>
+        ensures course { (epochs : List EpochValue) → (epoch : EpochValue) → IfOk result (IsCourse epochs epoch layout.now []) }
+        ensures safe { IfOk result (IsSafe layout.now) }
+    {
+        Ok(Course {
+            regions: first_courses(alloc, layout.by_id.as_slice())?,
+            versions: first_versions(alloc, layout.cluts.as_slice())?,
+            page_version: 0,
+            first: true,
+        })
+    }
+
+    /// The epoch at its next instant, and the set of that instant.
+    pub fn advance(
+        &self,
+        alloc: Global,
+        epoch: &Epoch,
+        layout: &Layout,
+        place: u32,
+        instant: Instant,
+        state: State,
+    ) -> Result<Step, AllocError>
+        requires few { IsSmallEpoch epoch.now }
+        requires layout { IsLayout epoch.now layout.now }
+        requires safe { IsSafe layout.now self.now }
+        ensures safe { IfOk result (λ step. IsSafe layout.now step.course) }
+        ensures set { IfOk result (λ step. IsSetOf instant state place step.set) }
+        ensures advanced { (epochs : List EpochValue) → (seen : List ℕ) → IsCourse epochs epoch.now layout.now seen self.now → IsTimely epochs epoch.now.start seen instant → IfOk result (IsAdvanced epochs epoch.now layout.now seen instant.tick state) }
+    {
+        let whole = is_whole(state);
+        let tick = instant.tick;
+        let cues = epoch.cues.as_slice();
+        let regions = step_regions(
+            alloc,
+            cues,
+            layout.by_id.as_slice(),
+            self.regions.as_slice(),
+            tick,
+            self.first,
+            whole,
+        )?;
+        let cluts = step_cluts(
+            alloc,
+            epoch.colours.as_slice(),
+            layout.cluts.as_slice(),
+            self.versions.as_slice(),
+            tick,
+            whole,
+        )?;
+        let shown = shown(alloc, cues, layout.by_y.as_slice(), tick)?;
+        let listed = listed(alloc, regions.sent.as_slice())?;
+        let page_version = next_page_version(self.page_version, self.first, instant.named);
+        let nodes = epoch.regions.len() as u64
+            + shown.len() as u64
+            + held(regions.courses.as_slice())
+            + cluts.nodes;
+        Ok(Step {
+            course: Course {
+                regions: regions.courses,
+                versions: cluts.versions,
+                page_version,
+                first: false,
+            },
+            set: PlannedSet {
+                pts: tick,
+                state,
+                row: instant.row,
+                epoch: place,
+                page_version,
+                shown,
+                regions: regions.sent,
+                cluts: cluts.sent,
+                cues: listed,
+            },
+            nodes,
+        })
+    }
+}
+
+impl Sweep {
+    /// The walk before the first instant of an epoch.
+    pub fn begin(alloc: Global, epochs: &[Epoch], place: u32) -> Result<Sweep, AllocError>
+        requires there { place < length epochs.now }
+        requires few { All IsSmallEpoch epochs.now }
+        ensures place { IfOk result (λ sweep. sweep.place ≡ place) }
+        ensures sweep { IfOk result (IsSweep epochs.now []) }
+    {
+        let layout = Layout::of(alloc, &epochs[place as usize])?;
+        let course = Course::begin(alloc, &layout)?;
+        Ok(Sweep {
+            place,
+            layout,
+            course,
+        })
+    }
+
+    /// The walk at its next tick: in the next epoch, where that begins by then.
+    pub fn at(self, alloc: Global, epochs: &[Epoch], tick: u64) -> Result<Sweep, AllocError>
+        requires few { All IsSmallEpoch epochs.now }
+        requires many { length epochs.now ≤ 512 }
+        requires there { self.place < length epochs.now }
+        ensures { IfOk result (GoesOn epochs.now tick self) }
+    {
+        let next = self.place + 1;
+        if (next as usize) < epochs.len() && epochs[next as usize].start <= tick {
+            return Sweep::begin(alloc, epochs, next);
+        }
+        Ok(self)
+    }
+}

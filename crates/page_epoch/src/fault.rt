@@ -1,0 +1,52 @@
+ghost use Rattle.std.specs.Prelude.{◌≡◌};
+ghost use Rattle.page_epoch.specs.Refusals.{fault_name};
+ghost use Rattle.page_epoch.specs.declared.fault.PlanFault.TheVariants.{Memory};
+
+use std::alloc::{AllocError, AllocFailed};
+use thiserror::Error;
+
+/// Why a script has no plan for a receiver.
+#[derive(Clone, Copy, Debug, PartialEq, Eq, Error)]
+pub enum PlanFault {
+    #[error("out of memory")]
+    Memory,
+    /// A side of the display is larger than the receiver's.
+    #[error("plan DisplayTooLarge {row}")]
+    DisplayTooLarge { row: u64 },
+    /// The regions of the set's epoch need more bytes of pixels than the receiver has.
+    #[error("plan PixelFull {row} {need}")]
+    PixelFull { row: u64, need: u64 },
+    /// The set needs more nodes of composition memory than the receiver has.
+    #[error("plan CompositionFull {row} {need}")]
+    CompositionFull { row: u64, need: u64 },
+}
+
+impl PlanFault {
+    /// The fault's name, as texts show it.
+    pub fn name(self) -> &'static str
+        ensures { result.now ≡ fault_name self }
+    {
+        match self {
+            PlanFault::Memory => "Memory",
+            PlanFault::DisplayTooLarge { .. } => "DisplayTooLarge",
+            PlanFault::PixelFull { .. } => "PixelFull",
+            PlanFault::CompositionFull { .. } => "CompositionFull",
+        }
+    }
+}
+
+impl From<AllocError> for PlanFault {
+    ghost from_gives = { λ _ fault. fault ≡ Memory };
+
+    fn from(_error: AllocError) -> PlanFault {
+        PlanFault::Memory
+    }
+}
+
+impl<T: Drop> From<AllocFailed<T>> for PlanFault {
+    ghost from_gives = { λ _ fault. fault ≡ Memory };
+
+    fn from(_error: AllocFailed<T>) -> PlanFault {
+        PlanFault::Memory
+    }
+}

@@ -1,0 +1,152 @@
+ghost use Rattle.std.specs.Prelude.{◌≡◌, ℕ, ◌+◌, ◌*◌, ◌<◌, ◌≤◌, ◌^◌, length, map, All, IfOk, sum_by};
+ghost use Rattle.std.specs.List.Sorted.{IsPermutation, IsNonDecreasing};
+ghost use Rattle.page_epoch.specs.Courses.{region_cues, AreOwn, IsSmallCourse};
+ghost use Rattle.page_epoch.specs.Layouts.{IsLayout, shown_of, listed_cues};
+ghost use Rattle.page_epoch.specs.Needs.{region_pixels as pixels_of, pixel_need as pixels_of_all};
+ghost use Rattle.page_epoch.specs.SentRegions.{AreOrdered};
+ghost use Rattle.sub_base.specs.Depth.{bits_of};
+
+use crate::clut_course::{ClutRows, all_clut_rows};
+use crate::live::{cues_of_region, live_of};
+use crate::planned_set::SentRegion;
+use crate::region_course::{RegionCourse, RegionCues};
+use cue_list::{Cue, Epoch, Items, Region};
+use std::alloc::{AllocError, Global};
+use sub_base::Depth;
+
+/// What stays in an epoch: its regions with their cues, by their numbers and from the top of the display, and its CLUTs.
+#[derive(Drop)]
+pub struct Layout {
+    pub by_id: Items<RegionCues>,
+    pub by_y: Items<RegionCues>,
+    pub cluts: Items<ClutRows>,
+}
+
+/// The regions by their numbers.
+fn sorted_by_id(alloc: Global, regions: &[Region]) -> Result<Vec<Region>, AllocError>
+    ensures { IfOk result (λ ordered. AreOrdered (λ region. region.id) regions.now ordered.items) }
+{
+    let mut ordered = Vec::from_slice(alloc, regions)?;
+    ordered.sort_by_key(|region| region.id)?;
+    Ok(ordered)
+}
+
+/// The regions from the top of the display.
+fn sorted_by_y(alloc: Global, regions: &[Region]) -> Result<Vec<Region>, AllocError>
+    ensures { IfOk result (λ ordered. AreOrdered (λ region. region.y) regions.now ordered.items) }
+{
+    let mut ordered = Vec::from_slice(alloc, regions)?;
+    ordered.sort_by_key(|region| region.y)?;
+    Ok(ordered)
+}
+
+/// Regions with their cues.
+fn with_cues(
+    alloc: Global,
+    cues: &[Cue],
+    regions: &[Region],
+) -> Result<Items<RegionCues>, AllocError>
+    requires { length cues.now ≤ 4096 }
+    ensures { IfOk result (λ found. found ≡ map (region_cues cues.now) regions.now) }
+{
+    let mut found = Vec::new(alloc);
+    for region in regions {
+        let own = cues_of_region(alloc, cues, region.id)?;
+        found.push(RegionCues { id: region.id, own })?;
+    }
+    Ok(Items::new(found))
+}
+
+impl Layout {
+    /// What stays in an epoch.
+    pub fn of(alloc: Global, epoch: &Epoch) -> Result<Layout, AllocError>
+        requires cues { length epoch.now.cues ≤ 4096 }
+        requires colours { length epoch.now.colours ≤ 8192 }
+        ensures { IfOk result (IsLayout epoch.now) }
+    {
+        let regions = epoch.regions.as_slice();
+        let cues = epoch.cues.as_slice();
+        let by_id = with_cues(alloc, cues, sorted_by_id(alloc, regions)?.as_slice())?;
+        let by_y = with_cues(alloc, cues, sorted_by_y(alloc, regions)?.as_slice())?;
+        let cluts = all_clut_rows(alloc, epoch.colours.as_slice())?;
+        Ok(Layout { by_id, by_y, cluts })
+    }
+}
+
+/// The regions of these that have a live cue.
+pub fn shown(
+    alloc: Global,
+    cues: &[Cue],
+    regions: &[RegionCues],
+    tick: u64,
+) -> Result<Items<u8>, AllocError>
+    requires { AreOwn cues.now regions.now }
+    ensures { IfOk result (λ shown. shown ≡ shown_of cues.now tick regions.now) }
+{
+    let mut shown = Vec::new(alloc);
+    for region in regions {
+        if live_of(alloc, cues, region.own.as_slice(), tick)?.len() != 0 {
+            shown.push(region.id)?;
+        }
+    }
+    Ok(Items::new(shown))
+}
+
+/// The cues that regions list, in the script's order.
+pub fn listed(alloc: Global, regions: &[SentRegion]) -> Result<Items<u32>, AllocError>
+    ensures same { IfOk result (λ cues. IsPermutation (listed_cues regions.now) cues) }
+    ensures order { IfOk result IsNonDecreasing }
+{
+    let mut cues = Vec::new(alloc);
+    for region in regions {
+        cues.extend_from_slice(region.cues.as_slice())?;
+    }
+    cues.sort()?;
+    Ok(Items::new(cues))
+}
+
+/// The cues that the regions of an epoch were last drawn with.
+pub fn held(courses: &[RegionCourse]) -> u64
+    requires few { length courses.now ≤ 64 }
+    requires small { All IsSmallCourse courses.now }
+    ensures value { result ≡ sum_by (λ course. course.held) courses.now }
+    ensures few { result ≤ 64 * 4096 }
+{
+    let mut sum = 0;
+    for course in courses {
+        sum += course.held;
+    }
+    sum
+}
+
+/// How many bits a pixel code has.
+fn bits(depth: Depth) -> u64
+    ensures value { result ≡ bits_of depth }
+    ensures few { result ≤ 8 }
+{
+    match depth {
+        Depth::Two => 2,
+        Depth::Four => 4,
+        Depth::Eight => 8,
+    }
+}
+
+/// The bytes of a region's pixels, in rows of whole bytes.
+fn region_pixels(region: &Region) -> u64
+    ensures value { result ≡ pixels_of region.now }
+    ensures few { result ≤ 2 ^ 33 }
+{
+    (u64::from(region.width) * bits(region.depth)).div_ceil(8) * u64::from(region.height)
+}
+
+/// The bytes of the pixels of an epoch's regions.
+pub fn pixel_need(regions: &[Region]) -> u64
+    requires { length regions.now ≤ 64 }
+    ensures { result ≡ pixels_of_all regions.now }
+{
+    let mut sum = 0;
+    for region in regions {
+        sum += region_pixels(region);
+    }
+    sum
+}
