@@ -1,2 +1,5 @@
 pub mod FieldLaws
 pub mod Drawing
+pub mod UsableLaws
+pub mod SizeLaws
+pub mod SetSizeLaws
