@@ -3,3 +3,6 @@ pub mod Drawing
 pub mod UsableLaws
 pub mod SizeLaws
 pub mod SetSizeLaws
+pub mod WritableLaws
+pub mod BlockLaws
+pub mod ObjectLaws

@@ -19,7 +19,7 @@ use Rattle.cue_list.specs.declared.epoch.Cue.{Cue}
 use Rattle.cue_list.specs.declared.epoch.Epoch.{Epoch}
 use Rattle.cue_list.specs.declared.epoch.Region.{Region}
 use Rattle.set_coder.specs.SetSegments.{region_or_none, region_of}
-use Rattle.set_coder.specs.Usable.{IsUsable, IsUsableRegion, IsUsableColour, IsUsableCue}
+use Rattle.set_coder.specs.Usable.{IsUsable, IsUsableRegion, IsUsableColour, IsUsablePlace, IsDrawable, AreDrawable}
 
 -- ---- what a search finds
 
@@ -41,7 +41,7 @@ find_passes test (y ∷ ys) x found = by (test y) refl found (find_passes test y
     by true e f more = let same : y ≡ x = cc in subst (λ z. test z ≡ true) same e
     by false e f more = more f
 
-usable_prop : (pictures : List Picture) (epoch : Epoch) → IsProp (IsUsable pictures epoch)
+usable_prop : (pictures : List Picture) (epoch : Epoch) → IsProp (IsUsable epoch × AreDrawable pictures epoch)
 usable_prop pictures epoch = hlevel props
 
 few_codes : (depth : Depth) → code_count depth ≤ 256
@@ -49,23 +49,24 @@ few_codes Two = omega arith
 few_codes Four = omega arith
 few_codes Eight = omega arith
 
-usable_cue : (origin start : ℕ) (pictures : List Picture) (epoch : Epoch) (cue : Cue) → All IsUsableRegion epoch.regions → IsCue origin start epoch.regions pictures cue → IsUsableCue pictures epoch cue
-usable_cue origin start pictures epoch cue regions r =
+placed_cue : (origin start : ℕ) (pictures : List Picture) (epoch : Epoch) (cue : Cue) → All IsUsableRegion epoch.regions → IsCue origin start epoch.regions pictures cue → IsUsablePlace cue
+placed_cue origin start pictures epoch cue regions r =
     let region : IsUsableRegion r.region = find_holds IsUsableRegion (λ (region : Region). eqb region.id cue.region) epoch.regions r.region regions r.found in
-    record {
-      picture = r.picture;
-      region = ap is_some r.found;
-      shallow = subst (λ (one : Region). IsNoDeeper (picture_at_place pictures cue.picture).depth one.depth) (sym (ap region_or_none r.found)) r.fits.shallow;
-      x = omega (arith, r.fits.across, region.width);
-      y = omega (arith, r.fits.down, region.height);
-    }
+    record { x = omega (arith, r.fits.across, region.width); y = omega (arith, r.fits.down, region.height) }
 
-usable_from : (origin width height refresh place : ℕ) (epochs : List Epoch) (pictures : List Picture) (epoch : Epoch) → slice_get epochs place ≡ Some epoch → IsSound origin width height refresh epochs pictures → IsUsable pictures epoch
+drawn_cue : (origin start : ℕ) (pictures : List Picture) (epoch : Epoch) (cue : Cue) → IsCue origin start epoch.regions pictures cue → IsDrawable pictures epoch cue
+drawn_cue origin start pictures epoch cue r = record {
+  picture = r.picture;
+  region = ap is_some r.found;
+  shallow = subst (λ (one : Region). IsNoDeeper (picture_at_place pictures cue.picture).depth one.depth) (sym (ap region_or_none r.found)) r.fits.shallow;
+}
+
+usable_from : (origin width height refresh place : ℕ) (epochs : List Epoch) (pictures : List Picture) (epoch : Epoch) → slice_get epochs place ≡ Some epoch → IsSound origin width height refresh epochs pictures → IsUsable epoch × AreDrawable pictures epoch
 usable_from origin width height refresh place epochs pictures epoch found s =
     let within = slice_get_within epochs place epoch found in
     let same : get_or epochs place epoch ≡ epoch = get_or_from_slice_get epochs place epoch epoch found in
     let right : IsEpoch origin width height pictures epoch = subst (IsEpoch origin width height pictures) same (s.each place epoch within) in
-    let few : length (get_or epochs place epoch).cues ≤ 4096 = omega (arith, s.few_cues, get_or-le-sum_by (λ (e : Epoch). length e.cues) epochs place epoch within) in
+    let few_here : length (get_or epochs place epoch).cues ≤ 4096 = omega (arith, s.few_cues, get_or-le-sum_by (λ (e : Epoch). length e.cues) epochs place epoch within) in
     let regions : All IsUsableRegion epoch.regions = λ k d lt. let r = right.regions.each k d lt in record {
       id = r.numbers.0;
       clut = r.numbers.1;
@@ -76,28 +77,31 @@ usable_from origin width height refresh place epochs pictures epoch found s =
       high = r.high;
       height = omega (arith, r.down, s.high);
     } in
-    record {
-      regions = regions;
-      colours = λ k d lt. let r = right.colours k d lt in record {
-        entry = omega (arith, r.entry, few_codes (get_or epoch.colours k d).depth);
-        shown = r.shown;
-        y = r.bytes.0;
-        cr = r.bytes.1;
-        cb = r.bytes.2;
-        t = r.bytes.3;
-      };
-      few_cues = subst (λ (e : Epoch). length e.cues ≤ 4096) same few;
-      cues = λ k d lt. usable_cue origin epoch.start pictures epoch (get_or epoch.cues k d) regions (right.cues k d lt);
-    }
+    let few : length epoch.cues ≤ 4096 = subst (λ (e : Epoch). length e.cues ≤ 4096) same few_here in (
+      record {
+        regions = regions;
+        colours = λ k d lt. let r = right.colours k d lt in record {
+          entry = omega (arith, r.entry, few_codes (get_or epoch.colours k d).depth);
+          shown = r.shown;
+          y = r.bytes.0;
+          cr = r.bytes.1;
+          cb = r.bytes.2;
+          t = r.bytes.3;
+        };
+        few_cues = few;
+        cues = λ k d lt. placed_cue origin epoch.start pictures epoch (get_or epoch.cues k d) regions (right.cues k d lt);
+      },
+      λ k d lt. drawn_cue origin epoch.start pictures epoch (get_or epoch.cues k d) (right.cues k d lt),
+    )
 
 -- the epochs of a script are usable
-pub usable : (origin width height refresh place : ℕ) (epochs : List Epoch) (pictures : List Picture) (epoch : Epoch) → ∥ IsSound origin width height refresh epochs pictures ∥₁ → slice_get epochs place ≡ Some epoch → IsUsable pictures epoch
+pub usable : (origin width height refresh place : ℕ) (epochs : List Epoch) (pictures : List Picture) (epoch : Epoch) → ∥ IsSound origin width height refresh epochs pictures ∥₁ → slice_get epochs place ≡ Some epoch → IsUsable epoch × AreDrawable pictures epoch
 usable origin width height refresh place epochs pictures epoch sound found =
     ∥∥₁_elim sound (usable_prop pictures epoch) (usable_from origin width height refresh place epochs pictures epoch found)
 
 -- the region of a number that an epoch has
-pub usable_region : (pictures : List Picture) (epoch : Epoch) (id : ℕ) → IsUsable pictures epoch → HasRegion epoch id → IsUsableRegion (region_of epoch id) × (id ≤ 255)
-usable_region pictures epoch id u has = by (find (λ (region : Region). eqb region.id id) epoch.regions) refl
+pub usable_region : (epoch : Epoch) (id : ℕ) → IsUsable epoch → HasRegion epoch id → IsUsableRegion (region_of epoch id) × (id ≤ 255)
+usable_region epoch id u has = by (find (λ (region : Region). eqb region.id id) epoch.regions) refl
   where
     by : (o : Option Region) → find (λ (region : Region). eqb region.id id) epoch.regions ≡ o → IsUsableRegion (region_of epoch id) × (id ≤ 255)
     by None e = absurd (let h = (rw e at has) in cc)

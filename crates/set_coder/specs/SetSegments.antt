@@ -1,5 +1,5 @@
 -- The segments that a display set of a plan is sent as, and its PES packet (EN 300 743, clauses 5 and 7).
-use Rattle.std.specs.Prelude.{◌≡◌, ℕ, ◌+◌, ◌*◌, ◌/◌, ◌==◌, false, List, [], ◌∷◌, ◌++◌, map, find, Option, Some, None, slice_get, slice_index_or}
+use Rattle.std.specs.Prelude.{◌≡◌, ℕ, ◌+◌, ◌*◌, ◌/◌, ◌==◌, Bool, false, List, [], ◌∷◌, ◌++◌, map, find, Option, Some, None, slice_get, slice_index_or}
 use Rattle.std.specs.List.{flat_map}
 use Rattle.sub_base.specs.Colour.{clear}
 use Rattle.sub_base.specs.Depth.{bits_of}
@@ -116,6 +116,10 @@ leading_segments script epoch set =
     display_of script set.state
     ++ (page_of script epoch set ∷ (map (region_segment_of epoch) set.regions ++ map (clut_segment_of epoch) set.cluts))
 
+-- an object of that number with these blocks of its two fields
+abbrev pub object_of : ℕ → Bool → List ℕ → List ℕ → SegmentValue
+object_of place see_through top bottom = of_object (record { object = place; version = 0; see_through = see_through; top = top; bottom = bottom })
+
 -- The object of the cue at a place: the blocks of the fields of the cue's picture, for the depth of its region. They
 -- draw the picture.
 pub record IsObjectOf (pictures : List Picture) (epoch : Epoch) (place : ℕ) (segment : SegmentValue) : Type 0 where
@@ -123,7 +127,7 @@ pub record IsObjectOf (pictures : List Picture) (epoch : Epoch) (place : ℕ) (s
   pub bottom : List ℕ
   pub blocks : AreFieldBlocks (picture_of_cue pictures epoch place) (depth_of_cue epoch place) top bottom
   pub drawn : DrawsPicture (picture_of_cue pictures epoch place) (depth_of_cue epoch place) top bottom
-  pub value : segment ≡ of_object (record { object = place; version = 0; see_through = (cue_at epoch place).see_through; top = top; bottom = bottom })
+  pub value : segment ≡ object_of place (cue_at epoch place).see_through top bottom
 
 -- an object for each cue, in order
 abbrev pub AreObjectsOf : List Picture → Epoch → List ℕ → List SegmentValue → Type 0
@@ -139,11 +143,17 @@ AreObjectsOf pictures epoch (place ∷ places) (segment ∷ segments) = IsObject
 abbrev pub data_field : ℕ → List SegmentValue → List ℕ
 data_field page segments = 0x20 ∷ 0x00 ∷ (flat_map (spelled page) segments ++ 0xFF ∷ [])
 
--- These bytes are the PES packet of a set of the script, whose segments are of that page: the segments before the
--- objects, an object for each cue of the set, and the end of the set, at the set's presentation time.
-pub record IsSetPacket (script : Script) (page : ℕ) (set : PlannedSet) (bytes : List ℕ) : Type 0 where
+-- These bytes are the data field of the packet of a set of the script, whose segments are of that page: the segments
+-- before the objects, an object for each cue of the set, and the end of the set.
+pub record IsSetField (script : Script) (page : ℕ) (set : PlannedSet) (bytes : List ℕ) : Type 0 where
   pub epoch : Epoch
   pub found : slice_get script.epochs set.epoch ≡ Some epoch
   pub objects : List SegmentValue
   pub drawn : AreObjectsOf script.pictures epoch set.cues objects
-  pub packet : bytes ≡ written_pes set.pts (data_field page (leading_segments script epoch set ++ (objects ++ end_of_set ∷ [])))
+  pub field : bytes ≡ data_field page (leading_segments script epoch set ++ (objects ++ end_of_set ∷ []))
+
+-- these bytes are the PES packet of a set of the script: its data field, at the set's presentation time
+pub record IsSetPacket (script : Script) (page : ℕ) (set : PlannedSet) (bytes : List ℕ) : Type 0 where
+  pub field_bytes : List ℕ
+  pub carried : IsSetField script page set field_bytes
+  pub packet : bytes ≡ written_pes set.pts field_bytes

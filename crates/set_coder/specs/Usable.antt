@@ -31,16 +31,23 @@ pub record IsUsableColour (row : ColourRow) : Type 0 where
   pub cb : row.colour.cb ≤ 255
   pub t : row.colour.t ≤ 255
 
--- a cue's picture and region are there, the picture is no deeper, and its place fits its fields
-pub record IsUsableCue (pictures : List Picture) (epoch : Epoch) (cue : Cue) : Type 0 where
-  pub picture : cue.picture < length pictures
-  pub region : HasRegion epoch cue.region
-  pub shallow : IsNoDeeper (picture_at_place pictures cue.picture).depth (region_of epoch cue.region).depth
+-- the place of a cue fits its fields
+pub record IsUsablePlace (cue : Cue) : Type 0 where
   pub x : cue.x ≤ 1920
   pub y : cue.y ≤ 1920
 
-pub record IsUsable (pictures : List Picture) (epoch : Epoch) : Type 0 where
+-- the numbers of an epoch fit their fields
+pub record IsUsable (epoch : Epoch) : Type 0 where
   pub regions : All IsUsableRegion epoch.regions
   pub colours : All IsUsableColour epoch.colours
   pub few_cues : length epoch.cues ≤ 4096
-  pub cues : All (IsUsableCue pictures epoch) epoch.cues
+  pub cues : All IsUsablePlace epoch.cues
+
+-- a cue's picture and region are there, and the picture is no deeper
+pub record IsDrawable (pictures : List Picture) (epoch : Epoch) (cue : Cue) : Type 0 where
+  pub picture : cue.picture < length pictures
+  pub region : HasRegion epoch cue.region
+  pub shallow : IsNoDeeper (picture_at_place pictures cue.picture).depth (region_of epoch cue.region).depth
+
+abbrev pub AreDrawable : List Picture → Epoch → Type 0
+AreDrawable pictures epoch = All (IsDrawable pictures epoch) epoch.cues

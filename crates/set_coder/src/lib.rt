@@ -5,9 +5,13 @@
 mod field_sizes;
 mod fields;
 mod named;
+mod set_objects;
+mod set_packets;
+mod set_segments;
 mod set_sizes;
 
 pub use fields::{FieldLengths, write_fields};
+pub use set_packets::write_set;
 pub use set_sizes::{load_of, size_of};
 
 #[cfg(test)]

@@ -1,8 +1,7 @@
 ghost use Rattle.std.specs.Prelude.{◌≡◌, ◌==◌, ◌<◌, length, Some, slice_get, slice_index_or};
-ghost use Rattle.cue_list.specs.Authored.{picture_at_place};
 ghost use Rattle.page_epoch.specs.Sendable.{HasRegion, HasCue, HasColour, IsSendable, IsSendableIn};
 ghost use Rattle.set_coder.specs.SetSegments.{region_of, cue_at, colour_at};
-ghost use Rattle.set_coder.specs.Usable.{IsUsable, IsUsableRegion, IsUsableCue, IsUsableColour};
+ghost use Rattle.set_coder.specs.Usable.{IsUsable, AreDrawable};
 
 use cue_list::{ColourRow, Cue, Epoch, Region, Script};
 use page_epoch::PlannedSet;
@@ -11,7 +10,8 @@ use page_epoch::PlannedSet;
 pub(crate) fn epoch_of<'a>(script: &'a Script, set: &PlannedSet) -> &'a Epoch
     requires { IsSendable script.now set.now }
     ensures found { slice_get script.now.epochs set.now.epoch ≡ Some result.now }
-    ensures usable { IsUsable script.now.pictures result.now }
+    ensures usable { IsUsable result.now }
+    ensures drawable { AreDrawable script.now.pictures result.now }
     ensures carried { IsSendableIn result.now set.now }
 {
     &script.epochs.as_slice()[set.epoch as usize]

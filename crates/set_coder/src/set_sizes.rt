@@ -3,7 +3,7 @@ ghost use Rattle.cue_list.specs.Authored.{picture_at_place};
 ghost use Rattle.page_epoch.specs.Sendable.{HasCue, IsSendable, IsSendableRegion, IsSendableClut};
 ghost use Rattle.set_coder.specs.SetSegments.{picture_of_cue, depth_of_cue};
 ghost use Rattle.set_coder.specs.SetSizes.{display_size, region_size, clut_size, leading_size, made_even, painting_of, IsObjectSize, AreObjectSizes, IsSetSize, IsPaintedIn, IsSetLoad};
-ghost use Rattle.set_coder.specs.Usable.{IsUsable};
+ghost use Rattle.set_coder.specs.Usable.{AreDrawable};
 
 use crate::field_sizes::field_sizes;
 use crate::named::{cue_at, epoch_of, region_of};
@@ -134,7 +134,7 @@ fn cluts_size(cluts: &[SentClut]) -> u64
 
 /// The bytes of the objects of cues.
 fn objects_size(script: &Script, epoch: &Epoch, cues: &[u32]) -> u64
-    requires usable { IsUsable script.now.pictures epoch.now }
+    requires drawable { AreDrawable script.now.pictures epoch.now }
     requires few { length cues.now ≤ 4096 }
     requires each { All (HasCue epoch.now) cues.now }
     ensures sizes { AreObjectSizes script.now.pictures epoch.now cues.now result }
@@ -149,7 +149,7 @@ fn objects_size(script: &Script, epoch: &Epoch, cues: &[u32]) -> u64
 
 /// The bytes of the object of a cue.
 fn object_size(script: &Script, epoch: &Epoch, place: u32) -> u64
-    requires usable { IsUsable script.now.pictures epoch.now }
+    requires drawable { AreDrawable script.now.pictures epoch.now }
     requires cue { HasCue epoch.now place }
     ensures size { IsObjectSize script.now.pictures epoch.now place result }
     ensures short { result ≤ 8600000014 }
