@@ -6,3 +6,4 @@ pub mod SetSizeLaws
 pub mod WritableLaws
 pub mod BlockLaws
 pub mod ObjectLaws
+pub mod SampleLaws

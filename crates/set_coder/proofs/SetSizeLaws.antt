@@ -1,6 +1,5 @@
 -- The size of a set: object by object, and that it is one number.
 use Rattle.std.proofs.Common.{◌≡◌, ℕ, ◌+◌, ◌<◌, ◌≤◌, List, [], ◌∷◌, length, get_or, drop, Some, refl, sym, ap, subst, ◌∙◌, arith}
-use Rattle.std.specs.Prelude.{slice_get}
 use Rattle.std.proofs.lemmas.List.{drop_more, drop_all}
 use Rattle.sub_base.specs.Picture.{Picture}
 use Rattle.cue_list.specs.declared.epoch.Epoch.{Epoch}

@@ -17,7 +17,6 @@ use Rattle.pixel_codes.proofs.RowStrings.{runs_of-maximal}
 use Rattle.pixel_codes.proofs.Sizes.{one_least}
 use Rattle.pixel_codes.proofs.Tokens.{end_width, length-ending}
 use Rattle.set_coder.specs.Rows.{IsRowOf, AreRows}
-use Rattle.set_coder.proofs.FieldLaws.{few_table}
 
 pub ending_bits : (depth : Depth) → length (ending depth) ≡ end_width depth
 ending_bits depth = length-ending depth

@@ -1,5 +1,5 @@
 -- The segments of a set can be written, and how many bytes they have.
-use Rattle.std.proofs.Common.{◌≡◌, ℕ, suc, ◌+◌, ◌*◌, ◌/◌, ◌%◌, ◌<◌, ◌≤◌, ◌^◌, Bool, true, false, List, [], ◌∷◌, ◌++◌, length, get_or, map, refl, sym, ap, subst, ◌∙◌, arith, Result, Ok, Err, OnOk, None}
+use Rattle.std.proofs.Common.{◌≡◌, ℕ, ◌+◌, ◌*◌, ◌<◌, ◌≤◌, ◌^◌, Bool, true, false, List, [], ◌∷◌, ◌++◌, length, map, sym, ap, subst, ◌∙◌, arith, Result, Ok, Err, OnOk}
 use Rattle.std.specs.Prelude.{All}
 use Rattle.std.specs.List.{flat_map, AllByRecursion}
 use Rattle.std.proofs.Math.Logic.{∥∥₁_elim}
@@ -10,29 +10,25 @@ use Rattle.sub_base.specs.Colour.{shown_of}
 use Rattle.sub_base.specs.Picture.{Picture}
 use Rattle.sub_base.specs.declared.depth.Depth.{Depth}
 use Rattle.sub_base.specs.declared.depth.Depth.TheVariants.{Two, Four, Eight}
-use Rattle.stream_syntax.specs.Fields.{Field, FitsFields}
-use Rattle.stream_syntax.specs.SegmentTests.{AreBlocks}
-use Rattle.stream_syntax.specs.Segments.{SegmentValue, of_page, of_region, of_clut, of_object, of_display, end_of_set, passed_over, page_entry_fields, listing_fields, coded_entry_fields, in_full, flag, state_number, depth_number, bytes_fields, padding, object_fields, is_odd, written_body, byte_count, segment_kind, spelled, IsRight, AreShown, IsWritable}
+use Rattle.stream_syntax.specs.Fields.{FitsFields}
+use Rattle.stream_syntax.specs.Segments.{SegmentValue, of_page, of_region, of_clut, of_object, of_display, end_of_set, passed_over, page_entry_fields, listing_fields, coded_entry_fields, in_full, flag, state_number, depth_number, written_body, byte_count, segment_kind, spelled, IsRight, AreShown, IsWritable}
 use Rattle.stream_syntax.specs.declared.clut.ClutEntry.{ClutEntry}
 use Rattle.stream_syntax.specs.declared.page.PageEntry.{PageEntry}
 use Rattle.stream_syntax.specs.declared.page.State.{State}
 use Rattle.stream_syntax.specs.declared.page.State.TheVariants.{Normal, Acquisition, ModeChange}
 use Rattle.stream_syntax.specs.declared.region.Listing.{Listing}
 use Rattle.stream_syntax.specs.declared.region.RegionHead.{RegionHead}
-use Rattle.segments.specs.Writing.{body_bytes, padding_bytes, page_entry_bytes, listing_bytes, clut_entry_bytes}
+use Rattle.segments.specs.Writing.{body_bytes}
 use Rattle.segments.proofs.Sizes.{page_entries_size, listings_size, clut_entries_size}
 use Rattle.segments.proofs.Spellings.{size_is, spelled_as}
 use Rattle.cue_list.specs.Sound.{IsSound}
-use Rattle.cue_list.specs.declared.epoch.ColourRow.{ColourRow}
-use Rattle.cue_list.specs.declared.epoch.Cue.{Cue}
 use Rattle.cue_list.specs.declared.epoch.Epoch.{Epoch}
 use Rattle.cue_list.specs.declared.epoch.Region.{Region}
-use Rattle.cue_list.specs.declared.script.Script.{Script}
 use Rattle.page_epoch.specs.Sendable.{HasRegion, HasCue, HasColour, IsSendableRegion, IsSendableClut}
 use Rattle.page_epoch.specs.declared.planned_set.SentClut.{SentClut}
 use Rattle.page_epoch.specs.declared.planned_set.SentRegion.{SentRegion}
 use Rattle.set_coder.specs.SetSegments.{region_of, cue_at, colour_at, page_entry_of, listing_of, clut_entry_of}
-use Rattle.set_coder.specs.SetSizes.{region_size, clut_size, made_even}
+use Rattle.set_coder.specs.SetSizes.{region_size, clut_size}
 use Rattle.set_coder.specs.Usable.{IsUsable, IsUsableRegion, IsUsablePlace, IsUsableColour}
 use Rattle.set_coder.proofs.UsableLaws.{usable_region}
 

@@ -1,5 +1,5 @@
 -- What the size and the segments of a set need of its epoch: places that are there, and numbers that fit their fields.
-use Rattle.std.specs.Prelude.{◌≡◌, ℕ, ◌<◌, ◌≤◌, List, length, All}
+use Rattle.std.specs.Prelude.{◌≡◌, ◌<◌, ◌≤◌, List, length, All}
 use Rattle.sub_base.specs.Colour.{shown_of}
 use Rattle.sub_base.specs.Picture.{Picture}
 use Rattle.stream_syntax.specs.PixelBlocks.{IsNoDeeper}

@@ -15,4 +15,6 @@ pub use set_packets::write_set;
 pub use set_sizes::{load_of, size_of};
 
 #[cfg(test)]
+mod set_tests;
+#[cfg(test)]
 mod tests;

@@ -1,4 +1,3 @@
-use Rattle.std.proofs.Common.{arith}
 use Rattle.set_coder.proofs.BlockLaws.{are_blocks, are_both}
 use Rattle.set_coder.proofs.set_objects.fields_of.Goals as goal
 

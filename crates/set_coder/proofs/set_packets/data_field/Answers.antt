@@ -1,4 +1,4 @@
-use Rattle.std.proofs.Common.{ℕ, List, subst, arith}
+use Rattle.std.proofs.Common.{ℕ, List, subst}
 use Rattle.set_coder.specs.SetSegments.{leading_segments, AreObjectsOf}
 use Rattle.set_coder.proofs.ObjectLaws.{field_is}
 use Rattle.set_coder.proofs.set_packets.data_field.Goals as goal
