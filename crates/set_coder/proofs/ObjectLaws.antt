@@ -1,8 +1,10 @@
 -- Objects of cues: that they can be written, how many bytes they have, and one after another.
 use Rattle.std.proofs.Common.{◌≡◌, ℕ, suc, ◌+◌, ◌%◌, ◌<◌, ◌≤◌, ◌^◌, eqb, Bool, true, false, List, [], ◌∷◌, ◌++◌, length, get_or, drop, refl, sym, ap, subst, ◌∙◌, append_assoc, length-append, arith}
+use Rattle.std.specs.Prelude.{All}
 use Rattle.std.specs.List.{flat_map}
 use Rattle.std.proofs.lemmas.Bool.{eqb-true, eqb-false}
 use Rattle.std.proofs.lemmas.List.{append-nil, drop_more, drop_all}
+use Rattle.std.proofs.lemmas.List.Elements.{All-cons, All-append}
 use Rattle.std.proofs.lemmas.Grind.{flat_map-append}
 use Rattle.std.proofs.lemmas.Option.{get_or_from_slice_get, slice_get-get_or}
 use Rattle.sub_base.specs.Picture.{Picture, picture_of, top_field, bottom_field}
@@ -102,12 +104,13 @@ object_sized pictures epoch place size picture depth top bottom p d blocks s =
 -- the objects that are written, and those that are left
 pub record Objects (pictures : List Picture) (epoch : Epoch) (page : ℕ) (cues old now : List ℕ) (i : ℕ) : Type 0 where
   pub done : List SegmentValue
+  pub right : All (IsWritable page) done
   pub bytes : now ≡ old ++ flat_map (spelled page) done
   pub drawn : (rest : List SegmentValue) → AreObjectsOf pictures epoch (drop i cues) rest → AreObjectsOf pictures epoch cues (done ++ rest)
   pub sizes : (sum : ℕ) → AreObjectSizes pictures epoch cues sum → (rest : ℕ) × AreObjectSizes pictures epoch (drop i cues) rest × (length now + rest ≡ length old + sum)
 
 pub objects_none : (pictures : List Picture) (epoch : Epoch) (page : ℕ) (cues old : List ℕ) → Objects pictures epoch page cues old old 0
-objects_none pictures epoch page cues old = record { done = []; bytes = sym (append-nil old); drawn = λ rest are. are; sizes = λ sum are. (sum, are, refl) }
+objects_none pictures epoch page cues old = record { done = []; right = λ k d h. absurd (omega arith); bytes = sym (append-nil old); drawn = λ rest are. are; sizes = λ sum are. (sum, are, refl) }
 
 -- the next object, and those after it
 next_sizes : (pictures : List Picture) (epoch : Epoch) (cues : List ℕ) (i rest : ℕ) → i < length cues → AreObjectSizes pictures epoch (drop i cues) rest
@@ -123,11 +126,12 @@ object_room pictures epoch page cues old now i h o room =
     (next.0, next.2, omega (arith, next.4, left.2, room.2, ap length o.bytes, length-append old (flat_map (spelled page) o.done)))
 
 pub objects_more : (pictures : List Picture) (epoch : Epoch) (page : ℕ) (cues old now new : List ℕ) (i : ℕ) → i < length cues → Objects pictures epoch page cues old now i
-    → (object : SegmentValue) × IsObjectOf pictures epoch (get_or cues i 0) object × (new ≡ now ++ spelled page object)
+    → (object : SegmentValue) × IsObjectOf pictures epoch (get_or cues i 0) object × IsWritable page object × (new ≡ now ++ spelled page object)
     → ((size : ℕ) → IsObjectSize pictures epoch (get_or cues i 0) size → length new ≡ length now + size) → Objects pictures epoch page cues old new (i + 1)
 objects_more pictures epoch page cues old now new i h o one sized = record {
   done = o.done ++ one.0 ∷ [];
-  bytes = one.2 ∙ ap (λ (xs : List ℕ). xs ++ spelled page one.0) o.bytes ∙ append_assoc old (flat_map (spelled page) o.done) (spelled page one.0)
+  right = All-append (IsWritable page) o.done (one.0 ∷ []) o.right (All-cons (IsWritable page) one.0 [] one.2 (λ k d l. absurd (omega arith)));
+  bytes = one.3 ∙ ap (λ (xs : List ℕ). xs ++ spelled page one.0) o.bytes ∙ append_assoc old (flat_map (spelled page) o.done) (spelled page one.0)
       ∙ ap (λ (xs : List ℕ). old ++ xs) (ap (λ (xs : List ℕ). flat_map (spelled page) o.done ++ xs) (sym (append-nil (spelled page one.0))) ∙ sym (flat_map-append (spelled page) o.done (one.0 ∷ [])));
   drawn = λ rest are.
       subst (AreObjectsOf pictures epoch cues) (sym (append_assoc o.done (one.0 ∷ []) rest)) (o.drawn (one.0 ∷ rest) (subst (λ (places : List ℕ). AreObjectsOf pictures epoch places (one.0 ∷ rest)) (sym (drop_more cues i 0 h)) (one.1, are)));
@@ -138,9 +142,9 @@ objects_more pictures epoch page cues old now new i h o one sized = record {
 }
 
 pub objects_drawn : (pictures : List Picture) (epoch : Epoch) (page : ℕ) (cues old now : List ℕ) (i : ℕ) → length cues ≤ i → Objects pictures epoch page cues old now i
-    → (objects : List SegmentValue) × AreObjectsOf pictures epoch cues objects × (now ≡ old ++ flat_map (spelled page) objects)
+    → (objects : List SegmentValue) × AreObjectsOf pictures epoch cues objects × All (IsWritable page) objects × (now ≡ old ++ flat_map (spelled page) objects)
 objects_drawn pictures epoch page cues old now i h o =
-    (o.done, subst (AreObjectsOf pictures epoch cues) (append-nil o.done) (o.drawn [] (subst (λ (places : List ℕ). AreObjectsOf pictures epoch places []) (sym (drop_all i cues h)) tt)), o.bytes)
+    (o.done, subst (AreObjectsOf pictures epoch cues) (append-nil o.done) (o.drawn [] (subst (λ (places : List ℕ). AreObjectsOf pictures epoch places []) (sym (drop_all i cues h)) tt)), o.right, o.bytes)
 
 pub objects_sized : (pictures : List Picture) (epoch : Epoch) (page : ℕ) (cues old now : List ℕ) (i : ℕ) → length cues ≤ i → Objects pictures epoch page cues old now i
     → (sum : ℕ) → AreObjectSizes pictures epoch cues sum → length now ≡ length old + sum

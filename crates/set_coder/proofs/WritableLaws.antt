@@ -1,11 +1,11 @@
 -- The segments of a set can be written, and how many bytes they have.
-use Rattle.std.proofs.Common.{◌≡◌, ℕ, ◌+◌, ◌*◌, ◌<◌, ◌≤◌, ◌^◌, Bool, true, false, List, [], ◌∷◌, ◌++◌, length, map, sym, ap, subst, ◌∙◌, arith, Result, Ok, Err, OnOk}
+use Rattle.std.proofs.Common.{◌≡◌, ℕ, ◌+◌, ◌*◌, ◌<◌, ◌≤◌, ◌^◌, Bool, true, false, List, [], ◌∷◌, ◌++◌, length, map, refl, sym, ap, subst, ◌∙◌, arith, Result, Ok, Err, OnOk, None}
 use Rattle.std.specs.Prelude.{All}
 use Rattle.std.specs.List.{flat_map, AllByRecursion}
 use Rattle.std.proofs.Math.Logic.{∥∥₁_elim}
 use Rattle.std.proofs.Props.{props}
 use Rattle.std.proofs.lemmas.List.{length-append, length-map}
-use Rattle.std.proofs.lemmas.List.Elements.{All-head, All-tail, All-from_recursion}
+use Rattle.std.proofs.lemmas.List.Elements.{All-head, All-tail, All-cons, All-append, All-from_recursion}
 use Rattle.sub_base.specs.Colour.{shown_of}
 use Rattle.sub_base.specs.Picture.{Picture}
 use Rattle.sub_base.specs.declared.depth.Depth.{Depth}
@@ -24,10 +24,12 @@ use Rattle.segments.proofs.Spellings.{size_is, spelled_as}
 use Rattle.cue_list.specs.Sound.{IsSound}
 use Rattle.cue_list.specs.declared.epoch.Epoch.{Epoch}
 use Rattle.cue_list.specs.declared.epoch.Region.{Region}
-use Rattle.page_epoch.specs.Sendable.{HasRegion, HasCue, HasColour, IsSendableRegion, IsSendableClut}
+use Rattle.cue_list.specs.declared.script.Script.{Script}
+use Rattle.page_epoch.specs.Sendable.{HasRegion, HasCue, HasColour, IsSendableRegion, IsSendableClut, IsSendableIn}
+use Rattle.page_epoch.specs.declared.planned_set.PlannedSet.{PlannedSet}
 use Rattle.page_epoch.specs.declared.planned_set.SentClut.{SentClut}
 use Rattle.page_epoch.specs.declared.planned_set.SentRegion.{SentRegion}
-use Rattle.set_coder.specs.SetSegments.{region_of, cue_at, colour_at, page_entry_of, listing_of, clut_entry_of}
+use Rattle.set_coder.specs.SetSegments.{region_of, cue_at, colour_at, display_of, time_out_of, page_entry_of, page_of, listing_of, region_segment_of, clut_entry_of, clut_segment_of, leading_segments}
 use Rattle.set_coder.specs.SetSizes.{region_size, clut_size}
 use Rattle.set_coder.specs.Usable.{IsUsable, IsUsableRegion, IsUsablePlace, IsUsableColour}
 use Rattle.set_coder.proofs.UsableLaws.{usable_region}
@@ -58,11 +60,6 @@ writable page value fits_page body short right shown =
 
 pub spelled_length : (page : ℕ) (value : SegmentValue) → IsWritable page value → length (spelled page value) ≡ 6 + length (body_bytes value)
 spelled_length page value w = ap length (spelled_as page value w.fits) ∙ omega arith
-
--- what was appended, under another name of the segment
-pub appended_as : {A E : Type 0} (r : Result A E) (old now : List ℕ) (page : ℕ) (value other : SegmentValue) → value ≡ other → OnOk r (now ≡ old ++ spelled page value) → OnOk r (now ≡ old ++ spelled page other)
-appended_as (Ok _) old now page value other e h = h ∙ ap (λ (v : SegmentValue). old ++ spelled page v) e
-appended_as (Err _) old now page value other e h = tt
 
 -- how long it is now
 pub longer_by : {A E : Type 0} (r : Result A E) (old now piece : List ℕ) (size : ℕ) → OnOk r (now ≡ old ++ piece) → length piece ≡ size → OnOk r (length now ≡ length old + size)
@@ -152,3 +149,46 @@ clut_writable epoch page sent entries fits_page u s same =
     let shown : AllByRecursion (λ (entry : ClutEntry). shown_of entry.colour ≡ entry.colour) entries = subst (AllByRecursion (λ (entry : ClutEntry). shown_of entry.colour ≡ entry.colour)) (sym same) (shown_clut_entries epoch sent.rows u s.rows) in
     let whole = writable page (of_clut (record { clut = sent.clut; version = sent.version; entries = entries })) fits_page (omega (arith, s.number), (omega (arith, s.version), (tt, fits))) (omega (arith, s.few)) tt (All-from_recursion (λ (entry : ClutEntry). shown_of entry.colour ≡ entry.colour) entries shown) in
     (whole, spelled_length page _ whole ∙ omega arith)
+
+-- ---- all segments of a set
+
+one_display : (script : Script) (page : ℕ) → page < 2 ^ 16 → ∥ IsSound script.origin script.width script.height script.refresh script.epochs script.pictures ∥₁
+    → All (IsWritable page) (of_display (record { version = 0; width = script.width; height = script.height; window = None }) ∷ [])
+one_display script page fits_page sound =
+    let n = script_numbers script.origin script.width script.height script.refresh script.epochs script.pictures sound in
+    let fits : FitsFields (written_body (of_display (record { version = 0; width = script.width; height = script.height; window = None }))) =
+    (omega arith, (omega arith, (tt, (omega (arith, n.1), (omega (arith, n.3), tt))))) in
+    let right : IsRight (of_display (record { version = 0; width = script.width; height = script.height; window = None })) = (n.0, n.2, tt) in
+    All-cons (IsWritable page) (of_display (record { version = 0; width = script.width; height = script.height; window = None })) [] (writable page (of_display (record { version = 0; width = script.width; height = script.height; window = None })) fits_page fits (omega arith) right tt) (λ k d h. absurd (omega arith))
+
+display_writable : (script : Script) (page : ℕ) (state : State) → page < 2 ^ 16 → ∥ IsSound script.origin script.width script.height script.refresh script.epochs script.pictures ∥₁ → All (IsWritable page) (display_of script state)
+display_writable script page Normal fits_page sound = λ k d h. absurd (omega arith)
+display_writable script page Acquisition fits_page sound = one_display script page fits_page sound
+display_writable script page ModeChange fits_page sound = one_display script page fits_page sound
+
+regions_writable : (epoch : Epoch) (page : ℕ) (regions : List SentRegion) → page < 2 ^ 16 → IsUsable epoch → All (IsSendableRegion epoch) regions → All (IsWritable page) (map (region_segment_of epoch) regions)
+regions_writable epoch page [] fits_page u each = λ k d h. absurd (omega arith)
+regions_writable epoch page (sent ∷ regions) fits_page u each =
+    All-cons (IsWritable page) (region_segment_of epoch sent) (map (region_segment_of epoch) regions)
+    (region_writable epoch page sent (region_of epoch sent.id) (map (listing_of epoch) sent.cues) fits_page u (All-head (IsSendableRegion epoch) sent regions each) refl refl).0
+    (regions_writable epoch page regions fits_page u (All-tail (IsSendableRegion epoch) sent regions each))
+
+cluts_writable : (epoch : Epoch) (page : ℕ) (cluts : List SentClut) → page < 2 ^ 16 → IsUsable epoch → All (IsSendableClut epoch) cluts → All (IsWritable page) (map (clut_segment_of epoch) cluts)
+cluts_writable epoch page [] fits_page u each = λ k d h. absurd (omega arith)
+cluts_writable epoch page (sent ∷ cluts) fits_page u each =
+    All-cons (IsWritable page) (clut_segment_of epoch sent) (map (clut_segment_of epoch) cluts)
+    (clut_writable epoch page sent (map (clut_entry_of epoch) sent.rows) fits_page u (All-head (IsSendableClut epoch) sent cluts each) refl).0
+    (cluts_writable epoch page cluts fits_page u (All-tail (IsSendableClut epoch) sent cluts each))
+
+pub leading_writable : (script : Script) (epoch : Epoch) (page : ℕ) (set : PlannedSet) → page < 2 ^ 16 → ∥ IsSound script.origin script.width script.height script.refresh script.epochs script.pictures ∥₁ → IsUsable epoch → IsSendableIn epoch set
+    → All (IsWritable page) (leading_segments script epoch set)
+leading_writable script epoch page set fits_page sound u s =
+    let numbers = script_numbers script.origin script.width script.height script.refresh script.epochs script.pictures sound in
+    let first = page_writable epoch page (time_out_of script) set.page_version set.state set.shown (map (page_entry_of epoch) set.shown) fits_page u (omega (arith, numbers.4)) s.page_version s.few_shown s.shown refl in
+    All-append (IsWritable page) (display_of script set.state) (page_of script epoch set ∷ (map (region_segment_of epoch) set.regions ++ map (clut_segment_of epoch) set.cluts))
+    (display_writable script page set.state fits_page sound)
+    (All-cons (IsWritable page) (page_of script epoch set) (map (region_segment_of epoch) set.regions ++ map (clut_segment_of epoch) set.cluts) first.0
+    (All-append (IsWritable page) (map (region_segment_of epoch) set.regions) (map (clut_segment_of epoch) set.cluts) (regions_writable epoch page set.regions fits_page u s.regions) (cluts_writable epoch page set.cluts fits_page u s.cluts)))
+
+pub end_writable : (page : ℕ) → page < 2 ^ 16 → IsWritable page end_of_set
+end_writable page fits_page = writable page end_of_set fits_page tt (omega arith) tt tt

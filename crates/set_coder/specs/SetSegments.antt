@@ -1,5 +1,5 @@
 -- The segments that a display set of a plan is sent as, and its PES packet (EN 300 743, clauses 5 and 7).
-use Rattle.std.specs.Prelude.{◌≡◌, ℕ, ◌+◌, ◌*◌, ◌/◌, ◌==◌, Bool, false, List, [], ◌∷◌, ◌++◌, map, find, Option, Some, None, slice_get, slice_index_or}
+use Rattle.std.specs.Prelude.{◌≡◌, ℕ, ◌+◌, ◌*◌, ◌/◌, ◌==◌, Bool, false, List, [], ◌∷◌, ◌++◌, map, find, All, Option, Some, None, slice_get, slice_index_or}
 use Rattle.std.specs.List.{flat_map}
 use Rattle.sub_base.specs.Colour.{clear}
 use Rattle.sub_base.specs.Depth.{bits_of}
@@ -8,7 +8,7 @@ use Rattle.sub_base.specs.declared.depth.Depth.{Depth}
 use Rattle.sub_base.specs.declared.depth.Depth.TheVariants.{Two}
 use Rattle.stream_syntax.specs.FieldBlocks.{AreFieldBlocks, DrawsPicture}
 use Rattle.stream_syntax.specs.Pes.{written_pes}
-use Rattle.stream_syntax.specs.Segments.{SegmentValue, of_page, of_region, of_clut, of_object, of_display, end_of_set, spelled}
+use Rattle.stream_syntax.specs.Segments.{SegmentValue, of_page, of_region, of_clut, of_object, of_display, end_of_set, spelled, IsWritable}
 use Rattle.stream_syntax.specs.declared.clut.ClutEntry.{ClutEntry}
 use Rattle.stream_syntax.specs.declared.page.PageEntry.{PageEntry}
 use Rattle.stream_syntax.specs.declared.page.State.{State}
@@ -144,12 +144,13 @@ abbrev pub data_field : ℕ → List SegmentValue → List ℕ
 data_field page segments = 0x20 ∷ 0x00 ∷ (flat_map (spelled page) segments ++ 0xFF ∷ [])
 
 -- These bytes are the data field of the packet of a set of the script, whose segments are of that page: the segments
--- before the objects, an object for each cue of the set, and the end of the set.
+-- before the objects, an object for each cue of the set, and the end of the set. Each of them fits its table.
 pub record IsSetField (script : Script) (page : ℕ) (set : PlannedSet) (bytes : List ℕ) : Type 0 where
   pub epoch : Epoch
   pub found : slice_get script.epochs set.epoch ≡ Some epoch
   pub objects : List SegmentValue
   pub drawn : AreObjectsOf script.pictures epoch set.cues objects
+  pub fit : All (IsWritable page) (leading_segments script epoch set ++ (objects ++ end_of_set ∷ []))
   pub field : bytes ≡ data_field page (leading_segments script epoch set ++ (objects ++ end_of_set ∷ []))
 
 -- these bytes are the PES packet of a set of the script: its data field, at the set's presentation time

@@ -3,7 +3,7 @@ ghost use Rattle.std.specs.List.{flat_map};
 ghost use Rattle.cue_list.specs.Authored.{picture_at_place};
 ghost use Rattle.stream_syntax.specs.FieldBlocks.{AreFieldBlocks, AreFieldSizes, DrawsPicture};
 ghost use Rattle.stream_syntax.specs.SegmentTests.{AreBlocks};
-ghost use Rattle.stream_syntax.specs.Segments.{SegmentValue, spelled};
+ghost use Rattle.stream_syntax.specs.Segments.{SegmentValue, spelled, IsWritable};
 ghost use Rattle.page_epoch.specs.Sendable.{HasCue};
 ghost use Rattle.set_coder.specs.BothBlocks.{AreBothBlocks};
 ghost use Rattle.set_coder.specs.SetSegments.{cue_at, picture_of_cue, depth_of_cue, object_of, IsObjectOf, AreObjectsOf};
@@ -30,7 +30,7 @@ pub(crate) fn append_objects(
     requires each { All (HasCue epoch.now) cues.now }
     requires room { (sum : ℕ) × AreObjectSizes script.now.pictures epoch.now cues.now sum × (sum ≤ 65541) }
     ensures objects { OnOk result ((objects : List SegmentValue) × AreObjectsOf script.now.pictures epoch.now cues.now objects
-        × (field.new.items ≡ field.old.items ++ flat_map (spelled page) objects)) }
+        × All (IsWritable page) objects × (field.new.items ≡ field.old.items ++ flat_map (spelled page) objects)) }
     ensures size { OnOk result ((sum : ℕ) → AreObjectSizes script.now.pictures epoch.now cues.now sum → length field.new.items ≡ length field.old.items + sum) }
 {
     for place in cues {
@@ -52,7 +52,7 @@ fn append_object(
     requires cue { HasCue epoch.now place }
     requires room { (size : ℕ) × IsObjectSize script.now.pictures epoch.now place size × (size ≤ 65541) }
     ensures object { OnOk result ((object : SegmentValue) × IsObjectOf script.now.pictures epoch.now place object
-        × (field.new.items ≡ field.old.items ++ spelled page object)) }
+        × IsWritable page object × (field.new.items ≡ field.old.items ++ spelled page object)) }
     ensures size { OnOk result ((size : ℕ) → IsObjectSize script.now.pictures epoch.now place size → length field.new.items ≡ length field.old.items + size) }
 {
     let cue = cue_at(epoch, place);
@@ -98,6 +98,7 @@ fn append_blocks(
     requires blocks { AreBlocks top.now bottom.now }
     requires short { length top.now + length bottom.now ≤ 65528 }
     requires even { made_even (13 + length top.now + length bottom.now) ≤ 65541 }
+    ensures fits { IsWritable page (object_of object see_through top.now bottom.now) }
     ensures bytes { OnOk result (field.new.items ≡ field.old.items ++ spelled page (object_of object see_through top.now bottom.now)) }
     ensures size { OnOk result (length field.new.items ≡ length field.old.items + made_even (13 + length top.now + length bottom.now)) }
 {
