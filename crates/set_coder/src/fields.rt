@@ -146,7 +146,7 @@ fn type_of_string(depth: Depth) -> u8
 
 /// The map table in which each code stands for itself, with its type byte; none where the picture is as deep as the
 /// region.
-fn table_bytes(depth: Depth, region: Depth) -> &'static [u8]
+pub(crate) fn table_bytes(depth: Depth, region: Depth) -> &'static [u8]
     ensures { result.now ≡ identity_table depth region }
 {
     match (depth, region) {

@@ -1,9 +1,20 @@
-//! The bytes of the display sets that a compiler sends: the pixel data blocks of a picture's two fields.
+//! The bytes of the display sets that a compiler sends: the pixel data blocks of a picture's two fields, and the PES
+//! packet of a set of a plan, with its size.
 #![tactic(auto)]
 
+mod field_sizes;
 mod fields;
+mod named;
+mod set_objects;
+mod set_packets;
+mod set_segments;
+mod set_sizes;
 
 pub use fields::{FieldLengths, write_fields};
+pub use set_packets::write_set;
+pub use set_sizes::{load_of, size_of};
 
+#[cfg(test)]
+mod set_tests;
 #[cfg(test)]
 mod tests;

@@ -1,0 +1,48 @@
+ghost use Rattle.std.specs.Prelude.{◌≡◌, ◌==◌, ◌<◌, length, Some, slice_get, slice_index_or};
+ghost use Rattle.page_epoch.specs.Sendable.{HasRegion, HasCue, HasColour, IsSendable, IsSendableIn};
+ghost use Rattle.set_coder.specs.SetSegments.{region_of, cue_at, colour_at};
+ghost use Rattle.set_coder.specs.Usable.{IsUsable, AreDrawable};
+
+use cue_list::{ColourRow, Cue, Epoch, Region, Script};
+use page_epoch::PlannedSet;
+
+/// The epoch of a set.
+pub(crate) fn epoch_of<'a>(script: &'a Script, set: &PlannedSet) -> &'a Epoch
+    requires { IsSendable script.now set.now }
+    ensures found { slice_get script.now.epochs set.now.epoch ≡ Some result.now }
+    ensures usable { IsUsable result.now }
+    ensures drawable { AreDrawable script.now.pictures result.now }
+    ensures carried { IsSendableIn result.now set.now }
+{
+    &script.epochs.as_slice()[set.epoch as usize]
+}
+
+/// The region of that number.
+pub(crate) fn region_of(epoch: &Epoch, id: u8) -> Region
+    requires { HasRegion epoch.now id }
+    ensures { result ≡ region_of epoch.now id }
+{
+    let regions = epoch.regions.as_slice();
+    for region in regions {
+        if region.id == id {
+            return *region;
+        }
+    }
+    unreachable!()
+}
+
+/// The cue at that place.
+pub(crate) fn cue_at(epoch: &Epoch, place: u32) -> Cue
+    requires { HasCue epoch.now place }
+    ensures { result ≡ cue_at epoch.now place }
+{
+    epoch.cues.as_slice()[place as usize]
+}
+
+/// The colour row at that place.
+pub(crate) fn colour_at(epoch: &Epoch, place: u32) -> ColourRow
+    requires { HasColour epoch.now place }
+    ensures { result ≡ colour_at epoch.now place }
+{
+    epoch.colours.as_slice()[place as usize]
+}

@@ -1,0 +1,113 @@
+ghost use Rattle.std.specs.Prelude.{◌≡◌, ℕ, ◌+◌, ◌*◌, ◌<◌, ◌≤◌, ◌++◌, List, length, All, OnOk};
+ghost use Rattle.std.specs.List.{flat_map};
+ghost use Rattle.cue_list.specs.Authored.{picture_at_place};
+ghost use Rattle.stream_syntax.specs.FieldBlocks.{AreFieldBlocks, AreFieldSizes, DrawsPicture};
+ghost use Rattle.stream_syntax.specs.SegmentTests.{AreBlocks};
+ghost use Rattle.stream_syntax.specs.Segments.{SegmentValue, spelled, IsWritable};
+ghost use Rattle.page_epoch.specs.Sendable.{HasCue};
+ghost use Rattle.set_coder.specs.BothBlocks.{AreBothBlocks};
+ghost use Rattle.set_coder.specs.SetSegments.{cue_at, picture_of_cue, depth_of_cue, object_of, IsObjectOf, AreObjectsOf};
+ghost use Rattle.set_coder.specs.SetSizes.{made_even, IsObjectSize, AreObjectSizes};
+ghost use Rattle.set_coder.specs.Usable.{AreDrawable};
+
+use crate::fields::write_fields;
+use crate::named::{cue_at, region_of};
+use cue_list::{Epoch, Script};
+use indexed_picture::Indexed;
+use segments::{ObjectSeg, SegmentOut, write_segment};
+use sub_base::{Depth, NoMemory};
+
+/// Appends the objects of cues.
+pub(crate) fn append_objects(
+    script: &Script,
+    epoch: &Epoch,
+    page: u16,
+    cues: &[u32],
+    field: &mut Vec<u8>,
+) -> Result<(), NoMemory>
+    requires drawable { AreDrawable script.now.pictures epoch.now }
+    requires few { length epoch.now.cues ≤ 4096 }
+    requires each { All (HasCue epoch.now) cues.now }
+    requires room { (sum : ℕ) × AreObjectSizes script.now.pictures epoch.now cues.now sum × (sum ≤ 65541) }
+    ensures objects { OnOk result ((objects : List SegmentValue) × AreObjectsOf script.now.pictures epoch.now cues.now objects
+        × All (IsWritable page) objects × (field.new.items ≡ field.old.items ++ flat_map (spelled page) objects)) }
+    ensures size { OnOk result ((sum : ℕ) → AreObjectSizes script.now.pictures epoch.now cues.now sum → length field.new.items ≡ length field.old.items + sum) }
+{
+    for place in cues {
+        append_object(script, epoch, page, *place, field)?;
+    }
+    Ok(())
+}
+
+/// Appends the object of a cue.
+fn append_object(
+    script: &Script,
+    epoch: &Epoch,
+    page: u16,
+    place: u32,
+    field: &mut Vec<u8>,
+) -> Result<(), NoMemory>
+    requires drawable { AreDrawable script.now.pictures epoch.now }
+    requires few { length epoch.now.cues ≤ 4096 }
+    requires cue { HasCue epoch.now place }
+    requires room { (size : ℕ) × IsObjectSize script.now.pictures epoch.now place size × (size ≤ 65541) }
+    ensures object { OnOk result ((object : SegmentValue) × IsObjectOf script.now.pictures epoch.now place object
+        × IsWritable page object × (field.new.items ≡ field.old.items ++ spelled page object)) }
+    ensures size { OnOk result ((size : ℕ) → IsObjectSize script.now.pictures epoch.now place size → length field.new.items ≡ length field.old.items + size) }
+{
+    let cue = cue_at(epoch, place);
+    let picture = &script.pictures.as_slice()[cue.picture as usize];
+    let region = region_of(epoch, cue.region);
+    let mut blocks = Vec::new(*field.allocator());
+    let lengths = write_fields(picture, region.depth, &mut blocks)?;
+    let (top, bottom) = fields_of(
+        picture,
+        region.depth,
+        blocks.as_slice(),
+        lengths.top as usize,
+    );
+    append_blocks(page, place as u16, cue.see_through, top, bottom, field)
+}
+
+/// The blocks of the picture's two fields, which stand one after the other.
+fn fields_of<'a>(
+    _picture: &Indexed,
+    _region: Depth,
+    blocks: &'a [u8],
+    top: usize,
+) -> (&'a [u8], &'a [u8])
+    requires { AreBothBlocks _picture.now _region blocks.now top }
+    ensures fields { AreFieldBlocks _picture.now _region result.0.now result.1.now }
+    ensures drawn { DrawsPicture _picture.now _region result.0.now result.1.now }
+    ensures blocks { AreBlocks result.0.now result.1.now }
+    ensures top { length result.0.now ≡ top }
+    ensures whole { length result.0.now + length result.1.now ≡ length blocks.now }
+{
+    blocks.split_at(top)
+}
+
+/// Appends an object with the blocks of its two fields.
+fn append_blocks(
+    page: u16,
+    object: u16,
+    see_through: bool,
+    top: &[u8],
+    bottom: &[u8],
+    field: &mut Vec<u8>,
+) -> Result<(), NoMemory>
+    requires blocks { AreBlocks top.now bottom.now }
+    requires short { length top.now + length bottom.now ≤ 65528 }
+    requires even { made_even (13 + length top.now + length bottom.now) ≤ 65541 }
+    ensures fits { IsWritable page (object_of object see_through top.now bottom.now) }
+    ensures bytes { OnOk result (field.new.items ≡ field.old.items ++ spelled page (object_of object see_through top.now bottom.now)) }
+    ensures size { OnOk result (length field.new.items ≡ length field.old.items + made_even (13 + length top.now + length bottom.now)) }
+{
+    let object = ObjectSeg {
+        object,
+        version: 0,
+        see_through,
+        top,
+        bottom,
+    };
+    write_segment(page, &SegmentOut::Object(object), field)
+}

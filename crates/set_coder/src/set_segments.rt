@@ -1,0 +1,252 @@
+ghost use Rattle.std.specs.Prelude.{◌≡◌, ◌==◌, ◌+◌, ◌*◌, ◌/◌, ◌<◌, ◌≤◌, ◌++◌, length, map, sum_by, All, IfOk, OnOk, vec_len};
+ghost use Rattle.std.specs.List.{flat_map};
+ghost use Rattle.sub_base.specs.Depth.{bits_of};
+ghost use Rattle.stream_syntax.specs.Segments.{spelled, end_of_set};
+ghost use Rattle.page_epoch.specs.Sendable.{HasRegion, HasCue, HasColour, IsSendableIn, IsSendableRegion, IsSendableClut};
+ghost use Rattle.set_coder.specs.SetSegments.{display_of, time_out_of, page_entry_of, page_of, listing_of, region_segment_of, clut_entry_of, clut_segment_of, leading_segments};
+ghost use Rattle.set_coder.specs.SetSizes.{display_size, region_size, clut_size, leading_size};
+ghost use Rattle.set_coder.specs.Usable.{IsUsable};
+
+use crate::named::{colour_at, cue_at, region_of};
+use cue_list::{Epoch, Script};
+use page_epoch::{PlannedSet, SentClut, SentRegion, State};
+use segments::{ClutEntry, Listing, PageEntry, RegionHead, SegmentOut, write_segment};
+use std::alloc::Global;
+use sub_base::{Depth, NoMemory};
+
+/// Appends the segments of a set before its objects.
+pub(crate) fn append_leading(
+    script: &Script,
+    epoch: &Epoch,
+    page: u16,
+    set: &PlannedSet,
+    field: &mut Vec<u8>,
+) -> Result<(), NoMemory>
+    requires usable { IsUsable epoch.now }
+    requires carried { IsSendableIn epoch.now set.now }
+    ensures bytes { OnOk result (field.new.items ≡ field.old.items ++ flat_map (spelled page) (leading_segments script.now epoch.now set.now)) }
+    ensures size { OnOk result (length field.new.items ≡ length field.old.items + leading_size set.now) }
+{
+    append_display(script, page, set.state, field)?;
+    append_page(script, epoch, page, set, field)?;
+    append_regions(epoch, page, set.regions.as_slice(), field)?;
+    append_cluts(epoch, page, set.cluts.as_slice(), field)
+}
+
+/// Appends the display definition, which a normal set does not have.
+fn append_display(
+    script: &Script,
+    page: u16,
+    state: State,
+    field: &mut Vec<u8>,
+) -> Result<(), NoMemory>
+    ensures bytes { OnOk result (field.new.items ≡ field.old.items ++ flat_map (spelled page) (display_of script.now state)) }
+    ensures size { OnOk result (length field.new.items ≡ length field.old.items + display_size state) }
+{
+    if state == State::Normal {
+        return Ok(());
+    }
+    let segment = SegmentOut::Display {
+        version: 0,
+        width: u32::from(script.width),
+        height: u32::from(script.height),
+    };
+    write_segment(page, &segment, field)
+}
+
+/// The seconds after which a receiver clears a page that is not sent again.
+fn time_out(script: &Script) -> u8
+    ensures value { result ≡ time_out_of script.now }
+    ensures short { result ≤ 122 }
+{
+    (2 * (script.refresh / 90000) + 2) as u8
+}
+
+/// Appends the page with the regions that it shows.
+fn append_page(
+    script: &Script,
+    epoch: &Epoch,
+    page: u16,
+    set: &PlannedSet,
+    field: &mut Vec<u8>,
+) -> Result<(), NoMemory>
+    requires usable { IsUsable epoch.now }
+    requires version { set.now.page_version < 16 }
+    requires few { length set.now.shown ≤ 64 }
+    requires shown { All (HasRegion epoch.now) set.now.shown }
+    ensures bytes { OnOk result (field.new.items ≡ field.old.items ++ spelled page (page_of script.now epoch.now set.now)) }
+    ensures size { OnOk result (length field.new.items ≡ length field.old.items + (8 + 6 * length set.now.shown)) }
+{
+    let entries = page_entries(*field.allocator(), epoch, set.shown.as_slice())?;
+    let segment = SegmentOut::Page {
+        time_out: time_out(script),
+        version: set.page_version,
+        state: set.state,
+        entries: entries.as_slice(),
+    };
+    write_segment(page, &segment, field)
+}
+
+/// The entries of a page.
+fn page_entries(alloc: Global, epoch: &Epoch, shown: &[u8]) -> Result<Vec<PageEntry>, NoMemory>
+    requires { All (HasRegion epoch.now) shown.now }
+    ensures { IfOk result (λ entries. entries.items ≡ map (page_entry_of epoch.now) shown.now) }
+{
+    let mut entries = Vec::with_capacity(alloc, shown.len())?;
+    for id in shown {
+        let region = region_of(epoch, *id);
+        entries.push(PageEntry {
+            region: *id,
+            x: region.x,
+            y: region.y,
+        })?;
+    }
+    Ok(entries)
+}
+
+/// Appends the regions of a set.
+fn append_regions(
+    epoch: &Epoch,
+    page: u16,
+    regions: &[SentRegion],
+    field: &mut Vec<u8>,
+) -> Result<(), NoMemory>
+    requires usable { IsUsable epoch.now }
+    requires each { All (IsSendableRegion epoch.now) regions.now }
+    ensures bytes { OnOk result (field.new.items ≡ field.old.items ++ flat_map (spelled page) (map (region_segment_of epoch.now) regions.now)) }
+    ensures size { OnOk result (length field.new.items ≡ length field.old.items + sum_by region_size regions.now) }
+{
+    for sent in regions {
+        append_region(epoch, page, sent, field)?;
+    }
+    Ok(())
+}
+
+/// Appends a region with its listings.
+fn append_region(
+    epoch: &Epoch,
+    page: u16,
+    sent: &SentRegion,
+    field: &mut Vec<u8>,
+) -> Result<(), NoMemory>
+    requires usable { IsUsable epoch.now }
+    requires sent { IsSendableRegion epoch.now sent.now }
+    ensures bytes { OnOk result (field.new.items ≡ field.old.items ++ spelled page (region_segment_of epoch.now sent.now)) }
+    ensures size { OnOk result (length field.new.items ≡ length field.old.items + region_size sent.now) }
+{
+    let region = region_of(epoch, sent.id);
+    let listings = listings_of(*field.allocator(), epoch, sent.cues.as_slice())?;
+    let head = RegionHead {
+        region: sent.id,
+        version: sent.version,
+        fill: sent.fill,
+        width: region.width,
+        height: region.height,
+        depth: region.depth,
+        clut: region.clut,
+        code8: 0,
+        code4: 0,
+        code2: 0,
+    };
+    let segment = SegmentOut::Region {
+        head,
+        listings: listings.as_slice(),
+    };
+    write_segment(page, &segment, field)
+}
+
+/// The listings of cues.
+fn listings_of(alloc: Global, epoch: &Epoch, cues: &[u32]) -> Result<Vec<Listing>, NoMemory>
+    requires few { length epoch.now.cues ≤ 4096 }
+    requires each { All (HasCue epoch.now) cues.now }
+    ensures { IfOk result (λ listings. listings.items ≡ map (listing_of epoch.now) cues.now) }
+{
+    let mut listings = Vec::with_capacity(alloc, cues.len())?;
+    for place in cues {
+        let cue = cue_at(epoch, *place);
+        listings.push(Listing {
+            object: *place as u16,
+            x: cue.x,
+            y: cue.y,
+        })?;
+    }
+    Ok(listings)
+}
+
+/// Appends the CLUTs of a set.
+fn append_cluts(
+    epoch: &Epoch,
+    page: u16,
+    cluts: &[SentClut],
+    field: &mut Vec<u8>,
+) -> Result<(), NoMemory>
+    requires usable { IsUsable epoch.now }
+    requires each { All (IsSendableClut epoch.now) cluts.now }
+    ensures bytes { OnOk result (field.new.items ≡ field.old.items ++ flat_map (spelled page) (map (clut_segment_of epoch.now) cluts.now)) }
+    ensures size { OnOk result (length field.new.items ≡ length field.old.items + sum_by clut_size cluts.now) }
+{
+    for sent in cluts {
+        append_clut(epoch, page, sent, field)?;
+    }
+    Ok(())
+}
+
+/// Appends a CLUT with its entries.
+fn append_clut(
+    epoch: &Epoch,
+    page: u16,
+    sent: &SentClut,
+    field: &mut Vec<u8>,
+) -> Result<(), NoMemory>
+    requires usable { IsUsable epoch.now }
+    requires sent { IsSendableClut epoch.now sent.now }
+    ensures bytes { OnOk result (field.new.items ≡ field.old.items ++ spelled page (clut_segment_of epoch.now sent.now)) }
+    ensures size { OnOk result (length field.new.items ≡ length field.old.items + clut_size sent.now) }
+{
+    let entries = clut_entries(*field.allocator(), epoch, sent.rows.as_slice())?;
+    let segment = SegmentOut::Clut {
+        clut: sent.clut,
+        version: sent.version,
+        entries: entries.as_slice(),
+    };
+    write_segment(page, &segment, field)
+}
+
+/// The entries of colour rows.
+fn clut_entries(alloc: Global, epoch: &Epoch, rows: &[u32]) -> Result<Vec<ClutEntry>, NoMemory>
+    requires { All (HasColour epoch.now) rows.now }
+    ensures { IfOk result (λ entries. entries.items ≡ map (clut_entry_of epoch.now) rows.now) }
+{
+    let mut entries = Vec::with_capacity(alloc, rows.len())?;
+    for place in rows {
+        let row = colour_at(epoch, *place);
+        let bits = bits_of(row.depth);
+        entries.push(ClutEntry {
+            entry: row.entry,
+            two: bits == 2,
+            four: bits == 4,
+            eight: bits == 8,
+            colour: row.colour,
+        })?;
+    }
+    Ok(entries)
+}
+
+/// The bits of a pixel code.
+fn bits_of(depth: Depth) -> u8
+    ensures { result ≡ bits_of depth }
+{
+    match depth {
+        Depth::Two => 2,
+        Depth::Four => 4,
+        Depth::Eight => 8,
+    }
+}
+
+/// Appends the end of a set.
+pub(crate) fn append_end(page: u16, field: &mut Vec<u8>) -> Result<(), NoMemory>
+    ensures bytes { OnOk result (field.new.items ≡ field.old.items ++ spelled page end_of_set) }
+    ensures size { OnOk result (length field.new.items ≡ length field.old.items + 6) }
+{
+    write_segment(page, &SegmentOut::End, field)
+}
