@@ -1,16 +1,15 @@
 -- Where nothing gives a cause of refusal, each command is done whole, or memory is wanting.
-use Rattle.std.proofs.Common.{◌≡◌, ℕ, List, Option, Some, None, ◌⊎◌, inl, inr, refl, sym, subst, ◌∙◌}
-use Rattle.cue_list.specs.declared.fault.ScriptFault.{ScriptFault}
-use Rattle.cue_list.specs.declared.fault.ScriptFault.TheVariants as script
-use Rattle.cue_list.specs.declared.one_cue.OneCue.{OneCue}
+use Rattle.std.proofs.Common.{◌≡◌, ℕ, Bool, List, Option, Some, None, ◌⊎◌, inl, inr, refl, sym, subst}
+use Rattle.cue_list.specs.declared.script.Script.{Script}
 use Rattle.sub_base.specs.Counts.{HasRisen}
 use Rattle.sub_base.specs.declared.profile.ProfileName.{ProfileName}
 use Rattle.dvbsub_cmd.specs.Command.{command_of}
-use Rattle.dvbsub_cmd.specs.CompileOutcome.{IsRightScript, IsRefused, script_limit}
-use Rattle.dvbsub_cmd.specs.Compiled.{IsScheduleRefused}
+use Rattle.dvbsub_cmd.specs.CompileOutcome.{IsCompileCause, IsCompilable}
 use Rattle.dvbsub_cmd.specs.Completeness.{IsComplete, IsUntroubled}
-use Rattle.dvbsub_cmd.specs.Outcome.{HasCause, IsCausedBy, Tells}
-use Rattle.dvbsub_cmd.specs.Shown.{Shown, Supplied, Received, WasRead}
+use Rattle.dvbsub_cmd.specs.ExpectOutcome.{IsExpectCause, IsExpectable}
+use Rattle.dvbsub_cmd.specs.Outcome.{HasCause, IsCausedBy, Tells, untold}
+use Rattle.dvbsub_cmd.specs.ReadScript.{HasRightScript, IsInputCause}
+use Rattle.dvbsub_cmd.specs.Shown.{Shown, Supplied, Received}
 use Rattle.dvbsub_cmd.specs.declared.command.Command.{Command}
 use Rattle.dvbsub_cmd.specs.declared.command.Command.TheVariants as command
 use Rattle.dvbsub_cmd.specs.declared.status.Status.{Status}
@@ -21,68 +20,90 @@ use Rattle.dvbsub_cmd.specs.declared.status.Which.TheVariants as which
 abbrev pub IsWhole : Status → Type 0
 IsWhole answer = ((cut : ℕ) × (answer ≡ status.Done cut)) ⊎ (answer ≡ status.Memory)
 
--- a script of one cue is not refused
-not_refused : (profile : ProfileName) (page : ℕ) (before now : Supplied) (text : List ℕ) (fault : ScriptFault) → WasRead script_limit before now text → IsRefused fault text → IsRightScript profile page before now → ⊥
-not_refused profile page before now text script.Memory read refused right = refused
-not_refused profile page before now text (script.Refused row kind) read refused right =
-    let cue = right.right text read in
-    let clash : Some cue.0 ≡ None = sym cue.1 ∙ refused.2 in
-    cc
+-- inputs that nothing stops give no cause but want of memory
+calm_input : (has_font : Bool) (a b c d : Supplied) (P : Script → Type 0) (run : Status) → IsInputCause has_font a b c d run → HasRightScript has_font a b c d P → IsWhole run
+calm_input has_font a b c d P (status.Done cut) cause calm = absurd cause
+calm_input has_font a b c d P status.Usage cause calm = absurd cause
+calm_input has_font a b c d P (status.FontRefused fault) cause calm = absurd (calm.font_right fault cause.0 cause.1)
+calm_input has_font a b c d P (status.ScriptRefused fault) cause calm = absurd (calm.script_right fault cause)
+calm_input has_font a b c d P (status.PlanRefused fault) cause calm = absurd cause
+calm_input has_font a b c d P (status.ScheduleRefused row fault) cause calm = absurd cause
+calm_input has_font a b c d P (status.StreamRefused packet fault) cause calm = absurd cause
+calm_input has_font a b c d P (status.ReadFault which.First) cause calm = absurd (calm.first_read cause)
+calm_input has_font a b c d P (status.ReadFault which.Second) cause calm = absurd (calm.second_read cause.0 cause.1)
+calm_input has_font a b c d P (status.ReadFault which.Out) cause calm = absurd cause
+calm_input has_font a b c d P (status.ReadFault which.Notes) cause calm = absurd cause
+calm_input has_font a b c d P (status.WriteFault which) cause calm = absurd cause
+calm_input has_font a b c d P status.Memory cause calm = inr refl
+calm_input has_font a b c d P (status.InputTooLong which.First) cause calm = absurd (calm.first_within cause)
+calm_input has_font a b c d P (status.InputTooLong which.Second) cause calm = absurd (calm.second_within cause.0 cause.1)
+calm_input has_font a b c d P (status.InputTooLong which.Out) cause calm = absurd cause
+calm_input has_font a b c d P (status.InputTooLong which.Notes) cause calm = absurd cause
 
-compile_whole : (profile : ProfileName) (pid page : ℕ) (before now : Shown) (notes_before notes_now : Received) (run : Status)
-    → IsCausedBy (Some (command.Compile profile pid page)) before now run → IsUntroubled (Some (command.Compile profile pid page)) before now notes_before notes_now → IsWhole run
-compile_whole profile pid page before now notes_before notes_now (status.Done cut) cause calm = inl (cut, refl)
-compile_whole profile pid page before now notes_before notes_now status.Usage cause calm = absurd cause
-compile_whole profile pid page before now notes_before notes_now (status.FontRefused fault) cause calm = absurd cause
-compile_whole profile pid page before now notes_before notes_now (status.ScriptRefused fault) cause calm =
-    absurd (not_refused profile page before.first now.first cause.0 fault cause.1 cause.2 calm.right)
-compile_whole profile pid page before now notes_before notes_now (status.ScheduleRefused row fault) cause calm =
-    let cue = calm.right.right cause.0.text cause.0.read in
-    let both : Some cause.0.cue ≡ Some cue.0 = sym cause.0.right ∙ cue.1 in
-    let same : cause.0.cue ≡ cue.0 = cc in
-    absurd (cue.2 row fault (subst (λ (one : OneCue). IsScheduleRefused profile page one row fault) same cause.0.refused))
-compile_whole profile pid page before now notes_before notes_now (status.StreamRefused packet fault) cause calm = absurd cause
-compile_whole profile pid page before now notes_before notes_now (status.ReadFault which.First) cause calm = absurd (calm.read cause.0)
-compile_whole profile pid page before now notes_before notes_now (status.ReadFault which.Second) cause calm = absurd cause
-compile_whole profile pid page before now notes_before notes_now (status.ReadFault which.Out) cause calm = absurd cause
-compile_whole profile pid page before now notes_before notes_now (status.ReadFault which.Notes) cause calm = absurd cause
-compile_whole profile pid page before now notes_before notes_now (status.WriteFault which.Out) cause calm = absurd (calm.written cause.3)
-compile_whole profile pid page before now notes_before notes_now (status.WriteFault which.First) cause calm = absurd cause
-compile_whole profile pid page before now notes_before notes_now (status.WriteFault which.Second) cause calm = absurd cause
-compile_whole profile pid page before now notes_before notes_now (status.WriteFault which.Notes) cause calm = absurd cause
-compile_whole profile pid page before now notes_before notes_now status.Memory cause calm = inr refl
-compile_whole profile pid page before now notes_before notes_now (status.InputTooLong which.First) cause calm = absurd (calm.right.within cause.0)
-compile_whole profile pid page before now notes_before notes_now (status.InputTooLong which.Second) cause calm = absurd cause
-compile_whole profile pid page before now notes_before notes_now (status.InputTooLong which.Out) cause calm = absurd cause
-compile_whole profile pid page before now notes_before notes_now (status.InputTooLong which.Notes) cause calm = absurd cause
+compile_whole : (profile : ProfileName) (pid page : ℕ) (has_font : Bool) (before now : Shown) (run : Status) → IsCompileCause profile pid page has_font before now run →
+    (HasRisen before.out.faults now.out.faults → ⊥) → IsCompilable profile has_font before now → IsWhole run
+compile_whole profile pid page has_font before now (status.Done cut) cause written calm = inl (cut, refl)
+compile_whole profile pid page has_font before now status.Usage cause written calm = absurd cause
+compile_whole profile pid page has_font before now (status.FontRefused fault) cause written calm = calm_input has_font _ _ _ _ _ (status.FontRefused fault) cause.0 calm
+compile_whole profile pid page has_font before now (status.ScriptRefused fault) cause written calm = calm_input has_font _ _ _ _ _ (status.ScriptRefused fault) cause.0 calm
+compile_whole profile pid page has_font before now (status.PlanRefused fault) cause written calm = absurd ((calm.goes_on cause.0 cause.1).has_plan fault cause.2)
+compile_whole profile pid page has_font before now (status.ScheduleRefused row fault) cause written calm = absurd ((calm.goes_on cause.0 cause.1).has_schedule row fault cause.2)
+compile_whole profile pid page has_font before now (status.StreamRefused packet fault) cause written calm = absurd cause
+compile_whole profile pid page has_font before now (status.ReadFault which) cause written calm = calm_input has_font _ _ _ _ _ (status.ReadFault which) cause.0 calm
+compile_whole profile pid page has_font before now (status.WriteFault which.Out) cause written calm = absurd (written cause.3)
+compile_whole profile pid page has_font before now (status.WriteFault which.First) cause written calm = absurd cause
+compile_whole profile pid page has_font before now (status.WriteFault which.Second) cause written calm = absurd cause
+compile_whole profile pid page has_font before now (status.WriteFault which.Notes) cause written calm = absurd cause
+compile_whole profile pid page has_font before now status.Memory cause written calm = inr refl
+compile_whole profile pid page has_font before now (status.InputTooLong which) cause written calm = calm_input has_font _ _ _ _ _ (status.InputTooLong which) cause.0 calm
 
-list_whole : (pid : ℕ) (before now : Shown) (notes_before notes_now : Received) (run : Status)
-    → IsCausedBy (Some (command.List pid)) before now run → IsUntroubled (Some (command.List pid)) before now notes_before notes_now → IsWhole run
-list_whole pid before now notes_before notes_now (status.Done cut) cause calm = inl (cut, refl)
-list_whole pid before now notes_before notes_now status.Usage cause calm = absurd cause
-list_whole pid before now notes_before notes_now (status.FontRefused fault) cause calm = absurd cause
-list_whole pid before now notes_before notes_now (status.ScriptRefused fault) cause calm = absurd cause
-list_whole pid before now notes_before notes_now (status.ScheduleRefused row fault) cause calm = absurd cause
-list_whole pid before now notes_before notes_now (status.StreamRefused packet fault) cause calm = absurd (calm.right.right cause.packets cause.refused cause.rest fault cause.taken cause.whole cause.fault_is)
-list_whole pid before now notes_before notes_now (status.ReadFault which.First) cause calm = absurd (calm.read cause.0)
-list_whole pid before now notes_before notes_now (status.ReadFault which.Second) cause calm = absurd cause
-list_whole pid before now notes_before notes_now (status.ReadFault which.Out) cause calm = absurd cause
-list_whole pid before now notes_before notes_now (status.ReadFault which.Notes) cause calm = absurd cause
-list_whole pid before now notes_before notes_now (status.WriteFault which.Out) cause calm = absurd (calm.written cause.0)
-list_whole pid before now notes_before notes_now (status.WriteFault which.First) cause calm = absurd cause
-list_whole pid before now notes_before notes_now (status.WriteFault which.Second) cause calm = absurd cause
-list_whole pid before now notes_before notes_now (status.WriteFault which.Notes) cause calm = absurd cause
-list_whole pid before now notes_before notes_now status.Memory cause calm = inr refl
-list_whole pid before now notes_before notes_now (status.InputTooLong which.First) cause calm = absurd (calm.right.within cause.0)
-list_whole pid before now notes_before notes_now (status.InputTooLong which.Second) cause calm = absurd cause
-list_whole pid before now notes_before notes_now (status.InputTooLong which.Out) cause calm = absurd cause
-list_whole pid before now notes_before notes_now (status.InputTooLong which.Notes) cause calm = absurd cause
+expect_whole : (has_font : Bool) (ticks : List ℕ) (before now : Shown) (run : Status) → IsExpectCause has_font ticks before now run →
+    (HasRisen before.out.faults now.out.faults → ⊥) → IsExpectable has_font before now → IsWhole run
+expect_whole has_font ticks before now (status.Done cut) cause written calm = inl (cut, refl)
+expect_whole has_font ticks before now status.Usage cause written calm = absurd cause
+expect_whole has_font ticks before now (status.FontRefused fault) cause written calm = calm_input has_font _ _ _ _ _ (status.FontRefused fault) cause.0 calm
+expect_whole has_font ticks before now (status.ScriptRefused fault) cause written calm = calm_input has_font _ _ _ _ _ (status.ScriptRefused fault) cause.0 calm
+expect_whole has_font ticks before now (status.PlanRefused fault) cause written calm = absurd cause
+expect_whole has_font ticks before now (status.ScheduleRefused row fault) cause written calm = absurd cause
+expect_whole has_font ticks before now (status.StreamRefused packet fault) cause written calm = absurd cause
+expect_whole has_font ticks before now (status.ReadFault which) cause written calm = calm_input has_font _ _ _ _ _ (status.ReadFault which) cause.0 calm
+expect_whole has_font ticks before now (status.WriteFault which.Out) cause written calm = absurd (written cause.3)
+expect_whole has_font ticks before now (status.WriteFault which.First) cause written calm = absurd cause
+expect_whole has_font ticks before now (status.WriteFault which.Second) cause written calm = absurd cause
+expect_whole has_font ticks before now (status.WriteFault which.Notes) cause written calm = absurd cause
+expect_whole has_font ticks before now status.Memory cause written calm = inr refl
+expect_whole has_font ticks before now (status.InputTooLong which) cause written calm = calm_input has_font _ _ _ _ _ (status.InputTooLong which) cause.0 calm
+
+list_whole : (words : List (List ℕ)) (pid : ℕ) (before now : Shown) (notes_before notes_now : Received) (run : Status)
+    → IsCausedBy words (Some (command.List pid)) before now run → IsUntroubled (Some (command.List pid)) before now notes_before notes_now → IsWhole run
+list_whole words pid before now notes_before notes_now (status.Done cut) cause calm = inl (cut, refl)
+list_whole words pid before now notes_before notes_now status.Usage cause calm = absurd cause
+list_whole words pid before now notes_before notes_now (status.FontRefused fault) cause calm = absurd cause
+list_whole words pid before now notes_before notes_now (status.ScriptRefused fault) cause calm = absurd cause
+list_whole words pid before now notes_before notes_now (status.PlanRefused fault) cause calm = absurd cause
+list_whole words pid before now notes_before notes_now (status.ScheduleRefused row fault) cause calm = absurd cause
+list_whole words pid before now notes_before notes_now (status.StreamRefused packet fault) cause calm = absurd (calm.right.right.right cause.packets cause.refused cause.rest fault cause.taken cause.whole cause.fault_is)
+list_whole words pid before now notes_before notes_now (status.ReadFault which.First) cause calm = absurd (calm.right.read cause.0)
+list_whole words pid before now notes_before notes_now (status.ReadFault which.Second) cause calm = absurd cause
+list_whole words pid before now notes_before notes_now (status.ReadFault which.Out) cause calm = absurd cause
+list_whole words pid before now notes_before notes_now (status.ReadFault which.Notes) cause calm = absurd cause
+list_whole words pid before now notes_before notes_now (status.WriteFault which.Out) cause calm = absurd (calm.written cause.0)
+list_whole words pid before now notes_before notes_now (status.WriteFault which.First) cause calm = absurd cause
+list_whole words pid before now notes_before notes_now (status.WriteFault which.Second) cause calm = absurd cause
+list_whole words pid before now notes_before notes_now (status.WriteFault which.Notes) cause calm = absurd cause
+list_whole words pid before now notes_before notes_now status.Memory cause calm = inr refl
+list_whole words pid before now notes_before notes_now (status.InputTooLong which.First) cause calm = absurd (calm.right.right.within cause.0)
+list_whole words pid before now notes_before notes_now (status.InputTooLong which.Second) cause calm = absurd cause
+list_whole words pid before now notes_before notes_now (status.InputTooLong which.Out) cause calm = absurd cause
+list_whole words pid before now notes_before notes_now (status.InputTooLong which.Notes) cause calm = absurd cause
 
 -- each command
-run_whole : (command : Option Command) (before now : Shown) (notes_before notes_now : Received) (run : Status) → IsCausedBy command before now run → IsUntroubled command before now notes_before notes_now → IsWhole run
-run_whole None before now notes_before notes_now run cause calm = absurd calm.right
-run_whole (Some (command.Compile profile pid page)) before now notes_before notes_now run cause calm = compile_whole profile pid page before now notes_before notes_now run cause calm
-run_whole (Some (command.List pid)) before now notes_before notes_now run cause calm = list_whole pid before now notes_before notes_now run cause calm
+run_whole : (words : List (List ℕ)) (command : Option Command) (before now : Shown) (notes_before notes_now : Received) (run : Status) → IsCausedBy words command before now run →
+    IsUntroubled command before now notes_before notes_now → IsWhole run
+run_whole words None before now notes_before notes_now run cause calm = absurd calm.right
+run_whole words (Some (command.Compile profile pid page has_font)) before now notes_before notes_now run cause calm = compile_whole profile pid page has_font before now run cause calm.written calm.right
+run_whole words (Some (command.List pid)) before now notes_before notes_now run cause calm = list_whole words pid before now notes_before notes_now run cause calm
+run_whole words (Some (command.Expect has_font)) before now notes_before notes_now run cause calm = expect_whole has_font _ before now run cause calm.written calm.right
 
 -- the line of the status is written where the notes do not fail
 told : (before now : Received) (run answer : Status) → Tells before now run answer → (HasRisen before.faults now.faults → ⊥) → IsWhole run → IsWhole answer
@@ -92,4 +113,4 @@ told before now run answer (inr front) calm whole = absurd (calm front.1)
 -- a command that nothing troubles
 pub complete : (words : List (List ℕ)) (before now : Shown) (notes_before notes_now : Received) (answer : Status) → HasCause words before now notes_before notes_now answer → IsComplete words before now notes_before notes_now answer
 complete words before now notes_before notes_now answer cause = λ calm.
-    told notes_before notes_now cause.0 answer cause.2 calm.told (run_whole (command_of words) before now notes_before notes_now cause.0 cause.1 calm)
+    told notes_before notes_now cause.0 answer cause.2 calm.told (run_whole words (command_of words) before now notes_before notes_now cause.0 cause.1 calm)

@@ -1,12 +1,14 @@
-pub mod BlockLaws
 pub mod CauseLaws
 pub mod CloseLaws
 pub mod ListLaws
 pub mod ListingLaws
-pub mod ObjectLaws
 pub mod PieceLaws
 pub mod PutLaws
-pub mod SendLaws
 pub mod SlotLaws
 pub mod WalkLaws
 pub mod WordsLaws
+pub mod PictureLaws
+pub mod UnitLaws
+pub mod TickLaws
+pub mod ExpectLaws
+pub mod CompileLaws

@@ -1,11 +1,13 @@
 -- The commands of the program.
-use Rattle.std.specs.Prelude.{ℕ, ◌==◌, not, Bool, ◌&&◌, nat_lt, if◌then◌else◌, List, [], length, slice_index, slice_index_or, Option, Some, None, IsSome, ◌<◌, codes}
+use Rattle.std.specs.Prelude.{ℕ, ◌==◌, not, Bool, true, false, ◌&&◌, nat_lt, nat_le, if◌then◌else◌, List, [], ◌∷◌, length, drop, map, unwrap_or, slice_index, slice_index_or, Option, Some, None, IsSome, ◌<◌, codes}
 use Rattle.std.specs.List.{list_all}
+use Rattle.std.specs.Option.{option_or}
 use Rattle.std.specs.Str.{bytes_eq}
 use Rattle.cue_list.specs.Cells.{◌>>=◌}
 use Rattle.sub_base.specs.Number.{number_in}
 use Rattle.sub_base.specs.Profile.{profile_of}
-use Rattle.sub_base.specs.declared.profile.ProfileName.TheVariants.{Sd}
+use Rattle.sub_base.specs.declared.profile.ProfileName.{ProfileName}
+use Rattle.sub_base.specs.declared.profile.ProfileName.TheVariants.{Sd, Hd}
 use Rattle.dvbsub_cmd.specs.declared.command.Command.{Command}
 use Rattle.dvbsub_cmd.specs.declared.command.Command.TheVariants as command
 use Rattle.dvbsub_cmd.specs.declared.command.InputPlaces.{InputPlaces}
@@ -22,41 +24,84 @@ word_at words place = slice_index_or words place []
 abbrev pub has_word : List (List ℕ) → ℕ → List ℕ → Bool
 has_word words place text = bytes_eq (word_at words place) text
 
--- `compile sd PID PAGE SCRIPT none OUT`
-abbrev pub is_compile : List (List ℕ) → Bool
-is_compile words = (length words == 7) && has_word words 0 (codes "compile") && has_word words 1 (codes "sd") && has_word words 5 (codes "none")
+-- the profile of that name, of those for which scripts are compiled
+abbrev pub sending_profile : List ℕ → Option ProfileName
+sending_profile word = if bytes_eq word (codes "sd") then Some Sd else if bytes_eq word (codes "hd") then Some Hd else None
 
--- `list PID STREAM OUT`
-abbrev pub is_list : List (List ℕ) → Bool
-is_list words = (length words == 4) && has_word words 0 (codes "list")
+-- the word names a font, and is not that for no font
+abbrev pub names_font : List ℕ → Bool
+names_font word = not (bytes_eq word (codes "none"))
 
--- the command of words of each of these forms, where each number is in its range
-unfoldable pub compile_of : List (List ℕ) → Option Command
-compile_of words = do
+-- `compile PROFILE PID PAGE SCRIPT FONT OUT`
+abbrev pub compile_of : List (List ℕ) → Option Command
+compile_of words = if (length words == 7) && has_word words 0 (codes "compile") then (do
+  profile ← sending_profile (word_at words 1)
   pid ← number_in 32 8190 (word_at words 2)
   page ← number_in 1 65535 (word_at words 3)
-  Some (command.Compile Sd pid page)
+  Some (command.Compile profile pid page (names_font (word_at words 5)))) else None
 
-unfoldable pub list_of : List (List ℕ) → Option Command
-list_of words = do
+-- `list PID STREAM OUT`
+abbrev pub list_of : List (List ℕ) → Option Command
+list_of words = if (length words == 4) && has_word words 0 (codes "list") then (do
   pid ← number_in 32 8190 (word_at words 1)
-  Some (command.List pid)
+  Some (command.List pid)) else None
 
--- the command that the words are, if they are one: no word is empty or begins with `-`
-abbrev pub command_of : List (List ℕ) → Option Command
-command_of words =
-    if not (list_all is_plain words) then None
-    else if is_compile words then compile_of words
-    else if is_list words then list_of words
-    else None
+-- a tick on the command line
+abbrev pub tick_of : List ℕ → Option ℕ
+tick_of word = number_in 0 8589934591 word
+
+-- a tick lies above the one before it, where there is one
+abbrev pub is_above : Option ℕ → ℕ → Bool
+is_above None tick = true
+is_above (Some before) tick = nat_lt before tick
+
+-- the word is that tick, and the others rise from it
+abbrev pub rises_from : Option ℕ → Option ℕ → (Option ℕ → Bool) → Bool
+rises_from before None others = false
+rises_from before (Some tick) others = is_above before tick && others (Some tick)
+
+-- each of the words is a tick, and lies above the one before it
+abbrev pub are_rising : Option ℕ → List (List ℕ) → Bool
+are_rising before [] = true
+are_rising before (word ∷ words) = rises_from before (tick_of word) (λ tick. are_rising tick words)
+
+-- the tick that a word is, where it is one
+abbrev pub tick_or_zero : List ℕ → ℕ
+tick_or_zero word = unwrap_or (tick_of word) 0
+
+-- the ticks that are asked for: those that the words from the fifth on are
+abbrev pub asked_ticks : List (List ℕ) → List ℕ
+asked_ticks words = map tick_or_zero (drop 4 words)
+
+-- `expect SCRIPT FONT OUT TICK...`, with 1 to 1,000 rising ticks
+abbrev pub is_expect : List (List ℕ) → Bool
+is_expect words = has_word words 0 (codes "expect") && nat_le 5 (length words) && nat_le (length words) 1004 && are_rising None (drop 4 words)
+
+abbrev pub expect_of : List (List ℕ) → Option Command
+expect_of words = if is_expect words then Some (command.Expect (names_font (word_at words 2))) else None
+
+-- the command of these words, none of which is empty or begins with `-`
+abbrev pub named_command : List (List ℕ) → Option Command
+named_command words = option_or (compile_of words) (option_or (list_of words) (expect_of words))
+
+-- the command that the words are, if they are one: no word is empty or begins with `-`, and each number is in its range
+unfoldable pub command_of : List (List ℕ) → Option Command
+command_of words = if list_all is_plain words then named_command words else None
+
+-- the place of a font's file, where the command names one
+abbrev pub font_place : Bool → ℕ → Option ℕ
+font_place true place = Some place
+font_place false place = None
 
 -- where the names of a command's files stand among the words
 abbrev pub places_of : Option Command → InputPlaces
 places_of None = record { first = None; second = None; out = None }
-places_of (Some (command.Compile profile pid page)) = record { first = Some 4; second = None; out = Some 6 }
+places_of (Some (command.Compile profile pid page has_font)) = record { first = Some 4; second = font_place has_font 5; out = Some 6 }
 places_of (Some (command.List pid)) = record { first = Some 2; second = None; out = Some 3 }
+places_of (Some (command.Expect has_font)) = record { first = Some 1; second = font_place has_font 2; out = Some 3 }
 
 -- a command that sends packets has a PID of 13 bits, and a profile with a step from packet to packet
 abbrev pub IsSending : Command → Type 0
-IsSending (command.Compile profile pid page) = (pid < 8192) × IsSome (profile_of profile).step
+IsSending (command.Compile profile pid page has_font) = (pid < 8192) × IsSome (profile_of profile).step
 IsSending (command.List pid) = Unit {0}
+IsSending (command.Expect has_font) = Unit {0}

@@ -1,74 +1,60 @@
 -- Why `compile` ended as it did, and what its output has received then.
-use Rattle.std.specs.Prelude.{◌≡◌, ℕ, List, Some}
+use Rattle.std.specs.Prelude.{◌≡◌, ℕ, Bool, List}
 use Rattle.std.specs.Io.KnownBytes.{Appends}
-use Rattle.sub_base.specs.Counts.{HasRisen, HasRisenPast}
+use Rattle.cue_list.specs.declared.script.Script.{Script}
+use Rattle.page_epoch.specs.declared.fault.PlanFault.{PlanFault}
+use Rattle.schedule.specs.declared.fault.ScheduleFault.{ScheduleFault}
+use Rattle.sub_base.specs.Counts.{HasRisen}
 use Rattle.sub_base.specs.Transfer.{AppendsFront}
 use Rattle.sub_base.specs.declared.profile.ProfileName.{ProfileName}
-use Rattle.cue_list.specs.Rows.{rows_of}
-use Rattle.cue_list.specs.OneCue.{cue_of, IsNotYet}
-use Rattle.cue_list.specs.declared.fault.ScriptFault.{ScriptFault}
-use Rattle.cue_list.specs.declared.fault.ScriptFault.TheVariants as script
-use Rattle.cue_list.specs.declared.one_cue.OneCue.{OneCue}
-use Rattle.schedule.specs.declared.fault.ScheduleFault.{ScheduleFault}
-use Rattle.dvbsub_cmd.specs.Compiled.{IsCompiledTo, IsScheduleRefused}
-use Rattle.dvbsub_cmd.specs.Shown.{Supplied, Received, WasRead, WroteNothing}
+use Rattle.dvbsub_cmd.specs.Compiled.{IsCompiledTo, IsPlanRefused, IsScheduleRefused}
+use Rattle.dvbsub_cmd.specs.ReadScript.{ReadsScript, IsInputCause, HasRightScript}
+use Rattle.dvbsub_cmd.specs.Shown.{Shown, WroteNothing}
 use Rattle.dvbsub_cmd.specs.declared.status.Status.{Status}
 use Rattle.dvbsub_cmd.specs.declared.status.Status.TheVariants as status
+use Rattle.dvbsub_cmd.specs.declared.status.Which.{Which}
 use Rattle.dvbsub_cmd.specs.declared.status.Which.TheVariants as which
 
--- the most bytes of a script
-abbrev pub script_limit : ℕ
-script_limit = 67108864
+-- the script that was read, and the packets that it is compiled to
+pub record Compiles (profile : ProfileName) (pid page : ℕ) (has_font : Bool) (before now : Shown) (packets : List ℕ) : Type 0 where
+  pub script : Script
+  pub reads : ReadsScript has_font before.first now.first before.second now.second script
+  pub compiled : IsCompiledTo profile pid page script packets
 
--- the fault of a script that was read
-abbrev pub IsRefused : ScriptFault → List ℕ → Type 0
-IsRefused script.Memory text = ⊥
-IsRefused (script.Refused row kind) text = IsNotYet (script.Refused row kind) (rows_of text)
+-- the output could not be written: it received a front of the packets, and its count of faults rose
+abbrev pub IsCutOff : ProfileName → ℕ → ℕ → Bool → Shown → Shown → Which → Type 0
+IsCutOff profile pid page has_font before now which.Out =
+    (packets : List ℕ) × Compiles profile pid page has_font before now packets × AppendsFront before.out.written now.out.written packets × HasRisen before.out.faults now.out.faults
+IsCutOff profile pid page has_font before now which.First = ⊥
+IsCutOff profile pid page has_font before now which.Second = ⊥
+IsCutOff profile pid page has_font before now which.Notes = ⊥
 
--- the script that was read, and the packets that are made of it
-pub record Compiles (profile : ProfileName) (pid page : ℕ) (before now : Supplied) (packets : List ℕ) : Type 0 where
-  pub text : List ℕ
-  pub read : WasRead script_limit before now text
-  pub cue : OneCue
-  pub right : cue_of (rows_of text) ≡ Some cue
-  pub compiled : IsCompiledTo profile pid page cue packets
+-- the cause of each status, and what the output has received then
+abbrev pub IsCompileCause : ProfileName → ℕ → ℕ → Bool → Shown → Shown → Status → Type 0
+IsCompileCause profile pid page has_font before now (status.Done cut) =
+    (packets : List ℕ) × Compiles profile pid page has_font before now packets × Appends before.out.written now.out.written packets × (cut ≡ 0)
+IsCompileCause profile pid page has_font before now status.Usage = ⊥
+IsCompileCause profile pid page has_font before now (status.FontRefused fault) =
+    IsInputCause has_font before.first now.first before.second now.second (status.FontRefused fault) × WroteNothing before.out now.out
+IsCompileCause profile pid page has_font before now (status.ScriptRefused fault) =
+    IsInputCause has_font before.first now.first before.second now.second (status.ScriptRefused fault) × WroteNothing before.out now.out
+IsCompileCause profile pid page has_font before now (status.PlanRefused fault) =
+    (script : Script) × ReadsScript has_font before.first now.first before.second now.second script × IsPlanRefused profile script fault × WroteNothing before.out now.out
+IsCompileCause profile pid page has_font before now (status.ScheduleRefused row fault) =
+    (script : Script) × ReadsScript has_font before.first now.first before.second now.second script × IsScheduleRefused profile script row fault × WroteNothing before.out now.out
+IsCompileCause profile pid page has_font before now (status.StreamRefused packet fault) = ⊥
+IsCompileCause profile pid page has_font before now (status.ReadFault which) =
+    IsInputCause has_font before.first now.first before.second now.second (status.ReadFault which) × WroteNothing before.out now.out
+IsCompileCause profile pid page has_font before now (status.WriteFault which) = IsCutOff profile pid page has_font before now which
+IsCompileCause profile pid page has_font before now status.Memory = WroteNothing before.out now.out
+IsCompileCause profile pid page has_font before now (status.InputTooLong which) =
+    IsInputCause has_font before.first now.first before.second now.second (status.InputTooLong which) × WroteNothing before.out now.out
 
--- the script that was read, whose schedule is refused
-pub record IsLate (profile : ProfileName) (page : ℕ) (before now : Supplied) (row : ℕ) (fault : ScheduleFault) : Type 0 where
-  pub text : List ℕ
-  pub read : WasRead script_limit before now text
-  pub cue : OneCue
-  pub right : cue_of (rows_of text) ≡ Some cue
-  pub refused : IsScheduleRefused profile page cue row fault
+-- neither plan nor schedule refuses the script
+pub record IsSchedulable (profile : ProfileName) (script : Script) : Type 0 where
+  pub has_plan : (fault : PlanFault) → IsPlanRefused profile script fault → ⊥
+  pub has_schedule : (row : ℕ) (fault : ScheduleFault) → IsScheduleRefused profile script row fault → ⊥
 
--- the cause of each status, by the script's source and the output before and now, and what the output has received then
-abbrev pub IsCompileCause : ProfileName → ℕ → ℕ → Supplied → Supplied → Received → Received → Status → Type 0
-IsCompileCause profile pid page before now out_before out_now (status.Done cut) =
-    (packets : List ℕ) × Compiles profile pid page before now packets × Appends out_before.written out_now.written packets × (cut ≡ 0)
-IsCompileCause profile pid page before now out_before out_now status.Usage = ⊥
-IsCompileCause profile pid page before now out_before out_now (status.FontRefused fault) = ⊥
-IsCompileCause profile pid page before now out_before out_now (status.ScriptRefused fault) =
-    (text : List ℕ) × WasRead script_limit before now text × IsRefused fault text × WroteNothing out_before out_now
-IsCompileCause profile pid page before now out_before out_now (status.ScheduleRefused row fault) =
-    IsLate profile page before now row fault × WroteNothing out_before out_now
-IsCompileCause profile pid page before now out_before out_now (status.StreamRefused packet fault) = ⊥
-IsCompileCause profile pid page before now out_before out_now (status.ReadFault which.First) = HasRisen before.faults now.faults × WroteNothing out_before out_now
-IsCompileCause profile pid page before now out_before out_now (status.ReadFault which.Second) = ⊥
-IsCompileCause profile pid page before now out_before out_now (status.ReadFault which.Out) = ⊥
-IsCompileCause profile pid page before now out_before out_now (status.ReadFault which.Notes) = ⊥
-IsCompileCause profile pid page before now out_before out_now (status.WriteFault which.Out) =
-    (packets : List ℕ) × Compiles profile pid page before now packets × AppendsFront out_before.written out_now.written packets × HasRisen out_before.faults out_now.faults
-IsCompileCause profile pid page before now out_before out_now (status.WriteFault which.First) = ⊥
-IsCompileCause profile pid page before now out_before out_now (status.WriteFault which.Second) = ⊥
-IsCompileCause profile pid page before now out_before out_now (status.WriteFault which.Notes) = ⊥
-IsCompileCause profile pid page before now out_before out_now status.Memory = WroteNothing out_before out_now
-IsCompileCause profile pid page before now out_before out_now (status.InputTooLong which.First) = HasRisenPast script_limit before.given now.given × WroteNothing out_before out_now
-IsCompileCause profile pid page before now out_before out_now (status.InputTooLong which.Second) = ⊥
-IsCompileCause profile pid page before now out_before out_now (status.InputTooLong which.Out) = ⊥
-IsCompileCause profile pid page before now out_before out_now (status.InputTooLong which.Notes) = ⊥
-
--- the script is within its limit and one of one cue, and the schedule refuses neither of its sets
-pub record IsRightScript (profile : ProfileName) (page : ℕ) (before now : Supplied) : Type 0 where
-  pub within : HasRisenPast script_limit before.given now.given → ⊥
-  pub right : (text : List ℕ) → WasRead script_limit before now text
-      → (cue : OneCue) × (cue_of (rows_of text) ≡ Some cue) × ((row : ℕ) (fault : ScheduleFault) → IsScheduleRefused profile page cue row fault → ⊥)
+-- nothing stops the command: its inputs are right, and neither plan nor schedule refuses the script
+abbrev pub IsCompilable : ProfileName → Bool → Shown → Shown → Type 0
+IsCompilable profile has_font before now = HasRightScript has_font before.first now.first before.second now.second (IsSchedulable profile)

@@ -1,54 +1,72 @@
--- The packets that a script of one cue is compiled to.
-use Rattle.std.specs.Prelude.{◌≡◌, ℕ, ◌==◌, if◌then◌else◌, List, [], ◌∷◌, length}
-use Rattle.cue_list.specs.declared.one_cue.OneCue.{OneCue}
+-- The packets that a script is compiled to.
+use Rattle.std.specs.Prelude.{◌≡◌, ℕ, List, length, slice_get, Some}
+use Rattle.std.specs.List.{AllZip}
+use Rattle.cue_list.specs.declared.script.Script.{Script}
+use Rattle.page_epoch.specs.Plan.{IsPlan}
+use Rattle.page_epoch.specs.Refusals.{IsCause as IsPlanCause}
+use Rattle.page_epoch.specs.declared.fault.PlanFault.{PlanFault}
+use Rattle.page_epoch.specs.declared.fault.PlanFault.TheVariants as plan
+use Rattle.page_epoch.specs.declared.planned_set.PlannedSet.{PlannedSet}
 use Rattle.schedule.specs.Refusals.{IsCause}
 use Rattle.schedule.specs.Slots.{Timetable, IsSchedule, IsOnTime, pace_of}
 use Rattle.schedule.specs.declared.fault.ScheduleFault.{ScheduleFault}
 use Rattle.schedule.specs.declared.fault.ScheduleFault.TheVariants as fault
+use Rattle.set_coder.specs.SetSegments.{IsSetPacket}
+use Rattle.set_coder.specs.SetSizes.{IsSetLoad}
 use Rattle.sub_base.specs.Profile.{profile_of}
 use Rattle.sub_base.specs.declared.profile.ProfileName.{ProfileName}
 use Rattle.sub_base.specs.declared.load.SetLoad.{SetLoad}
-use Rattle.dvbsub_cmd.specs.CueSets.{AreUnits, painted_of}
 use Rattle.dvbsub_cmd.specs.SlotStream.{all_pieces, stream_of}
 
--- what the two sets ask of a receiver: the first paints its region, the last paints nothing
-abbrev pub loads_of : OneCue → List ℕ → List ℕ → List SetLoad
-loads_of cue first last =
-    record { pts = cue.start; size = length first; painted = painted_of cue }
-    ∷ record { pts = cue.end; size = length last; painted = 0 }
-    ∷ []
+-- the PES packets of display sets, one for each
+abbrev pub AreUnits : Script → ℕ → List PlannedSet → List (List ℕ) → Type 0
+AreUnits script page sets units = AllZip (IsSetPacket script page) sets units
 
--- the packets: those of the two sets' PES packets at the slots of the schedule, and null packets at all slots between
-pub record IsCompiledTo (profile : ProfileName) (pid page : ℕ) (cue : OneCue) (packets : List ℕ) : Type 0 where
-  pub first : List ℕ
-  pub last : List ℕ
-  pub units : AreUnits page cue first last
+-- what the sets ask of a receiver
+abbrev pub AreLoads : Script → List PlannedSet → List SetLoad → Type 0
+AreLoads script sets loads = AllZip (IsSetLoad script) sets loads
+
+-- the sets of the script's plan, and what they ask
+pub record IsPlanned (profile : ProfileName) (script : Script) (sets : List PlannedSet) (loads : List SetLoad) : Type 0 where
+  pub plan : IsPlan script (profile_of profile) sets
+  pub asked : AreLoads script sets loads
+
+-- the packets: those of the PES packets of the plan's sets, at the slots of their schedule, and null packets at all slots
+-- between
+pub record IsCompiledTo (profile : ProfileName) (pid page : ℕ) (script : Script) (packets : List ℕ) : Type 0 where
+  pub sets : List PlannedSet
+  pub loads : List SetLoad
+  pub planned : IsPlanned profile script sets loads
+  pub units : List (List ℕ)
+  pub carried : AreUnits script page sets units
   pub table : Timetable
-  pub schedule : IsSchedule (loads_of cue first last) 2 (pace_of cue.origin (profile_of profile)) table
-  pub on_time : IsOnTime (loads_of cue first last) 2 (pace_of cue.origin (profile_of profile)) table
-  pub sent : packets ≡ stream_of pid (all_pieces (first ∷ last ∷ [])) table.slots
+  pub schedule : IsSchedule loads (length loads) (pace_of script.origin (profile_of profile)) table
+  pub on_time : IsOnTime loads (length loads) (pace_of script.origin (profile_of profile)) table
+  pub sent : packets ≡ stream_of pid (all_pieces units) table.slots
 
--- the record of the script from which a set comes: that of the epoch for the first, and that of the cue for the last
-abbrev pub row_of_set : ℕ → ℕ
-row_of_set set = if set == 0 then 4 else 7
+-- the plan is refused for this reason
+abbrev pub IsPlanRefused : ProfileName → Script → PlanFault → Type 0
+IsPlanRefused profile script plan.Memory = ⊥
+IsPlanRefused profile script (plan.DisplayTooLarge row) = IsPlanCause script (profile_of profile) (plan.DisplayTooLarge row)
+IsPlanRefused profile script (plan.PixelFull row need) = IsPlanCause script (profile_of profile) (plan.PixelFull row need)
+IsPlanRefused profile script (plan.CompositionFull row need) = IsPlanCause script (profile_of profile) (plan.CompositionFull row need)
 
--- the record of the set that a schedule's fault is about
-abbrev pub row_of : ScheduleFault → ℕ
-row_of fault.Memory = 0
-row_of (fault.CodedFull set size) = row_of_set set
-row_of (fault.Late set done pts) = row_of_set set
+-- the record of the script that brings the set at that place
+pub record IsRowAt (sets : List PlannedSet) (place row : ℕ) : Type 0 where
+  pub set : PlannedSet
+  pub found : slice_get sets place ≡ Some set
+  pub brings : row ≡ set.row
 
--- the fault is one of a set, and not of memory
-abbrev pub IsOfSet : ScheduleFault → Type 0
-IsOfSet fault.Memory = ⊥
-IsOfSet (fault.CodedFull set size) = Unit {0}
-IsOfSet (fault.Late set done pts) = Unit {0}
+-- the record of the set that a schedule's fault is about; want of memory is about none
+abbrev pub IsRowOf : List PlannedSet → ScheduleFault → ℕ → Type 0
+IsRowOf sets fault.Memory row = ⊥
+IsRowOf sets (fault.CodedFull set size) row = IsRowAt sets set row
+IsRowOf sets (fault.Late set done pts) row = IsRowAt sets set row
 
--- the schedule of the two sets is refused for this reason
-pub record IsScheduleRefused (profile : ProfileName) (page : ℕ) (cue : OneCue) (row : ℕ) (fault : ScheduleFault) : Type 0 where
-  pub first : List ℕ
-  pub last : List ℕ
-  pub units : AreUnits page cue first last
-  pub cause : IsCause (loads_of cue first last) (pace_of cue.origin (profile_of profile)) fault
-  pub of_set : IsOfSet fault
-  pub row_is : row ≡ row_of fault
+-- the script has a plan, and the schedule of its sets is refused for this reason, at the set that the record brings
+pub record IsScheduleRefused (profile : ProfileName) (script : Script) (row : ℕ) (fault : ScheduleFault) : Type 0 where
+  pub sets : List PlannedSet
+  pub loads : List SetLoad
+  pub planned : IsPlanned profile script sets loads
+  pub cause : IsCause loads (pace_of script.origin (profile_of profile)) fault
+  pub row_is : IsRowOf sets fault row

@@ -1,15 +1,14 @@
-pub mod BothBlocks
 pub mod Command
 pub mod CompileOutcome
 pub mod Compiled
 pub mod Completeness
-pub mod CueSets
 pub mod KindNames
 pub mod ListLines
 pub mod ListOutcome
 pub mod ListText
 pub mod Listing
 pub mod Outcome
+pub mod PictureText
 pub mod PieceView
 pub mod Putting
 pub mod Sending
@@ -17,3 +16,6 @@ pub mod Shown
 pub mod SlotStream
 pub mod StatusText
 pub mod Walking
+pub mod ReadScript
+pub mod ExpectOutcome
+pub mod UnitSizes

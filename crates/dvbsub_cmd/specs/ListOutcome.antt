@@ -80,6 +80,7 @@ IsListCause pid before now out_before out_now (status.Done cut) = IsWhole pid be
 IsListCause pid before now out_before out_now status.Usage = ⊥
 IsListCause pid before now out_before out_now (status.FontRefused fault) = ⊥
 IsListCause pid before now out_before out_now (status.ScriptRefused fault) = ⊥
+IsListCause pid before now out_before out_now (status.PlanRefused fault) = ⊥
 IsListCause pid before now out_before out_now (status.ScheduleRefused row fault) = ⊥
 IsListCause pid before now out_before out_now (status.StreamRefused packet fault) = IsUpToFault pid before now out_before out_now packet fault
 IsListCause pid before now out_before out_now (status.ReadFault which.First) = HasRisen before.faults now.faults × IsUpToFailure pid before now out_before out_now

@@ -1,10 +1,11 @@
 -- Why a command ended as it did, and what its sources and sinks show then.
-use Rattle.std.specs.Prelude.{◌≡◌, ℕ, List, Option, Some, None, ◌⊎◌}
+use Rattle.std.specs.Prelude.{◌≡◌, ℕ, List, Option, Some, None, false, ◌⊎◌}
 use Rattle.std.specs.Io.KnownBytes.{Appends}
 use Rattle.sub_base.specs.Counts.{HasRisen}
 use Rattle.sub_base.specs.Transfer.{AppendsFront}
-use Rattle.dvbsub_cmd.specs.Command.{command_of}
+use Rattle.dvbsub_cmd.specs.Command.{command_of, asked_ticks}
 use Rattle.dvbsub_cmd.specs.CompileOutcome.{IsCompileCause}
+use Rattle.dvbsub_cmd.specs.ExpectOutcome.{IsExpectCause}
 use Rattle.dvbsub_cmd.specs.ListOutcome.{IsListCause}
 use Rattle.dvbsub_cmd.specs.Shown.{Shown, Received, WroteNothing}
 use Rattle.dvbsub_cmd.specs.StatusText.{status_line}
@@ -16,20 +17,22 @@ use Rattle.dvbsub_cmd.specs.declared.status.Which.TheVariants as which
 
 -- the cause of a status by the command, and what the output has received then: words that are no command end with
 -- the usage, and no command does
-abbrev pub IsCausedBy : Option Command → Shown → Shown → Status → Type 0
-IsCausedBy None before now answer = (answer ≡ status.Usage) × WroteNothing before.out now.out
-IsCausedBy (Some (command.Compile profile pid page)) before now answer = IsCompileCause profile pid page before.first now.first before.out now.out answer
-IsCausedBy (Some (command.List pid)) before now answer = IsListCause pid before.first now.first before.out now.out answer
+abbrev pub IsCausedBy : List (List ℕ) → Option Command → Shown → Shown → Status → Type 0
+IsCausedBy words None before now answer = (answer ≡ status.Usage) × WroteNothing before.out now.out
+IsCausedBy words (Some (command.Compile profile pid page has_font)) before now answer = IsCompileCause profile pid page has_font before now answer
+IsCausedBy words (Some (command.List pid)) before now answer = IsListCause pid before.first now.first before.out now.out answer
+IsCausedBy words (Some (command.Expect has_font)) before now answer = IsExpectCause has_font (asked_ticks words) before now answer
 
 -- the cause of a status by the words
 abbrev pub IsCaused : List (List ℕ) → Shown → Shown → Status → Type 0
-IsCaused words before now answer = IsCausedBy (command_of words) before now answer
+IsCaused words before now answer = IsCausedBy words (command_of words) before now answer
 
--- a command that reads one source does not call the second: these are the values of the second before and now
+-- a command that names no font does not call the second source: these are its values before and now
 abbrev pub IsSecondKept : {Origin : Type 0} → Option Command → Origin → Origin → Type 0
 IsSecondKept None before now = now ≡ before
-IsSecondKept (Some (command.Compile profile pid page)) before now = now ≡ before
+IsSecondKept (Some (command.Compile profile pid page has_font)) before now = has_font ≡ false → now ≡ before
 IsSecondKept (Some (command.List pid)) before now = now ≡ before
+IsSecondKept (Some (command.Expect has_font)) before now = has_font ≡ false → now ≡ before
 
 -- the answer where the line of a status could not be written: what was done whole is a write fault of the notes
 abbrev pub untold : Status → Status

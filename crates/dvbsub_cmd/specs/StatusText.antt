@@ -8,6 +8,8 @@ use Rattle.cue_list.specs.declared.fault.ScriptFault.{ScriptFault}
 use Rattle.cue_list.specs.declared.fault.ScriptFault.TheVariants as script
 use Rattle.cue_list.specs.declared.fault.ScriptKind.{ScriptKind}
 use Rattle.cue_list.specs.declared.fault.ScriptKind.TheVariants as kind
+use Rattle.page_epoch.specs.declared.fault.PlanFault.{PlanFault}
+use Rattle.page_epoch.specs.declared.fault.PlanFault.TheVariants as plan
 use Rattle.schedule.specs.declared.fault.ScheduleFault.{ScheduleFault}
 use Rattle.schedule.specs.declared.fault.ScheduleFault.TheVariants as schedule
 use Rattle.stream_syntax.specs.declared.transport.PacketFault.{PacketFault}
@@ -47,6 +49,13 @@ abbrev pub script_text : ScriptFault → List ℕ
 script_text script.Memory = codes "memory"
 script_text (script.Refused row kind) = (codes "script" ++ then_number row) ++ codes " " ++ kind_text kind
 
+-- why a script has no plan, at that record
+abbrev pub plan_text : PlanFault → List ℕ
+plan_text plan.Memory = codes "memory"
+plan_text (plan.DisplayTooLarge row) = codes "plan DisplayTooLarge" ++ then_number row
+plan_text (plan.PixelFull row need) = (codes "plan PixelFull" ++ then_number row) ++ then_number need
+plan_text (plan.CompositionFull row need) = (codes "plan CompositionFull" ++ then_number row) ++ then_number need
+
 -- why a schedule is refused, at that record
 abbrev pub schedule_text : ℕ → ScheduleFault → List ℕ
 schedule_text row schedule.Memory = codes "memory"
@@ -67,6 +76,7 @@ status_text (status.Done cut) = done_text cut
 status_text status.Usage = codes "usage"
 status_text (status.FontRefused fault) = font_text fault
 status_text (status.ScriptRefused fault) = script_text fault
+status_text (status.PlanRefused fault) = plan_text fault
 status_text (status.ScheduleRefused row fault) = schedule_text row fault
 status_text (status.StreamRefused packet fault) = stream_text packet fault
 status_text (status.ReadFault which) = codes "read " ++ which_name which
@@ -84,6 +94,7 @@ code_of (status.Done cut) = 0
 code_of status.Usage = 2
 code_of (status.FontRefused fault) = 3
 code_of (status.ScriptRefused fault) = 3
+code_of (status.PlanRefused fault) = 3
 code_of (status.ScheduleRefused row fault) = 3
 code_of (status.StreamRefused packet fault) = 4
 code_of (status.ReadFault which) = 5

@@ -6,6 +6,7 @@ ghost use Rattle.std.specs.Prelude.{◌≡◌, Some};
 
 use crate::command::{Command, command_of};
 use crate::compile::compile;
+use crate::expect::expect;
 use crate::list::list;
 use crate::status::{Status, Which, status_line};
 use std::alloc::Global;
@@ -62,7 +63,7 @@ where
         (record { written = N.written notes.new; faults = N.faults notes.new })
         result }
 
-    // A command that reads one source does not call the second.
+    // A command that names no font does not call the second source.
     ensures second { IsSecondKept (command_of_words words.now) second.old second.new }
 {
     let status = run(alloc, words, first, second, out);
@@ -108,12 +109,17 @@ fn run<A: Source, B: Source, K: Sink>(
         result }
     ensures second { IsSecondKept (command_of_words words.now) second.old second.new }
 {
-    let _second = second;
     match command_of(words) {
         None => Status::Usage,
-        Some(Command::Compile { profile, pid, page }) => {
-            compile(alloc, profile, pid, page, first, out)
-        }
+        Some(
+            Command::Compile {
+                profile,
+                pid,
+                page,
+                has_font,
+            },
+        ) => compile(alloc, profile, pid, page, has_font, first, second, out),
         Some(Command::List { pid }) => list(alloc, pid, first, out),
+        Some(Command::Expect { has_font }) => expect(alloc, words, has_font, first, second, out),
     }
 }

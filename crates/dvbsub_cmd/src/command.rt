@@ -1,7 +1,9 @@
-ghost use Rattle.std.specs.Prelude.{◌≡◌, ◌<◌, length, IfSome};
+ghost use Rattle.std.specs.Prelude.{◌≡◌, ◌<◌, ◌≤◌, length, drop, IfSome, None};
 ghost use Rattle.std.specs.List.{list_all};
+ghost use Rattle.std.specs.Option.{option_or};
 ghost use Rattle.std.specs.Str.{bytes_eq};
-ghost use Rattle.dvbsub_cmd.specs.Command.{command_of as command_of_words, is_plain as is_plain_word, is_compile as is_compile_words, is_list as is_list_words, compile_of as compile_of_words, list_of as list_of_words, has_word as has_word_at, word_at, places_of, IsSending};
+ghost use Rattle.sub_base.specs.Profile.{profile_of};
+ghost use Rattle.dvbsub_cmd.specs.Command.{command_of as command_of_words, compile_of as compile_of_words, expect_of as expect_of_words, font_place as font_place_of, has_word as has_word_at, is_above as is_tick_above, is_expect as is_expect_words, is_plain as is_plain_word, list_of as list_of_words, named_command, names_font as is_font_named, places_of, sending_profile as profile_of_word, tick_of, are_rising as are_ticks_rising, IsSending};
 
 use sub_base::{ProfileName, Words, number_in};
 
@@ -13,10 +15,14 @@ pub enum Command {
         profile: ProfileName,
         pid: u16,
         page: u16,
+        /// Whether a font is named, the second source.
+        has_font: bool,
     },
     /// Lists the losses, units and segments of that PID in a stream.
-    List {
-        pid: u16,
+    List { pid: u16 },
+    /// Writes the authored pictures of a script at the ticks that are asked for.
+    Expect {
+        has_font: bool,
     },
 }
 
@@ -29,7 +35,7 @@ pub struct InputPlaces {
 }
 
 /// Where the names of the files stand that the command of these words reads and writes: nowhere where the words are
-/// no command.
+/// no command, and no second one where a command names no font.
 pub fn inputs(words: &Words) -> InputPlaces
     ensures { result ≡ places_of (command_of_words words.now) }
 {
@@ -39,9 +45,9 @@ pub fn inputs(words: &Words) -> InputPlaces
             second: None,
             out: None,
         },
-        Some(Command::Compile { .. }) => InputPlaces {
+        Some(Command::Compile { has_font, .. }) => InputPlaces {
             first: Some(4),
-            second: None,
+            second: font_place(has_font, 5),
             out: Some(6),
         },
         Some(Command::List { .. }) => InputPlaces {
@@ -49,65 +55,148 @@ pub fn inputs(words: &Words) -> InputPlaces
             second: None,
             out: Some(3),
         },
+        Some(Command::Expect { has_font }) => InputPlaces {
+            first: Some(1),
+            second: font_place(has_font, 2),
+            out: Some(3),
+        },
     }
 }
 
+fn font_place(has_font: bool, place: usize) -> Option<usize>
+    ensures { result ≡ font_place_of has_font place }
+{
+    if has_font { Some(place) } else { None }
+}
+
 /// The command that the words are, if they are one.
+#[tactic(auto, unfolding(crate::specs::Command::command_of))]
 pub fn command_of(words: &Words) -> Option<Command>
     ensures command { result ≡ command_of_words words.now }
     ensures sending { IfSome result IsSending }
 {
-    if !are_plain(words) {
-        None
-    } else if is_compile(words) {
-        compile_of(words)
-    } else if is_list(words) {
-        list_of(words)
+    if are_plain(words) { named(words) } else { None }
+}
+
+fn named(words: &Words) -> Option<Command>
+    ensures command { result ≡ named_command words.now }
+    ensures sending { IfSome result IsSending }
+{
+    match compile_of(words) {
+        Some(command) => Some(command),
+        None => list_or_expect_of(words),
+    }
+}
+
+/// The command `compile PROFILE PID PAGE SCRIPT FONT OUT`.
+fn compile_of(words: &Words) -> Option<Command>
+    ensures command { result ≡ compile_of_words words.now }
+    ensures sending { IfSome result IsSending }
+{
+    if words.count() != 7 || !has_word(words, 0, "compile") {
+        return None;
+    }
+    let profile = sending_profile(words.word(1))?;
+    let pid = number_in(words.word(2).as_bytes(), 32, 8_190)? as u16;
+    let page = number_in(words.word(3).as_bytes(), 1, 65_535)? as u16;
+    Some(Command::Compile {
+        profile,
+        pid,
+        page,
+        has_font: names_font(words.word(5)),
+    })
+}
+
+fn list_or_expect_of(words: &Words) -> Option<Command>
+    ensures command { result ≡ option_or (list_of_words words.now) (expect_of_words words.now) }
+    ensures sending { IfSome result IsSending }
+{
+    match list_of(words) {
+        Some(command) => Some(command),
+        None => expect_of(words),
+    }
+}
+
+/// The command `list PID STREAM OUT`.
+fn list_of(words: &Words) -> Option<Command>
+    ensures command { result ≡ list_of_words words.now }
+    ensures sending { IfSome result IsSending }
+{
+    if words.count() != 4 || !has_word(words, 0, "list") {
+        return None;
+    }
+    let pid = number_in(words.word(1).as_bytes(), 32, 8_190)? as u16;
+    Some(Command::List { pid })
+}
+
+/// The profile of that name, of those for which scripts are compiled.
+fn sending_profile(word: &str) -> Option<ProfileName>
+    ensures { result ≡ profile_of_word word.now }
+{
+    if word == "sd" {
+        Some(ProfileName::Sd)
+    } else if word == "hd" {
+        Some(ProfileName::Hd)
     } else {
         None
     }
 }
 
-/// The numbers of a `compile`.
-#[tactic(auto, unfolding(crate::specs::Command::compile_of))]
-fn compile_of(words: &Words) -> Option<Command>
-    requires { 3 < length words.now }
-    ensures command { result ≡ compile_of_words words.now }
+/// Whether the word names a font, and is not that for no font.
+fn names_font(word: &str) -> bool
+    ensures { result ≡ is_font_named word.now }
+{
+    word != "none"
+}
+
+/// The command `expect SCRIPT FONT OUT TICK...`.
+fn expect_of(words: &Words) -> Option<Command>
+    ensures command { result ≡ expect_of_words words.now }
     ensures sending { IfSome result IsSending }
 {
-    let pid = number_in(words.word(2).as_bytes(), 32, 8_190)? as u16;
-    let page = number_in(words.word(3).as_bytes(), 1, 65_535)? as u16;
-    Some(Command::Compile {
-        profile: ProfileName::Sd,
-        pid,
-        page,
-    })
+    if is_expect(words) {
+        Some(Command::Expect {
+            has_font: names_font(words.word(2)),
+        })
+    } else {
+        None
+    }
 }
 
-/// The number of a `list`.
-#[tactic(auto, unfolding(crate::specs::Command::list_of))]
-fn list_of(words: &Words) -> Option<Command>
-    requires { 1 < length words.now }
-    ensures command { result ≡ list_of_words words.now }
-    ensures sending { IfSome result IsSending }
+fn is_expect(words: &Words) -> bool
+    ensures is { result ≡ is_expect_words words.now }
 {
-    let pid = number_in(words.word(1).as_bytes(), 32, 8_190)? as u16;
-    Some(Command::List { pid })
+    words.count() >= 5
+        && words.count() <= 1_004
+        && has_word(words, 0, "expect")
+        && are_rising(words, 4)
 }
 
-fn is_list(words: &Words) -> bool
-    ensures { result ≡ is_list_words words.now }
+/// Whether the words from a place on are ticks that rise.
+fn are_rising(words: &Words, place: usize) -> bool
+    requires { place ≤ length words.now }
+    ensures { result ≡ are_ticks_rising None (drop place words.now) }
 {
-    words.count() == 4 && has_word(words, 0, "list")
+    let mut before = None;
+    for place in place..words.count() {
+        let Some(tick) = number_in(words.word(place).as_bytes(), 0, 8_589_934_591) else {
+            return false;
+        };
+        if !is_above(before, tick) {
+            return false;
+        }
+        before = Some(tick);
+    }
+    true
 }
 
-fn is_compile(words: &Words) -> bool
-    ensures { result ≡ is_compile_words words.now }
+fn is_above(before: Option<u64>, tick: u64) -> bool
+    ensures { result ≡ is_tick_above before tick }
 {
-    words.count() == 7
-        && has_word(words, 0, "compile")
-        && has_word(words, 1, "sd")
-        && has_word(words, 5, "none")
+    match before {
+        None => true,
+        Some(before) => before < tick,
+    }
 }
 
 fn has_word(words: &Words, place: usize, text: &str) -> bool

@@ -4,14 +4,16 @@
 mod carry_out;
 mod command;
 mod compile;
+mod expect;
 mod kind_names;
 mod line;
 mod list;
 mod list_lines;
 mod list_packets;
 mod list_units;
+mod picture_text;
 mod pieces;
-mod sets;
+mod read_script;
 mod slot_stream;
 mod status;
 mod text_buffer;

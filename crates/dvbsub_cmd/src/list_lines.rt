@@ -112,7 +112,7 @@ fn push_name(line: &mut Line, name: &str)
 }
 
 /// Puts the two hexadecimal digits of the byte at the end, in capitals.
-fn push_hex(line: &mut Line, byte: u8)
+pub fn push_hex(line: &mut Line, byte: u8)
     requires { length line.old ≤ 80 }
     ensures line { line.new ≡ line.old ++ two_hex byte }
     ensures short { length line.new ≡ length line.old + 2 }

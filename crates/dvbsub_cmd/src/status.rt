@@ -1,10 +1,11 @@
 ghost use Rattle.std.specs.Prelude.{◌≡◌, ◌≤◌, ◌+◌, ◌++◌, length};
-ghost use Rattle.dvbsub_cmd.specs.StatusText.{which_name as which_name_of, then_number, kind_text, done_text as done_text_of, font_text as font_text_of, schedule_text as schedule_text_of, script_text as script_text_of, stream_text as stream_text_of, status_text, status_line as line_of_status, code_of};
+ghost use Rattle.dvbsub_cmd.specs.StatusText.{which_name as which_name_of, then_number, kind_text, done_text as done_text_of, font_text as font_text_of, plan_text as plan_text_of, schedule_text as schedule_text_of, script_text as script_text_of, stream_text as stream_text_of, status_text, status_line as line_of_status, code_of};
 
 use crate::kind_names::{font_kind_name, packet_fault_name};
 use crate::line::Line;
 use bitmap_font::FontFault;
 use cue_list::{ScriptFault, ScriptKind};
+use page_epoch::PlanFault;
 use schedule::ScheduleFault;
 use stream_syntax::PacketFault;
 
@@ -29,6 +30,8 @@ pub enum Status {
     FontRefused(FontFault),
     /// The script is refused.
     ScriptRefused(ScriptFault),
+    /// The script has no plan for a receiver of the profile.
+    PlanRefused(PlanFault),
     /// The schedule is refused at a set, which comes from that record of the script.
     ScheduleRefused { row: u64, fault: ScheduleFault },
     /// The packet at that place, counted from 0, is the first of the stream that cannot be taken.
@@ -53,6 +56,7 @@ impl Status {
             Status::Usage => 2,
             Status::FontRefused(_) => 3,
             Status::ScriptRefused(_) => 3,
+            Status::PlanRefused(_) => 3,
             Status::ScheduleRefused { .. } => 3,
             Status::StreamRefused { .. } => 4,
             Status::ReadFault(_) => 5,
@@ -81,6 +85,7 @@ fn text_of(status: Status) -> Line
         Status::Usage => line_of("usage"),
         Status::FontRefused(fault) => font_text(fault),
         Status::ScriptRefused(fault) => script_text(fault),
+        Status::PlanRefused(fault) => plan_text(fault),
         Status::ScheduleRefused { row, fault } => schedule_text(row, fault),
         Status::StreamRefused { packet, fault } => stream_text(packet, fault),
         Status::ReadFault(which) => named_text("read ", which),
@@ -176,6 +181,35 @@ fn script_text(fault: ScriptFault) -> Line
             line
         }
     }
+}
+
+fn plan_text(fault: PlanFault) -> Line
+    ensures text { result ≡ plan_text_of fault }
+    ensures short { length result ≤ 100 }
+{
+    match fault {
+        PlanFault::Memory => line_of("memory"),
+        PlanFault::DisplayTooLarge { row } => {
+            let mut line = line_of("plan DisplayTooLarge");
+            push_then_number(&mut line, row);
+            line
+        }
+        PlanFault::PixelFull { row, need } => plan_need_text("plan PixelFull", row, need),
+        PlanFault::CompositionFull { row, need } => {
+            plan_need_text("plan CompositionFull", row, need)
+        }
+    }
+}
+
+fn plan_need_text(words: &str, row: u64, need: u64) -> Line
+    requires { length words.now ≤ 40 }
+    ensures text { result ≡ (words.now ++ then_number row) ++ then_number need }
+    ensures short { length result ≤ 100 }
+{
+    let mut line = line_of(words);
+    push_then_number(&mut line, row);
+    push_then_number(&mut line, need);
+    line
 }
 
 fn schedule_text(row: u64, fault: ScheduleFault) -> Line

@@ -1,4 +1,4 @@
-ghost use Rattle.std.specs.Prelude.{◌≡◌, ℕ, ◌+◌, ◌*◌, ◌<◌, ◌≤◌, length, sum_by, All, slice_index_or};
+ghost use Rattle.std.specs.Prelude.{◌≡◌, ℕ, ◌+◌, ◌*◌, ◌^◌, ◌<◌, ◌≤◌, length, sum_by, All, slice_index_or};
 ghost use Rattle.cue_list.specs.Authored.{picture_at_place};
 ghost use Rattle.page_epoch.specs.Sendable.{HasCue, IsSendable, IsSendableRegion, IsSendableClut};
 ghost use Rattle.set_coder.specs.SetSegments.{picture_of_cue, depth_of_cue};
@@ -22,6 +22,8 @@ const END: u64 = 6;
 pub fn size_of(script: &Script, set: &PlannedSet) -> u64
     requires { IsSendable script.now set.now }
     ensures size { IsSetSize script.now set.now result }
+    ensures some { 1 ≤ result }
+
     // No other size is that of the set.
     ensures only_size { (size : ℕ) → IsSetSize script.now set.now size → result ≡ size }
 {
@@ -36,6 +38,11 @@ pub fn load_of(script: &Script, set: &PlannedSet) -> SetLoad
     ensures load { IsSetLoad script.now set.now result }
     // No other size is that of the set.
     ensures only_size { (size : ℕ) → IsSetSize script.now set.now size → result.size ≡ size }
+
+    // What a schedule asks of a load.
+    ensures some { 1 ≤ result.size }
+    ensures early { result.pts < 2 ^ 33 }
+    ensures short { result.painted ≤ 274877906944 }
 {
     SetLoad {
         pts: set.pts,
@@ -47,7 +54,8 @@ pub fn load_of(script: &Script, set: &PlannedSet) -> SetLoad
 /// The ticks that painting the regions of a set takes.
 fn painted_in(script: &Script, set: &PlannedSet) -> u64
     requires { IsSendable script.now set.now }
-    ensures { IsPaintedIn script.now set.now result }
+    ensures painted { IsPaintedIn script.now set.now result }
+    ensures short { result ≤ 274877906944 }
 {
     let epoch = epoch_of(script, set);
     painting_of_regions(epoch, set.regions.as_slice())
@@ -57,7 +65,8 @@ fn painted_in(script: &Script, set: &PlannedSet) -> u64
 fn painting_of_regions(epoch: &Epoch, regions: &[SentRegion]) -> u64
     requires few { length regions.now ≤ 64 }
     requires each { All (IsSendableRegion epoch.now) regions.now }
-    ensures { result ≡ sum_by (painting_of epoch.now) regions.now }
+    ensures painted { result ≡ sum_by (painting_of epoch.now) regions.now }
+    ensures short { result ≤ 274877906944 }
 {
     let mut painted = 0;
     for sent in regions {

@@ -1,0 +1,136 @@
+-- The packets of a plan's sets, and the refusals of a schedule.
+use Rattle.std.proofs.Common.{◌≡◌, ◌∙◌, refl, sym, ap, subst, ℕ, ◌+◌, ◌<◌, ◌≤◌, ◌^◌, Bool, true, false, Option, IsSome, List, [], ◌∷◌, length, get_or, map, All, arith}
+use Rattle.std.specs.Io.KnownBytes.{Keeps}
+use Rattle.std.proofs.lemmas.List.{length-map, get_or_default}
+use Rattle.cue_list.specs.declared.script.Script.{Script}
+use Rattle.page_epoch.specs.Plan.{IsPlan}
+use Rattle.page_epoch.specs.Refusals.{IsCause as IsPlanCause}
+use Rattle.page_epoch.specs.declared.fault.PlanFault.{PlanFault}
+use Rattle.page_epoch.specs.declared.fault.PlanFault.TheVariants as plan
+use Rattle.page_epoch.specs.declared.planned_set.PlannedSet.{PlannedSet}
+use Rattle.schedule.specs.Packets.{first_packet, load_of, size_of, no_load}
+use Rattle.schedule.specs.Refusals.{IsCause}
+use Rattle.schedule.specs.Slots.{Timetable, IsSchedule, IsOnTime, pace_of}
+use Rattle.schedule.specs.declared.fault.ScheduleFault.{ScheduleFault}
+use Rattle.schedule.specs.declared.fault.ScheduleFault.TheVariants as schedule
+use Rattle.schedule.specs.declared.pace.Pace.{Pace}
+use Rattle.set_coder.specs.SetSizes.{IsSetLoad}
+use Rattle.sub_base.specs.Counts.{HasRisen}
+use Rattle.sub_base.specs.Transfer.{AppendsFront}
+use Rattle.sub_base.specs.Profile.{profile_of}
+use Rattle.sub_base.specs.declared.load.SetLoad.{SetLoad}
+use Rattle.sub_base.specs.declared.profile.Profile.{Profile}
+use Rattle.sub_base.specs.declared.profile.ProfileName.{ProfileName}
+use Rattle.sub_base.specs.declared.profile.ProfileName.TheVariants.{Sd, Hd, Wide}
+use Rattle.dvbsub_cmd.specs.Compiled.{AreLoads, AreUnits, IsCompiledTo, IsPlanned, IsRowAt, IsScheduleRefused}
+use Rattle.dvbsub_cmd.specs.PieceView.{plain}
+use Rattle.dvbsub_cmd.specs.Sending.{IsAmong, IsRefusal, IsScheduleRefusal, plan_refusal}
+use Rattle.dvbsub_cmd.specs.SlotStream.{all_pieces, slot_count, stream_of}
+use Rattle.dvbsub_cmd.specs.UnitSizes.{AreShort, AreSizedAs}
+use Rattle.dvbsub_cmd.specs.declared.compile.SendFault.{SendFault}
+use Rattle.dvbsub_cmd.specs.declared.compile.SendFault.TheVariants as fault
+use Rattle.dvbsub_cmd.specs.declared.slot_stream.Piece.{Piece as Lent}
+use Rattle.dvbsub_cmd.proofs.UnitLaws.{AllZip-length, count_pieces}
+
+-- there are fewer than 2 ^ 64 slots up to the last one
+pub slot_count-small : (slots all : List ℕ) → all ≡ slots → All (λ slot. slot < 2 ^ 54) slots → slot_count all < 2 ^ 64
+slot_count-small slots all same small = subst (λ (s : List ℕ). slot_count s < 2 ^ 64) (sym same) (below slots small)
+  where
+    below : (slots : List ℕ) → All (λ slot. slot < 2 ^ 54) slots → slot_count slots < 2 ^ 64
+    below [] small = omega arith
+    below (slot ∷ slots) small = let last : get_or (slot ∷ slots) (length slots) 0 < 2 ^ 54 = small (length slots) 0 (omega arith) in omega arith
+
+-- a profile with a step has a coded data buffer that a packet can tell
+coded_few : (name : ProfileName) → IsSome (profile_of name).step → (profile_of name).coded ≤ 65541
+coded_few Sd steps = omega arith
+coded_few Hd steps = omega arith
+coded_few Wide steps = let never : false ≡ true = steps in absurd cc
+
+-- sets that are on time fit packets whose length is told
+pub are_short : (name : ProfileName) (receiver : Profile) (origin : ℕ) (loads given : List SetLoad) (table : Timetable) → receiver ≡ profile_of name → IsSome (profile_of name).step → given ≡ loads →
+    IsOnTime given (length given) (pace_of origin receiver) table → AreShort given
+are_short name receiver origin loads given table is_profile steps same on_time k d below =
+    let fits : (load_of given k).size ≤ receiver.coded = on_time.fits k below in
+    let few : receiver.coded ≤ 65541 = subst (λ (p : Profile). p.coded ≤ 65541) (sym is_profile) (coded_few name steps) in
+    let at : get_or given k d ≡ load_of given k = get_or_default given k d no_load below in
+    subst (λ (load : SetLoad). load.size ≤ 65541) (sym at) (omega arith)
+
+-- one slot a piece
+pub slots_pair : (loads : List SetLoad) (units : List (List ℕ)) (slots all : List ℕ) (pieces lent : List Lent) → all ≡ slots → lent ≡ pieces → length slots ≡ first_packet loads (length loads) →
+    AreSizedAs loads units → map plain pieces ≡ all_pieces units → length all ≡ length lent
+slots_pair loads units slots all pieces lent all_is lent_is packets sized are =
+    ap length all_is ∙ packets ∙ count_pieces loads units sized ∙ ap length (sym are) ∙ length-map pieces plain ∙ ap length (sym lent_is)
+
+-- the set of a schedule's fault is one of the plan
+pub among : (script : Script) (sets : List PlannedSet) (loads given : List SetLoad) (pace : Pace) (refused : ScheduleFault) → AreLoads script sets loads → given ≡ loads → IsCause given pace refused → IsAmong sets refused
+among script sets loads given pace schedule.Memory asked same cause = tt
+among script sets loads given pace (schedule.CodedFull set size) asked same cause = omega (arith, AllZip-length (IsSetLoad script) sets loads asked, ap length same, cause.among)
+among script sets loads given pace (schedule.Late set done pts) asked same cause = omega (arith, AllZip-length (IsSetLoad script) sets loads asked, ap length same, cause.among)
+
+-- the sets of a plan, and what they ask
+planned_by : (name : ProfileName) (script : Script) (sets own : List PlannedSet) (loads given : List SetLoad) (receiver : Profile) → receiver ≡ profile_of name → IsPlan script receiver own → sets ≡ own →
+    AreLoads script sets loads → given ≡ loads → IsPlanned name script sets given
+planned_by name script sets own loads given receiver is_profile plan same_sets asked same_loads = record {
+  plan = subst (λ (p : Profile). IsPlan script p sets) is_profile (subst (IsPlan script receiver) (sym same_sets) plan);
+  asked = subst (AreLoads script sets) (sym same_loads) asked;
+}
+
+-- the packets of the plan's sets in the slots of their schedule are those that the script is compiled to
+pub compiled : (name : ProfileName) (pid page : ℕ) (script : Script) (sets own : List PlannedSet) (loads given : List SetLoad) (receiver : Profile) (table : Timetable) (units : List (List ℕ)) (pieces : List Lent) →
+    receiver ≡ profile_of name → IsPlan script receiver own → sets ≡ own → AreLoads script sets loads → given ≡ loads → AreUnits script page sets units →
+    IsSchedule given (length given) (pace_of script.origin receiver) table → IsOnTime given (length given) (pace_of script.origin receiver) table →
+    map plain pieces ≡ all_pieces units → IsCompiledTo name pid page script (stream_of pid (map plain pieces) table.slots)
+compiled name pid page script sets own loads given receiver table units pieces is_profile plan same_sets asked same_loads carried schedule on_time are =
+    record {
+      sets = sets;
+      loads = given;
+      planned = planned_by name script sets own loads given receiver is_profile plan same_sets asked same_loads;
+      units = units;
+      carried = carried;
+      table = table;
+      schedule = subst (λ (p : Profile). IsSchedule given (length given) (pace_of script.origin p) table) is_profile schedule;
+      on_time = subst (λ (p : Profile). IsOnTime given (length given) (pace_of script.origin p) table) is_profile on_time;
+      sent = ap (λ all. stream_of pid all table.slots) are;
+    }
+
+-- a refusal of the plan is one of the script
+pub plan_refused : (name : ProfileName) (pid page : ℕ) (script : Script) (receiver : Profile) (before now : Option (List ℕ)) (faults_before faults_now : ℕ) (refused : PlanFault) →
+    receiver ≡ profile_of name → IsPlanCause script receiver refused → Keeps before now → IsRefusal name pid page script before now faults_before faults_now (plan_refusal refused)
+plan_refused name pid page script receiver before now faults_before faults_now refused is_profile cause keeps =
+    by_fault refused (subst (λ (p : Profile). IsPlanCause script p refused) is_profile cause)
+  where
+    by_fault : (refused : PlanFault) → IsPlanCause script (profile_of name) refused → IsRefusal name pid page script before now faults_before faults_now (plan_refusal refused)
+    by_fault plan.Memory cause = keeps
+    by_fault (plan.DisplayTooLarge row) cause = (cause, keeps)
+    by_fault (plan.PixelFull row need) cause = (cause, keeps)
+    by_fault (plan.CompositionFull row need) cause = (cause, keeps)
+
+-- a refusal of the schedule is one of the script, at the set's record
+pub schedule_refused : (name : ProfileName) (pid page : ℕ) (script : Script) (sets own : List PlannedSet) (loads given : List SetLoad) (receiver : Profile) (before now : Option (List ℕ)) (faults_before faults_now : ℕ)
+    (refused : ScheduleFault) (answer : SendFault) → receiver ≡ profile_of name → IsPlan script receiver own → sets ≡ own → AreLoads script sets loads → given ≡ loads →
+    IsCause given (pace_of script.origin receiver) refused → IsScheduleRefusal sets refused answer → Keeps before now → IsRefusal name pid page script before now faults_before faults_now answer
+schedule_refused name pid page script sets own loads given receiver before now faults_before faults_now refused answer is_profile plan same_sets asked same_loads cause refusal keeps =
+    let planned = planned_by name script sets own loads given receiver is_profile plan same_sets asked same_loads in
+    by_fault refused (subst (λ (p : Profile). IsCause given (pace_of script.origin p) refused) is_profile cause) refusal planned
+  where
+    by_fault : (refused : ScheduleFault) → IsCause given (pace_of script.origin (profile_of name)) refused → IsScheduleRefusal sets refused answer → IsPlanned name script sets given →
+        IsRefusal name pid page script before now faults_before faults_now answer
+    by_fault schedule.Memory cause refusal planned = subst (λ (one : SendFault). IsRefusal name pid page script before now faults_before faults_now one) (sym refusal) keeps
+    by_fault (schedule.CodedFull set size) cause refusal planned =
+        subst (λ (one : SendFault). IsRefusal name pid page script before now faults_before faults_now one) (sym refusal.2)
+        (record { sets = sets; loads = given; planned = planned; cause = cause; row_is = refusal.1 }, keeps)
+    by_fault (schedule.Late set done pts) cause refusal planned =
+        subst (λ (one : SendFault). IsRefusal name pid page script before now faults_before faults_now one) (sym refusal.2)
+        (record { sets = sets; loads = given; planned = planned; cause = cause; row_is = refusal.1 }, keeps)
+
+-- a refusal, by what it is
+pub of_schedule : (name : ProfileName) (pid page : ℕ) (script : Script) (before now : Option (List ℕ)) (faults_before faults_now row : ℕ) (refused : ScheduleFault) (answer : SendFault) →
+    answer ≡ fault.Schedule row refused → IsRefusal name pid page script before now faults_before faults_now answer → IsScheduleRefused name script row refused × Keeps before now
+of_schedule name pid page script before now faults_before faults_now row refused answer is refusal =
+    subst (λ (one : SendFault). IsRefusal name pid page script before now faults_before faults_now one) is refusal
+
+pub of_write : (name : ProfileName) (pid page : ℕ) (script : Script) (before now : Option (List ℕ)) (faults_before faults_now : ℕ) (answer : SendFault) →
+    answer ≡ fault.Write → IsRefusal name pid page script before now faults_before faults_now answer →
+    (packets : List ℕ) × IsCompiledTo name pid page script packets × AppendsFront before now packets × HasRisen faults_before faults_now
+of_write name pid page script before now faults_before faults_now answer is refusal =
+    subst (λ (one : SendFault). IsRefusal name pid page script before now faults_before faults_now one) is refusal

@@ -1,0 +1,88 @@
+-- Laws of the packets of several sets, one set after the other.
+use Rattle.std.proofs.Common.{◌≡◌, ◌∙◌, refl, sym, ap, subst, zero, suc, ℕ, ◌+◌, ◌*◌, ◌/◌, ◌<◌, ◌≤◌, List, [], ◌∷◌, ◌++◌, length, get_or, map, take, sum, All, append-nil, length-append, arith}
+use Rattle.std.specs.List.{AllZip, flat_map, range_with_len}
+use Rattle.std.proofs.lemmas.List.{take_more, length-map}
+use Rattle.std.proofs.lemmas.List.Concat.{flat_map-append}
+use Rattle.std.proofs.lemmas.List.Elements.{All-push}
+use Rattle.std.proofs.lemmas.List.FromFn.{length-map-range_with_len}
+use Rattle.schedule.specs.Packets.{sum_below, first_packet, packets_of, packet_count, size_of, load_of}
+use Rattle.schedule.proofs.SumLaws.{sum_below-zero, sum_below-suc, sum_below-same}
+use Rattle.cue_list.specs.declared.script.Script.{Script}
+use Rattle.page_epoch.specs.declared.planned_set.PlannedSet.{PlannedSet}
+use Rattle.set_coder.specs.SetSizes.{IsSetSize}
+use Rattle.set_coder.proofs.SetSizeLaws.{one_set_size}
+use Rattle.sub_base.specs.declared.load.SetLoad.{SetLoad}
+use Rattle.dvbsub_cmd.specs.SlotStream.{all_pieces, pieces_of, piece_of, piece_count}
+use Rattle.dvbsub_cmd.specs.UnitSizes.{AreSizedAs}
+
+module _ {A B : Type 0} (R : A → B → Type 0) where
+  -- one more at the end of both
+  pub AllZip-push : (xs : List A) (ys : List B) (x : A) (y : B) → AllZip R xs ys → R x y → AllZip R (xs ++ x ∷ []) (ys ++ y ∷ [])
+  AllZip-push [] [] x y all one = (one, tt)
+  AllZip-push [] (b ∷ ys) x y all one = absurd all
+  AllZip-push (a ∷ xs) [] x y all one = absurd all
+  AllZip-push (a ∷ xs) (b ∷ ys) x y all one = (all.0, AllZip-push xs ys x y all.1 one)
+
+  -- one more of the first list
+  pub AllZip-more : (xs : List A) (ys : List B) (k : ℕ) (d : A) (y : B) → k < length xs → AllZip R (take k xs) ys → R (get_or xs k d) y → AllZip R (take (k + 1) xs) (ys ++ y ∷ [])
+  AllZip-more xs ys k d y inside all one =
+      subst (λ (front : List A). AllZip R front (ys ++ y ∷ [])) (sym (take_more xs k d inside)) (AllZip-push (take k xs) ys (get_or xs k d) y all one)
+
+  -- the item at a place, and one more of the second list
+  pub AllZip-step : (xs : List A) (ys new : List B) (k : ℕ) (x : A) (y : B) → k < length xs → AllZip R (take k xs) ys → x ≡ get_or xs k x → new ≡ ys ++ y ∷ [] → R x y → AllZip R (take (k + 1) xs) new
+  AllZip-step xs ys new k x y inside all is_item is_new one =
+      subst (AllZip R (take (k + 1) xs)) (sym is_new) (AllZip-more xs ys k x y inside all (subst (λ (a : A). R a y) is_item one))
+
+  -- both are as long
+  pub AllZip-length : (xs : List A) (ys : List B) → AllZip R xs ys → length xs ≡ length ys
+  AllZip-length [] [] all = refl
+  AllZip-length [] (b ∷ ys) all = absurd all
+  AllZip-length (a ∷ xs) [] all = absurd all
+  AllZip-length (a ∷ xs) (b ∷ ys) all = ap suc (AllZip-length xs ys all.1)
+
+  -- what stands at a place
+  pub AllZip-at : (xs : List A) (ys : List B) (k : ℕ) (d : A) (e : B) → k < length xs → AllZip R xs ys → R (get_or xs k d) (get_or ys k e)
+  AllZip-at [] ys k d e inside all = absurd (omega arith)
+  AllZip-at (a ∷ xs) [] k d e inside all = absurd all
+  AllZip-at (a ∷ xs) (b ∷ ys) zero d e inside all = all.0
+  AllZip-at (a ∷ xs) (b ∷ ys) (suc k) d e inside all = AllZip-at xs ys k d e (omega arith) all.1
+
+-- the pieces of one more unit
+pub all_pieces-more : (units : List (List ℕ)) (k : ℕ) (d : List ℕ) → k < length units → all_pieces (take (k + 1) units) ≡ all_pieces (take k units) ++ pieces_of (get_or units k d)
+all_pieces-more units k d inside =
+    ap all_pieces (take_more units k d inside) ∙ flat_map-append pieces_of (take k units) (get_or units k d ∷ [])
+    ∙ ap (λ (end : List _). all_pieces (take k units) ++ end) (append-nil (pieces_of (get_or units k d)))
+
+-- how many pieces a unit has
+length-pieces_of : (unit : List ℕ) → length (pieces_of unit) ≡ piece_count unit
+length-pieces_of unit = length-map-range_with_len (piece_of unit) 0 (piece_count unit)
+
+-- the packets of the first load, and of the others
+first_packet-cons : (load : SetLoad) (loads : List SetLoad) (n : ℕ) → first_packet (load ∷ loads) (suc n) ≡ packet_count load.size + first_packet loads n
+first_packet-cons load loads zero =
+    sum_below-suc (packets_of (load ∷ loads)) 0
+    ∙ omega (arith, sum_below-zero (packets_of (load ∷ loads)), sum_below-zero (packets_of loads))
+first_packet-cons load loads (suc n) =
+    sum_below-suc (packets_of (load ∷ loads)) (suc n)
+    ∙ omega (arith, first_packet-cons load loads n, sum_below-suc (packets_of loads) n)
+
+-- as many pieces as packets
+pub count_pieces : (loads : List SetLoad) (units : List (List ℕ)) → AreSizedAs loads units → first_packet loads (length loads) ≡ length (all_pieces units)
+count_pieces [] [] sized = sum_below-zero (packets_of [])
+count_pieces [] (unit ∷ units) sized = absurd sized
+count_pieces (load ∷ loads) [] sized = absurd sized
+count_pieces (load ∷ loads) (unit ∷ units) sized =
+    let here : packet_count load.size ≡ piece_count unit = ap packet_count (sym sized.0) in
+    first_packet-cons load loads (length loads)
+    ∙ omega (arith, here, count_pieces loads units sized.1, length-append (pieces_of unit) (all_pieces units), length-pieces_of unit)
+
+-- the size of a set's packet is the one that its load says
+pub unit_size : (script : Script) (set : PlannedSet) (unit written before bytes : List ℕ) (size : ℕ) → unit ≡ written → written ≡ before ++ bytes → before ≡ [] →
+    IsSetSize script set (length bytes) → IsSetSize script set size → length unit ≡ size
+unit_size script set unit written before bytes size is_unit appended none sized loaded =
+    let same : unit ≡ bytes = is_unit ∙ appended ∙ ap (λ (front : List ℕ). front ++ bytes) none in
+    ap length same ∙ one_set_size script set (length bytes) size sized loaded
+
+-- one more that P holds of
+pub All-step : {X : Type 0} (P : X → Type 0) (xs new : List X) (x : X) → All P xs → new ≡ xs ++ x ∷ [] → P x → All P new
+All-step P xs new x all is_new one = subst (All P) (sym is_new) (All-push P xs x all one)

@@ -1,0 +1,18 @@
+use Rattle.std.proofs.Common.{refl}
+use Rattle.dvbsub_cmd.proofs.CompileLaws.{of_schedule, of_write}
+use Rattle.dvbsub_cmd.proofs.compile.compile.Goals as goal
+
+pub returns-in-Ok-send-clause-cause : goal.returns-in-Ok-send-clause-cause
+returns-in-Ok-send-clause-cause g c =
+    let sent = c.in-Ok-send.ensures.sent in
+    (sent.0, record { script = c.in-Ok.script; reads = c.in-Ok.ensures.reads; compiled = sent.1 }, sent.2, refl)
+
+pub returns-in-Err-Schedule-clause-cause : goal.returns-in-Err-Schedule-clause-cause
+returns-in-Err-Schedule-clause-cause g c =
+    let refused = of_schedule c.args.profile c.args.pid c.args.page c.in-Ok.script _ _ _ _ c.in-Err-Schedule.row c.in-Err-Schedule.fault c.in-Err-Schedule.field-0 c.in-Err-Schedule.field-0-is c.in-Err-Schedule.ensures.refused in
+    (c.in-Ok.script, c.in-Ok.ensures.reads, refused.0, refused.1)
+
+pub returns-clause-cause : goal.returns-clause-cause
+returns-clause-cause g c =
+    let refused = of_write c.args.profile c.args.pid c.args.page c.in-Ok.script _ _ _ _ c.in-Err-Write.field-0 c.in-Err-Write.field-0-is c.in-Err-Write.ensures.refused in
+    (refused.0, record { script = c.in-Ok.script; reads = c.in-Ok.ensures.reads; compiled = refused.1 }, refused.2, refused.3)

@@ -1,0 +1,16 @@
+use Rattle.std.proofs.Common.{◌≤◌, length}
+use Rattle.dvbsub_cmd.specs.PictureText.{PutsRow}
+use Rattle.dvbsub_cmd.proofs.picture_text.put_row.Given as goal
+
+abbrev pub invariant-loop-rest : goal.invariant-loop-rest
+invariant-loop-rest g l =
+    record {
+      short : length l.rest ≤ 65535;
+      puts : PutsRow
+          (record { written = g.K.Sink.written l.fn.sink; faults = g.K.Sink.faults l.fn.sink })
+          (record { written = g.K.Sink.written l.sink; faults = g.K.Sink.faults l.sink })
+          l.fn.buffer l.buffer l.row l.rest;
+    }
+
+abbrev pub decreases-loop-rest : goal.decreases-loop-rest
+decreases-loop-rest g l = length l.rest

@@ -1,0 +1,12 @@
+use Rattle.std.proofs.Common.{ℕ}
+use Rattle.std.specs.List.{flat_map, range_with_len}
+use Rattle.dvbsub_cmd.specs.PictureText.{plane_row, row_line}
+use Rattle.dvbsub_cmd.specs.Putting.{PutsOut}
+use Rattle.dvbsub_cmd.proofs.picture_text.put_rows.Given as goal
+
+abbrev pub invariant-loop-y : goal.invariant-loop-y
+invariant-loop-y g l =
+    PutsOut
+    (record { written = g.K.Sink.written l.fn.sink; faults = g.K.Sink.faults l.fn.sink })
+    (record { written = g.K.Sink.written l.sink; faults = g.K.Sink.faults l.sink })
+    l.fn.buffer l.buffer (flat_map (λ (y : ℕ). row_line (plane_row l.width l.plane y)) (range_with_len 0 l.y))

@@ -1,0 +1,85 @@
+-- The script that a command reads, with its font.
+use Rattle.std.specs.Prelude.{◌≡◌, ℕ, Bool, true, false, List, [], pos}
+use Rattle.bitmap_font.specs.Font.{FontValue}
+use Rattle.bitmap_font.specs.Reading.{IsFont}
+use Rattle.bitmap_font.specs.Refusal.{IsFontFault}
+use Rattle.bitmap_font.specs.declared.font_fault.FontFault.{FontFault}
+use Rattle.bitmap_font.specs.declared.font_fault.FontFault.TheVariants as font
+use Rattle.cue_list.specs.ScriptRows.{IsScript, IsScriptFault}
+use Rattle.cue_list.specs.declared.fault.ScriptFault.{ScriptFault}
+use Rattle.cue_list.specs.declared.fault.ScriptFault.TheVariants as script
+use Rattle.cue_list.specs.declared.script.Script.{Script}
+use Rattle.sub_base.specs.Counts.{HasRisen, HasRisenPast}
+use Rattle.dvbsub_cmd.specs.Shown.{Supplied, WasRead}
+use Rattle.dvbsub_cmd.specs.declared.status.Status.{Status}
+use Rattle.dvbsub_cmd.specs.declared.status.Status.TheVariants as status
+use Rattle.dvbsub_cmd.specs.declared.status.Which.TheVariants as which
+
+-- the most bytes of a script, and of a font
+abbrev pub text_limit : ℕ
+text_limit = 67108864
+
+-- the font without glyphs
+abbrev pub no_font : FontValue
+no_font = record { width = 1; height = 1; left = pos 0; bottom = pos 0; glyphs = [] }
+
+-- the font of a command: that of the second source, or the one without glyphs where the command names none
+abbrev pub HasFont : Bool → Supplied → Supplied → FontValue → Type 0
+HasFont false before now value = value ≡ no_font
+HasFont true before now value = (text : List ℕ) × WasRead text_limit before now text × IsFont text value
+
+-- the first source was read to its end and is this script, in the command's font
+pub record ReadsScript (has_font : Bool) (first_before first_now second_before second_now : Supplied) (script : Script) : Type 0 where
+  pub font : FontValue
+  pub has : HasFont has_font second_before second_now font
+  pub text : List ℕ
+  pub read : WasRead text_limit first_before first_now text
+  pub right : IsScript text font script.origin script.width script.height script.refresh script.epochs script.pictures
+
+-- the second source was read to its end, and is refused as a font
+abbrev pub IsFontRefused : FontFault → Supplied → Supplied → Type 0
+IsFontRefused font.Memory before now = ⊥
+IsFontRefused (font.Refused line kind) before now = (text : List ℕ) × WasRead text_limit before now text × IsFontFault text (font.Refused line kind)
+
+-- the first source was read to its end, and is refused as a script in the command's font
+pub record IsRefusedAt (has_font : Bool) (first_before first_now second_before second_now : Supplied) (fault : ScriptFault) : Type 0 where
+  pub font : FontValue
+  pub has : HasFont has_font second_before second_now font
+  pub text : List ℕ
+  pub read : WasRead text_limit first_before first_now text
+  pub refused : IsScriptFault text font fault
+
+abbrev pub IsScriptRefused : Bool → Supplied → Supplied → Supplied → Supplied → ScriptFault → Type 0
+IsScriptRefused has_font first_before first_now second_before second_now script.Memory = ⊥
+IsScriptRefused has_font first_before first_now second_before second_now (script.Refused row kind) = IsRefusedAt has_font first_before first_now second_before second_now (script.Refused row kind)
+
+-- why a command has no script: the font's faults come before the script's
+abbrev pub IsInputCause : Bool → Supplied → Supplied → Supplied → Supplied → Status → Type 0
+IsInputCause has_font first_before first_now second_before second_now (status.Done cut) = ⊥
+IsInputCause has_font first_before first_now second_before second_now status.Usage = ⊥
+IsInputCause has_font first_before first_now second_before second_now (status.FontRefused fault) = (has_font ≡ true) × IsFontRefused fault second_before second_now
+IsInputCause has_font first_before first_now second_before second_now (status.ScriptRefused fault) = IsScriptRefused has_font first_before first_now second_before second_now fault
+IsInputCause has_font first_before first_now second_before second_now (status.PlanRefused fault) = ⊥
+IsInputCause has_font first_before first_now second_before second_now (status.ScheduleRefused row fault) = ⊥
+IsInputCause has_font first_before first_now second_before second_now (status.StreamRefused packet fault) = ⊥
+IsInputCause has_font first_before first_now second_before second_now (status.ReadFault which.First) = HasRisen first_before.faults first_now.faults
+IsInputCause has_font first_before first_now second_before second_now (status.ReadFault which.Second) = (has_font ≡ true) × HasRisen second_before.faults second_now.faults
+IsInputCause has_font first_before first_now second_before second_now (status.ReadFault which.Out) = ⊥
+IsInputCause has_font first_before first_now second_before second_now (status.ReadFault which.Notes) = ⊥
+IsInputCause has_font first_before first_now second_before second_now (status.WriteFault which) = ⊥
+IsInputCause has_font first_before first_now second_before second_now status.Memory = Unit {0}
+IsInputCause has_font first_before first_now second_before second_now (status.InputTooLong which.First) = HasRisenPast text_limit first_before.given first_now.given
+IsInputCause has_font first_before first_now second_before second_now (status.InputTooLong which.Second) = (has_font ≡ true) × HasRisenPast text_limit second_before.given second_now.given
+IsInputCause has_font first_before first_now second_before second_now (status.InputTooLong which.Out) = ⊥
+IsInputCause has_font first_before first_now second_before second_now (status.InputTooLong which.Notes) = ⊥
+
+-- nothing stops the reading of the inputs: no count rose, no limit was passed, font and script are right, and P holds of
+-- the script
+pub record HasRightScript (has_font : Bool) (first_before first_now second_before second_now : Supplied) (P : Script → Type 0) : Type 0 where
+  pub first_read : HasRisen first_before.faults first_now.faults → ⊥
+  pub second_read : has_font ≡ true → HasRisen second_before.faults second_now.faults → ⊥
+  pub first_within : HasRisenPast text_limit first_before.given first_now.given → ⊥
+  pub second_within : has_font ≡ true → HasRisenPast text_limit second_before.given second_now.given → ⊥
+  pub font_right : (fault : FontFault) → has_font ≡ true → IsFontRefused fault second_before second_now → ⊥
+  pub script_right : (fault : ScriptFault) → IsScriptRefused has_font first_before first_now second_before second_now fault → ⊥
+  pub goes_on : (script : Script) → ReadsScript has_font first_before first_now second_before second_now script → P script

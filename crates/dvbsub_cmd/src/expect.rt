@@ -1,0 +1,110 @@
+ghost use Rattle.std.specs.Prelude.{◌≡◌, ◌*◌, ◌<◌, ◌≤◌, false, length, vec_len, IfOk};
+ghost use Rattle.dvbsub_cmd.specs.Command.{asked_ticks, tick_or_zero, word_at};
+ghost use Rattle.dvbsub_cmd.specs.ExpectOutcome.{IsExpectCause, authored_text, expect_text};
+ghost use Rattle.dvbsub_cmd.specs.Putting.{PutsOut};
+ghost use Rattle.dvbsub_cmd.specs.Shown.{Shown, Supplied, Received};
+
+use crate::picture_text::put_picture;
+use crate::read_script::read_script;
+use crate::status::{Status, Which};
+use crate::text_buffer::{TextBuffer, flush};
+use cue_list::{Script, picture_at};
+use std::alloc::{AllocError, Global};
+use sub_base::{CLEAR, Colour, Sink, Source, Words, number_in};
+
+/// The place of the first tick among the words.
+const FIRST_TICK: usize = 4;
+
+/// Writes the authored pictures of a script at the ticks that are asked for.
+pub fn expect<A: Source, B: Source, K: Sink>(
+    alloc: Global,
+    words: &Words,
+    has_font: bool,
+    first: &mut A,
+    second: &mut B,
+    out: &mut K,
+) -> Status
+    ensures cause { IsExpectCause has_font (asked_ticks words.now)
+        (record {
+          first = record { left = A.left first.old; given = A.given first.old; faults = A.faults first.old };
+          second = record { left = B.left second.old; given = B.given second.old; faults = B.faults second.old };
+          out = record { written = K.written out.old; faults = K.faults out.old };
+        })
+        (record {
+          first = record { left = A.left first.new; given = A.given first.new; faults = A.faults first.new };
+          second = record { left = B.left second.new; given = B.given second.new; faults = B.faults second.new };
+          out = record { written = K.written out.new; faults = K.faults out.new };
+        })
+        result }
+    ensures second { has_font ≡ false → second.new ≡ second.old }
+{
+    let script = match read_script(alloc, has_font, first, second) {
+        Ok(script) => script,
+        Err(status) => return status,
+    };
+    let Ok(mut plane) = plane_of(alloc, &script) else {
+        return Status::Memory;
+    };
+    let Ok(mut buffer) = TextBuffer::make(alloc) else {
+        return Status::Memory;
+    };
+    put_pictures(out, &mut buffer, words, &script, plane.as_mut_slice());
+    flush(out, &mut buffer);
+    if buffer.has_failed() {
+        Status::WriteFault(Which::Out)
+    } else {
+        Status::Done { cut: 0 }
+    }
+}
+
+/// A plane of the script's display.
+fn plane_of(alloc: Global, script: &Script) -> Result<Vec<Colour>, AllocError>
+    ensures { IfOk result (λ plane. vec_len plane ≡ script.now.width * script.now.height) }
+{
+    vec![in alloc; CLEAR; usize::from(script.width) * usize::from(script.height)]
+}
+
+/// Puts out the texts of the authored pictures at the ticks that are asked for.
+fn put_pictures<K: Sink>(
+    out: &mut K,
+    buffer: &mut TextBuffer,
+    words: &Words,
+    script: &Script,
+    plane: &mut [Colour],
+)
+    requires { length plane.old ≡ script.now.width * script.now.height }
+    ensures { PutsOut
+        (record { written = K.written out.old; faults = K.faults out.old })
+        (record { written = K.written out.new; faults = K.faults out.new })
+        buffer.old buffer.new (expect_text script.now (asked_ticks words.now)) }
+{
+    for place in FIRST_TICK..words.count() {
+        put_authored(out, buffer, script, tick_at(words, place), plane);
+    }
+}
+
+/// The tick that the word at a place is.
+fn tick_at(words: &Words, place: usize) -> u64
+    requires { place < length words.now }
+    ensures { result ≡ tick_or_zero (word_at words.now place) }
+{
+    number_in(words.word(place).as_bytes(), 0, 8_589_934_591).unwrap_or(0)
+}
+
+/// Puts out the text of the authored picture at a tick.
+fn put_authored<K: Sink>(
+    out: &mut K,
+    buffer: &mut TextBuffer,
+    script: &Script,
+    tick: u64,
+    plane: &mut [Colour],
+)
+    requires { length plane.old ≡ script.now.width * script.now.height }
+    ensures { PutsOut
+        (record { written = K.written out.old; faults = K.faults out.old })
+        (record { written = K.written out.new; faults = K.faults out.new })
+        buffer.old buffer.new (authored_text script.now tick) }
+{
+    picture_at(script, tick, plane);
+    put_picture(out, buffer, tick, script.width, script.height, plane);
+}
