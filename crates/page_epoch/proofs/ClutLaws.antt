@@ -1,7 +1,6 @@
 -- CLUTs from instant to instant.
-use Rattle.std.proofs.Common.{◌≡◌, ◌∙◌, ℕ, ◌+◌, ◌-◌, ◌*◌, ◌%◌, ◌==◌, ◌<◌, ◌≤◌, Bool, true, false, cond, List, [], ◌∷◌, ◌++◌, map, filter, take, length, get_or, All, Option, None, Some, unwrap_or, sum_by, ◌⊎◌, inl, inr, refl, sym, ap, subst, arith}
+use Rattle.std.proofs.Common.{◌≡◌, ◌∙◌, ℕ, ◌+◌, ◌-◌, ◌*◌, ◌%◌, ◌==◌, ◌<◌, ◌≤◌, Bool, true, false, cond, List, [], ◌∷◌, ◌++◌, take, length, get_or, All, Option, None, Some, unwrap_or, ◌⊎◌, inl, inr, refl, sym, ap, subst, arith}
 use Rattle.std.specs.List.{flat_map, count_by}
-use Rattle.std.specs.Option.{option_to_list}
 use Rattle.std.proofs.lemmas.List.{map_more, get_or-map, length_push, length-append, length-map}
 use Rattle.std.proofs.lemmas.List.Sums.{sum_by-cons, sum_by-append}
 use Rattle.std.proofs.lemmas.List.Elements.{All-push, All-map}
@@ -13,13 +12,12 @@ use Rattle.sub_base.specs.declared.depth.Depth.{Depth}
 use Rattle.sub_base.specs.Depth.{code_count}
 use Rattle.page_epoch.specs.declared.clut_course.Entry.{Entry}
 use Rattle.page_epoch.specs.declared.clut_course.EntryRows.{EntryRows}
-use Rattle.std.proofs.lemmas.List.Concat.{flat_map-append}
 use Rattle.cue_list.specs.declared.epoch.ColourRow.{ColourRow}
 use Rattle.page_epoch.specs.declared.planned_set.SentClut.{SentClut}
 use Rattle.page_epoch.specs.declared.clut_course.ClutRows.{ClutRows}
 use Rattle.page_epoch.specs.SentCluts.{is_changed, clut_version, clut_with, rows_from, defined_rows, sent_clut, all_entries, entries_at, row_by, row_at, rows_of_entry, is_of_entry}
 use Rattle.page_epoch.specs.Needs.{clut_nodes}
-use Rattle.page_epoch.specs.Courses.{version_of_count, clut_course, clut_courses, clut_after, IsSmallVersion, sent_of, row_nodes, clut_rows, AreRowsOf}
+use Rattle.page_epoch.specs.Courses.{version_of_count, clut_course, clut_courses, clut_after, IsSmallVersion, sent_of, row_nodes, clut_rows}
 use Rattle.page_epoch.proofs.ListLaws.{flat_map_next, flat_map_mapped, twice_within}
 
 next_of_sixteen : (n : ℕ) → (1 + n) % 16 ≡ (n % 16 + 1) % 16

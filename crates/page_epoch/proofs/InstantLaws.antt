@@ -1,5 +1,5 @@
 -- The instants of a script.
-use Rattle.std.proofs.Common.{◌≡◌, ◌≢◌, ◌∙◌, ◌⊎◌, inl, inr, ℕ, zero, suc, ◌+◌, ◌-◌, ◌*◌, ◌<◌, ◌≤◌, ◌^◌, Bool, true, false, cond, List, [], ◌∷◌, ◌++◌, map, length, get_or, All, ◌==◌, ◌||◌, refl, sym, ap, subst, arith}
+use Rattle.std.proofs.Common.{◌≡◌, ◌≢◌, ◌∙◌, ◌⊎◌, inl, inr, ℕ, zero, suc, ◌+◌, ◌-◌, ◌*◌, ◌<◌, ◌≤◌, ◌^◌, Bool, true, false, List, [], ◌∷◌, ◌++◌, map, length, get_or, All, ◌==◌, ◌||◌, refl, sym, ap, subst, arith}
 use Rattle.std.specs.List.{flat_map, range_with_len, list_any, Contains, AllPairs, AllAdjacentBelow}
 use Rattle.std.specs.List.Sorted.{IsStrictlyIncreasing}
 use Rattle.cue_list.specs.declared.epoch.Epoch.{Epoch}
@@ -7,15 +7,15 @@ use Rattle.page_epoch.specs.declared.moments.Event.{Event}
 use Rattle.page_epoch.specs.declared.instants.Instant.{Instant}
 use Rattle.std.proofs.lemmas.Bool.Decides.{nat_tests}
 use Rattle.std.proofs.lemmas.List.{append-nil, length_push, length-map, get_or-map, get_or_append_left, get_or_push, get_or_default, map-append}
-use Rattle.std.proofs.lemmas.List.Elements.{All-push, All-map, All-weaker, All-contains, Contains-get_or, Contains-push, Contains-append_left, Contains-append_right}
+use Rattle.std.proofs.lemmas.List.Elements.{All-push, All-map, All-weaker, All-contains, Contains-get_or, Contains-append_left, Contains-append_right}
 use Rattle.std.proofs.lemmas.List.Quantifiers.{all_pairs_push}
 use Rattle.std.proofs.lemmas.List.FromFn.{length-range_with_len, get_or-range_with_len}
 use Rattle.std.proofs.lemmas.List.Kept.{AllPairs-from_increasing}
 use Rattle.std.proofs.Math.Nat.{mul-le-mul_right}
-use Rattle.page_epoch.specs.Instants.{named_ticks, is_named, shows_cue, IsInstant, IsRefresh, AreNeighbours, AreInstants}
+use Rattle.page_epoch.specs.Instants.{named_ticks, is_named, shows_cue, IsInstant, IsRefresh, AreNeighbours}
 use Rattle.page_epoch.specs.Rows.{events_of, IsLeastRow, AreMoments, event}
 use Rattle.page_epoch.specs.Steps.{refresh_at, HasRefreshes, instant_ticks, IsStep, KeepsRow, IsFirstNamed, AreSteps}
-use Rattle.page_epoch.proofs.MomentLaws.{contains_mapped, Source, source_of, event_ticks}
+use Rattle.page_epoch.proofs.MomentLaws.{contains_mapped, event_ticks}
 use Rattle.page_epoch.proofs.ListLaws.{refreshes_more}
 
 -- so many refreshes were put behind, and the next one is due at a tick

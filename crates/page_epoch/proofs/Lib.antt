@@ -5,5 +5,6 @@ pub mod ListLaws
 pub mod MomentLaws
 pub mod PlanLaws
 pub mod RegionLaws
+pub mod SendLaws
 pub mod SoundLaws
 pub mod SweepLaws

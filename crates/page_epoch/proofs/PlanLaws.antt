@@ -1,15 +1,15 @@
 -- The walk over all instants.
-use Rattle.std.proofs.Common.{◌≡◌, ◌≢◌, ◌∙◌, ◌⊎◌, inl, inr, ℕ, zero, suc, ◌+◌, ◌-◌, ◌*◌, ◌==◌, ◌<◌, ◌≤◌, ◌^◌, nat_le, Bool, true, false, not, ◌||◌, cond, List, [], ◌∷◌, ◌++◌, map, reverse, take, length, get_or, All, find, Option, Some, None, refl, sym, ap, subst, arith}
+use Rattle.std.proofs.Common.{◌≡◌, ◌∙◌, ◌⊎◌, inl, inr, ℕ, zero, suc, ◌+◌, ◌-◌, ◌==◌, ◌<◌, ◌≤◌, ◌^◌, nat_le, Bool, true, false, cond, List, [], ◌∷◌, ◌++◌, map, reverse, take, length, get_or, All, Some, refl, sym, ap, subst, arith}
 use Rattle.std.specs.Prelude.{slice_get}
-use Rattle.std.specs.List.{flat_map, Contains, AllPairs, take_while, AllAdjacentBelow}
+use Rattle.std.specs.List.{flat_map, Contains, AllPairs, take_while}
 use Rattle.std.specs.List.Sorted.{IsStrictlyIncreasing}
 use Rattle.std.proofs.lemmas.Bool.Decides.{nat_tests}
-use Rattle.std.proofs.lemmas.List.{length_push, length-map, get_or-map, get_or_append_left, get_or_push, get_or_default, get_or-take, get_or-reverse, take-append-le, take_all, take_more, map_push, reverse-append, append-nil, length-take, length-reverse}
-use Rattle.std.proofs.lemmas.List.Elements.{All-push, All-weaker, All-contains, Contains-append_left, Contains-append_right}
+use Rattle.std.proofs.lemmas.List.{length_push, length-map, get_or-map, get_or_append_left, get_or_push, get_or_default, get_or-take, get_or-reverse, take-append-le, take_all, take_more, map_push, reverse-append, length-reverse}
+use Rattle.std.proofs.lemmas.List.Elements.{All-push, All-weaker, All-contains, Contains-append_right}
 use Rattle.std.proofs.lemmas.List.Sums.{take_while-cons}
-use Rattle.std.proofs.lemmas.Option.{get_or_from_slice_get, slice_get-get_or, slice_get_within, slice_get_past, slice_get_read}
+use Rattle.std.proofs.lemmas.Option.{get_or_from_slice_get, slice_get-get_or, slice_get_within}
 use Rattle.stream_syntax.specs.declared.page.State.{State}
-use Rattle.stream_syntax.specs.declared.page.State.TheVariants.{Normal, Acquisition, ModeChange}
+use Rattle.stream_syntax.specs.declared.page.State.TheVariants.{Normal}
 use Rattle.sub_base.specs.declared.profile.Profile.{Profile}
 use Rattle.cue_list.specs.declared.epoch.Epoch.{Epoch}
 use Rattle.cue_list.specs.Sound.{ticks_of}
@@ -17,20 +17,20 @@ use Rattle.page_epoch.specs.declared.planned_set.PlannedSet.{PlannedSet}
 use Rattle.page_epoch.specs.declared.instants.Instant.{Instant}
 use Rattle.page_epoch.specs.declared.course.Sweep.{Sweep}
 use Rattle.page_epoch.specs.declared.course.Step.{Step}
-use Rattle.page_epoch.specs.Instants.{named_ticks, is_named, IsInstant, IsRefresh, AreInstants}
+use Rattle.page_epoch.specs.Instants.{named_ticks, is_named, IsInstant}
 use Rattle.page_epoch.specs.Rows.{events_of, IsLeastRow}
 use Rattle.page_epoch.specs.States.{is_whole, last_whole, is_due, state_of, seen_of, page_version}
 use Rattle.page_epoch.specs.Needs.{pixel_need, node_need}
-use Rattle.page_epoch.specs.Steps.{instant_ticks, IsStep, KeepsRow, IsFirstNamed, AreSteps}
+use Rattle.page_epoch.specs.Steps.{instant_ticks, IsStep, IsFirstNamed, AreSteps}
 use Rattle.page_epoch.specs.Courses.{is_first}
 use Rattle.page_epoch.specs.Layouts.{IsLayout}
-use Rattle.page_epoch.specs.Plan.{IsEpochAt, IsRowBefore, IsRow, IsCarried, IsNext, Needs, Fits, Stands, AreFirstSets, ArePlanned}
+use Rattle.page_epoch.specs.Plan.{IsEpochAt, IsRowBefore, IsCarried, IsNext, Needs, Fits, Stands, AreFirstSets, ArePlanned}
 use Rattle.page_epoch.specs.declared.fault.PlanFault.{PlanFault}
 use Rattle.page_epoch.specs.declared.fault.PlanFault.TheVariants.{Memory, DisplayTooLarge, PixelFull, CompositionFull}
 use Rattle.page_epoch.specs.Refusals.{IsFirstUnheld, IsNeedFault, IsSetCause}
 use Rattle.std.proofs.lemmas.Bool.{false≢true}
 use Rattle.page_epoch.specs.Sweeps.{IsSmallEpoch, IsPlain, IsSweep, IsCourse, IsSafe, IsTimely, IsSetOf, IsAdvanced, Enters, Stays, GoesOn}
-use Rattle.page_epoch.proofs.InstantLaws.{in_order, is_named-yes}
+use Rattle.page_epoch.proofs.InstantLaws.{in_order}
 
 -- ---- starts and instants
 
@@ -65,7 +65,7 @@ not_early epochs refresh start tick begin (inr r) =
     let after = r.after in
     omega arith
 
-below_33 : (epochs : List Epoch) (refresh tick : ℕ) → All (λ (t : ℕ). t < 2 ^ 33) (named_ticks epochs) → IsInstant epochs refresh tick → tick < 2 ^ 33
+pub below_33 : (epochs : List Epoch) (refresh tick : ℕ) → All (λ (t : ℕ). t < 2 ^ 33) (named_ticks epochs) → IsInstant epochs refresh tick → tick < 2 ^ 33
 below_33 epochs refresh tick early (inl named) = All-contains (λ (t : ℕ). t < 2 ^ 33) (named_ticks epochs) tick early named
 below_33 epochs refresh tick early (inr r) =
     let next = All-contains (λ (t : ℕ). t < 2 ^ 33) (named_ticks epochs) r.next early r.neighbours.has_second in

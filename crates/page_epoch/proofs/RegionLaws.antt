@@ -1,19 +1,17 @@
 -- Regions from instant to instant.
-use Rattle.std.proofs.Common.{◌≡◌, ◌∙◌, ℕ, ◌+◌, ◌*◌, ◌%◌, ◌==◌, ◌<◌, ◌≤◌, Bool, true, false, not, ◌&&◌, cond, List, [], ◌∷◌, ◌++◌, map, filter, take, drop, length, get_or, All, find, Option, Some, refl, sym, ap, subst, arith}
-use Rattle.std.specs.List.{flat_map, zip, sum_by, count_by}
+use Rattle.std.proofs.Common.{◌≡◌, ◌∙◌, ℕ, ◌+◌, ◌%◌, ◌<◌, Bool, true, false, cond, List, [], ◌∷◌, ◌++◌, map, take, drop, length, get_or, All, find, Option, Some, refl, sym, ap, subst, arith}
+use Rattle.std.specs.List.{flat_map, zip, count_by}
 use Rattle.std.specs.Option.{option_map_or}
 use Rattle.std.proofs.lemmas.List.{map_more, get_or-map, length_push}
 use Rattle.page_epoch.proofs.ListLaws.{flat_map_next}
 use Rattle.std.proofs.lemmas.List.Sums.{sum_by-cons}
-use Rattle.std.proofs.lemmas.List.Elements.{All-nil, All-push}
-use Rattle.std.proofs.lemmas.List.Concat.{flat_map-append}
-use Rattle.std.proofs.lemmas.Bool.Decides.{nat_tests}
+use Rattle.std.proofs.lemmas.List.Elements.{All-push}
 use Rattle.cue_list.specs.declared.epoch.Cue.{Cue}
 use Rattle.page_epoch.specs.declared.planned_set.SentRegion.{SentRegion}
 use Rattle.page_epoch.specs.declared.region_course.RegionCues.{RegionCues}
 use Rattle.page_epoch.specs.declared.region_course.RegionCourse.{RegionCourse}
 use Rattle.page_epoch.specs.Live.{has_some, live_places, own_places}
-use Rattle.page_epoch.specs.SentRegions.{is_risen, rises, region_version, live_before, held, region_from, sent_region}
+use Rattle.page_epoch.specs.SentRegions.{rises, region_version, live_before, held, region_from, sent_region}
 use Rattle.page_epoch.specs.Courses.{region_course, region_courses, region_after, version_after, held_after, is_first, IsSmallCourse, AreOwn}
 
 -- ---- one region

@@ -1,5 +1,5 @@
 -- What the walk relies on holds of every script.
-use Rattle.std.proofs.Common.{◌≡◌, ◌≢◌, ◌∙◌, ◌⊎◌, inl, inr, ℕ, ◌+◌, ◌*◌, ◌<◌, ◌≤◌, ◌^◌, List, [], ◌∷◌, ◌++◌, map, length, get_or, All, Some, sum_by, refl, sym, ap, subst, arith}
+use Rattle.std.proofs.Common.{◌≡◌, ◌∙◌, ◌⊎◌, inl, inr, ℕ, ◌<◌, ◌≤◌, ◌^◌, List, [], ◌∷◌, ◌++◌, map, length, get_or, All, Some, ap, arith}
 use Rattle.std.specs.Prelude.{slice_get}
 use Rattle.std.specs.List.{flat_map, AllPairs}
 use Rattle.std.proofs.Props.{props}
@@ -12,9 +12,9 @@ use Rattle.cue_list.specs.declared.epoch.Epoch.{Epoch}
 use Rattle.cue_list.specs.declared.epoch.Region.{Region}
 use Rattle.cue_list.specs.declared.epoch.ColourRow.{ColourRow}
 use Rattle.cue_list.specs.declared.epoch.Cue.{Cue}
-use Rattle.cue_list.specs.Sound.{IsSound, IsEpoch, IsRegion, AreApart, IsColourRow, IsCue, ticks_of, ticks_of_cue}
+use Rattle.cue_list.specs.Sound.{IsSound, IsEpoch, IsRegion, IsColourRow, IsCue, ticks_of, ticks_of_cue}
 use Rattle.page_epoch.specs.Instants.{named_ticks}
-use Rattle.page_epoch.specs.Sweeps.{IsPlain, IsSmallEpoch, IsNumbered}
+use Rattle.page_epoch.specs.Sweeps.{IsPlain}
 
 cue_ticks : (P : ℕ → Type 0) (cues : List Cue) → All (λ (cue : Cue). P cue.start × P cue.end) cues → All P (flat_map ticks_of_cue cues)
 cue_ticks P [] all = λ k d h. absurd (omega arith)

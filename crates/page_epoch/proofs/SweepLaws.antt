@@ -1,7 +1,7 @@
 -- An epoch from instant to instant.
-use Rattle.std.proofs.Common.{◌≡◌, ◌∙◌, ℕ, ◌+◌, ◌*◌, ◌%◌, ◌==◌, ◌<◌, ◌≤◌, Bool, true, false, not, ◌&&◌, cond, List, [], ◌∷◌, ◌++◌, map, filter, length, get_or, All, Option, None, sum_by, count_by, nat_lt, refl, sym, ap, subst, arith}
+use Rattle.std.proofs.Common.{◌≡◌, ◌∙◌, ℕ, ◌+◌, ◌%◌, ◌==◌, ◌<◌, ◌≤◌, Bool, true, false, not, ◌&&◌, cond, List, [], ◌∷◌, map, filter, length, All, Option, None, sum_by, nat_lt, refl, sym, ap, subst, arith}
 use Rattle.std.specs.List.{flat_map, list_any}
-use Rattle.std.specs.List.Sorted.{IsPermutation, IsNonDecreasing}
+use Rattle.std.specs.List.Sorted.{IsPermutation}
 use Rattle.std.proofs.lemmas.Bool.Decides.{nat_tests}
 use Rattle.std.proofs.lemmas.List.{length-map}
 use Rattle.std.proofs.lemmas.List.Elements.{All-map}
@@ -20,12 +20,11 @@ use Rattle.page_epoch.specs.declared.layout.Layout.{Layout}
 use Rattle.page_epoch.specs.declared.instants.Instant.{Instant}
 use Rattle.page_epoch.specs.Live.{has_some, live_places, own_places}
 use Rattle.page_epoch.specs.Instants.{is_named}
-use Rattle.page_epoch.specs.SentRegions.{sent_region, held, AreSentRegions, AreShown, AreOrdered}
+use Rattle.page_epoch.specs.SentRegions.{sent_region, held, AreSentRegions, AreShown}
 use Rattle.page_epoch.specs.SentCluts.{sent_clut, sent_cluts, named_cluts, clut_count}
 use Rattle.page_epoch.specs.States.{page_version}
 use Rattle.page_epoch.specs.Layouts.{IsLayout, shown_of}
-use Rattle.page_epoch.specs.Needs.{clut_nodes}
-use Rattle.page_epoch.specs.Courses.{region_cues, region_course, region_courses, clut_rows, clut_course, clut_courses, AreOwn, AreRowsOf, IsSmallCourse, IsSmallVersion, sent_of, is_first}
+use Rattle.page_epoch.specs.Courses.{region_cues, region_course, region_courses, clut_rows, clut_courses, AreOwn, AreRowsOf, IsSmallCourse, IsSmallVersion, sent_of, is_first}
 use Rattle.page_epoch.specs.Sweeps.{IsTimely, page_after, first_course}
 use Rattle.page_epoch.proofs.ListLaws.{flat_map_mapped, length_kept_places}
 
@@ -39,7 +38,7 @@ pub rows_of_layout : (colours : List ColourRow) (cluts : List ClutRows) → clut
 rows_of_layout colours cluts e =
     subst (AreRowsOf colours) (sym e) (All-map (λ (clut : ClutRows). clut ≡ clut_rows colours clut.clut) (clut_rows colours) (named_cluts colours) (λ k d h. refl))
 
-count_is : clut_count ≡ 256
+pub count_is : clut_count ≡ 256
 unfolding clut_count
 count_is = refl
 

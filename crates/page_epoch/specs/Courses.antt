@@ -6,7 +6,6 @@ use Rattle.cue_list.specs.declared.epoch.Region.{Region}
 use Rattle.page_epoch.specs.declared.region_course.RegionCues.{RegionCues}
 use Rattle.page_epoch.specs.declared.region_course.RegionCourse.{RegionCourse}
 use Rattle.page_epoch.specs.declared.clut_course.Entry.{Entry}
-use Rattle.page_epoch.specs.declared.clut_course.EntryRows.{EntryRows}
 use Rattle.page_epoch.specs.declared.clut_course.ClutRows.{ClutRows}
 use Rattle.std.specs.List.{flat_map}
 use Rattle.std.specs.Option.{IfSome}

@@ -1,6 +1,6 @@
 -- The instants at which display sets are shown: the ticks that the script's records name, and between them the
 -- refreshes of a page that stays.
-use Rattle.std.specs.Prelude.{◌≡◌, ℕ, ◌+◌, ◌*◌, ◌==◌, ◌<◌, ◌≤◌, ◌⊎◌, Bool, true, List, map, All}
+use Rattle.std.specs.Prelude.{◌≡◌, ℕ, ◌+◌, ◌*◌, ◌==◌, ◌<◌, ◌≤◌, ◌⊎◌, Bool, true, List, All}
 use Rattle.std.specs.List.{flat_map, list_any, Contains}
 use Rattle.std.specs.List.Sorted.{IsStrictlyIncreasing}
 use Rattle.cue_list.specs.declared.epoch.Epoch.{Epoch}

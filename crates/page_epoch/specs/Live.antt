@@ -1,5 +1,5 @@
 -- The cues of an epoch that a region shows, given by their places in the epoch's list.
-use Rattle.std.specs.Prelude.{ℕ, ◌==◌, Bool, false, true, not, ◌&&◌, List, [], ◌∷◌, length, filter, slice_index_or}
+use Rattle.std.specs.Prelude.{ℕ, ◌==◌, Bool, false, true, List, [], ◌∷◌, length, filter, slice_index_or}
 use Rattle.std.specs.List.{range_with_len}
 use Rattle.std.specs.Str.{bytes_eq}
 use Rattle.cue_list.specs.declared.epoch.Cue.{Cue}

@@ -1,6 +1,6 @@
 -- The regions that a set sends, their versions, and the cues that they list.
 -- The instants of the epoch up to that of the set are given, the latest first.
-use Rattle.std.specs.Prelude.{◌≡◌, ℕ, ◌%◌, ◌==◌, nat_lt, Bool, true, false, not, ◌&&◌, ◌||◌, if◌then◌else◌, List, [], ◌∷◌, length, map, filter, drop, count_by, find}
+use Rattle.std.specs.Prelude.{◌≡◌, ℕ, ◌%◌, nat_lt, Bool, true, false, not, ◌&&◌, if◌then◌else◌, List, [], ◌∷◌, length, map, filter, drop, count_by, find}
 use Rattle.std.specs.List.{flat_map, zip, starts_with}
 use Rattle.std.specs.List.Sorted.{IsPermutation, IsNonDecreasingBy}
 use Rattle.std.specs.Option.{option_map_or}

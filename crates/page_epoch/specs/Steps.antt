@@ -1,5 +1,5 @@
 -- Instants with the records that bring them.
-use Rattle.std.specs.Prelude.{◌≡◌, ℕ, ◌+◌, ◌*◌, ◌<◌, ◌≤◌, Bool, true, false, List, [], ◌∷◌, ◌++◌, map, length, All, ⊤}
+use Rattle.std.specs.Prelude.{◌≡◌, ℕ, ◌+◌, ◌*◌, ◌<◌, ◌≤◌, true, false, List, [], ◌∷◌, ◌++◌, map, length, All, ⊤}
 use Rattle.std.specs.List.{range_with_len, flat_map, AllAdjacentBelow}
 use Rattle.cue_list.specs.declared.epoch.Epoch.{Epoch}
 use Rattle.page_epoch.specs.declared.instants.Instant.{Instant}

@@ -3,6 +3,7 @@ ghost use Rattle.page_epoch.specs.States.{state_of as state_by};
 ghost use Rattle.page_epoch.specs.Needs.{pixel_need as pixels_of};
 ghost use Rattle.page_epoch.specs.Plan.{ArePlanned, IsPlan};
 ghost use Rattle.page_epoch.specs.Refusals.{IsCause, IsNeedFault, IsSetCause};
+ghost use Rattle.page_epoch.specs.Sendable.{IsSendable};
 ghost use Rattle.page_epoch.specs.Sweeps.{IsPlain};
 
 use crate::course::{Sweep, is_whole};
@@ -26,6 +27,7 @@ impl Plan {
     /// sets in order, the pixels of a set's epoch before its nodes.
     pub fn make(alloc: Global, script: &Script, profile: &Profile) -> Result<Plan, PlanFault>
         ensures plan { IfOk result (λ plan. IsPlan script.now profile.now plan.sets) }
+        ensures sendable { IfOk result (λ plan. All (IsSendable script.now) plan.sets) }
         ensures cause { IfErr result (IsCause script.now profile.now) }
     {
         if u32::from(script.width) > profile.width || u32::from(script.height) > profile.height {

@@ -1,5 +1,5 @@
-use Rattle.std.proofs.Common.{◌≡◌, ◌==◌, ◌++◌, filter, take, drop, map}
-use Rattle.std.specs.List.{flat_map, range_with_len, list_any}
+use Rattle.std.proofs.Common.{◌≡◌, ◌==◌, filter, map}
+use Rattle.std.specs.List.{range_with_len, list_any}
 use Rattle.page_epoch.specs.Courses.{clut_rows}
 use Rattle.page_epoch.proofs.clut_course.all_clut_rows.Given as goal
 

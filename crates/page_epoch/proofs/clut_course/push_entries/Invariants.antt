@@ -1,6 +1,5 @@
-use Rattle.std.proofs.Common.{◌≡◌, ◌==◌, ◌++◌, filter, take, drop, map}
-use Rattle.std.specs.List.{flat_map, range_with_len, list_any}
-use Rattle.page_epoch.specs.SentCluts.{entries_at}
+use Rattle.std.proofs.Common.{◌≡◌, ◌++◌, map}
+use Rattle.std.specs.List.{range_with_len}
 use Rattle.page_epoch.proofs.clut_course.push_entries.Given as goal
 
 abbrev pub invariant-loop-number : goal.invariant-loop-number

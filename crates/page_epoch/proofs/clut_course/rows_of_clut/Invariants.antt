@@ -1,5 +1,4 @@
-use Rattle.std.proofs.Common.{◌≡◌, ◌==◌, ◌++◌, filter, take, drop, map}
-use Rattle.std.specs.List.{flat_map, range_with_len, list_any}
+use Rattle.std.proofs.Common.{◌≡◌, ◌==◌, filter}
 use Rattle.page_epoch.specs.Live.{places_below}
 use Rattle.page_epoch.specs.SentCluts.{row_at}
 use Rattle.page_epoch.proofs.clut_course.rows_of_clut.Given as goal

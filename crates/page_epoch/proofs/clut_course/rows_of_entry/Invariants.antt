@@ -1,5 +1,4 @@
-use Rattle.std.proofs.Common.{◌≡◌, ◌==◌, ◌++◌, filter, take, drop, map}
-use Rattle.std.specs.List.{flat_map, range_with_len, list_any}
+use Rattle.std.proofs.Common.{◌≡◌, filter, take}
 use Rattle.page_epoch.specs.SentCluts.{row_at, is_of_entry}
 use Rattle.page_epoch.proofs.clut_course.rows_of_entry.Given as goal
 

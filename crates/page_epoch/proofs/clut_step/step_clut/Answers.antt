@@ -1,8 +1,7 @@
-use Rattle.std.proofs.Common.{◌≡◌, ◌∙◌, ◌<◌, ℕ, List, All, Option, length, sym, ap, subst, unwrap_or, arith}
+use Rattle.std.proofs.Common.{◌∙◌, ◌<◌, ℕ, List, All, length, sym, ap, subst, unwrap_or, arith}
 use Rattle.page_epoch.specs.declared.clut_course.EntryRows.{EntryRows}
-use Rattle.page_epoch.specs.declared.clut_course.ClutRows.{ClutRows}
 use Rattle.std.specs.List.{flat_map}
-use Rattle.page_epoch.specs.SentCluts.{clut_with, rows_from, row_by, defined_rows}
+use Rattle.page_epoch.specs.SentCluts.{clut_with, rows_from, row_by}
 use Rattle.page_epoch.specs.Courses.{row_nodes}
 use Rattle.page_epoch.proofs.ClutLaws.{length-entries, entries_within, rows_defined}
 use Rattle.page_epoch.proofs.clut_step.step_clut.Goals as goal

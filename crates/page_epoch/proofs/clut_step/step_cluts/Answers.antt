@@ -1,4 +1,4 @@
-use Rattle.std.proofs.Common.{◌≡◌, ◌∙◌, ◌+◌, ◌++◌, ◌∷◌, ◌<◌, ℕ, List, [], Option, All, length, get_or, None, sym, ap, subst, rules, arith}
+use Rattle.std.proofs.Common.{◌+◌, ◌++◌, ◌∷◌, ℕ, List, [], Option, sym, subst, arith}
 use Rattle.std.specs.Option.{option_to_list}
 use Rattle.page_epoch.specs.declared.planned_set.SentClut.{SentClut}
 use Rattle.page_epoch.proofs.ClutLaws.{HaveStepped, HaveStepped-more}

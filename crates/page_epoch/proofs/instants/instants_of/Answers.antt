@@ -1,11 +1,8 @@
-use Rattle.std.proofs.Common.{◌≡◌, ◌∙◌, ◌+◌, ◌<◌, ◌^◌, ℕ, List, [], length, get_or, true, sym, ap, subst, rules, arith}
-use Rattle.std.proofs.lemmas.List.{get_or_default, get_or-map}
-use Rattle.std.proofs.lemmas.List.Elements.{All-contains}
+use Rattle.std.proofs.Common.{◌≡◌, ◌∙◌, ◌+◌, ℕ, List, length, get_or, sym, ap, subst, arith}
+use Rattle.std.proofs.lemmas.List.{get_or_default}
 use Rattle.page_epoch.specs.declared.moments.Event.{Event}
 use Rattle.page_epoch.specs.declared.instants.Instant.{Instant}
-use Rattle.page_epoch.specs.Instants.{named_ticks, shows_cue}
 use Rattle.page_epoch.specs.Rows.{AreMoments, event}
-use Rattle.page_epoch.specs.Steps.{AreSteps}
 use Rattle.page_epoch.proofs.InstantLaws.{AreStepsUpTo, AreStepsUpTo-none, AreStepsUpTo-refreshed, AreStepsUpTo-alone, AreSteps-all, small_there}
 use Rattle.std.proofs.lemmas.Bool.{false≢true}
 use Rattle.page_epoch.proofs.instants.instants_of.Goals as goal

@@ -1,4 +1,3 @@
-use Rattle.std.proofs.Common.{arith}
 use Rattle.page_epoch.proofs.InstantLaws.{AreRefreshing-more}
 use Rattle.page_epoch.proofs.instants.push_refreshes.Goals as goal
 

@@ -1,5 +1,4 @@
-use Rattle.std.proofs.Common.{◌≡◌, ◌+◌, ◌-◌, ◌*◌, ◌<◌, ◌≤◌, ◌++◌, ℕ, map}
-use Rattle.std.specs.List.{range_with_len}
+use Rattle.std.proofs.Common.{◌-◌}
 use Rattle.page_epoch.proofs.InstantLaws.{AreRefreshing}
 use Rattle.page_epoch.proofs.instants.push_refreshes.Given as goal
 

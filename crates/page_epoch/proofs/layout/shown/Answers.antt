@@ -1,5 +1,5 @@
-use Rattle.std.proofs.Common.{◌≡◌, ◌∙◌, ◌==◌, ◌<◌, ℕ, List, All, length, sym, ap, subst, arith}
-use Rattle.page_epoch.specs.Live.{cue_at, own_places}
+use Rattle.std.proofs.Common.{◌∙◌, ◌==◌, ◌<◌, ℕ, List, All, length, sym, subst, arith}
+use Rattle.page_epoch.specs.Live.{cue_at}
 use Rattle.page_epoch.proofs.ListLaws.{kept_within}
 use Rattle.page_epoch.proofs.RegionLaws.{own_there}
 use Rattle.page_epoch.proofs.layout.shown.Goals as goal

@@ -1,6 +1,5 @@
-use Rattle.std.proofs.Common.{◌≡◌, ◌∙◌, ◌==◌, ℕ, Bool, true, false, List, ap, arith}
+use Rattle.std.proofs.Common.{◌≡◌, ◌∙◌, ◌==◌, ℕ, true, false, ap, arith}
 use Rattle.std.proofs.lemmas.Bool.Decides.{nat_tests}
-use Rattle.cue_list.specs.declared.epoch.Cue.{Cue}
 use Rattle.page_epoch.specs.Live.{cue_at}
 use Rattle.page_epoch.proofs.ListLaws.{keep_place, pass_place}
 use Rattle.page_epoch.proofs.live.cues_of_region.Goals as goal

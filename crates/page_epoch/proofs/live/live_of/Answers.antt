@@ -1,4 +1,4 @@
-use Rattle.std.proofs.Common.{◌≡◌, ◌∙◌, ◌≤◌, ℕ, List, length, sym, ap, subst, take, filter, arith}
+use Rattle.std.proofs.Common.{◌≡◌, ◌∙◌, ℕ, length, ap, filter, arith}
 use Rattle.std.proofs.lemmas.List.{take_all}
 use Rattle.cue_list.specs.Authored.{is_live}
 use Rattle.page_epoch.specs.Live.{cue_at}

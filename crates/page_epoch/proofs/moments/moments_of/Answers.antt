@@ -1,9 +1,8 @@
 use Rattle.std.proofs.Common.{◌≡◌, ◌∙◌, List, Vec, Global, sym, subst, map}
-use Rattle.std.specs.List.{flat_map}
 use Rattle.std.specs.Ordering.{nat_cmp}
 use Rattle.std.specs.BTreeMap.{get}
 use Rattle.page_epoch.specs.declared.moments.Event.{Event}
-use Rattle.page_epoch.specs.Rows.{events_of, Noted, AreMoments, moment}
+use Rattle.page_epoch.specs.Rows.{Noted, AreMoments, moment}
 use Rattle.page_epoch.proofs.ListLaws.{ok_then}
 use Rattle.page_epoch.proofs.MomentLaws.{AreMoments-from}
 use Rattle.page_epoch.proofs.moments.moments_of.Goals as goal

@@ -1,17 +1,13 @@
-use Rattle.std.proofs.Common.{◌≡◌, ◌∙◌, ◌+◌, ◌<◌, ◌≤◌, ◌∷◌, ℕ, List, length, refl, sym, ap, subst, true, arith}
-use Rattle.std.specs.List.{flat_map}
+use Rattle.std.proofs.Common.{◌∙◌, ◌∷◌, List, length, refl, sym, ap, subst, true, arith}
 use Rattle.std.specs.List.Sorted.{IsPermutation}
 use Rattle.cue_list.specs.declared.epoch.Cue.{Cue}
 use Rattle.cue_list.specs.declared.epoch.ColourRow.{ColourRow}
 use Rattle.page_epoch.specs.declared.planned_set.SentClut.{SentClut}
 use Rattle.page_epoch.specs.declared.planned_set.SentRegion.{SentRegion}
-use Rattle.page_epoch.specs.declared.region_course.RegionCues.{RegionCues}
-use Rattle.page_epoch.specs.declared.clut_course.ClutRows.{ClutRows}
 use Rattle.page_epoch.specs.Courses.{AreOwn, AreRowsOf}
 use Rattle.page_epoch.specs.Layouts.{listed_cues}
-use Rattle.page_epoch.specs.Needs.{clut_nodes, node_need}
+use Rattle.page_epoch.specs.Needs.{clut_nodes}
 use Rattle.page_epoch.specs.States.{is_whole}
-use Rattle.page_epoch.specs.SentCluts.{sent_cluts}
 use Rattle.page_epoch.proofs.SweepLaws.{own_of_layout, rows_of_layout, few_cluts, few_regions, regions_on, sent_on, shown_on, versions_on, cluts_on, page_on, held_on}
 use Rattle.page_epoch.proofs.course.Course.advance.Goals as goal
 

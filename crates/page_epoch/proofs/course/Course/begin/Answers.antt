@@ -1,4 +1,4 @@
-use Rattle.std.proofs.Common.{◌≡◌, ◌∙◌, List, Option, None, ℕ, All, length, map, sym, ap, subst, arith}
+use Rattle.std.proofs.Common.{◌∙◌, List, Option, ℕ, All, length, sym, ap, subst, arith}
 use Rattle.std.proofs.lemmas.List.{length-map}
 use Rattle.page_epoch.specs.declared.region_course.RegionCourse.{RegionCourse}
 use Rattle.page_epoch.specs.Courses.{IsSmallCourse, IsSmallVersion}
