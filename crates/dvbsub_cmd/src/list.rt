@@ -17,7 +17,7 @@ use crate::status::{Status, Which};
 use crate::text_buffer::{TextBuffer, flush};
 use std::alloc::{AllocError, Global};
 use stream_syntax::PacketFault;
-use sub_base::{NoMemory, ReadFailed, Sink, Source};
+use sub_base::{ReadFailed, Sink, Source};
 use ts_packets::Demux;
 
 /// The bytes of a packet.
