@@ -1,5 +1,5 @@
 -- The epochs that right records list are right, one record after another.
-use Rattle.std.proofs.Common.{zero, suc, ◌≡◌, ◌≢◌, ◌∙◌, ◌⊎◌, inl, inr, refl, sym, ap, subst, ℕ, ◌+◌, ◌*◌, ◌<◌, ◌≤◌, ◌==◌, Bool, true, false, not, ◌&&◌, ◌||◌, if◌then◌else◌, nat_lt, nat_le, List, [], ◌∷◌, ◌++◌, length, get_or, find, cond, Option, Some, None, is_some, arith}
+use Rattle.std.proofs.Common.{zero, suc, ◌≡◌, ◌≢◌, ◌∙◌, ◌⊎◌, inl, inr, refl, sym, ap, subst, ℕ, ◌+◌, ◌<◌, ◌≤◌, ◌==◌, Bool, true, false, nat_lt, nat_le, List, [], ◌∷◌, ◌++◌, length, get_or, find, cond, Option, Some, None, is_some, arith}
 use Rattle.std.specs.Prelude.{All, AllPairs, slice_get}
 use Rattle.std.specs.List.{list_any}
 use Rattle.std.proofs.lemmas.Bool.Decides.{nat_tests}
@@ -12,15 +12,15 @@ use Rattle.cue_list.specs.declared.epoch.Cue.{Cue}
 use Rattle.cue_list.specs.declared.epoch.Epoch.{Epoch}
 use Rattle.cue_list.specs.declared.epoch.Region.{Region}
 use Rattle.cue_list.specs.declared.kind_rows.PictureHead.{PictureHead}
-use Rattle.cue_list.specs.CellFaults.{value_at, value_of, first_of, number_fault, depth_fault, region_cells, colour_cells}
+use Rattle.cue_list.specs.CellFaults.{value_at, value_of, number_fault, depth_fault, region_cells, colour_cells}
 use Rattle.cue_list.specs.Cells.{cell_at}
-use Rattle.cue_list.specs.Past.{Past, region_with}
-use Rattle.cue_list.specs.RowFaults.{region_fault, colour_fault, starts_before, lasts_past, lies_on, share_row, is_early, is_used, regions_of}
+use Rattle.cue_list.specs.Past.{region_with}
+use Rattle.cue_list.specs.RowFaults.{starts_before, lasts_past, lies_on, share_row}
 use Rattle.cue_list.specs.RowValues.{region_in, colour_in}
 use Rattle.cue_list.specs.Rows.{Row}
 use Rattle.cue_list.specs.Sound.{IsTick, IsRegion, AreApart, IsColourRow, Follows}
 use Rattle.cue_list.specs.State.{with_region, with_colour, with_cue}
-use Rattle.cue_list.proofs.FactLaws.{passed, right, not-false, both-true, both-false, number-range, region-right, colour-right}
+use Rattle.cue_list.proofs.FactLaws.{passed, both-false, number-range}
 use Rattle.cue_list.proofs.TicksApartLaws.{Member, Member-append, Member-at}
 
 -- a cue, by the depths and sides of the pictures

@@ -1,12 +1,11 @@
 -- What the tests of a right record say of its values.
-use Rattle.std.proofs.Common.{zero, suc, ◌≡◌, ◌∙◌, ◌⊎◌, inl, inr, refl, sym, ap, subst, ℕ, ◌+◌, ◌*◌, ◌<◌, ◌≤◌, ◌==◌, Bool, true, false, not, ◌&&◌, ◌||◌, if◌then◌else◌, nat_lt, nat_le, List, [], ◌∷◌, length, chars, Option, Some, None, is_some, arith}
+use Rattle.std.proofs.Common.{◌≡◌, refl, ℕ, ◌+◌, ◌≤◌, ◌==◌, Bool, true, false, not, ◌&&◌, ◌||◌, nat_lt, nat_le, List, [], ◌∷◌, Option, Some, None, is_some, arith}
 use Rattle.std.specs.List.{list_any}
 use Rattle.std.proofs.lemmas.Bool.Decides.{nat_tests}
 use Rattle.sub_base.specs.Depth.{bits_of, code_count}
 use Rattle.sub_base.specs.Number.{is_number}
 use Rattle.bitmap_font.specs.Font.{FontValue}
 use Rattle.cue_list.specs.declared.epoch.ColourRow.{ColourRow}
-use Rattle.cue_list.specs.declared.epoch.Epoch.{Epoch}
 use Rattle.cue_list.specs.declared.epoch.Region.{Region}
 use Rattle.cue_list.specs.declared.fault.ScriptKind.{ScriptKind}
 use Rattle.cue_list.specs.declared.fault.ScriptKind.TheVariants as faults

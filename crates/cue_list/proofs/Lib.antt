@@ -3,7 +3,6 @@ pub mod CueLaws
 pub mod EpochLaws
 pub mod FactLaws
 pub mod HexLaws
-pub mod OneCueLaws
 pub mod PastLaws
 pub mod ReadLaws
 pub mod RowsLaws

@@ -1,16 +1,12 @@
 -- What looking back finds with one more record.
-use Rattle.std.proofs.Common.{◌≡◌, ◌∙◌, refl, sym, ap, ℕ, ◌+◌, Bool, true, false, if◌then◌else◌, List, [], ◌∷◌, ◌++◌, length, find, chars, Option, Some, None, is_some, option_map, sum_by, arith}
+use Rattle.std.proofs.Common.{◌≡◌, ◌∙◌, refl, sym, ap, ℕ, ◌+◌, true, false, List, [], ◌∷◌, ◌++◌, length, find, Option, Some, None, is_some, option_map, sum_by, arith}
 use Rattle.std.proofs.lemmas.List.Sums.{sum_by-append}
 use Rattle.bitmap_font.specs.Font.{FontValue}
-use Rattle.cue_list.specs.declared.epoch.ColourRow.{ColourRow}
-use Rattle.cue_list.specs.declared.epoch.Cue.{Cue}
-use Rattle.cue_list.specs.declared.epoch.Epoch.{Epoch}
 use Rattle.cue_list.specs.declared.epoch.Region.{Region}
 use Rattle.cue_list.specs.declared.kind_rows.PictureHead.{PictureHead}
 use Rattle.cue_list.specs.declared.row_kind.RowKind.{RowKind}
 use Rattle.cue_list.specs.declared.row_kind.RowKind.TheVariants as kinds
-use Rattle.cue_list.specs.CellFaults.{value_at}
-use Rattle.cue_list.specs.Past.{Past, area, with_last, head_by, cue_by, looking_back, last_epoch, epoch_of, regions_in, heads_in, codes_in, place_named}
+use Rattle.cue_list.specs.Past.{area, with_last, head_by, cue_by, looking_back, last_epoch, epoch_of, regions_in, heads_in, codes_in, place_named}
 use Rattle.cue_list.specs.Records.{Record, is}
 use Rattle.cue_list.specs.RowFaults.{regions_of}
 use Rattle.cue_list.specs.RowValues.{region_in, colour_in, head_in}

@@ -1,5 +1,5 @@
 -- Records one after another.
-use Rattle.std.proofs.Common.{zero, suc, ◌≡◌, ◌∙◌, ◌⊎◌, inl, inr, refl, sym, ap, subst, ℕ, ◌+◌, ◌-◌, ◌*◌, ◌<◌, ◌≤◌, Bool, true, false, not, if◌then◌else◌, List, [], ◌∷◌, length, reverse, take, drop, get_or, add-one, below_more, Option, Some, None, is_some, cond, Result, Ok, Err, IfErr, arith}
+use Rattle.std.proofs.Common.{zero, suc, ◌≡◌, ◌∙◌, inl, inr, refl, sym, ap, subst, ℕ, ◌+◌, ◌<◌, ◌≤◌, Bool, true, false, not, if◌then◌else◌, List, [], ◌∷◌, length, reverse, take, drop, get_or, below_more, Option, Some, None, is_some, Result, Ok, Err, IfErr, arith}
 use Rattle.std.proofs.lemmas.List.{reverse-append, take_more}
 use Rattle.csv.specs.Machine.{next_record, Read}
 use Rattle.csv.specs.Reading.{default_config, records_from, records_next, strip_bom, is_bom}

@@ -1,6 +1,5 @@
 -- The records of a text, one after another, without a bound on their number.
-use Rattle.std.proofs.Common.{map, take, append_assoc, ◌≡◌, ℕ, zero, suc, ◌+◌, ◌-◌, ◌<◌, ◌≤◌, List, [], ◌∷◌, ◌++◌, length, Bool, true, false, if◌then◌else◌, Option, Some, None, IsSome, refl, ap, sym, ◌∙◌, arith, add-one, cond}
-use Rattle.std.proofs.lemmas.List.{map-append}
+use Rattle.std.proofs.Common.{◌≡◌, ℕ, zero, suc, ◌+◌, ◌-◌, ◌<◌, ◌≤◌, List, [], ◌∷◌, length, Bool, true, false, if◌then◌else◌, Option, Some, None, IsSome, refl, ap, sym, ◌∙◌, arith, add-one, cond}
 use Rattle.csv.specs.Machine.{Read, next_record, step, is_end, ends_at_end}
 use Rattle.csv.specs.Reading.{default_config, records_from, records_next, ReadsNext, NextIs, ReadRecord, source_of, pending_of}
 use Rattle.csv.specs.declared.parser.State.{State}
@@ -88,10 +87,3 @@ rows_left-read remaining old new found fields ready reads =
     let next : ReadsNext default_config old.state (source_of remaining old) (source_of remaining new) found fields new.state =
     rw (source_of-read remaining new reads.1, ← ready.config) reads.0 in
     rows_of_source-read old.state new.state (source_of remaining old) (source_of remaining new) found fields ready.known next
-
--- one more record of those that are wanted
-pub first_rows-step : {A B : Type 0} (f : A → B) (front new : List A) (x : A) (left rest all : List B) (n i : ℕ) → i < n → map f front ++ take (n - i) left ≡ all → left ≡ f x ∷ rest → new ≡ front ++ x ∷ [] → map f new ++ take (n - (i + 1)) rest ≡ all
-first_rows-step f front new x left rest all n i below before next grown =
-    let one_less : n - i ≡ suc (n - (i + 1)) = omega arith in
-    let split : map f front ++ take (n - i) left ≡ map f front ++ (f x ∷ take (n - (i + 1)) rest) = rw (one_less, next) refl in
-    rw (grown, map-append) (append_assoc (map f front) (f x ∷ []) (take (n - (i + 1)) rest) ∙ (sym split ∙ before))

@@ -1,6 +1,6 @@
 -- The values of a right script are sound.
-use Rattle.std.proofs.Common.{zero, suc, ◌≡◌, ◌∙◌, ◌⊎◌, inl, inr, refl, sym, ap, subst, ℕ, ◌+◌, ◌*◌, ◌<◌, ◌≤◌, ◌==◌, Bool, true, false, not, if◌then◌else◌, List, [], ◌∷◌, ◌++◌, length, map, get_or, sum_by, Option, Some, None, is_some, option_map, arith}
-use Rattle.std.specs.Prelude.{All, AllPairs, slice_get}
+use Rattle.std.proofs.Common.{zero, suc, ◌≡◌, ◌∙◌, inl, inr, refl, sym, ap, subst, ℕ, ◌+◌, ◌*◌, ◌<◌, ◌≤◌, ◌==◌, true, false, not, List, [], ◌∷◌, ◌++◌, length, map, get_or, sum_by, Option, Some, None, is_some, arith}
+use Rattle.std.specs.Prelude.{All, slice_get}
 use Rattle.std.specs.List.{list_any, flat_map}
 use Rattle.std.proofs.lemmas.List.Quantifiers.{all_pairs_push}
 use Rattle.std.proofs.lemmas.List.Sums.{sum_by-append}
@@ -8,7 +8,6 @@ use Rattle.sub_base.specs.Depth.{bits_of}
 use Rattle.sub_base.specs.Picture.{Picture, IsPicture, picture_of}
 use Rattle.sub_base.specs.declared.depth.Depth.TheVariants.{Two}
 use Rattle.bitmap_font.specs.Font.{FontValue}
-use Rattle.cue_list.specs.declared.epoch.ColourRow.{ColourRow}
 use Rattle.cue_list.specs.declared.epoch.Cue.{Cue}
 use Rattle.cue_list.specs.declared.epoch.Epoch.{Epoch}
 use Rattle.cue_list.specs.declared.epoch.Region.{Region}
@@ -18,7 +17,7 @@ use Rattle.cue_list.specs.declared.reader.Reader.{Reader}
 use Rattle.cue_list.specs.declared.row_kind.RowKind.{RowKind}
 use Rattle.cue_list.specs.declared.row_kind.RowKind.TheVariants as kinds
 use Rattle.cue_list.specs.Drawn.{Brings}
-use Rattle.cue_list.specs.CellFaults.{first_of, fails, is_text_row}
+use Rattle.cue_list.specs.CellFaults.{fails, is_text_row}
 use Rattle.cue_list.specs.declared.fault.ScriptKind.TheVariants as faults
 use Rattle.cue_list.specs.HasRead.{HasRead}
 use Rattle.cue_list.specs.Past.{Past, area, is_close, looking_back, last_epoch, ticks_by, ticks_in, with_last, regions_in}
@@ -28,15 +27,15 @@ use Rattle.cue_list.specs.RowValues.{colour_in, placing_in}
 use Rattle.cue_list.specs.Rows.{Row}
 use Rattle.cue_list.specs.ScriptRows.{AreRight, AreDrawn, Lists, IsScript}
 use Rattle.cue_list.specs.Authored.{picture_at_place}
-use Rattle.cue_list.specs.Sound.{IsSound, IsEpoch, AreRegions, IsCue, FitsRegion, IsColourRow, IsRegion, Follows, AreTicksApart, ticks_of}
+use Rattle.cue_list.specs.Sound.{IsSound, IsEpoch, IsCue, IsColourRow, IsRegion, Follows, ticks_of}
 use Rattle.cue_list.specs.State.{IsReader, past_of, head_of, next_with}
 use Rattle.cue_list.proofs.EpochLaws.{IsEpochOf, IsCueOf}
 use Rattle.cue_list.proofs.FactLaws.{IsRightRow-from, passed, right}
 use Rattle.cue_list.proofs.PastLaws.{row_with, looking-back-more}
 use Rattle.cue_list.proofs.ReadLaws.{before-more, cue-open, all-read}
-use Rattle.cue_list.proofs.SoundLaws.{EpochFacts, EpochFacts-none, TickFacts, member-last, member-flat, colours_of, cues_of, in_last, sum-last, length-push}
-use Rattle.cue_list.proofs.SoundSteps.{SoundPast, given-epoch, sound-origin, sound-display, sound-refresh, sound-epoch, sound-region, sound-colour, sound-picture, sound-place, sound-cue}
-use Rattle.cue_list.proofs.TicksApartLaws.{Member, Member-at, AreApartTicks}
+use Rattle.cue_list.proofs.SoundLaws.{EpochFacts-none, member-last, member-flat, colours_of, cues_of, in_last, sum-last, length-push}
+use Rattle.cue_list.proofs.SoundSteps.{SoundPast, sound-origin, sound-display, sound-refresh, sound-epoch, sound-region, sound-colour, sound-picture, sound-place, sound-cue}
+use Rattle.cue_list.proofs.TicksApartLaws.{Member, Member-at}
 
 -- ---- records one after another
 

@@ -1,10 +1,10 @@
 -- What a text's picture and its faults say of the tests of its record.
-use Rattle.std.proofs.Common.{zero, suc, ◌≡◌, ◌≢◌, ◌∙◌, ◌⊎◌, inl, inr, refl, sym, ap, ℕ, ◌+◌, ◌*◌, ◌<◌, ◌≤◌, ◌==◌, Bool, true, false, not, ◌&&◌, ◌||◌, cond, if◌then◌else◌, nat_lt, List, [], ◌∷◌, length, reverse, get_or, find, Option, Some, None, is_some, IsSome, arith}
+use Rattle.std.proofs.Common.{zero, suc, ◌≡◌, ◌≢◌, ◌⊎◌, inl, inr, refl, sym, ℕ, ◌+◌, ◌*◌, ◌<◌, ◌≤◌, ◌==◌, Bool, true, false, not, ◌&&◌, ◌||◌, nat_lt, List, [], ◌∷◌, length, reverse, get_or, find, Option, Some, None, is_some, IsSome, arith}
 use Rattle.std.proofs.lemmas.Bool.Decides.{nat_tests}
 use Rattle.sub_base.specs.declared.depth.Depth.{Depth}
 use Rattle.sub_base.specs.Picture.{Picture}
-use Rattle.bitmap_font.specs.Font.{GlyphValue, FontValue, glyph_of}
-use Rattle.bitmap_font.specs.Setting.{CanBeSet, AllCanBeSet, IsFirstMissing, IsSetting, IsSetFault, widest_line, line_after}
+use Rattle.bitmap_font.specs.Font.{GlyphValue, FontValue}
+use Rattle.bitmap_font.specs.Setting.{AllCanBeSet, IsFirstMissing, IsSetting, IsSetFault, widest_line, line_after}
 use Rattle.bitmap_font.specs.declared.set_fault.SetFault.{SetFault}
 use Rattle.bitmap_font.specs.declared.set_fault.SetFault.TheVariants as set
 use Rattle.cue_list.specs.declared.epoch.Region.{Region}

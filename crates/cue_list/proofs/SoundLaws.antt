@@ -1,22 +1,18 @@
 -- The values of right records are those of a script, one record after another.
-use Rattle.std.proofs.Common.{zero, suc, ◌≡◌, ◌∙◌, ◌⊎◌, inl, inr, refl, sym, ap, subst, ℕ, ◌+◌, ◌*◌, ◌<◌, ◌≤◌, ◌==◌, Bool, true, false, not, if◌then◌else◌, nat_lt, nat_le, List, [], ◌∷◌, ◌++◌, length, map, get_or, chars, sum_by, Option, Some, None, is_some, option_map, arith}
-use Rattle.std.specs.Prelude.{All, AllPairs, slice_get}
+use Rattle.std.proofs.Common.{◌≡◌, ◌∙◌, ◌⊎◌, inl, inr, refl, sym, ap, subst, ℕ, ◌+◌, ◌≤◌, true, false, List, [], ◌∷◌, ◌++◌, length, map, get_or, sum_by, Option, Some, None, arith}
+use Rattle.std.specs.Prelude.{AllPairs}
 use Rattle.std.specs.List.{list_any, flat_map}
-use Rattle.std.proofs.lemmas.Bool.Decides.{nat_tests}
 use Rattle.std.proofs.lemmas.List.Quantifiers.{all_pairs_push}
 use Rattle.std.proofs.lemmas.List.Sums.{sum_by-append}
-use Rattle.bitmap_font.specs.Font.{FontValue}
-use Rattle.sub_base.specs.Depth.{bits_of, code_count}
 use Rattle.cue_list.specs.declared.epoch.ColourRow.{ColourRow}
 use Rattle.cue_list.specs.declared.epoch.Cue.{Cue}
 use Rattle.cue_list.specs.declared.epoch.Epoch.{Epoch}
-use Rattle.cue_list.specs.declared.epoch.Region.{Region}
 use Rattle.cue_list.specs.declared.kind_rows.PictureHead.{PictureHead}
-use Rattle.cue_list.specs.Past.{with_last, is_close, region_with}
+use Rattle.cue_list.specs.Past.{with_last, is_close}
 use Rattle.cue_list.specs.RowFaults.{starts_before, lasts_past}
 use Rattle.cue_list.specs.Sound.{IsTick, Follows, ticks_of, ticks_of_cue}
-use Rattle.cue_list.specs.State.{with_region, with_colour, with_cue}
-use Rattle.cue_list.proofs.EpochLaws.{IsEpochOf, IsCueOf, HasSides, epoch-region, epoch-colour, epoch-cue, epoch-heads, epoch-new, follows-last, follows-later}
+use Rattle.cue_list.specs.State.{with_colour, with_cue}
+use Rattle.cue_list.proofs.EpochLaws.{IsEpochOf, epoch-heads, epoch-new, follows-last, follows-later}
 use Rattle.cue_list.proofs.TicksApartLaws.{Member, Member-append, Member-at, AreApartTicks, AreApartTicks-more}
 
 -- ---- members

@@ -1,30 +1,25 @@
 -- One more right record keeps what is true of a script's values.
-use Rattle.std.proofs.Common.{zero, suc, ◌≡◌, ◌∙◌, ◌⊎◌, inl, inr, refl, sym, ap, subst, ℕ, ◌+◌, ◌*◌, ◌<◌, ◌≤◌, ◌==◌, Bool, true, false, not, ◌&&◌, ◌||◌, if◌then◌else◌, nat_lt, nat_le, List, [], ◌∷◌, ◌++◌, length, chars, sum_by, Option, Some, None, is_some, option_map, arith}
+use Rattle.std.proofs.Common.{◌≡◌, ◌∙◌, refl, sym, ap, subst, ℕ, ◌+◌, ◌<◌, ◌≤◌, ◌==◌, Bool, true, false, not, if◌then◌else◌, nat_lt, nat_le, List, [], ◌∷◌, ◌++◌, length, chars, sum_by, Option, Some, None, is_some, option_map, arith}
 use Rattle.std.specs.Prelude.{slice_get}
 use Rattle.std.specs.List.{list_any}
 use Rattle.std.proofs.lemmas.Bool.Decides.{nat_tests}
 use Rattle.bitmap_font.specs.Font.{FontValue}
-use Rattle.sub_base.specs.Depth.{code_count}
-use Rattle.cue_list.specs.declared.epoch.ColourRow.{ColourRow}
 use Rattle.cue_list.specs.declared.epoch.Cue.{Cue}
 use Rattle.cue_list.specs.declared.epoch.Epoch.{Epoch}
 use Rattle.cue_list.specs.declared.epoch.Region.{Region}
-use Rattle.cue_list.specs.declared.fault.ScriptKind.{ScriptKind}
 use Rattle.cue_list.specs.declared.kind_rows.PictureHead.{PictureHead}
-use Rattle.cue_list.specs.declared.kind_rows.PlaceRow.{PlaceRow}
-use Rattle.cue_list.specs.declared.row_kind.RowKind.{RowKind}
 use Rattle.cue_list.specs.declared.row_kind.RowKind.TheVariants as kinds
-use Rattle.cue_list.specs.CellFaults.{value_at, number_fault, mode_fault, placing_cells, place_cells, cue_cells, epoch_cells, display_cells, refresh_cells}
+use Rattle.cue_list.specs.CellFaults.{value_at, number_fault, placing_cells, place_cells, cue_cells, epoch_cells, display_cells, refresh_cells}
 use Rattle.cue_list.specs.Cells.{cell_at}
-use Rattle.cue_list.specs.Past.{Past, is_close, region_with, head_by, cue_by, cue_with, ticks_by, with_last}
-use Rattle.cue_list.specs.RowFaults.{is_used, share_row, lies_in, is_early, head_at, regions_of, starts_before, lasts_past}
+use Rattle.cue_list.specs.Past.{Past, is_close, region_with, head_by, cue_by, cue_with, with_last}
+use Rattle.cue_list.specs.RowFaults.{is_used, share_row, lies_in, is_early, head_at, regions_of}
 use Rattle.cue_list.specs.RowValues.{region_in, colour_in, head_in, placing_in, is_through}
 use Rattle.cue_list.specs.Rows.{Row}
 use Rattle.cue_list.specs.Sound.{IsTick}
 use Rattle.cue_list.specs.State.{next_with, with_region, with_colour, with_cue}
 use Rattle.cue_list.specs.TextSizes.{text_head}
-use Rattle.cue_list.proofs.FactLaws.{IsRightRow, IsRightPlacing, passed, not-false, both-true, both-false, number-range, epoch-right, region-right, colour-right, place-right, cue-right}
-use Rattle.cue_list.proofs.EpochLaws.{IsEpochOf, IsCueOf, epoch-region, epoch-colour, epoch-cue, region-cells, colour-row, tick-range, not-below, get-more, get-last}
+use Rattle.cue_list.proofs.FactLaws.{IsRightRow, IsRightPlacing, passed, both-false, number-range, epoch-right, region-right, colour-right, place-right, cue-right}
+use Rattle.cue_list.proofs.EpochLaws.{IsCueOf, epoch-region, epoch-colour, epoch-cue, region-cells, colour-row, tick-range, get-last}
 use Rattle.cue_list.proofs.PastLaws.{row_with}
 use Rattle.cue_list.proofs.SoundLaws.{EpochFacts, EpochFacts-none, EpochFacts-new, EpochFacts-changed, EpochFacts-heads, TickFacts, TickFacts-new, TickFacts-same, TickFacts-colour, TickFacts-cue, colours_of, cues_of, in_last, sum-last, length-push}
 

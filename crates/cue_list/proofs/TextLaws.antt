@@ -1,6 +1,5 @@
-use Rattle.std.proofs.Common.{zero, suc, ◌+◌, ◌<◌, ◌&&◌, [], ◌∷◌, length, drop, unwrap_or, add-one, arith, ◌≡◌, ℕ, List, Bool, true, false, ◌⊎◌, inl, inr, refl, sym, Result, Ok, Err, MatchResult, is_ok}
+use Rattle.std.proofs.Common.{zero, suc, ◌+◌, ◌<◌, ◌&&◌, [], ◌∷◌, length, drop, add-one, arith, ◌≡◌, ℕ, List, Bool, true, false, ◌⊎◌, inl, inr, refl, sym, Result, Ok, Err, MatchResult, is_ok}
 use Rattle.std.specs.Str.{IsUtf8, is_utf8}
-use Rattle.std.specs.List.{list_all}
 use Rattle.csv.specs.Records.{field_at}
 use Rattle.cue_list.specs.CellFaults.{is_text_row}
 use Rattle.cue_list.specs.Cells.{cell_at}

@@ -1,6 +1,5 @@
 -- The cells of a record.
-use Rattle.std.specs.Prelude.{ℕ, ◌==◌, Bool, ◌&&◌, List, [], length, Option, Some, None, unwrap_or}
-use Rattle.std.specs.Str.{bytes_eq}
+use Rattle.std.specs.Prelude.{ℕ, List, [], Option, Some, None, unwrap_or}
 use Rattle.csv.specs.Records.{field_at}
 use Rattle.cue_list.specs.Rows.{Row}
 
@@ -13,7 +12,3 @@ None >>= f = None
 -- the cell at that place, empty where the record is shorter
 abbrev pub cell_at : Row → ℕ → List ℕ
 cell_at row place = unwrap_or (field_at row place) []
-
--- a record of that many cells that begins with that word
-abbrev pub is_row : List ℕ → ℕ → Row → Bool
-is_row word cells row = (length row == cells) && bytes_eq (cell_at row 0) word

@@ -1,12 +1,10 @@
 -- What a reader of a script stands for, between two records.
-use Rattle.std.specs.Prelude.{◌≡◌, ℕ, List, drop, length}
-use Rattle.csv.specs.declared.reader.Reader.{Reader as CsvReader}
-use Rattle.std.specs.Borrow.{Bor}
+use Rattle.std.specs.Prelude.{◌≡◌, ℕ, List, drop}
 use Rattle.bitmap_font.specs.Font.{FontValue}
 use Rattle.cue_list.specs.declared.reader.Reader.{Reader}
 use Rattle.cue_list.specs.Past.{looking_back}
 use Rattle.cue_list.specs.Records.{records_of, records_before}
-use Rattle.cue_list.specs.Rows.{Row, rows_of, IsReadable, rows_left, unread}
+use Rattle.cue_list.specs.Rows.{Row, rows_of}
 use Rattle.cue_list.specs.ScriptRows.{AreRight, AreDrawn}
 use Rattle.cue_list.specs.State.{IsReader, past_of}
 

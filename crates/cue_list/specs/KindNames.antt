@@ -1,7 +1,7 @@
 -- The names of what is wrong with a record.
 use Rattle.std.specs.Prelude.{ℕ, List, codes}
 use Rattle.cue_list.specs.declared.fault.ScriptKind.{ScriptKind}
-use Rattle.cue_list.specs.declared.fault.ScriptKind.TheVariants.{NotUtf8, Unknown, Count, Number, Range, Order, DoubleRegion, RegionsMeet, RegionOutside, NoRegion, NoPicture, CodeRange, CueOutside, OutsideEpoch, EmptySpan, TooClose, TooLong, TooMany, Glyph, NotYet}
+use Rattle.cue_list.specs.declared.fault.ScriptKind.TheVariants.{NotUtf8, Unknown, Count, Number, Range, Order, DoubleRegion, RegionsMeet, RegionOutside, NoRegion, NoPicture, CodeRange, CueOutside, OutsideEpoch, EmptySpan, TooClose, TooLong, TooMany, Glyph}
 
 -- the kind's name
 abbrev pub kind_name : ScriptKind → List ℕ
@@ -24,4 +24,3 @@ kind_name TooClose = codes "TooClose"
 kind_name TooLong = codes "TooLong"
 kind_name TooMany = codes "TooMany"
 kind_name (Glyph character) = codes "Glyph"
-kind_name NotYet = codes "NotYet"

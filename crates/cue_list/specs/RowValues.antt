@@ -1,5 +1,5 @@
 -- What the cells of right records say.
-use Rattle.std.specs.Prelude.{ℕ, ◌+◌, ◌*◌, ◌==◌, Bool, if◌then◌else◌, List, [], ◌∷◌, Option, Some, None, codes, option_map}
+use Rattle.std.specs.Prelude.{ℕ, ◌==◌, Bool, if◌then◌else◌, codes}
 use Rattle.std.specs.Str.{bytes_eq}
 use Rattle.sub_base.specs.Colour.{shown_of}
 use Rattle.sub_base.specs.declared.depth.Depth.{Depth}

@@ -1,9 +1,8 @@
 -- What the reader keeps of the records before a record, and what it keeps with one more: that this is what looking back
 -- over them gives is said in `proofs/`.
-use Rattle.std.specs.Prelude.{◌≡◌, ℕ, ◌+◌, ◌*◌, ◌<◌, ◌≤◌, ◌^◌, ◌||◌, Bool, if◌then◌else◌, List, [], ◌∷◌, ◌++◌, length, map, chars, Option, Some, None, option_map, All, ⊤}
-use Rattle.std.specs.Str.{bytes_eq}
+use Rattle.std.specs.Prelude.{◌≡◌, ℕ, ◌+◌, ◌≤◌, [], ◌∷◌, ◌++◌, length, map, Option, Some, None, option_map, ⊤}
 use Rattle.bitmap_font.specs.Font.{FontValue}
-use Rattle.sub_base.specs.Picture.{Picture, IsPicture}
+use Rattle.sub_base.specs.Picture.{Picture}
 use Rattle.cue_list.specs.declared.epoch.ColourRow.{ColourRow}
 use Rattle.cue_list.specs.declared.epoch.Cue.{Cue}
 use Rattle.cue_list.specs.declared.epoch.Epoch.{Epoch}
@@ -18,7 +17,7 @@ use Rattle.cue_list.specs.declared.row_kind.RowKind.TheVariants as kinds
 use Rattle.cue_list.specs.CellFaults.{first_of, value_at, cells_fault}
 use Rattle.cue_list.specs.Cells.{cell_at}
 use Rattle.cue_list.specs.Names.{place_by, named_with}
-use Rattle.cue_list.specs.Past.{Past, area, is_close, with_last, region_with, head_by, cue_by}
+use Rattle.cue_list.specs.Past.{Past, area, with_last, head_by, cue_by}
 use Rattle.cue_list.specs.Records.{Record}
 use Rattle.cue_list.specs.RowFaults.{regions_of, kind_fault}
 use Rattle.cue_list.specs.RowValues.{region_in, colour_in, head_in}

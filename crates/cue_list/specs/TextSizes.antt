@@ -1,5 +1,5 @@
 -- The size of a text's picture, and the first character that cannot be set.
-use Rattle.std.specs.Prelude.{ℕ, ◌+◌, ◌*◌, ◌==◌, not, Bool, ◌&&◌, List, reverse, find, Option, is_some}
+use Rattle.std.specs.Prelude.{ℕ, ◌+◌, ◌*◌, ◌==◌, not, ◌&&◌, List, reverse, find, Option, is_some}
 use Rattle.sub_base.specs.declared.depth.Depth.{Depth}
 use Rattle.bitmap_font.specs.Font.{FontValue, glyph_of}
 use Rattle.bitmap_font.specs.Setting.{widest_line, line_after}

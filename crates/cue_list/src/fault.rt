@@ -44,8 +44,6 @@ pub enum ScriptKind {
     TooMany,
     #[error("Glyph {}", u32::from(*.0))]
     Glyph(char),
-    #[error("NotYet")]
-    NotYet,
 }
 
 /// Why a script was not read.
@@ -84,7 +82,6 @@ impl ScriptKind {
             ScriptKind::TooLong => "TooLong",
             ScriptKind::TooMany => "TooMany",
             ScriptKind::Glyph(_) => "Glyph",
-            ScriptKind::NotYet => "NotYet",
         }
     }
 }

@@ -1,8 +1,7 @@
 //! Cue scripts: records of CSV that list the epochs, regions, colours, pictures and cues of a programme.
 //!
 //! `Script::read` reads a whole script. Each record is judged by looking back over those before it; the first wrong one is
-//! refused by the first of its tests that fails. `read_one_cue` reads scripts of one picture that is shown over the whole
-//! display.
+//! refused by the first of its tests that fails. `picture_at` draws what a script shows at a tick.
 #![tactic(auto)]
 
 mod cells;
@@ -13,7 +12,6 @@ mod fault;
 mod items;
 mod kind_rows;
 mod names;
-mod one_cue;
 mod painting;
 mod picture_rows;
 mod read;
@@ -33,11 +31,8 @@ mod ticks;
 pub use epoch::{ColourRow, Cue, Epoch, Region};
 pub use fault::{ScriptFault, ScriptKind};
 pub use items::Items;
-pub use one_cue::{OneCue, read_one_cue};
 pub use painting::picture_at;
 pub use script::Script;
 
 #[cfg(test)]
 mod read_tests;
-#[cfg(test)]
-mod tests;

@@ -1,4 +1,4 @@
-ghost use Rattle.std.specs.Prelude.{◌≡◌, ◌∷◌, [], if◌then◌else◌, IfOk, OnOk, map, take, true};
+ghost use Rattle.std.specs.Prelude.{◌≡◌, ◌∷◌, [], if◌then◌else◌, IfOk, true};
 ghost use Rattle.csv.specs.Records.{fields_of};
 ghost use Rattle.cue_list.specs.Rows.{IsReadable, rows_left, rows_of, unread};
 
@@ -29,20 +29,4 @@ pub(crate) fn next_row(reader: &mut Reader<&[u8]>, row: &mut ByteRecord) -> Resu
         Err(_) => return Err(NoMemory),
     };
     Ok(found)
-}
-
-/// The first records of a text, at most that many.
-pub fn first_rows(alloc: Global, text: &[u8], most: usize) -> Result<Vec<ByteRecord>, NoMemory>
-    ensures { IfOk result (λ rows. map fields_of rows.items ≡ take most (rows_of text.now)) }
-{
-    let mut reader = reader_of(alloc, text);
-    let mut rows = Vec::new(alloc);
-    for _ in 0..most {
-        let mut row = ByteRecord::new(alloc);
-        if !next_row(&mut reader, &mut row)? {
-            return Ok(rows);
-        }
-        rows.push(row)?;
-    }
-    Ok(rows)
 }

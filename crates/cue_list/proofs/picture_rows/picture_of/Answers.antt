@@ -1,4 +1,4 @@
-use Rattle.std.proofs.Common.{◌≡◌, arith}
+use Rattle.std.proofs.Common.{arith}
 use Rattle.cue_list.proofs.HexLaws.{not-refused}
 use Rattle.cue_list.proofs.picture_rows.picture_of.Goals as goal
 

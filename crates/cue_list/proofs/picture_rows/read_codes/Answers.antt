@@ -1,4 +1,4 @@
-use Rattle.std.proofs.Common.{◌≡◌, ◌∙◌, ap, sym, length}
+use Rattle.std.proofs.Common.{◌∙◌, ap, length}
 use Rattle.cue_list.specs.Codes.{codes_of as codes_of_text}
 use Rattle.cue_list.proofs.HexLaws.{codes-read, codes-given, codes-same}
 use Rattle.cue_list.proofs.picture_rows.read_codes.Goals as goal

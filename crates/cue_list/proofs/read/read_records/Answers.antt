@@ -1,4 +1,4 @@
-use Rattle.std.proofs.Common.{◌≡◌, ◌∙◌, ◌+◌, ℕ, sym, ap, subst, Bool, true, false, if◌then◌else◌, List, [], ◌∷◌, None, Some, Result, Err, IfErr, arith}
+use Rattle.std.proofs.Common.{◌≡◌, ◌∙◌, ◌+◌, ℕ, sym, ap, subst, Bool, true, false, if◌then◌else◌, List, [], ◌∷◌, None, Result, Err, IfErr, arith}
 use Rattle.csv.specs.Records.{fields_of}
 use Rattle.cue_list.specs.declared.fault.ScriptFault.{ScriptFault}
 use Rattle.cue_list.specs.declared.fault.ScriptFault.TheVariants.{Refused}

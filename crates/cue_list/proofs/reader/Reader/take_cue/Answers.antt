@@ -1,9 +1,7 @@
-use Rattle.std.proofs.Common.{◌≡◌, ◌∙◌, ◌∷◌, [], ◌++◌, ◌+◌, ap, sym, map, length, false, Some, option_map, arith}
+use Rattle.std.proofs.Common.{◌+◌, map, arith}
 use Rattle.std.proofs.lemmas.Grind.{common_steps}
-use Rattle.std.proofs.lemmas.List.{map-append, length-map}
 use Rattle.csv.specs.Records.{fields_of}
-use Rattle.cue_list.specs.Past.{area}
-use Rattle.cue_list.specs.State.{past_of, head_of, with_cue}
+use Rattle.cue_list.specs.State.{past_of, head_of}
 use Rattle.cue_list.specs.Ticks.{near_by}
 use Rattle.cue_list.proofs.CueLaws.{cue-next}
 use Rattle.cue_list.proofs.reader.Reader.take_cue.Goals as goal

@@ -1,7 +1,5 @@
-use Rattle.std.proofs.Common.{◌≡◌, ◌∙◌, ◌*◌, subst, sym, List, [], arith}
+use Rattle.std.proofs.Common.{◌≡◌, ◌∙◌, ◌*◌, [], arith}
 use Rattle.std.proofs.lemmas.Grind.{common_steps}
-use Rattle.sub_base.specs.Picture.{Picture}
-use Rattle.cue_list.specs.declared.epoch.Epoch.{Epoch}
 use Rattle.cue_list.specs.Past.{with_last}
 use Rattle.cue_list.specs.ScriptRows.{IsScript}
 use Rattle.cue_list.specs.Sound.{IsSound}
