@@ -13,7 +13,8 @@ use std::{env, io};
 use sub_base::{FileSink, FileSource, NoGate, NoMemory, Words};
 
 /// The commands, one a line.
-const COMMANDS: &str = "compile sd PID PAGE SCRIPT none OUT\nlist PID STREAM OUT";
+const COMMANDS: &str =
+    "compile PROFILE PID PAGE SCRIPT FONT OUT\nlist PID STREAM OUT\nexpect SCRIPT FONT OUT TICK...";
 
 /// Why the words of the command line were not read.
 #[derive(Drop)]

@@ -22,7 +22,7 @@ use Rattle.sub_base.specs.declared.load.SetLoad.{SetLoad}
 use Rattle.sub_base.specs.declared.profile.Profile.{Profile}
 use Rattle.sub_base.specs.declared.profile.ProfileName.{ProfileName}
 use Rattle.sub_base.specs.declared.profile.ProfileName.TheVariants.{Sd, Hd, Wide}
-use Rattle.dvbsub_cmd.specs.Compiled.{AreLoads, AreUnits, IsCompiledTo, IsPlanned, IsRowAt, IsScheduleRefused}
+use Rattle.dvbsub_cmd.specs.Compiled.{AreLoads, AreUnits, IsCompiledTo, IsPlanned, IsPlanRefused, IsRowAt, IsScheduleRefused}
 use Rattle.dvbsub_cmd.specs.PieceView.{plain}
 use Rattle.dvbsub_cmd.specs.Sending.{IsAmong, IsRefusal, IsScheduleRefusal, plan_refusal}
 use Rattle.dvbsub_cmd.specs.SlotStream.{all_pieces, slot_count, stream_of}
@@ -124,6 +124,11 @@ schedule_refused name pid page script sets own loads given receiver before now f
         (record { sets = sets; loads = given; planned = planned; cause = cause; row_is = refusal.1 }, keeps)
 
 -- a refusal, by what it is
+pub of_plan : (name : ProfileName) (pid page : ℕ) (script : Script) (before now : Option (List ℕ)) (faults_before faults_now : ℕ) (refused : PlanFault) (answer : SendFault) →
+    answer ≡ fault.Plan refused → IsRefusal name pid page script before now faults_before faults_now answer → IsPlanRefused name script refused × Keeps before now
+of_plan name pid page script before now faults_before faults_now refused answer is refusal =
+    subst (λ (one : SendFault). IsRefusal name pid page script before now faults_before faults_now one) is refusal
+
 pub of_schedule : (name : ProfileName) (pid page : ℕ) (script : Script) (before now : Option (List ℕ)) (faults_before faults_now row : ℕ) (refused : ScheduleFault) (answer : SendFault) →
     answer ≡ fault.Schedule row refused → IsRefusal name pid page script before now faults_before faults_now answer → IsScheduleRefused name script row refused × Keeps before now
 of_schedule name pid page script before now faults_before faults_now row refused answer is refusal =

@@ -19,7 +19,9 @@ pub enum Command {
         has_font: bool,
     },
     /// Lists the losses, units and segments of that PID in a stream.
-    List { pid: u16 },
+    List {
+        pid: u16,
+    },
     /// Writes the authored pictures of a script at the ticks that are asked for.
     Expect {
         has_font: bool,

@@ -58,20 +58,21 @@ pub(crate) fn words_of(alloc: Global, line: &str) -> Result<Words, Fail> {
     Ok(words)
 }
 
-/// Runs the command over the script, whose source fails at the read with the number `bad_read`, with a sink that fails at
-/// the write with the number `bad_write`, and notes that fail at the write with the number `bad_note`.
+/// Runs the command over the script and the font. The script's source fails at the read with the number `bad_read`, the
+/// output at the write with the number `bad_write`, and the notes at the write with the number `bad_note`.
 fn run_failing<R: Threads + Sync>(
     rt: &R,
     alloc: Global,
     line: &str,
-    script: &str,
+    [script, font]: [&str; 2],
     fails: [u64; 3],
 ) -> Result<Outcome, Fail> {
     let words = words_of(alloc, line)?;
     let [bad_read, bad_write, bad_note] = fails;
     let text = Vec::from_slice(alloc, script.as_bytes())?;
     let mut first = MemSource::make(alloc, text, 7, vec![in alloc; bad_read]?);
-    let mut second = MemSource::make(alloc, Vec::new(alloc), 1, vec![in alloc; 1u64]?);
+    let letters = Vec::from_slice(alloc, font.as_bytes())?;
+    let mut second = MemSource::make(alloc, letters, 1, vec![in alloc; 0u64]?);
     let mut out = MemSink::make(alloc, vec![in alloc; bad_write]?);
     let mut notes = MemSink::make(alloc, vec![in alloc; bad_note]?);
     let status = top(
@@ -93,7 +94,7 @@ fn run<R: Threads + Sync>(
     line: &str,
     script: &str,
 ) -> Result<Outcome, Fail> {
-    run_failing(rt, alloc, line, script, [0, 0, 0])
+    run_failing(rt, alloc, line, [script, ""], [0, 0, 0])
 }
 
 const COMPILE: &str = "compile sd 256 1 script.csv none out.ts";
@@ -160,6 +161,9 @@ fn other_words_are_answered_with_the_usage(rt: HostRuntime) -> Result<(), Fail> 
         "list 0256 in.ts out.txt",
         "list 256 in.ts",
         "list 256 in.ts out.txt more",
+        "expect script.csv none out.txt",
+        "expect script.csv none out.txt 90000 90000",
+        "expect script.csv none out.txt 8589934592",
     ];
     for line in lines {
         let refused = run(&rt, rt.alloc(), line, FIRST_SCRIPT)?;
@@ -172,33 +176,75 @@ fn other_words_are_answered_with_the_usage(rt: HostRuntime) -> Result<(), Fail> 
 
 #[test]
 fn other_scripts_are_refused(rt: HostRuntime) -> Result<(), Fail> {
-    for script in ["", SCRIPT_TOO_DEEP] {
-        let refused = run(&rt, rt.alloc(), COMPILE, script)?;
-        assert_eq!(rt;
-            refused.status,
-            Status::ScriptRefused(ScriptFault::Refused {
-                row: 1,
-                kind: ScriptKind::NotYet
-            })
-        );
-        assert_eq!(rt; refused.notes.written(), b"script 1 NotYet\n".as_slice());
-        assert!(rt; refused.out.written().is_empty());
-    }
+    let refused = run(&rt, rt.alloc(), COMPILE, SCRIPT_TOO_DEEP)?;
+    assert_eq!(rt;
+        refused.status,
+        Status::ScriptRefused(ScriptFault::Refused {
+            row: 7,
+            kind: ScriptKind::CodeRange
+        })
+    );
+    assert_eq!(rt; refused.notes.written(), b"script 7 CodeRange\n".as_slice());
+    assert!(rt; refused.out.written().is_empty());
     Ok(())
 }
 
 #[test]
 fn sources_and_sinks_that_fail_are_told(rt: HostRuntime) -> Result<(), Fail> {
-    let unread = run_failing(&rt, rt.alloc(), COMPILE, FIRST_SCRIPT, [2, 0, 0])?;
+    let unread = run_failing(&rt, rt.alloc(), COMPILE, [FIRST_SCRIPT, ""], [2, 0, 0])?;
     assert_eq!(rt; unread.status, Status::ReadFault(Which::First));
     assert_eq!(rt; unread.notes.written(), b"read first\n".as_slice());
     assert!(rt; unread.out.written().is_empty());
-    let unwritten = run_failing(&rt, rt.alloc(), COMPILE, FIRST_SCRIPT, [0, 1, 0])?;
+    let unwritten = run_failing(&rt, rt.alloc(), COMPILE, [FIRST_SCRIPT, ""], [0, 1, 0])?;
     assert_eq!(rt; unwritten.status, Status::WriteFault(Which::Out));
     assert_eq!(rt; unwritten.notes.written(), b"write out\n".as_slice());
     assert!(rt; unwritten.out.written().is_empty());
-    let untold = run_failing(&rt, rt.alloc(), COMPILE, FIRST_SCRIPT, [0, 0, 1])?;
+    let untold = run_failing(&rt, rt.alloc(), COMPILE, [FIRST_SCRIPT, ""], [0, 0, 1])?;
     assert_eq!(rt; untold.status, Status::WriteFault(Which::Notes));
     assert_eq!(rt; untold.out.written().len(), 376);
+    Ok(())
+}
+
+/// A font of one letter, which another program has drawn too.
+const FONT: &str =
+    "STARTFONT 2.1\nFONTBOUNDINGBOX 3 4 0 -1\nSTARTCHAR A\nENCODING 65\nDWIDTH 3 0\nBBX 2 3 0 0\nBITMAP\n40\nC0\n40\nENDCHAR\nENDFONT\n";
+
+/// A cue of two lines in that font.
+const SCRIPT_OF_TEXT: &str =
+    "origin,0\ndisplay,20,8\nrefresh,5\nepoch,90000\nregion,0,0,0,20,8,4,0\ncue,90000,180000,0,0,0,1,0,\"A\nAA\"\n";
+
+/// What is shown while the cue stands, and after it.
+const PICTURES_OF_TEXT: &str =
+    "picture 90000 20 8\n1*000000FF 1*51F05A00 18*000000FF\n2*51F05A00 18*000000FF\n1*000000FF 1*51F05A00 18*000000FF\n20*000000FF\n1*000000FF 1*51F05A00 2*000000FF 1*51F05A00 15*000000FF\n2*51F05A00 1*000000FF 2*51F05A00 15*000000FF\n1*000000FF 1*51F05A00 2*000000FF 1*51F05A00 15*000000FF\n20*000000FF\npicture 180000 clear\n";
+
+const EXPECT: &str = "expect script.csv font.bdf out.txt 90000 180000";
+
+#[test]
+fn a_cue_of_text_is_shown_in_its_font(rt: HostRuntime) -> Result<(), Fail> {
+    let shown = run_failing(&rt, rt.alloc(), EXPECT, [SCRIPT_OF_TEXT, FONT], [0, 0, 0])?;
+    assert_eq!(rt; shown.status, Status::Done { cut: 0 });
+    assert_eq!(rt; shown.notes.written(), b"done\n".as_slice());
+    assert_eq!(rt; shown.out.written(), PICTURES_OF_TEXT.as_bytes());
+    Ok(())
+}
+
+#[test]
+fn a_letter_that_a_font_has_not_is_refused(rt: HostRuntime) -> Result<(), Fail> {
+    let line = "expect script.csv none out.txt 90000";
+    let refused = run(&rt, rt.alloc(), line, SCRIPT_OF_TEXT)?;
+    assert_eq!(rt; refused.notes.written(), b"script 6 Glyph 65\n".as_slice());
+    assert!(rt; refused.out.written().is_empty());
+    Ok(())
+}
+
+#[test]
+fn a_display_that_a_receiver_has_not_is_refused(rt: HostRuntime) -> Result<(), Fail> {
+    let script = "origin,0\ndisplay,721,576\nrefresh,5\nepoch,90000\nregion,0,0,0,8,8,8,0\n";
+    let refused = run(&rt, rt.alloc(), COMPILE, script)?;
+    assert_eq!(rt;
+        refused.notes.written(),
+        b"plan DisplayTooLarge 2\n".as_slice()
+    );
+    assert!(rt; refused.out.written().is_empty());
     Ok(())
 }

@@ -1,11 +1,16 @@
 use Rattle.std.proofs.Common.{refl}
-use Rattle.dvbsub_cmd.proofs.CompileLaws.{of_schedule, of_write}
+use Rattle.dvbsub_cmd.proofs.CompileLaws.{of_plan, of_schedule, of_write}
 use Rattle.dvbsub_cmd.proofs.compile.compile.Goals as goal
 
 pub returns-in-Ok-send-clause-cause : goal.returns-in-Ok-send-clause-cause
 returns-in-Ok-send-clause-cause g c =
     let sent = c.in-Ok-send.ensures.sent in
     (sent.0, record { script = c.in-Ok.script; reads = c.in-Ok.ensures.reads; compiled = sent.1 }, sent.2, refl)
+
+pub returns-in-Err-Plan-clause-cause : goal.returns-in-Err-Plan-clause-cause
+returns-in-Err-Plan-clause-cause g c =
+    let refused = of_plan c.args.profile c.args.pid c.args.page c.in-Ok.script _ _ _ _ c.in-Err-Plan.fault c.in-Err-Plan.field-0 c.in-Err-Plan.field-0-is c.in-Err-Plan.ensures.refused in
+    (c.in-Ok.script, c.in-Ok.ensures.reads, refused.0, refused.1)
 
 pub returns-in-Err-Schedule-clause-cause : goal.returns-in-Err-Schedule-clause-cause
 returns-in-Err-Schedule-clause-cause g c =

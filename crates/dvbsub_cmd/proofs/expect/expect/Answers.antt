@@ -9,8 +9,7 @@ returns-then-has_failed-clause-cause g c =
 
 pub returns-clause-cause : goal.returns-clause-cause
 returns-clause-cause g c =
-    let well = sym c.has_failed.ensures ∙ c.if-has_failed.false in
-    (
+    let well = sym c.has_failed.ensures ∙ c.if-has_failed.false in (
       _,
       record { script = c.in-Ok.script; reads = c.in-Ok.ensures.reads; whole = refl },
       written_whole _ _ _ c.in-Ok-make.buffer c.put_pictures.new.buffer c.flush.new.buffer _ c.in-Ok-make.ensures c.put_pictures.ensures c.flush.ensures.puts well (c.flush.ensures.empty well),

@@ -23,13 +23,12 @@ unit_of-requires-clause-size c =
 pub loop-place-preserved : goal.loop-place-preserved
 loop-place-preserved c =
     let within : c.loop-place.place < length c.args.loads.now = omega (arith, AllZip-length (IsSetLoad c.args.script.now) c.args.sets.now c.args.loads.now c.requires.loads) in
-    let unit = c.in_ok-unit_of.field-0 in
-    (
+    let unit = c.in_ok-unit_of.field-0 in (
       AllZip-step (IsSetPacket c.args.script.now c.args.page) c.args.sets.now c.loop-place.units.items c.push.new.self.items c.loop-place.place c.index-sets-place.result unit c.loop-place-test.true
           c.loop-place.invariant.0 c.index-sets-place.is c.in_ok-push.ensures.items c.in_ok-unit_of.ensures.packet,
       subst (AreSizedAs (take (c.loop-place.place + 1) c.args.loads.now)) (sym c.in_ok-push.ensures.items)
-      (AllZip-more (λ (load : SetLoad) (one : List ℕ). length one ≡ load.size) c.args.loads.now c.loop-place.units.items c.loop-place.place no_load unit within
-      c.loop-place.invariant.1 c.in_ok-unit_of.ensures.size),
+          (AllZip-more (λ (load : SetLoad) (one : List ℕ). length one ≡ load.size) c.args.loads.now c.loop-place.units.items c.loop-place.place no_load unit within
+          c.loop-place.invariant.1 c.in_ok-unit_of.ensures.size),
     )
 
 pub returns-clause-sizes : goal.returns-clause-sizes
