@@ -1,0 +1,13 @@
+mod UsualEncoder
+pub mod Searches
+pub mod DrawnLines
+pub mod DrawnPictures
+pub mod Depths
+pub mod Planes
+pub mod Views
+pub mod SoleCue
+pub mod SoleCueView
+pub mod FieldFrames
+pub mod SentSets
+pub mod SentUnits
+pub mod AfterLoss

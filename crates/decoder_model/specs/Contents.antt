@@ -1,0 +1,126 @@
+-- The contents of the segments of a display set, by kind (EN 300 743, clause 7.2), and searches in lists of them.
+use Rattle.std.specs.Prelude.{ℕ, ◌==◌, Bool, if◌then◌else◌, List, [], ◌∷◌, ◌++◌, filter, filter_map, Option, Some, None, option_and_then}
+use Rattle.std.specs.List.{list_any}
+use Rattle.std.specs.Option.{is_some, option_or}
+use Rattle.stream_syntax.specs.Segments.{SegmentValue, of_page, of_region, of_clut, of_object, of_display, end_of_set, passed_over, Page, Region, Clut, Object, Display, state_number}
+use Rattle.stream_syntax.specs.declared.page.State.{State}
+use Rattle.decoder_model.specs.Readings.{Content}
+
+-- ---- the kinds
+
+abbrev pub page_in : SegmentValue → Option Page
+page_in (of_page value) = Some value
+page_in (of_region value) = None
+page_in (of_clut value) = None
+page_in (of_object value) = None
+page_in (of_display value) = None
+page_in end_of_set = None
+page_in passed_over = None
+
+abbrev pub region_in : SegmentValue → Option Region
+region_in (of_page value) = None
+region_in (of_region value) = Some value
+region_in (of_clut value) = None
+region_in (of_object value) = None
+region_in (of_display value) = None
+region_in end_of_set = None
+region_in passed_over = None
+
+abbrev pub clut_in : SegmentValue → Option Clut
+clut_in (of_page value) = None
+clut_in (of_region value) = None
+clut_in (of_clut value) = Some value
+clut_in (of_object value) = None
+clut_in (of_display value) = None
+clut_in end_of_set = None
+clut_in passed_over = None
+
+abbrev pub object_in : SegmentValue → Option Object
+object_in (of_page value) = None
+object_in (of_region value) = None
+object_in (of_clut value) = None
+object_in (of_object value) = Some value
+object_in (of_display value) = None
+object_in end_of_set = None
+object_in passed_over = None
+
+abbrev pub display_in : SegmentValue → Option Display
+display_in (of_page value) = None
+display_in (of_region value) = None
+display_in (of_clut value) = None
+display_in (of_object value) = None
+display_in (of_display value) = Some value
+display_in end_of_set = None
+display_in passed_over = None
+
+abbrev pub page_of : Content → Option Page
+page_of content = page_in content.value
+
+abbrev pub region_of : Content → Option Region
+region_of content = region_in content.value
+
+abbrev pub clut_of : Content → Option Clut
+clut_of content = clut_in content.value
+
+abbrev pub object_of : Content → Option Object
+object_of content = object_in content.value
+
+abbrev pub display_of : Content → Option Display
+display_of content = display_in content.value
+
+-- ---- those with an id
+
+-- the value, where it passes a test
+abbrev pub where_passes : {X : Type 0} → (X → Bool) → Option X → Option X
+where_passes test found = option_and_then (λ x. if test x then Some x else None) found
+
+abbrev pub region_named : ℕ → Content → Option Region
+region_named id content = where_passes (λ region. region.head.region == id) (region_of content)
+
+abbrev pub clut_named : ℕ → Content → Option Clut
+clut_named id content = where_passes (λ clut. clut.clut == id) (clut_of content)
+
+abbrev pub object_named : ℕ → Content → Option Object
+object_named id content = where_passes (λ object. object.object == id) (object_of content)
+
+-- ---- searches
+
+-- what f gives first in a list
+abbrev pub first_given : {X Y : Type 0} → (X → Option Y) → List X → Option Y
+first_given f [] = None
+first_given f (x ∷ xs) = option_or (f x) (first_given f xs)
+
+-- what f gives last in a list
+abbrev pub last_given : {X Y : Type 0} → (X → Option Y) → List X → Option Y
+last_given f [] = None
+last_given f (x ∷ xs) = option_or (last_given f xs) (f x)
+
+-- the items of a list that differ from all later ones: how many there are is how many different ones the list has
+abbrev pub different : {X : Type 0} → (X → X → Bool) → List X → List X
+different same [] = []
+different same (x ∷ xs) = if list_any (same x) xs then different same xs else x ∷ different same xs
+
+-- each item of a list, with those before it, the latest first, and then older ones
+abbrev pub with_earlier : {X : Type 0} → List X → List X → List (X × List X)
+with_earlier older [] = []
+with_earlier older (x ∷ xs) = (x, older) ∷ with_earlier (x ∷ older) xs
+
+-- ---- the page of a set
+
+-- the page of a set
+abbrev pub page_in_set : List Content → Option Page
+page_in_set set = first_given page_of set
+
+-- the set has a page of this state (7.2.2, page_state)
+abbrev pub has_state : State → List Content → Bool
+has_state state set = list_any (λ (page : Page). state_number page.state == state_number state) (filter_map page_of set)
+
+-- the segments of a set in the order in which they are handled: display, page, regions, CLUTs, objects, each kind as it
+-- stands
+abbrev pub in_order : List Content → List Content
+in_order set =
+    filter (λ content. is_some (display_of content)) set
+    ++ (filter (λ content. is_some (page_of content)) set
+    ++ (filter (λ content. is_some (region_of content)) set
+    ++ (filter (λ content. is_some (clut_of content)) set
+    ++ filter (λ content. is_some (object_of content)) set)))

@@ -1,0 +1,14 @@
+pub mod Frames
+pub mod Sets
+pub mod Readings
+pub mod Contents
+pub mod Taken
+pub mod Pixels
+pub mod Ink
+pub mod Nodes
+pub mod Kept
+pub mod Faults
+pub mod Verdict
+pub mod Free
+pub mod Shown
+pub mod Streams

@@ -1,0 +1,83 @@
+-- What the regions of an epoch need: bytes in the pixel buffer and nodes in the composition memory (EN 300 743, clause 5.2).
+-- Taken segments stand in a list, the latest first.
+use Rattle.std.specs.Prelude.{ℕ, ◌+◌, ◌*◌, ◌/◌, ◌==◌, ◌&&◌, Bool, nat_lt, if◌then◌else◌, List, [], ◌∷◌, length, map, flat_map, filter_map, sum_by, Option, Some, None}
+use Rattle.sub_base.specs.Depth as depths
+use Rattle.sub_base.specs.declared.depth.Depth.{Depth}
+use Rattle.sub_base.specs.declared.depth.Depth.TheVariants.{Two, Four, Eight}
+use Rattle.stream_syntax.specs.Segments.{Page, Region, Clut}
+use Rattle.stream_syntax.specs.declared.clut.ClutEntry.{ClutEntry}
+use Rattle.stream_syntax.specs.declared.region.RegionHead.{RegionHead}
+use Rattle.decoder_model.specs.Contents.{region_of, clut_of, different}
+use Rattle.decoder_model.specs.Ink.{is_in_table}
+use Rattle.decoder_model.specs.Readings.{Content}
+use Rattle.decoder_model.specs.Taken.{last_region}
+
+abbrev pub is_same : ℕ → ℕ → Bool
+is_same a b = a == b
+
+-- ---- regions and their pixels
+
+abbrev pub region_id : Region → ℕ
+region_id region = region.head.region
+
+-- the ids of the regions that segments define, each once
+unfoldable pub region_ids : List Content → List ℕ
+region_ids segments = different is_same (map region_id (filter_map region_of segments))
+
+-- the bytes of a region's pixels: each row in started bytes
+abbrev pub pixel_bytes : RegionHead → ℕ
+pixel_bytes head = (head.width * depths.bits_of head.depth + 7) / 8 * head.height
+
+abbrev pub bytes_of_region : Option Region → ℕ
+bytes_of_region None = 0
+bytes_of_region (Some region) = pixel_bytes region.head
+
+-- the bytes of all regions, each by its last segment
+abbrev pub pixels_used : List Content → ℕ
+pixels_used taken = sum_by (λ id. bytes_of_region (last_region id taken)) (region_ids taken)
+
+-- ---- nodes
+
+abbrev pub clut_id : Clut → ℕ
+clut_id clut = clut.clut
+
+-- the ids of the CLUTs that segments define, each once
+unfoldable pub clut_ids : List Content → List ℕ
+clut_ids segments = different is_same (map clut_id (filter_map clut_of segments))
+
+-- an entry of a table of a CLUT
+pub record TableEntry : Type 0 where
+  pub clut : ℕ
+  pub depth : Depth
+  pub entry : ℕ
+
+abbrev pub is_same_entry : TableEntry → TableEntry → Bool
+is_same_entry a b = (a.clut == b.clut) && ((depths.bits_of a.depth == depths.bits_of b.depth) && (a.entry == b.entry))
+
+-- an entry of a CLUT segment in the table of a depth, where it is flagged for the table and the table has it
+abbrev pub in_table : ℕ → ClutEntry → Depth → Option TableEntry
+in_table clut entry depth =
+    if is_in_table depth entry && nat_lt entry.entry (depths.code_count depth) then Some (record { clut = clut; depth = depth; entry = entry.entry }) else None
+
+abbrev pub in_tables : ℕ → ClutEntry → List TableEntry
+in_tables clut entry = filter_map (in_table clut entry) (Two ∷ Four ∷ Eight ∷ [])
+
+abbrev pub entries_of_clut : Clut → List TableEntry
+entries_of_clut clut = flat_map (in_tables clut.clut) clut.entries
+
+-- the entries of tables that segments set, each once
+unfoldable pub table_entries : List Content → List TableEntry
+table_entries segments = different is_same_entry (flat_map entries_of_clut (filter_map clut_of segments))
+
+abbrev pub listing_count : Option Region → ℕ
+listing_count None = 0
+listing_count (Some region) = length region.listings
+
+-- how many listings the regions have, each by its last segment
+abbrev pub listings_held : List Content → ℕ
+listings_held taken = sum_by (λ id. listing_count (last_region id taken)) (region_ids taken)
+
+-- the nodes of a composition: one for each entry of the page, region, listing, CLUT, and entry that is set in a table
+abbrev pub nodes_of : List Content → Page → ℕ
+nodes_of taken page =
+    length page.entries + length (region_ids taken) + listings_held taken + length (clut_ids taken) + length (table_entries taken)

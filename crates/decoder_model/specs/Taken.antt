@@ -1,0 +1,51 @@
+-- Which region and CLUT segments of an epoch are taken (EN 300 743, clauses 7.2.3 and 7.2.4, version numbers). The segments
+-- of an epoch stand in a list, the latest first.
+use Rattle.std.specs.Prelude.{ℕ, ◌==◌, Bool, true, not, if◌then◌else◌, List, [], ◌∷◌, flat_map, reverse, Option, Some, None}
+use Rattle.stream_syntax.specs.Segments.{SegmentValue, of_page, of_region, of_clut, of_object, of_display, end_of_set, passed_over, Region, Clut, Display}
+use Rattle.decoder_model.specs.Contents.{region_named, clut_named, display_of, first_given, in_order}
+use Rattle.decoder_model.specs.Readings.{Content}
+
+-- the segments of sets, the latest set first and in each the latest segment first
+unfoldable pub segments_of : List (List Content) → List Content
+segments_of sets = flat_map (λ set. reverse (in_order set)) sets
+
+-- the last region segment of that id
+abbrev pub last_region : ℕ → List Content → Option Region
+last_region id segments = first_given (region_named id) segments
+
+-- the last CLUT segment of that id
+abbrev pub last_clut : ℕ → List Content → Option Clut
+last_clut id segments = first_given (clut_named id) segments
+
+-- the last display definition
+abbrev pub last_display : List Content → Option Display
+last_display segments = first_given display_of segments
+
+-- no version is there, or another one
+abbrev pub has_new_version : ℕ → Option ℕ → Bool
+has_new_version version None = true
+has_new_version version (Some last) = not (last == version)
+
+abbrev pub region_version : Option Region → Option ℕ
+region_version None = None
+region_version (Some region) = Some region.head.version
+
+abbrev pub clut_version : Option Clut → Option ℕ
+clut_version None = None
+clut_version (Some clut) = Some clut.version
+
+-- behind earlier segments a region or CLUT segment is taken where it is the first of its id, or the last one of its id has
+-- another version; all other segments are taken
+abbrev pub is_taken : List Content → SegmentValue → Bool
+is_taken earlier (of_region value) = has_new_version value.head.version (region_version (last_region value.head.region earlier))
+is_taken earlier (of_clut value) = has_new_version value.version (clut_version (last_clut value.clut earlier))
+is_taken earlier (of_page value) = true
+is_taken earlier (of_object value) = true
+is_taken earlier (of_display value) = true
+is_taken earlier end_of_set = true
+is_taken earlier passed_over = true
+
+-- the taken segments among those of an epoch, the latest first
+unfoldable pub taken_of : List Content → List Content
+taken_of [] = []
+taken_of (segment ∷ earlier) = if is_taken earlier segment.value then segment ∷ taken_of earlier else taken_of earlier

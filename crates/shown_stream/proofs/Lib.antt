@@ -1,0 +1,12 @@
+pub mod LaidPackets
+pub mod SentPieces
+pub mod SentStream
+pub mod DrawnObject
+pub mod WrittenSets
+pub mod BlockSizes
+pub mod RisingSlots
+pub mod LateEntry
+pub mod LateStream
+pub mod LateSets
+pub mod OneReading
+pub mod OneView
