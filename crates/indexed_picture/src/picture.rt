@@ -187,17 +187,6 @@ fn paint_row(codes: &mut [u8], start: usize, row: &[u8], see_through: bool)
 fn first_outside(depth: Depth, codes: &[u8]) -> Option<usize>
     ensures { MatchOption result (All (λ code. code < code_count depth) codes.now) (λ place. IsFirstOutside depth codes.now place) }
 {
-    let count = code_count(depth);
+    let count = depth.code_count();
     codes.iter().position(|code| u16::from(*code) >= count)
-}
-
-// How many codes there are.
-fn code_count(depth: Depth) -> u16
-    ensures { result ≡ code_count depth }
-{
-    match depth {
-        Depth::Two => 4,
-        Depth::Four => 16,
-        Depth::Eight => 256,
-    }
 }

@@ -2,6 +2,7 @@
 //! a command line, and the sources and sinks through which bytes come and go.
 #![tactic(auto)]
 
+mod buffer;
 mod colour;
 mod depth;
 mod faults;
@@ -14,6 +15,7 @@ mod profile;
 mod transfer;
 mod words;
 
+pub use buffer::zeros;
 pub use colour::{CLEAR, Colour, default_colour};
 pub use depth::Depth;
 pub use faults::{NoMemory, ReadAllFault, ReadFailed, WriteFailed};

@@ -1,11 +1,12 @@
-ghost use Rattle.std.specs.Prelude.{◌≡◌, ℕ, ◌+◌, ◌<◌, ◌≤◌, List, Option, length, take, Result, OnOk, OnErr, IfOk, IsErrOf, MatchResult, vec_len};
+ghost use Rattle.std.specs.Prelude.{◌≡◌, ℕ, ◌+◌, ◌<◌, ◌≤◌, List, Option, length, take, Result, OnOk, OnErr, IfOk, IsErrOf, MatchResult};
 ghost use Rattle.std.specs.Io.{ReadsAtMost, WritesAtMost};
 ghost use Rattle.std.specs.Io.KnownBytes.{ReadConsumes, WriteAppends, Appends, Consumes, IsAtEnd};
 ghost use Rattle.sub_base.specs.Counts.{HasRisen, HasRisenPast, CountsOnOk, counted};
 ghost use Rattle.sub_base.specs.Transfer.{AppendsFront, ConsumesFront};
 
+use crate::buffer::zeros;
 use crate::faults::{ReadAllFault, ReadFailed, WriteFailed};
-use std::alloc::{AllocError, Global};
+use std::alloc::Global;
 
 /// Where bytes come from: a file, or memory.
 ///
@@ -96,11 +97,4 @@ pub fn read_all<A: Source>(
         }
         bytes.extend_from_slice(&buffer[..count])?;
     }
-}
-
-/// A buffer of that many bytes.
-fn zeros(alloc: Global, size: usize) -> Result<Vec<u8>, AllocError>
-    ensures { IfOk result (λ buffer. vec_len buffer ≡ size) }
-{
-    vec![in alloc; 0u8; size]
 }
