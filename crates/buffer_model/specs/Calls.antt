@@ -1,12 +1,10 @@
 -- The bytes in the coded data buffer of a receiver, as sums over all that happened, the latest first.
-use Rattle.std.specs.Prelude.{◌≡◌, ℕ, ◌+◌, ◌-◌, ◌*◌, max, nat_le, nat_lt, if◌then◌else◌, List, [], ◌∷◌, Option, Some, None, unwrap_or, IsSome}
+use Rattle.std.specs.Prelude.{ℕ, ◌+◌, ◌-◌, max, nat_le, nat_lt, if◌then◌else◌, List, [], ◌∷◌, Option, Some, None, unwrap_or}
 use Rattle.sub_base.specs.declared.load.SetLoad.{SetLoad}
-use Rattle.sub_base.specs.declared.profile.Profile.{Profile}
-use Rattle.sub_base.specs.declared.profile.ProfileName.{ProfileName}
-use Rattle.sub_base.specs.Profile.{profile_of}
 use Rattle.buffer_model.specs.declared.breach.Breach.{Breach}
 use Rattle.buffer_model.specs.declared.breach.Breach.TheVariants.{Coded, Late}
-use Rattle.buffer_model.specs.declared.pace.Pace.{Pace}
+use Rattle.sub_base.specs.declared.pace.Pace.{Pace}
+use Rattle.sub_base.specs.Pace.{tick_of}
 
 -- what happens at a receiver: a packet arrives in a slot with that many bytes, the bytes since the last set or drop are
 -- a whole set, or they are dropped
@@ -14,18 +12,6 @@ pub data Call : Type 0 where
   Arrived : ℕ → ℕ → Call
   SetWhole : SetLoad → Call
   Dropped : Call
-
--- one of the profiles, and one with a step: packets are sent in it
-abbrev pub IsSending : Profile → Type 0
-IsSending profile = ((name : ProfileName) × (profile ≡ profile_of name)) × IsSome profile.step
-
--- packets sent from the origin on, one at most at each step of the profile
-abbrev pub pace_of : ℕ → Profile → Pace
-pace_of origin profile = record { origin = origin; step = unwrap_or profile.step 0; coded = profile.coded }
-
--- the tick of a slot
-abbrev pub tick_of : Pace → ℕ → ℕ
-tick_of pace slot = pace.origin + slot * pace.step
 
 -- the slot of the last packet, and 0 before the first
 abbrev pub last_slot : List Call → ℕ

@@ -1,9 +1,10 @@
 -- What a meter of levels has to do with what happened.
 use Rattle.std.specs.Prelude.{◌≡◌, ℕ, ◌+◌, ◌^◌, ◌<◌, ◌≤◌, nat_le, if◌then◌else◌, List, Option, None, sum_by, All}
 use Rattle.buffer_model.specs.declared.breach.Breach.{Breach}
-use Rattle.buffer_model.specs.declared.pace.Pace.{Pace}
+use Rattle.sub_base.specs.declared.pace.Pace.{Pace}
 use Rattle.buffer_model.specs.declared.waiting.Waiting.{Waiting}
-use Rattle.buffer_model.specs.Calls.{Call, tick_of, last_slot, last_shown, unassigned, arrived, left, breaching, greatest, first_breach_of}
+use Rattle.sub_base.specs.Pace.{tick_of, IsSound}
+use Rattle.buffer_model.specs.Calls.{Call, last_slot, last_shown, unassigned, arrived, left, breaching, greatest, first_breach_of}
 
 -- what a meter keeps: the sets that may wait in the buffer, the bytes that arrived since the last set or drop, the slot
 -- of the last packet and the first one that may come, when the last set is shown, the greatest level, the level over
@@ -26,12 +27,6 @@ held_of tick set = if nat_le set.done tick then 0 else set.bytes
 -- the bytes of the sets that are not done by a tick
 abbrev pub held : ℕ → List Waiting → ℕ
 held tick sets = sum_by (held_of tick) sets
-
--- the numbers of a profile with a step, and an origin below 2^62
-pub record IsSound (pace : Pace) : Type 0 where
-  pub step : (360 ≤ pace.step) × (pace.step ≤ 705)
-  pub coded : pace.coded ≤ 61440
-  pub origin : pace.origin < 2 ^ 62
 
 -- what waits fits the buffer
 pub record IsMeter (meter : Meter) : Type 0 where

@@ -1,13 +1,13 @@
 ghost use Rattle.std.specs.Prelude.{◌≡◌, ℕ, ◌+◌, ◌^◌, ◌<◌, ◌≤◌, List, [], ◌∷◌, IfOk, unwrap_or};
-ghost use Rattle.buffer_model.specs.Calls.{Call, Arrived, SetWhole, Dropped, IsSending, pace_of, done_of, measured, greatest, first_breach_of};
-ghost use Rattle.buffer_model.specs.Meters.{Stands, IsSound};
+ghost use Rattle.sub_base.specs.Pace.{pace_of, IsSending, IsSound};
+ghost use Rattle.buffer_model.specs.Calls.{Call, Arrived, SetWhole, Dropped, done_of, measured, greatest, first_breach_of};
+ghost use Rattle.buffer_model.specs.Meters.{Stands};
 
 use crate::breach::Breach;
-use crate::pace::Pace;
 use crate::waiting::{Waiting, held, hold};
 use std::alloc::Global;
 use std::marker::Model;
-use sub_base::{NoMemory, Profile, SetLoad};
+use sub_base::{NoMemory, Pace, Profile, SetLoad};
 
 /// A meter of the coded data buffer: it is told which packets arrive and what becomes of their bytes.
 #[derive(Drop)]
@@ -48,7 +48,7 @@ impl Levels {
         ensures next { IfOk result (λ meter. meter.next ≡ 0) }
     {
         Ok(Levels {
-            pace: pace_for(origin, profile),
+            pace: Pace::of(origin, profile),
             waiting: Vec::with_capacity(alloc, MOST_WAITING)?,
             pending: 0,
             last: 0,
@@ -136,19 +136,5 @@ impl Levels {
         ensures { (past : List Call) → Stands past self.now → result ≡ first_breach_of self.now.pace past }
     {
         self.breach
-    }
-}
-
-/// How a profile with a step sends from the origin on.
-fn pace_for(origin: u64, profile: &Profile) -> Pace
-    requires profile { IsSending profile.now }
-    requires origin { origin < 2 ^ 62 }
-    ensures value { result ≡ pace_of origin profile.now }
-    ensures sound { IsSound result }
-{
-    Pace {
-        origin,
-        step: profile.step.unwrap(),
-        coded: profile.coded,
     }
 }

@@ -4,7 +4,6 @@
 
 mod breach;
 mod levels;
-mod pace;
 mod waiting;
 
 pub use breach::Breach;

@@ -10,10 +10,11 @@ use Rattle.page_epoch.specs.declared.fault.PlanFault.TheVariants as plan
 use Rattle.page_epoch.specs.declared.planned_set.PlannedSet.{PlannedSet}
 use Rattle.schedule.specs.Packets.{first_packet, load_of, size_of, no_load}
 use Rattle.schedule.specs.Refusals.{IsCause}
-use Rattle.schedule.specs.Slots.{Timetable, IsSchedule, IsOnTime, pace_of}
+use Rattle.sub_base.specs.Pace.{pace_of}
+use Rattle.schedule.specs.Slots.{Timetable, IsSchedule, IsOnTime}
 use Rattle.schedule.specs.declared.fault.ScheduleFault.{ScheduleFault}
 use Rattle.schedule.specs.declared.fault.ScheduleFault.TheVariants as schedule
-use Rattle.schedule.specs.declared.pace.Pace.{Pace}
+use Rattle.sub_base.specs.declared.pace.Pace.{Pace}
 use Rattle.set_coder.specs.SetSizes.{IsSetLoad}
 use Rattle.sub_base.specs.Counts.{HasRisen}
 use Rattle.sub_base.specs.Transfer.{AppendsFront}

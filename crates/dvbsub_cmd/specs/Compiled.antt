@@ -8,7 +8,8 @@ use Rattle.page_epoch.specs.declared.fault.PlanFault.{PlanFault}
 use Rattle.page_epoch.specs.declared.fault.PlanFault.TheVariants as plan
 use Rattle.page_epoch.specs.declared.planned_set.PlannedSet.{PlannedSet}
 use Rattle.schedule.specs.Refusals.{IsCause}
-use Rattle.schedule.specs.Slots.{Timetable, IsSchedule, IsOnTime, pace_of}
+use Rattle.sub_base.specs.Pace.{pace_of}
+use Rattle.schedule.specs.Slots.{Timetable, IsSchedule, IsOnTime}
 use Rattle.schedule.specs.declared.fault.ScheduleFault.{ScheduleFault}
 use Rattle.schedule.specs.declared.fault.ScheduleFault.TheVariants as fault
 use Rattle.set_coder.specs.SetSegments.{IsSetPacket}

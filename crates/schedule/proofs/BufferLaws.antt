@@ -5,8 +5,9 @@ use Rattle.std.proofs.lemmas.Bool.{cases_lt}
 use Rattle.std.proofs.lemmas.Bool.Decides.{nat_tests}
 use Rattle.sub_base.specs.declared.load.SetLoad.{SetLoad}
 use Rattle.schedule.specs.Packets.{sum_below, size_of}
-use Rattle.schedule.specs.declared.pace.Pace.{Pace}
-use Rattle.schedule.specs.Slots.{left_of, tick_of}
+use Rattle.sub_base.specs.declared.pace.Pace.{Pace}
+use Rattle.sub_base.specs.Pace.{tick_of}
+use Rattle.schedule.specs.Slots.{left_of}
 use Rattle.schedule.specs.Safe.{AreDone, AreOrdered}
 use Rattle.schedule.proofs.SumLaws.{sum_below-same, sum_below-le, sum_below-ends, sum_below-rises}
 

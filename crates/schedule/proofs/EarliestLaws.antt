@@ -5,13 +5,14 @@ use Rattle.std.specs.List.Sorted.{IsStrictlyIncreasing}
 use Rattle.std.proofs.lemmas.Bool.{cases_lt}
 use Rattle.std.proofs.lemmas.Bool.Decides.{nat_tests}
 use Rattle.sub_base.specs.declared.load.SetLoad.{SetLoad}
-use Rattle.schedule.specs.declared.pace.Pace.{Pace}
+use Rattle.sub_base.specs.declared.pace.Pace.{Pace}
 use Rattle.schedule.specs.declared.fault.ScheduleFault.{ScheduleFault}
 use Rattle.schedule.specs.declared.fault.ScheduleFault.TheVariants.{Memory, CodedFull, Late}
 use Rattle.schedule.specs.Arrivals.{payload_by, arrived_of, IsArrival, IsEarliest, IsHopeless}
 use Rattle.schedule.specs.Packets.{sum_below, size_of, first_packet, packets_of, payload_of, bytes_with}
 use Rattle.schedule.specs.Refusals.{IsCause}
-use Rattle.schedule.specs.Slots.{tick_of, slot_of, left_of, done_of, Timetable, IsSchedule, IsLoad}
+use Rattle.sub_base.specs.Pace.{tick_of}
+use Rattle.schedule.specs.Slots.{slot_of, left_of, done_of, Timetable, IsSchedule, IsLoad}
 use Rattle.schedule.proofs.SumLaws.{sum_below-more, sum_below-zero, sum_below-rises, sum_below-same, sum_below-le, sum_below-ends}
 use Rattle.schedule.proofs.BufferLaws.{tick_of-rises, left_of-no, left_of-most}
 use Rattle.schedule.proofs.SendLaws.{payloads}

@@ -7,12 +7,13 @@ use Rattle.std.proofs.Math.Seq.{get_or-append_seam}
 use Rattle.std.proofs.lemmas.Bool.{cases_lt}
 use Rattle.std.proofs.lemmas.List.Elements.{All-get_or, All-from_get_or}
 use Rattle.sub_base.specs.declared.load.SetLoad.{SetLoad}
-use Rattle.schedule.specs.declared.pace.Pace.{Pace}
+use Rattle.sub_base.specs.declared.pace.Pace.{Pace}
 use Rattle.schedule.specs.declared.place.Search.{Search}
 use Rattle.schedule.specs.Packets.{sum_below, size_of, load_of, no_load, first_packet, packets_of}
-use Rattle.schedule.specs.Slots.{CanStand, tick_of, slot_of, done_of, shown_before, Timetable, IsSchedule, IsOnTime, IsLoad, IsTable}
+use Rattle.sub_base.specs.Pace.{tick_of, IsSound}
+use Rattle.schedule.specs.Slots.{CanStand, slot_of, done_of, shown_before, Timetable, IsSchedule, IsOnTime, IsLoad, IsTable}
 use Rattle.schedule.specs.Refusals.{IsFirstFull, IsFirstLate}
-use Rattle.schedule.specs.Safe.{AreOrdered, IsSound}
+use Rattle.schedule.specs.Safe.{AreOrdered}
 use Rattle.schedule.specs.Search.{HaveStood, Follows, IsBetween}
 use Rattle.schedule.proofs.SumLaws.{sum_below-more, sum_below-rises, sum_below-zero}
 use Rattle.schedule.proofs.BufferLaws.{tick_of-rises}

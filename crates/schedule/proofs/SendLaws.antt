@@ -6,11 +6,12 @@ use Rattle.std.proofs.Math.ListN.{get_or-append}
 use Rattle.std.proofs.Math.Seq.{get_or-append_seam}
 use Rattle.std.proofs.lemmas.Bool.{cases_lt}
 use Rattle.sub_base.specs.declared.load.SetLoad.{SetLoad}
-use Rattle.schedule.specs.declared.pace.Pace.{Pace}
+use Rattle.sub_base.specs.declared.pace.Pace.{Pace}
 use Rattle.schedule.specs.declared.place.Search.{Search}
 use Rattle.schedule.specs.Packets.{sum_below, size_of, load_of, first_packet, packets_of, payload_of, packet_count, bytes_with}
-use Rattle.schedule.specs.Slots.{CanStand, left_of, tick_of, slot_of}
-use Rattle.schedule.specs.Safe.{IsSound, AreDone}
+use Rattle.sub_base.specs.Pace.{tick_of, IsSound}
+use Rattle.schedule.specs.Slots.{CanStand, left_of, slot_of}
+use Rattle.schedule.specs.Safe.{AreDone}
 use Rattle.schedule.specs.Search.{HaveStood, IsBetween}
 use Rattle.schedule.proofs.SumLaws.{sum_below-more, sum_below-suc, sum_below-zero}
 use Rattle.schedule.proofs.BufferLaws.{tick_of-rises, tick_of-max}

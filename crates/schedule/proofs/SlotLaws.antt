@@ -2,9 +2,10 @@
 use Rattle.std.proofs.Common.{◌≡◌, ℕ, ◌+◌, ◌<◌, List, ap, arith, nat_le, if◌then◌else◌}
 use Rattle.std.specs.Prelude.{slice_index}
 use Rattle.sub_base.specs.declared.load.SetLoad.{SetLoad}
-use Rattle.schedule.specs.declared.pace.Pace.{Pace}
+use Rattle.sub_base.specs.declared.pace.Pace.{Pace}
 use Rattle.schedule.specs.Packets.{sum_below, size_of, first_packet}
-use Rattle.schedule.specs.Slots.{CanStand, left_of, tick_of}
+use Rattle.sub_base.specs.Pace.{tick_of}
+use Rattle.schedule.specs.Slots.{CanStand, left_of}
 use Rattle.schedule.proofs.SumLaws.{sum_below-same}
 
 -- what has left the buffer depends on the done ticks of the sets before alone

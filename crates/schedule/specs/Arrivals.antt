@@ -2,11 +2,12 @@
 use Rattle.std.specs.Prelude.{◌≡◌, ℕ, ◌+◌, ◌-◌, ◌<◌, ◌≤◌, nat_le, if◌then◌else◌, List, length, slice_index, ⊤}
 use Rattle.std.specs.List.Sorted.{IsStrictlyIncreasing}
 use Rattle.sub_base.specs.declared.load.SetLoad.{SetLoad}
-use Rattle.schedule.specs.declared.pace.Pace.{Pace}
+use Rattle.sub_base.specs.declared.pace.Pace.{Pace}
 use Rattle.schedule.specs.declared.fault.ScheduleFault.{ScheduleFault}
 use Rattle.schedule.specs.declared.fault.ScheduleFault.TheVariants.{Memory, CodedFull, Late}
 use Rattle.schedule.specs.Packets.{sum_below, load_of, size_of, packets_of, first_packet, payload_of}
-use Rattle.schedule.specs.Slots.{Timetable, tick_of, slot_of, left_of, done_of}
+use Rattle.sub_base.specs.Pace.{tick_of}
+use Rattle.schedule.specs.Slots.{Timetable, slot_of, left_of, done_of}
 
 -- the payload of packet k of set i where its slot is at most this one, and else 0
 abbrev pub payload_by : List SetLoad → List ℕ → ℕ → ℕ → ℕ → ℕ

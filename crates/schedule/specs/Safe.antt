@@ -1,12 +1,5 @@
 -- What the search for one slot relies on.
 use Rattle.std.specs.Prelude.{ℕ, ◌^◌, ◌<◌, ◌≤◌, List, length, slice_index}
-use Rattle.schedule.specs.declared.pace.Pace.{Pace}
-
--- the numbers of a profile with a step, and an origin below 2^62
-pub record IsSound (pace : Pace) : Type 0 where
-  pub step : (360 ≤ pace.step) × (pace.step ≤ 705)
-  pub coded : pace.coded ≤ 61440
-  pub origin : pace.origin < 2 ^ 62
 
 -- done ticks below 2^62 that do not fall
 pub record AreOrdered (dones : List ℕ) : Type 0 where

@@ -1,11 +1,12 @@
 -- Where the search for slots stands between two sets.
 use Rattle.std.specs.Prelude.{◌≡◌, ℕ, ◌+◌, ◌<◌, ◌≤◌, List, length, slice_index}
 use Rattle.sub_base.specs.declared.load.SetLoad.{SetLoad}
-use Rattle.schedule.specs.declared.pace.Pace.{Pace}
+use Rattle.sub_base.specs.declared.pace.Pace.{Pace}
 use Rattle.schedule.specs.declared.place.Search.{Search}
 use Rattle.schedule.specs.Safe.{AreDone}
 use Rattle.schedule.specs.Packets.{sum_below, size_of, first_packet}
-use Rattle.schedule.specs.Slots.{tick_of, slot_of, CanStand}
+use Rattle.sub_base.specs.Pace.{tick_of}
+use Rattle.schedule.specs.Slots.{slot_of, CanStand}
 
 -- a slot is the first one after all of these
 pub record Follows (slots : List ℕ) (slot : ℕ) : Type 0 where

@@ -1,23 +1,9 @@
 -- Slots of packets, the tick at which a set is done, and the bytes in the coded data buffer.
-use Rattle.std.specs.Prelude.{◌≡◌, ℕ, zero, suc, ◌+◌, ◌-◌, ◌*◌, ◌^◌, ◌<◌, ◌≤◌, max, nat_le, if◌then◌else◌, List, length, slice_index, slice_range, unwrap_or, IsSome}
+use Rattle.std.specs.Prelude.{◌≡◌, ℕ, zero, suc, ◌+◌, ◌-◌, ◌^◌, ◌<◌, ◌≤◌, max, nat_le, if◌then◌else◌, List, length, slice_index, slice_range}
 use Rattle.sub_base.specs.declared.load.SetLoad.{SetLoad}
-use Rattle.sub_base.specs.declared.profile.Profile.{Profile}
-use Rattle.sub_base.specs.declared.profile.ProfileName.{ProfileName}
-use Rattle.sub_base.specs.Profile.{profile_of}
-use Rattle.schedule.specs.declared.pace.Pace.{Pace}
+use Rattle.sub_base.specs.declared.pace.Pace.{Pace}
+use Rattle.sub_base.specs.Pace.{tick_of}
 use Rattle.schedule.specs.Packets.{sum_below, load_of, size_of, packets_of, first_packet, bytes_with}
-
--- one of the profiles, and one with a step: packets are sent in it
-abbrev pub IsSending : Profile → Type 0
-IsSending profile = ((name : ProfileName) × (profile ≡ profile_of name)) × IsSome profile.step
-
--- packets sent from the origin on, one at most at each step of the profile
-abbrev pub pace_of : ℕ → Profile → Pace
-pace_of origin profile = record { origin = origin; step = unwrap_or profile.step 0; coded = profile.coded }
-
--- the tick of a slot
-abbrev pub tick_of : Pace → ℕ → ℕ
-tick_of pace slot = pace.origin + slot * pace.step
 
 -- the bytes of a set that have left the buffer by a tick: all where the set is done by then, and else none
 abbrev pub left_of : List SetLoad → List ℕ → ℕ → ℕ → ℕ

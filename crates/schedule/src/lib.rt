@@ -3,7 +3,6 @@
 #![tactic(auto)]
 
 mod fault;
-mod pace;
 mod place;
 mod schedule;
 mod send;

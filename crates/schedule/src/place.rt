@@ -1,10 +1,10 @@
 ghost use Rattle.std.specs.Prelude.{◌≡◌, ℕ, ◌+◌, ◌*◌, ◌^◌, ◌<◌, ◌≤◌, max, length, slice_index};
 ghost use Rattle.schedule.specs.Packets.{sum_below, size_of};
-ghost use Rattle.schedule.specs.Slots.{tick_of, left_of};
-ghost use Rattle.schedule.specs.Safe.{IsSound, AreDone, AreOrdered};
+ghost use Rattle.sub_base.specs.Pace.{tick_of, IsSound};
+ghost use Rattle.schedule.specs.Slots.{left_of};
+ghost use Rattle.schedule.specs.Safe.{AreDone, AreOrdered};
 
-use crate::pace::Pace;
-use sub_base::SetLoad;
+use sub_base::{Pace, SetLoad};
 
 /// Where the search for slots stands: the first slot that is still free, the bytes in the coded data buffer there, and
 /// how many sets have left it.

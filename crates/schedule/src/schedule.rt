@@ -1,17 +1,16 @@
 ghost use Rattle.std.specs.Prelude.{◌≡◌, ℕ, ◌+◌, ◌*◌, ◌^◌, ◌<◌, ◌≤◌, max, length, slice_index, IfOk, IfErr, All};
 ghost use Rattle.std.specs.List.Sorted.{IsStrictlyIncreasing};
-ghost use Rattle.schedule.specs.Slots.{tick_of, pace_of, slots_of as slots_of_set, IsSending, IsSchedule, IsOnTime, IsLoad};
+ghost use Rattle.sub_base.specs.Pace.{tick_of, pace_of, IsSending, IsSound};
+ghost use Rattle.schedule.specs.Slots.{slots_of as slots_of_set, IsSchedule, IsOnTime, IsLoad};
 ghost use Rattle.schedule.specs.Arrivals.{IsArrival, IsEarliest, IsHopeless};
-ghost use Rattle.schedule.specs.Safe.{IsSound};
 ghost use Rattle.schedule.specs.Refusals.{IsCause};
 
 use crate::fault::ScheduleFault;
-use crate::pace::Pace;
 use crate::place::Search;
 use crate::send::send_set;
 use std::alloc::Global;
 use std::marker::Model;
-use sub_base::{Profile, SetLoad};
+use sub_base::{Pace, Profile, SetLoad};
 
 /// The slots of the packets of display sets, and the ticks at which the sets are done.
 #[derive(Drop)]
@@ -58,7 +57,7 @@ impl Schedule {
         ensures rise { IfOk result (λ table. IsStrictlyIncreasing table.slots) }
         ensures small { IfOk result (λ table. All (λ slot. slot < 2 ^ 54) table.slots) }
     {
-        let pace = pace_for(origin, profile);
+        let pace = Pace::of(origin, profile);
         let mut slots = Vec::new(alloc);
         let mut ends = Vec::new(alloc);
         let mut dones = Vec::new(alloc);
@@ -113,19 +112,5 @@ impl Schedule {
         ensures { result ≡ slice_index self.now.dones set }
     {
         self.dones[set]
-    }
-}
-
-/// How a profile with a step sends from the origin on.
-fn pace_for(origin: u64, profile: &Profile) -> Pace
-    requires profile { IsSending profile.now }
-    requires origin { origin < 2 ^ 62 }
-    ensures value { result ≡ pace_of origin profile.now }
-    ensures sound { IsSound result }
-{
-    Pace {
-        origin,
-        step: profile.step.unwrap(),
-        coded: profile.coded,
     }
 }

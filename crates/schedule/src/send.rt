@@ -1,14 +1,13 @@
 ghost use Rattle.std.specs.Prelude.{◌≡◌, ℕ, ◌+◌, ◌*◌, ◌^◌, ◌<◌, ◌≤◌, length, slice_index, IfOk};
 ghost use Rattle.std.specs.List.Sorted.{IsStrictlyIncreasing};
 ghost use Rattle.schedule.specs.Packets.{load_of, size_of, packets_of, packet_count as packet_count_of};
-ghost use Rattle.schedule.specs.Slots.{tick_of};
-ghost use Rattle.schedule.specs.Safe.{IsSound, AreOrdered};
+ghost use Rattle.sub_base.specs.Pace.{tick_of, IsSound};
+ghost use Rattle.schedule.specs.Safe.{AreOrdered};
 ghost use Rattle.schedule.specs.Search.{IsBetween, HaveStood};
 
-use crate::pace::Pace;
 use crate::place::{Search, place};
 use std::alloc::AllocError;
-use sub_base::SetLoad;
+use sub_base::{Pace, SetLoad};
 
 /// The bytes that a packet carries after its header (ISO/IEC 13818-1, 2.4.3.2).
 const PAYLOAD: u64 = 184;

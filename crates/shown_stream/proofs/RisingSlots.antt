@@ -3,7 +3,7 @@ use Rattle.std.proofs.Common.{◌≡◌, ℕ, zero, suc, ◌+◌, ◌-◌, ◌<�
 use Rattle.std.proofs.lemmas.Bool.{cases_lt}
 use Rattle.schedule.specs.Packets.{packets_of, first_packet}
 use Rattle.schedule.specs.Slots.{Timetable, IsSchedule}
-use Rattle.schedule.specs.declared.pace.Pace.{Pace}
+use Rattle.sub_base.specs.declared.pace.Pace.{Pace}
 use Rattle.schedule.proofs.SumLaws.{sum_below-zero, sum_below-suc}
 use Rattle.sub_base.specs.declared.load.SetLoad.{SetLoad}
 use Rattle.shown_stream.proofs.LaidPackets.{IsAhead}

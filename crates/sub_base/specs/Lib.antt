@@ -3,6 +3,7 @@ pub mod Counts
 pub mod Depth
 pub mod InMemory
 pub mod Number
+pub mod Pace
 pub mod Picture
 pub mod Profile
 pub mod Transfer

@@ -2,7 +2,7 @@ use Rattle.std.proofs.Common.{◌≡◌, ◌+◌, ◌<◌, ◌≤◌, length, ar
 use borrow.Author.Tests.{ltb-true, le-leb}
 use Rattle.std.specs.Prelude.{slice_index}
 use Rattle.schedule.specs.Packets.{sum_below, size_of}
-use Rattle.schedule.specs.Slots.{tick_of}
+use Rattle.sub_base.specs.Pace.{tick_of}
 use Rattle.schedule.proofs.SumLaws.{sum_below-more, sum_below-rises}
 use Rattle.schedule.proofs.BufferLaws.{ltb-false, left-least, AreDone-more, needs_next, tick_of-max, tick_of-rises}
 use Rattle.schedule.proofs.place.place.Goals as goal

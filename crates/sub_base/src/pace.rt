@@ -1,8 +1,10 @@
 ghost use Rattle.std.specs.Prelude.{◌≡◌, ℕ, ◌+◌, ◌*◌, ◌^◌, ◌<◌, ◌≤◌, max};
-ghost use Rattle.schedule.specs.Slots.{tick_of};
+ghost use Rattle.sub_base.specs.Pace.{tick_of, pace_of, IsSending, IsSound};
 
-/// How packets are sent: slot 0 is at the origin, each further slot a step later, and at no slot does the coded data
-/// buffer hold more than its bytes.
+use crate::profile::Profile;
+
+/// How packets are sent to a receiver: slot 0 is at the origin, a tick of 90 kHz, and each further slot a step later.
+/// The receiver's coded data buffer has that many bytes.
 #[derive(Clone, Copy, Debug)]
 pub struct Pace {
     pub origin: u64,
@@ -11,6 +13,20 @@ pub struct Pace {
 }
 
 impl Pace {
+    /// How a profile with a step sends from the origin on.
+    pub fn of(origin: u64, profile: &Profile) -> Pace
+        requires profile { IsSending profile.now }
+        requires origin { origin < 2 ^ 62 }
+        ensures value { result ≡ pace_of origin profile.now }
+        ensures sound { IsSound result }
+    {
+        Pace {
+            origin,
+            step: profile.step.unwrap(),
+            coded: profile.coded,
+        }
+    }
+
     /// The tick of a slot.
     pub fn tick(&self, slot: u64) -> u64
         requires { tick_of self.now slot < 2 ^ 64 }

@@ -1,0 +1,24 @@
+-- How packets are sent to a receiver of a profile: one at most at each step.
+use Rattle.std.specs.Prelude.{◌≡◌, ℕ, ◌+◌, ◌*◌, ◌^◌, ◌<◌, ◌≤◌, unwrap_or, IsSome}
+use Rattle.sub_base.specs.declared.pace.Pace.{Pace}
+use Rattle.sub_base.specs.declared.profile.Profile.{Profile}
+use Rattle.sub_base.specs.declared.profile.ProfileName.{ProfileName}
+use Rattle.sub_base.specs.Profile.{profile_of}
+
+-- one of the profiles, and one with a step: packets are sent in it
+abbrev pub IsSending : Profile → Type 0
+IsSending profile = ((name : ProfileName) × (profile ≡ profile_of name)) × IsSome profile.step
+
+-- packets sent from the origin on, one at most at each step of the profile
+abbrev pub pace_of : ℕ → Profile → Pace
+pace_of origin profile = record { origin = origin; step = unwrap_or profile.step 0; coded = profile.coded }
+
+-- the tick of a slot
+abbrev pub tick_of : Pace → ℕ → ℕ
+tick_of pace slot = pace.origin + slot * pace.step
+
+-- the numbers of a profile with a step, and an origin below 2^62
+pub record IsSound (pace : Pace) : Type 0 where
+  pub step : (360 ≤ pace.step) × (pace.step ≤ 705)
+  pub coded : pace.coded ≤ 61440
+  pub origin : pace.origin < 2 ^ 62
