@@ -49,7 +49,7 @@ no_unit_at : (pid size : ℕ) (before : List (List ℕ)) (packet : List ℕ) →
 unfolding part_after
 no_unit_at pid size before packet h = rw (other_pid (pid_of packet) pid h) refl
 
-no_loss_at : (pid size : ℕ) (before : List (List ℕ)) (packet : List ℕ) → pid_of packet ≢ pid → is_loss (event_at pid size before packet) ≡ false
+pub no_loss_at : (pid size : ℕ) (before : List (List ℕ)) (packet : List ℕ) → pid_of packet ≢ pid → is_loss (event_at pid size before packet) ≡ false
 unfolding event_after
 no_loss_at pid size before packet h = rw (other_pid (pid_of packet) pid h) refl
 

@@ -60,7 +60,7 @@ begins first =
 
 -- ---- one sub-block at most begins bytes
 
-same_depth : (a b : Depth) → string_type a ≡ string_type b → a ≡ b
+pub same_depth : (a b : Depth) → string_type a ≡ string_type b → a ≡ b
 same_depth a b e = let f = sym (head_of-string a) ∙ ap head_of e ∙ head_of-string b in cc
 
 same_table : (a b : MapTable) → table_type a ≡ table_type b → a ≡ b
