@@ -8,7 +8,7 @@ use Rattle.stream_syntax.specs.declared.transport.PacketFault.{PacketFault}
 use Rattle.dvbsub_cmd.specs.ListOutcome.{IsListCause, IsFront, AreWithin, stream_limit}
 use Rattle.dvbsub_cmd.specs.Putting.{Buffered, IsPutOut, PutsOut}
 use Rattle.dvbsub_cmd.specs.Shown.{Supplied, Received}
-use Rattle.dvbsub_cmd.specs.SlotStream.{Sent}
+use Rattle.dvbsub_cmd.specs.SlotWalk.{Sent}
 use Rattle.dvbsub_cmd.specs.Walking.{IsTold, IsEnd, Closes}
 use Rattle.dvbsub_cmd.specs.declared.list.End.{End}
 use Rattle.dvbsub_cmd.specs.declared.list.End.TheVariants as end

@@ -23,10 +23,11 @@ use Rattle.sub_base.specs.declared.load.SetLoad.{SetLoad}
 use Rattle.sub_base.specs.declared.profile.Profile.{Profile}
 use Rattle.sub_base.specs.declared.profile.ProfileName.{ProfileName}
 use Rattle.sub_base.specs.declared.profile.ProfileName.TheVariants.{Sd, Hd, Wide}
-use Rattle.dvbsub_cmd.specs.Compiled.{AreLoads, AreUnits, IsCompiledTo, IsPlanned, IsPlanRefused, IsRowAt, IsScheduleRefused}
+use Rattle.shown_stream.specs.Compiled.{AreLoads, AreUnits, IsCompiledTo, IsPlanned}
+use Rattle.dvbsub_cmd.specs.CompileRefused.{IsPlanRefused, IsRowAt, IsScheduleRefused}
 use Rattle.dvbsub_cmd.specs.PieceView.{plain}
 use Rattle.dvbsub_cmd.specs.Sending.{IsAmong, IsRefusal, IsScheduleRefusal, plan_refusal}
-use Rattle.dvbsub_cmd.specs.SlotStream.{all_pieces, slot_count, stream_of}
+use Rattle.shown_stream.specs.SlotStream.{all_pieces, slot_count, stream_of}
 use Rattle.dvbsub_cmd.specs.UnitSizes.{AreShort, AreSizedAs}
 use Rattle.dvbsub_cmd.specs.declared.compile.SendFault.{SendFault}
 use Rattle.dvbsub_cmd.specs.declared.compile.SendFault.TheVariants as fault

@@ -6,7 +6,7 @@ use Rattle.sub_base.specs.Counts.{HasRisen}
 use Rattle.sub_base.specs.Transfer.{AppendsFront}
 use Rattle.dvbsub_cmd.specs.Putting.{Buffered, IsPutOut, PutsOut}
 use Rattle.dvbsub_cmd.specs.Shown.{Received}
-use Rattle.dvbsub_cmd.specs.SlotStream.{Sent}
+use Rattle.dvbsub_cmd.specs.SlotWalk.{Sent}
 
 -- a buffer without text, at the start
 abbrev pub fresh : Buffered

@@ -4,7 +4,7 @@ use Rattle.std.proofs.lemmas.List.{take_all, map-append}
 use Rattle.std.proofs.lemmas.List.FromFn.{map-range_with_len_more}
 use Rattle.std.specs.List.{range_with_len}
 use Rattle.dvbsub_cmd.specs.PieceView.{plain}
-use Rattle.dvbsub_cmd.specs.SlotStream.{piece_of}
+use Rattle.shown_stream.specs.SlotStream.{piece_of}
 use Rattle.dvbsub_cmd.specs.declared.slot_stream.Piece.{Piece as Lent}
 
 at_most_or_above : (a b : ℕ) → (a ≤ b) ⊎ (b < a)

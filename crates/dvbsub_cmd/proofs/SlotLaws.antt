@@ -12,7 +12,8 @@ use Rattle.std.specs.List.{flat_map, range_with_len}
 use Rattle.sub_base.specs.Transfer.{AppendsFront}
 use Rattle.stream_syntax.specs.TransportPackets.{null_packet}
 use Rattle.dvbsub_cmd.specs.PieceView.{plain}
-use Rattle.dvbsub_cmd.specs.SlotStream.{place_from, IsNext, slot_packet, packet_at, packet_of, no_piece, Sent}
+use Rattle.shown_stream.specs.SlotStream.{place_from, slot_packet, packet_at, packet_of, no_piece}
+use Rattle.dvbsub_cmd.specs.SlotWalk.{IsNext, Sent}
 use Rattle.dvbsub_cmd.specs.declared.slot_stream.Piece.{Piece as Lent}
 
 same_test : (a b : ℕ) → a ≡ b → (a == b) ≡ true

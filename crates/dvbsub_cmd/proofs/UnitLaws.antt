@@ -12,7 +12,7 @@ use Rattle.page_epoch.specs.declared.planned_set.PlannedSet.{PlannedSet}
 use Rattle.set_coder.specs.SetSizes.{IsSetSize}
 use Rattle.set_coder.proofs.SetSizeLaws.{one_set_size}
 use Rattle.sub_base.specs.declared.load.SetLoad.{SetLoad}
-use Rattle.dvbsub_cmd.specs.SlotStream.{all_pieces, pieces_of, piece_of, piece_count}
+use Rattle.shown_stream.specs.SlotStream.{all_pieces, pieces_of, piece_of, piece_count}
 use Rattle.dvbsub_cmd.specs.UnitSizes.{AreSizedAs}
 
 module _ {A B : Type 0} (R : A → B → Type 0) where

@@ -7,7 +7,8 @@ use Rattle.schedule.specs.declared.fault.ScheduleFault.{ScheduleFault}
 use Rattle.sub_base.specs.Counts.{HasRisen}
 use Rattle.sub_base.specs.Transfer.{AppendsFront}
 use Rattle.sub_base.specs.declared.profile.ProfileName.{ProfileName}
-use Rattle.dvbsub_cmd.specs.Compiled.{IsCompiledTo, IsPlanRefused, IsScheduleRefused}
+use Rattle.shown_stream.specs.Compiled.{IsCompiledTo}
+use Rattle.dvbsub_cmd.specs.CompileRefused.{IsPlanRefused, IsScheduleRefused}
 use Rattle.dvbsub_cmd.specs.ReadScript.{ReadsScript, IsInputCause, HasRightScript}
 use Rattle.dvbsub_cmd.specs.Shown.{Shown, WroteNothing}
 use Rattle.dvbsub_cmd.specs.declared.status.Status.{Status}

@@ -1,6 +1,6 @@
 pub mod Command
 pub mod CompileOutcome
-pub mod Compiled
+pub mod CompileRefused
 pub mod Completeness
 pub mod KindNames
 pub mod ListLines
@@ -13,7 +13,7 @@ pub mod PieceView
 pub mod Putting
 pub mod Sending
 pub mod Shown
-pub mod SlotStream
+pub mod SlotWalk
 pub mod StatusText
 pub mod Walking
 pub mod ReadScript

@@ -1,5 +1,5 @@
 use Rattle.dvbsub_cmd.specs.declared.slot_stream.Piece.{Piece as Lent}
-use Rattle.dvbsub_cmd.specs.SlotStream.{Piece}
+use Rattle.shown_stream.specs.SlotStream.{Piece}
 
 -- a piece, without where it lies in memory
 abbrev pub plain : Lent → Piece

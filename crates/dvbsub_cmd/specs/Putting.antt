@@ -3,7 +3,7 @@ use Rattle.std.specs.Prelude.{◌≡◌, ℕ, ◌≤◌, Bool, true, false, List
 use Rattle.sub_base.specs.Counts.{HasRisen}
 use Rattle.sub_base.specs.Transfer.{AppendsFront}
 use Rattle.dvbsub_cmd.specs.Shown.{Received}
-use Rattle.dvbsub_cmd.specs.SlotStream.{Sent}
+use Rattle.dvbsub_cmd.specs.SlotWalk.{Sent}
 
 -- the text that waits to be written, and whether the sink failed
 pub record Buffered : Type 0 where

@@ -10,7 +10,8 @@ use Rattle.schedule.specs.declared.fault.ScheduleFault.TheVariants as schedule
 use Rattle.sub_base.specs.Counts.{HasRisen}
 use Rattle.sub_base.specs.Transfer.{AppendsFront}
 use Rattle.sub_base.specs.declared.profile.ProfileName.{ProfileName}
-use Rattle.dvbsub_cmd.specs.Compiled.{IsCompiledTo, IsPlanRefused, IsRowAt, IsScheduleRefused}
+use Rattle.shown_stream.specs.Compiled.{IsCompiledTo}
+use Rattle.dvbsub_cmd.specs.CompileRefused.{IsPlanRefused, IsRowAt, IsScheduleRefused}
 use Rattle.dvbsub_cmd.specs.declared.compile.SendFault.{SendFault}
 use Rattle.dvbsub_cmd.specs.declared.compile.SendFault.TheVariants as fault
 

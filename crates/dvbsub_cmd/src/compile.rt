@@ -1,6 +1,6 @@
 ghost use Rattle.std.specs.Prelude.{◌≡◌, ◌<◌, false, All, IfErr, IsSome, OnOk, length};
 ghost use Rattle.sub_base.specs.Profile.{profile_of};
-ghost use Rattle.dvbsub_cmd.specs.Compiled.{IsRowAt};
+ghost use Rattle.dvbsub_cmd.specs.CompileRefused.{IsRowAt};
 ghost use Rattle.dvbsub_cmd.specs.CompileOutcome.{IsCompileCause};
 ghost use Rattle.dvbsub_cmd.specs.Sending.{Sends, IsRefusal, IsAmong, IsScheduleRefusal, plan_refusal};
 ghost use Rattle.dvbsub_cmd.specs.Shown.{Shown, Supplied, Received};

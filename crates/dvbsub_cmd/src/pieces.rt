@@ -1,6 +1,6 @@
 ghost use Rattle.std.specs.Prelude.{◌≡◌, ◌++◌, ◌*◌, ◌<◌, ◌≤◌, length, take, drop, map, OnOk, All};
 ghost use Rattle.dvbsub_cmd.specs.PieceView.{plain};
-ghost use Rattle.dvbsub_cmd.specs.SlotStream.{IsPiece, pieces_of, piece_of, piece_count};
+ghost use Rattle.shown_stream.specs.SlotStream.{IsPiece, pieces_of, piece_of, piece_count};
 
 use crate::slot_stream::Piece;
 use sub_base::NoMemory;

@@ -3,9 +3,9 @@ ghost use Rattle.page_epoch.specs.Sendable.{IsSendable};
 ghost use Rattle.schedule.specs.Slots.{IsLoad};
 ghost use Rattle.set_coder.specs.SetSizes.{FitsPacket, IsSetSize};
 ghost use Rattle.set_coder.specs.SetSegments.{IsSetPacket};
-ghost use Rattle.dvbsub_cmd.specs.Compiled.{AreLoads, AreUnits};
+ghost use Rattle.shown_stream.specs.Compiled.{AreLoads, AreUnits};
 ghost use Rattle.dvbsub_cmd.specs.PieceView.{plain};
-ghost use Rattle.dvbsub_cmd.specs.SlotStream.{IsPiece, all_pieces};
+ghost use Rattle.shown_stream.specs.SlotStream.{IsPiece, all_pieces};
 ghost use Rattle.dvbsub_cmd.specs.UnitSizes.{AreSizedAs, AreShort};
 
 use crate::pieces::push_pieces;

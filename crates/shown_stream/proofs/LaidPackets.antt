@@ -2,8 +2,9 @@
 use Rattle.std.proofs.Common.{◌≡◌, ◌≢◌, ◌∙◌, ℕ, zero, suc, ◌+◌, ◌-◌, ◌<◌, ◌≤◌, true, false, eqb, cond, List, [], ◌∷◌, ◌++◌, length, map, get_or, replicate, Some, None, refl, sym, ap, arith}
 use Rattle.std.specs.List.{range_with_len, flat_map, concat}
 use Rattle.std.proofs.lemmas.Bool.Decides.{nat_tests}
+use Rattle.std.proofs.lemmas.List.{map-append}
 use Rattle.stream_syntax.specs.TransportPackets.{null_packet}
-use Rattle.dvbsub_cmd.specs.SlotStream.{Piece, no_piece, packet_of, packet_at, place_from, slot_packet, slot_count, stream_of}
+use Rattle.shown_stream.specs.SlotStream.{Piece, no_piece, packet_of, packet_at, place_from, slot_packet, slot_count, stream_of}
 
 -- the packets from a slot on, the first piece being that of this number
 abbrev pub laid : ℕ → ℕ → ℕ → List Piece → List ℕ → List (List ℕ)
@@ -36,16 +37,12 @@ behind-above from (slot ∷ slots) h = let rest = behind-above (slot + 1) slots 
 -- ---- lists of numbers
 
 -- numbers in two parts
-range-split : (n a m : ℕ) → range_with_len a (n + m) ≡ range_with_len a n ++ range_with_len (a + n) m
+pub range-split : (n a m : ℕ) → range_with_len a (n + m) ≡ range_with_len a n ++ range_with_len (a + n) m
 range-split zero a m = ap (range_with_len a) (omega arith) ∙ ap (λ k. range_with_len k m) (omega arith)
 range-split (suc n) a m =
     let more : suc n + m ≡ suc (n + m) = omega arith in
     let next : (a + 1) + n ≡ a + suc n = omega arith in
     ap (range_with_len a) more ∙ ap (λ rest. a ∷ rest) (range-split n (a + 1) m ∙ ap (λ k. range_with_len (a + 1) n ++ range_with_len k m) next)
-
-map-append : {X Y : Type 0} (f : X → Y) (xs ys : List X) → map f (xs ++ ys) ≡ map f xs ++ map f ys
-map-append f [] ys = refl
-map-append {X} {Y} f (x ∷ xs) ys = ap {B = List Y} (λ rest. f x ∷ rest) (map-append f xs ys)
 
 -- the same one by one
 map-same : {Y : Type 0} (f g : ℕ → Y) (from count : ℕ) → ((i : ℕ) → i < count → f (from + i) ≡ g (from + i)) → map f (range_with_len from count) ≡ map g (range_with_len from count)

@@ -6,12 +6,13 @@ use Rattle.std.proofs.lemmas.Bool.Decides.{nat_tests}
 use Rattle.stream_syntax.specs.Cutting.{units_behind, events_behind, IsUnbroken}
 use Rattle.stream_syntax.specs.TransportPackets.{null_packet, pid_of, counter_of, payload_of}
 use Rattle.stream_syntax.specs.Units.{last_counter, Succession, Next, Again, Missing, succession, payload_part, part_after, part_of, hand_after, unit_after, unit_at, payload_event, event_after, event_at, is_loss}
+use Rattle.decoder_model.proofs.SentUnits.{no_loss_at}
 use Rattle.ts_packets.specs.Demuxing.{next_hand}
 use Rattle.ts_packets.proofs.UnitLemmas.{hand_push, counter_push}
 use Rattle.ts_packets.proofs.WrittenPackets.{SaysWhatWasWritten}
 use Rattle.shown_stream.proofs.LaidPackets.{laid}
 use Rattle.shown_stream.proofs.SentPieces.{IsFree, AreFurther, FollowsOn, says, unbroken, null_is_no_payload, counter_here}
-use Rattle.dvbsub_cmd.specs.SlotStream.{Piece, packet_of}
+use Rattle.shown_stream.specs.SlotStream.{Piece, packet_of}
 
 -- behind packets, a packet gives no unit, means no loss, and leaves no unit in hand
 pub record GivesNothing (pid size : ℕ) (before : List (List ℕ)) (packet : List ℕ) : Type 0 where
@@ -31,14 +32,10 @@ other_part : (pid : ℕ) (before : List (List ℕ)) (packet : List ℕ) → pid_
 unfolding part_after
 other_part pid before packet h = rw (other_pid (pid_of packet) pid h) refl
 
-other_event : (pid size : ℕ) (before : List (List ℕ)) (packet : List ℕ) → pid_of packet ≢ pid → is_loss (event_at pid size before packet) ≡ false
-unfolding event_after
-other_event pid size before packet h = rw (other_pid (pid_of packet) pid h) refl
-
 other_gives_nothing : (pid size : ℕ) (before : List (List ℕ)) (packet : List ℕ) → pid_of packet ≢ pid → hand_after pid size before ≡ None → GivesNothing pid size before packet
 other_gives_nothing pid size before packet h hand = record {
   no_unit = ap (unit_after size (hand_after pid size before)) (other_part pid before packet h);
-  no_loss = other_event pid size before packet h;
+  no_loss = no_loss_at pid size before packet h;
   no_hand = hand_push pid size before packet ∙ ap (next_hand size (hand_after pid size before)) (other_part pid before packet h) ∙ hand;
 }
 

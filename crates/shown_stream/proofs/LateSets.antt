@@ -4,7 +4,7 @@ use Rattle.std.specs.List.{AllByRecursion}
 use Rattle.stream_syntax.specs.Cutting.{IsUnit}
 use Rattle.decoder_model.specs.Sets.{sets_of}
 use Rattle.decoder_model.proofs.SentSets.{TimedSet, AreUnitsOf, no_unit, one_more, HaveDifferentTimes, delivered, sets_come_whole}
-use Rattle.dvbsub_cmd.specs.SlotStream.{all_pieces}
+use Rattle.shown_stream.specs.SlotStream.{all_pieces}
 use Rattle.shown_stream.proofs.LaidPackets.{laid, IsAhead}
 use Rattle.shown_stream.proofs.LateStream.{passed, pieces_left, entered_late}
 use Rattle.shown_stream.proofs.SentPieces.{IsFree}

@@ -12,7 +12,7 @@ use Rattle.stream_syntax.specs.declared.map_table.MapTable.{MapTable}
 use Rattle.stream_syntax.specs.declared.map_table.MapTable.TheVariants.{TwoToFour, TwoToEight, FourToEight}
 use Rattle.pixel_codes.proofs.Strings.{string_of-cons, behind}
 use Rattle.pixel_codes.proofs.Tokens.{token_spelled, token_ending}
-use Rattle.pixel_codes.proofs.Parts.{same_part, no_part}
+use Rattle.pixel_codes.proofs.Parts.{same_part, no_part, same_depth}
 use Rattle.pixel_codes.specs.Spelling.{width_of}
 use Rattle.decoder_model.specs.Readings.{Content, AreFields, IsContent}
 use Rattle.segments.proofs.Readings.{Outcome, every_segment, every_fault, one_reading}
@@ -111,17 +111,6 @@ middle_type : (kind : MapTable) → (0x20 ≤ table_type kind) × (table_type ki
 middle_type TwoToFour = (omega arith, omega arith)
 middle_type TwoToEight = (omega arith, omega arith)
 middle_type FourToEight = (omega arith, omega arith)
-
-same_depth : (a b : Depth) → string_type a ≡ string_type b → a ≡ b
-same_depth Two Two e = refl
-same_depth Two Four e = absurd (omega (arith, e))
-same_depth Two Eight e = absurd (omega (arith, e))
-same_depth Four Two e = absurd (omega (arith, e))
-same_depth Four Four e = refl
-same_depth Four Eight e = absurd (omega (arith, e))
-same_depth Eight Two e = absurd (omega (arith, e))
-same_depth Eight Four e = absurd (omega (arith, e))
-same_depth Eight Eight e = refl
 
 same_kind : (a b : MapTable) → table_type a ≡ table_type b → a ≡ b
 same_kind TwoToFour TwoToFour e = refl

@@ -7,9 +7,10 @@ use Rattle.std.proofs.lemmas.Bool.Decides.{nat_tests}
 use Rattle.stream_syntax.specs.Cutting.{HasCounter, IsCut, IsUnbroken, IsGapless}
 use Rattle.stream_syntax.specs.TransportPackets.{null_packet, pid_of, counter_of, packet_fault}
 use Rattle.stream_syntax.specs.Units.{is_payload, last_counter, Next, Again, Missing, succession}
+use Rattle.decoder_model.proofs.SentUnits.{all-append}
 use Rattle.ts_packets.proofs.UnitLemmas.{counter_push}
 use Rattle.ts_packets.proofs.WrittenPackets.{SaysWhatWasWritten, written_says, null_is_taken}
-use Rattle.dvbsub_cmd.specs.SlotStream.{Piece, packet_of, IsPiece}
+use Rattle.shown_stream.specs.SlotStream.{Piece, packet_of, IsPiece}
 use Rattle.shown_stream.proofs.LaidPackets.{laid, behind}
 
 -- a PID that null packets do not have
@@ -131,10 +132,6 @@ counter_behind pid from number before piece (next ∷ pieces) slot (after ∷ sl
     ∙ ap Some last
 
 -- ---- all packets
-
-pub all-append : {X : Type 0} (P : X → Type 0) (xs ys : List X) → AllByRecursion P xs → AllByRecursion P ys → AllByRecursion P (xs ++ ys)
-all-append P [] ys a b = b
-all-append P (x ∷ xs) ys a b = (a.0, all-append P xs ys a.1 b)
 
 pub all-replicate : {X : Type 0} (P : X → Type 0) (x : X) (n : ℕ) → P x → AllByRecursion P (replicate n x)
 all-replicate P x zero h = tt

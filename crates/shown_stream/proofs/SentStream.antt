@@ -6,8 +6,8 @@ use Rattle.std.proofs.lemmas.Bool.Decides.{nat_tests}
 use Rattle.std.proofs.lemmas.List.{length-take, length-take-le, drop-drop}
 use Rattle.stream_syntax.specs.Cutting.{IsUnit, HasCounter}
 use Rattle.stream_syntax.specs.Units.{last_counter}
-use Rattle.decoder_model.proofs.SentUnits.{AreSent}
-use Rattle.dvbsub_cmd.specs.SlotStream.{Piece, piece_count, piece_of, pieces_of, all_pieces, IsPiece}
+use Rattle.decoder_model.proofs.SentUnits.{AreSent, all-append}
+use Rattle.shown_stream.specs.SlotStream.{Piece, piece_count, piece_of, pieces_of, all_pieces, IsPiece}
 use Rattle.shown_stream.proofs.LaidPackets.{laid, behind}
 use Rattle.shown_stream.proofs.SentPieces.{IsFree, AreFurther, FollowsOn, cut_of_laid, gapless_laid, counter_behind, laid-append}
 
@@ -60,10 +60,6 @@ its_further unit some = further_pieces unit 1 (piece_count unit - 1) (omega arit
 pub only_pieces : (pieces : List Piece) → AreFurther pieces → AllByRecursion IsPiece pieces
 only_pieces [] h = tt
 only_pieces (piece ∷ pieces) h = (h.0.0, only_pieces pieces h.1)
-
-all-append : {X : Type 0} (P : X → Type 0) (xs ys : List X) → AllByRecursion P xs → AllByRecursion P ys → AllByRecursion P (xs ++ ys)
-all-append P [] ys a b = b
-all-append P (x ∷ xs) ys a b = (a.0, all-append P xs ys a.1 b)
 
 -- ---- units, one after another
 

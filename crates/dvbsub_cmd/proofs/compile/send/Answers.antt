@@ -1,5 +1,5 @@
 use Rattle.std.proofs.Common.{◌≡◌, ◌∙◌, ap, sym, subst}
-use Rattle.dvbsub_cmd.specs.SlotStream.{all_pieces}
+use Rattle.shown_stream.specs.SlotStream.{all_pieces}
 use Rattle.dvbsub_cmd.proofs.CompileLaws.{among, are_short, compiled, plan_refused, schedule_refused, slot_count-small, slots_pair}
 use Rattle.dvbsub_cmd.proofs.compile.send.Goals as goal
 

@@ -1,6 +1,6 @@
 use Rattle.std.proofs.lemmas.List.Elements.{All-push}
 use Rattle.dvbsub_cmd.specs.PieceView.{plain}
-use Rattle.dvbsub_cmd.specs.SlotStream.{IsPiece}
+use Rattle.shown_stream.specs.SlotStream.{IsPiece}
 use Rattle.dvbsub_cmd.specs.declared.slot_stream.Piece.{Piece as Lent}
 use Rattle.dvbsub_cmd.proofs.PieceLaws.{pieces-more}
 use Rattle.dvbsub_cmd.proofs.pieces.push_pieces.Goals as goal

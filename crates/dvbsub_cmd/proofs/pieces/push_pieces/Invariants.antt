@@ -1,7 +1,7 @@
 use Rattle.std.proofs.Common.{◌≡◌, ◌++◌, map, All}
 use Rattle.std.specs.List.{range_with_len}
 use Rattle.dvbsub_cmd.specs.PieceView.{plain}
-use Rattle.dvbsub_cmd.specs.SlotStream.{IsPiece, piece_of}
+use Rattle.shown_stream.specs.SlotStream.{IsPiece, piece_of}
 use Rattle.dvbsub_cmd.proofs.pieces.push_pieces.Given as goal
 
 abbrev pub invariant-loop-number : goal.invariant-loop-number

@@ -2,7 +2,8 @@ use Rattle.std.proofs.Common.{◌≤◌, ◌++◌, ℕ, List, map, ap, sym, ◌�
 use Rattle.std.specs.List.{flat_map, range_with_len}
 use Rattle.sub_base.specs.Transfer.{AppendsFront}
 use Rattle.dvbsub_cmd.specs.PieceView.{plain}
-use Rattle.dvbsub_cmd.specs.SlotStream.{Sent, slot_packet, slot_count}
+use Rattle.shown_stream.specs.SlotStream.{slot_packet, slot_count}
+use Rattle.dvbsub_cmd.specs.SlotWalk.{Sent}
 use Rattle.dvbsub_cmd.proofs.SlotLaws.{Sent-front, stream-more, stream-rest}
 use Rattle.dvbsub_cmd.proofs.slot_stream.write_stream.Goals as goal
 

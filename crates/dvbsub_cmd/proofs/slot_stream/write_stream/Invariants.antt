@@ -1,6 +1,7 @@
 use Rattle.std.proofs.Common.{◌≡◌, ◌%◌, ◌≤◌, map}
 use Rattle.std.specs.List.{flat_map, range_with_len}
-use Rattle.dvbsub_cmd.specs.SlotStream.{IsNext, Sent, slot_packet}
+use Rattle.shown_stream.specs.SlotStream.{slot_packet}
+use Rattle.dvbsub_cmd.specs.SlotWalk.{IsNext, Sent}
 use Rattle.dvbsub_cmd.specs.PieceView.{plain}
 use Rattle.dvbsub_cmd.proofs.slot_stream.write_stream.Given as goal
 

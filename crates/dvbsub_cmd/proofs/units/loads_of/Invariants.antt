@@ -1,6 +1,6 @@
 use Rattle.std.proofs.Common.{take, All}
 use Rattle.schedule.specs.Slots.{IsLoad}
-use Rattle.dvbsub_cmd.specs.Compiled.{AreLoads}
+use Rattle.shown_stream.specs.Compiled.{AreLoads}
 use Rattle.dvbsub_cmd.proofs.units.loads_of.Given as goal
 
 abbrev pub invariant-loop-set : goal.invariant-loop-set

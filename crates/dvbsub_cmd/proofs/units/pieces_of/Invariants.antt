@@ -1,6 +1,6 @@
 use Rattle.std.proofs.Common.{◌≡◌, map, take, All}
 use Rattle.dvbsub_cmd.specs.PieceView.{plain}
-use Rattle.dvbsub_cmd.specs.SlotStream.{IsPiece, all_pieces}
+use Rattle.shown_stream.specs.SlotStream.{IsPiece, all_pieces}
 use Rattle.dvbsub_cmd.proofs.units.pieces_of.Given as goal
 
 abbrev pub invariant-loop-unit : goal.invariant-loop-unit

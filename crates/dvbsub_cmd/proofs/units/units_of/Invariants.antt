@@ -1,5 +1,5 @@
 use Rattle.std.proofs.Common.{take}
-use Rattle.dvbsub_cmd.specs.Compiled.{AreUnits}
+use Rattle.shown_stream.specs.Compiled.{AreUnits}
 use Rattle.dvbsub_cmd.specs.UnitSizes.{AreSizedAs}
 use Rattle.dvbsub_cmd.proofs.units.units_of.Given as goal
 

@@ -1,7 +1,6 @@
 -- Units cut into packets, and the packets sent at their slots (ISO/IEC 13818-1, 2.4.3.2).
-use Rattle.std.specs.Prelude.{◌≡◌, ℕ, ◌+◌, ◌*◌, ◌/◌, ◌%◌, ◌==◌, ◌<◌, ◌≤◌, if◌then◌else◌, Bool, false, List, [], ◌∷◌, ◌++◌, length, take, drop, slice_index, slice_index_or, Option, Some, None, map}
+use Rattle.std.specs.Prelude.{ℕ, ◌+◌, ◌*◌, ◌/◌, ◌%◌, ◌==◌, ◌≤◌, if◌then◌else◌, Bool, false, List, [], ◌∷◌, length, take, drop, slice_index, slice_index_or, Option, Some, None, map}
 use Rattle.std.specs.List.{flat_map, range_with_len}
-use Rattle.std.specs.Io.KnownBytes.{Appends}
 use Rattle.stream_syntax.specs.TransportPackets.{written_packet, null_packet}
 
 -- a piece of a unit: its bytes, and whether the unit starts with it
@@ -59,15 +58,3 @@ stream_of pid pieces slots = flat_map (slot_packet pid pieces slots) (range_with
 -- a piece has 1 to 184 bytes
 abbrev pub IsPiece : Piece → Type 0
 IsPiece piece = (1 ≤ length piece.bytes) × (length piece.bytes ≤ 184)
-
--- of rising slots, the first so many lie before a slot, and the others do not
-pub record IsNext (slots : List ℕ) (next slot : ℕ) : Type 0 where
-  pub within : next ≤ length slots
-  pub before : (j : ℕ) → j < next → slice_index slots j < slot
-  pub after : (j : ℕ) → next ≤ j → j < length slots → slot ≤ slice_index slots j
-
--- what was written, and what is to be written next, are these bytes
-pub record Sent (start now : Option (List ℕ)) (pending bytes : List ℕ) : Type 0 where
-  pub written : List ℕ
-  pub appended : Appends start now written
-  pub whole : written ++ pending ≡ bytes

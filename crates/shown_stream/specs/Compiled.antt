@@ -1,0 +1,40 @@
+-- The packets that a script is compiled to.
+use Rattle.std.specs.Prelude.{◌≡◌, ℕ, List, length}
+use Rattle.std.specs.List.{AllZip}
+use Rattle.cue_list.specs.declared.script.Script.{Script}
+use Rattle.page_epoch.specs.Plan.{IsPlan}
+use Rattle.page_epoch.specs.declared.planned_set.PlannedSet.{PlannedSet}
+use Rattle.sub_base.specs.Pace.{pace_of}
+use Rattle.schedule.specs.Slots.{Timetable, IsSchedule, IsOnTime}
+use Rattle.set_coder.specs.SetSegments.{IsSetPacket}
+use Rattle.set_coder.specs.SetSizes.{IsSetLoad}
+use Rattle.sub_base.specs.Profile.{profile_of}
+use Rattle.sub_base.specs.declared.profile.ProfileName.{ProfileName}
+use Rattle.sub_base.specs.declared.load.SetLoad.{SetLoad}
+use Rattle.shown_stream.specs.SlotStream.{all_pieces, stream_of}
+
+-- the PES packets of display sets, one for each
+abbrev pub AreUnits : Script → ℕ → List PlannedSet → List (List ℕ) → Type 0
+AreUnits script page sets units = AllZip (IsSetPacket script page) sets units
+
+-- what the sets ask of a receiver
+abbrev pub AreLoads : Script → List PlannedSet → List SetLoad → Type 0
+AreLoads script sets loads = AllZip (IsSetLoad script) sets loads
+
+-- the sets of the script's plan, and what they ask
+pub record IsPlanned (profile : ProfileName) (script : Script) (sets : List PlannedSet) (loads : List SetLoad) : Type 0 where
+  pub plan : IsPlan script (profile_of profile) sets
+  pub asked : AreLoads script sets loads
+
+-- the packets: those of the PES packets of the plan's sets, at the slots of their schedule, and null packets at all slots
+-- between
+pub record IsCompiledTo (profile : ProfileName) (pid page : ℕ) (script : Script) (packets : List ℕ) : Type 0 where
+  pub sets : List PlannedSet
+  pub loads : List SetLoad
+  pub planned : IsPlanned profile script sets loads
+  pub units : List (List ℕ)
+  pub carried : AreUnits script page sets units
+  pub table : Timetable
+  pub schedule : IsSchedule loads (length loads) (pace_of script.origin (profile_of profile)) table
+  pub on_time : IsOnTime loads (length loads) (pace_of script.origin (profile_of profile)) table
+  pub sent : packets ≡ stream_of pid (all_pieces units) table.slots

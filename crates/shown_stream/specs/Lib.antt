@@ -1,0 +1,2 @@
+pub mod SlotStream
+pub mod Compiled
