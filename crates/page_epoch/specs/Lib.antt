@@ -7,6 +7,7 @@ pub mod Rows
 pub mod Sendable
 pub mod SentCluts
 pub mod SentRegions
+pub mod SoleCue
 pub mod States
 pub mod Courses
 pub mod Layouts
