@@ -10,3 +10,4 @@ pub mod LateStream
 pub mod LateSets
 pub mod OneReading
 pub mod OneView
+pub mod AuthoredCue
