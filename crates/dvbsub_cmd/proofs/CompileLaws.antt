@@ -28,11 +28,13 @@ use Rattle.dvbsub_cmd.specs.CompileRefused.{IsPlanRefused, IsRowAt, IsScheduleRe
 use Rattle.dvbsub_cmd.specs.PieceView.{plain}
 use Rattle.dvbsub_cmd.specs.Sending.{IsAmong, IsRefusal, IsScheduleRefusal, plan_refusal}
 use Rattle.shown_stream.specs.SlotStream.{all_pieces, slot_count, stream_of}
-use Rattle.dvbsub_cmd.specs.UnitSizes.{AreShort, AreSizedAs}
+use Rattle.shown_stream.specs.Compiled.{AreSizedAs}
+use Rattle.dvbsub_cmd.specs.UnitSizes.{AreShort}
 use Rattle.dvbsub_cmd.specs.declared.compile.SendFault.{SendFault}
 use Rattle.dvbsub_cmd.specs.declared.compile.SendFault.TheVariants as fault
 use Rattle.dvbsub_cmd.specs.declared.slot_stream.Piece.{Piece as Lent}
-use Rattle.dvbsub_cmd.proofs.UnitLaws.{AllZip-length, count_pieces}
+use Rattle.shown_stream.proofs.CompiledPackets.{count_pieces}
+use Rattle.dvbsub_cmd.proofs.UnitLaws.{AllZip-length}
 
 -- there are fewer than 2 ^ 64 slots up to the last one
 pub slot_count-small : (slots all : List ℕ) → all ≡ slots → All (λ slot. slot < 2 ^ 54) slots → slot_count all < 2 ^ 64
@@ -79,16 +81,17 @@ planned_by name script sets own loads given receiver is_profile plan same_sets a
 
 -- the packets of the plan's sets in the slots of their schedule are those that the script is compiled to
 pub compiled : (name : ProfileName) (pid page : ℕ) (script : Script) (sets own : List PlannedSet) (loads given : List SetLoad) (receiver : Profile) (table : Timetable) (units : List (List ℕ)) (pieces : List Lent) →
-    receiver ≡ profile_of name → IsPlan script receiver own → sets ≡ own → AreLoads script sets loads → given ≡ loads → AreUnits script page sets units →
+    receiver ≡ profile_of name → IsPlan script receiver own → sets ≡ own → AreLoads script sets loads → given ≡ loads → AreUnits script page sets units → AreSizedAs given units →
     IsSchedule given (length given) (pace_of script.origin receiver) table → IsOnTime given (length given) (pace_of script.origin receiver) table →
     map plain pieces ≡ all_pieces units → IsCompiledTo name pid page script (stream_of pid (map plain pieces) table.slots)
-compiled name pid page script sets own loads given receiver table units pieces is_profile plan same_sets asked same_loads carried schedule on_time are =
+compiled name pid page script sets own loads given receiver table units pieces is_profile plan same_sets asked same_loads carried sized schedule on_time are =
     record {
       sets = sets;
       loads = given;
       planned = planned_by name script sets own loads given receiver is_profile plan same_sets asked same_loads;
       units = units;
       carried = carried;
+      sized = sized;
       table = table;
       schedule = subst (λ (p : Profile). IsSchedule given (length given) (pace_of script.origin p) table) is_profile schedule;
       on_time = subst (λ (p : Profile). IsOnTime given (length given) (pace_of script.origin p) table) is_profile on_time;

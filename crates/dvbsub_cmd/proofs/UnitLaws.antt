@@ -13,7 +13,7 @@ use Rattle.set_coder.specs.SetSizes.{IsSetSize}
 use Rattle.set_coder.proofs.SetSizeLaws.{one_set_size}
 use Rattle.sub_base.specs.declared.load.SetLoad.{SetLoad}
 use Rattle.shown_stream.specs.SlotStream.{all_pieces, pieces_of, piece_of, piece_count}
-use Rattle.dvbsub_cmd.specs.UnitSizes.{AreSizedAs}
+use Rattle.shown_stream.specs.Compiled.{AreSizedAs}
 
 module _ {A B : Type 0} (R : A → B → Type 0) where
   -- one more at the end of both
@@ -52,29 +52,6 @@ pub all_pieces-more : (units : List (List ℕ)) (k : ℕ) (d : List ℕ) → k <
 all_pieces-more units k d inside =
     ap all_pieces (take_more units k d inside) ∙ flat_map-append pieces_of (take k units) (get_or units k d ∷ [])
     ∙ ap (λ (end : List _). all_pieces (take k units) ++ end) (append-nil (pieces_of (get_or units k d)))
-
--- how many pieces a unit has
-length-pieces_of : (unit : List ℕ) → length (pieces_of unit) ≡ piece_count unit
-length-pieces_of unit = length-map-range_with_len (piece_of unit) 0 (piece_count unit)
-
--- the packets of the first load, and of the others
-first_packet-cons : (load : SetLoad) (loads : List SetLoad) (n : ℕ) → first_packet (load ∷ loads) (suc n) ≡ packet_count load.size + first_packet loads n
-first_packet-cons load loads zero =
-    sum_below-suc (packets_of (load ∷ loads)) 0
-    ∙ omega (arith, sum_below-zero (packets_of (load ∷ loads)), sum_below-zero (packets_of loads))
-first_packet-cons load loads (suc n) =
-    sum_below-suc (packets_of (load ∷ loads)) (suc n)
-    ∙ omega (arith, first_packet-cons load loads n, sum_below-suc (packets_of loads) n)
-
--- as many pieces as packets
-pub count_pieces : (loads : List SetLoad) (units : List (List ℕ)) → AreSizedAs loads units → first_packet loads (length loads) ≡ length (all_pieces units)
-count_pieces [] [] sized = sum_below-zero (packets_of [])
-count_pieces [] (unit ∷ units) sized = absurd sized
-count_pieces (load ∷ loads) [] sized = absurd sized
-count_pieces (load ∷ loads) (unit ∷ units) sized =
-    let here : packet_count load.size ≡ piece_count unit = ap packet_count (sym sized.0) in
-    first_packet-cons load loads (length loads)
-    ∙ omega (arith, here, count_pieces loads units sized.1, length-append (pieces_of unit) (all_pieces units), length-pieces_of unit)
 
 -- the size of a set's packet is the one that its load says
 pub unit_size : (script : Script) (set : PlannedSet) (unit written before bytes : List ℕ) (size : ℕ) → unit ≡ written → written ≡ before ++ bytes → before ≡ [] →

@@ -6,7 +6,8 @@ ghost use Rattle.set_coder.specs.SetSegments.{IsSetPacket};
 ghost use Rattle.shown_stream.specs.Compiled.{AreLoads, AreUnits};
 ghost use Rattle.dvbsub_cmd.specs.PieceView.{plain};
 ghost use Rattle.shown_stream.specs.SlotStream.{IsPiece, all_pieces};
-ghost use Rattle.dvbsub_cmd.specs.UnitSizes.{AreSizedAs, AreShort};
+ghost use Rattle.shown_stream.specs.Compiled.{AreSizedAs};
+ghost use Rattle.dvbsub_cmd.specs.UnitSizes.{AreShort};
 
 use crate::pieces::push_pieces;
 use crate::slot_stream::Piece;

@@ -10,4 +10,7 @@ pub mod LateStream
 pub mod LateSets
 pub mod OneReading
 pub mod OneView
+pub mod CompiledPackets
 pub mod AuthoredCue
+pub mod SoleCueUnits
+pub mod SoleCueShown

@@ -21,6 +21,10 @@ AreUnits script page sets units = AllZip (IsSetPacket script page) sets units
 abbrev pub AreLoads : Script → List PlannedSet → List SetLoad → Type 0
 AreLoads script sets loads = AllZip (IsSetLoad script) sets loads
 
+-- each PES packet has as many bytes as its load says
+abbrev pub AreSizedAs : List SetLoad → List (List ℕ) → Type 0
+AreSizedAs loads units = AllZip (λ load unit. length unit ≡ load.size) loads units
+
 -- the sets of the script's plan, and what they ask
 pub record IsPlanned (profile : ProfileName) (script : Script) (sets : List PlannedSet) (loads : List SetLoad) : Type 0 where
   pub plan : IsPlan script (profile_of profile) sets
@@ -34,6 +38,7 @@ pub record IsCompiledTo (profile : ProfileName) (pid page : ℕ) (script : Scrip
   pub planned : IsPlanned profile script sets loads
   pub units : List (List ℕ)
   pub carried : AreUnits script page sets units
+  pub sized : AreSizedAs loads units
   pub table : Timetable
   pub schedule : IsSchedule loads (length loads) (pace_of script.origin (profile_of profile)) table
   pub on_time : IsOnTime loads (length loads) (pace_of script.origin (profile_of profile)) table

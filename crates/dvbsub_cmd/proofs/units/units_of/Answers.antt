@@ -4,7 +4,7 @@ use Rattle.page_epoch.specs.declared.planned_set.PlannedSet.{PlannedSet}
 use Rattle.sub_base.specs.declared.load.SetLoad.{SetLoad}
 use Rattle.set_coder.specs.SetSizes.{IsSetLoad, IsSetSize}
 use Rattle.set_coder.specs.SetSegments.{IsSetPacket}
-use Rattle.dvbsub_cmd.specs.UnitSizes.{AreSizedAs}
+use Rattle.shown_stream.specs.Compiled.{AreSizedAs}
 use Rattle.dvbsub_cmd.proofs.UnitLaws.{AllZip-more, AllZip-step, AllZip-length, AllZip-at}
 use Rattle.dvbsub_cmd.proofs.units.units_of.Goals as goal
 

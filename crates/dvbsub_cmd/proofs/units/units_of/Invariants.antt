@@ -1,6 +1,6 @@
 use Rattle.std.proofs.Common.{take}
 use Rattle.shown_stream.specs.Compiled.{AreUnits}
-use Rattle.dvbsub_cmd.specs.UnitSizes.{AreSizedAs}
+use Rattle.shown_stream.specs.Compiled.{AreSizedAs}
 use Rattle.dvbsub_cmd.proofs.units.units_of.Given as goal
 
 abbrev pub invariant-loop-place : goal.invariant-loop-place

@@ -1,0 +1,204 @@
+-- What a receiver shows of the packets of a script of one cue is what the script authors, at every tick.
+use Rattle.std.proofs.Common.{◌≡◌, ◌∙◌, ◌⊎◌, inl, inr, ℕ, ◌+◌, ◌*◌, ◌<◌, ◌≤◌, ◌^◌, true, false, eqb, List, [], ◌∷◌, ◌++◌, length, map, reverse, IsSome, refl, sym, ap, subst, arith}
+use Rattle.std.specs.List.{AllByRecursion}
+use Rattle.std.proofs.lemmas.Bool.{cases_lt}
+use Rattle.std.proofs.lemmas.Bool.Decides.{nat_tests}
+use Rattle.std.proofs.lemmas.List.Elements.{recursion_from_All}
+use Rattle.sub_base.specs.Colour.{default_of}
+use Rattle.sub_base.specs.Picture.{Picture}
+use Rattle.sub_base.specs.Profile.{profile_of}
+use Rattle.sub_base.specs.declared.profile.Profile.{Profile}
+use Rattle.sub_base.specs.declared.profile.ProfileName.{ProfileName}
+use Rattle.stream_syntax.specs.Cutting.{IsUnit}
+use Rattle.stream_syntax.specs.PixelBlocks.{Part}
+use Rattle.stream_syntax.specs.Pes.{written_pes}
+use Rattle.stream_syntax.specs.Segments.{SegmentValue, of_display, of_page, of_region, of_object, end_of_set, spelled, IsWritable}
+use Rattle.segments.proofs.Spellings.{written_segment}
+use Rattle.cue_list.specs.declared.epoch.Cue.{Cue}
+use Rattle.cue_list.specs.declared.epoch.Epoch.{Epoch}
+use Rattle.cue_list.specs.declared.epoch.Region.{Region}
+use Rattle.cue_list.specs.declared.script.Script.{Script}
+use Rattle.page_epoch.specs.SoleCue.{IsSoleCue, HasRoom, first_set, last_set}
+use Rattle.page_epoch.specs.declared.planned_set.PlannedSet.{PlannedSet}
+use Rattle.page_epoch.proofs.SoleCuePlan.{sole_cue_fills, sole_cue_plan, sole_cue_room}
+use Rattle.set_coder.specs.SetSegments.{IsSetPacket, time_out_of}
+use Rattle.decoder_model.specs.Readings.{AreFields, IsContent, AreReadings, AreDeliveriesRead}
+use Rattle.decoder_model.specs.Sets.{Delivery, sets_of}
+use Rattle.decoder_model.specs.Shown.{View, plane, IsClear, Agrees, view_at}
+use Rattle.decoder_model.proofs.Depths.{parts_in_eight, none_too_deep}
+use Rattle.decoder_model.proofs.SentSets.{TimedSet, AreUnitsOf, no_unit, one_more, IsUnitOf, all_segments}
+use Rattle.decoder_model.proofs.SoleCue as shown
+use Rattle.decoder_model.proofs.SoleCueView.{IsDrawn, both_sets, coloured, nothing_before, picture_while, clear_after}
+use Rattle.shown_stream.specs.Compiled.{AreUnits, IsCompiledTo}
+use Rattle.shown_stream.specs.Shows.{authored_view, Shows}
+use Rattle.shown_stream.proofs.AuthoredCue.{sole_cue_facts, clear_outside, picture_inside}
+use Rattle.shown_stream.proofs.CompiledPackets.{coded_few, packets_in, are_packets}
+use Rattle.shown_stream.proofs.DrawnObject.{ObjectDraws}
+use Rattle.shown_stream.proofs.SentPieces.{IsFree}
+use Rattle.shown_stream.proofs.SoleCueUnits.{cue_of, first_values, last_values, FieldOf, first_field, last_field}
+use Rattle.shown_stream.proofs.WrittenSets.{set_with, written_set}
+
+-- ---- units
+
+-- two sets have two packets
+record TwoPackets (script : Script) (page : ℕ) (one two : PlannedSet) (units : List (List ℕ)) : Type 0 where
+  first : List ℕ
+  last : List ℕ
+  are : units ≡ first ∷ last ∷ []
+  first_is : IsSetPacket script page one first
+  last_is : IsSetPacket script page two last
+
+two_packets : (script : Script) (page : ℕ) (one two : PlannedSet) (units : List (List ℕ)) → AreUnits script page (one ∷ two ∷ []) units → TwoPackets script page one two units
+two_packets script page one two [] h = absurd h
+two_packets script page one two (first ∷ []) h = absurd h.1
+two_packets script page one two (first ∷ last ∷ []) h = record { first = first; last = last; are = refl; first_is = h.0; last_is = h.1.0 }
+two_packets script page one two (first ∷ last ∷ more ∷ units) h = absurd h.1.1
+
+-- the packet of the first set is that of its segments
+first_unit : (coded page time : ℕ) (cue : shown.Cue) (field bytes : List ℕ) → FieldOf page (first_values cue) field → bytes ≡ written_pes time field → time < 2 ^ 33 → length bytes ≤ coded → length bytes ≤ 65541
+    → IsUnitOf coded page bytes (set_with page time (first_values cue))
+first_unit coded page time cue field bytes is packet early fits short =
+    let each = recursion_from_All (IsWritable page) (first_values cue ++ end_of_set ∷ []) is.fit in
+    written_set coded page time (first_values cue) bytes
+    ((each.0, tt), ((each.1.0, tt), ((each.1.1.0, tt), ((each.1.1.1.0, tt), tt)))) each.1.1.1.1.0 early fits short (packet ∙ ap (written_pes time) is.field)
+
+last_unit : (coded page time : ℕ) (cue : shown.Cue) (field bytes : List ℕ) → FieldOf page (last_values cue) field → bytes ≡ written_pes time field → time < 2 ^ 33 → length bytes ≤ coded → length bytes ≤ 65541
+    → IsUnitOf coded page bytes (set_with page time (last_values cue))
+last_unit coded page time cue field bytes is packet early fits short =
+    let each = recursion_from_All (IsWritable page) (last_values cue ++ end_of_set ∷ []) is.fit in
+    written_set coded page time (last_values cue) bytes ((each.0, tt), tt) each.1.0 early fits short (packet ∙ ap (written_pes time) is.field)
+
+-- ---- what is read
+
+content_of : (page : ℕ) (value : SegmentValue) (top bottom : List Part) → IsWritable page value → AreFields value top bottom → IsContent (spelled page value) (record { value = value; top = top; bottom = bottom })
+content_of page value top bottom writable fields = record { segment = written_segment page value writable; fields = fields }
+
+first_read : (page time : ℕ) (cue : shown.Cue) (field : List ℕ) → FieldOf page (first_values cue) field → AreFields (of_object (shown.object_for cue)) cue.top cue.bottom
+    → AreReadings (all_segments (set_with page time (first_values cue))) (shown.first_readings cue)
+first_read page time cue field is parts =
+    let each = recursion_from_All (IsWritable page) (first_values cue ++ end_of_set ∷ []) is.fit in (
+      content_of page (of_display (shown.display_for cue)) [] [] each.0 (refl, refl),
+      (
+        content_of page (of_page (shown.first_page cue)) [] [] each.1.0 (refl, refl),
+        (
+          content_of page (of_region (shown.region_for cue)) [] [] each.1.1.0 (refl, refl),
+          (
+            content_of page (of_object (shown.object_for cue)) cue.top cue.bottom each.1.1.1.0 parts,
+            (content_of page end_of_set [] [] each.1.1.1.1.0 (refl, refl), tt),
+          ),
+        ),
+      ),
+    )
+
+last_read : (page time : ℕ) (cue : shown.Cue) (field : List ℕ) → FieldOf page (last_values cue) field → AreReadings (all_segments (set_with page time (last_values cue))) (shown.last_readings cue)
+last_read page time cue field is =
+    let each = recursion_from_All (IsWritable page) (last_values cue ++ end_of_set ∷ []) is.fit in
+    (content_of page (of_page (shown.last_page cue)) [] [] each.0 (refl, refl), (content_of page end_of_set [] [] each.1.0 (refl, refl), tt))
+
+-- ---- what is shown
+
+-- what a receiver was handed: the two sets, with what they are made of
+record Handed (name : ProfileName) (pid page : ℕ) (script : Script) (region : Region) (cue : Cue) (picture : Picture) (packets : List (List ℕ)) : Type 0 where
+  top : List ℕ
+  bottom : List ℕ
+  draws : ObjectDraws picture region.depth top bottom
+  are_read : AreDeliveriesRead (reverse (sets_of (profile_of name).coded pid page true packets)) (both_sets (cue_of script region picture top bottom draws.top_parts draws.bottom_has) cue.start cue.end)
+
+-- a receiver has room for the cue, since the plan has
+cue_fits : (profile : Profile) (script : Script) (epoch : Epoch) (region : Region) (cue : Cue) (picture : Picture) (top bottom : List ℕ) → IsSoleCue script epoch region cue picture → HasRoom script region profile
+    → (draws : ObjectDraws picture region.depth top bottom) → shown.Fits profile (cue_of script region picture top bottom draws.top_parts draws.bottom_has)
+cue_fits profile script epoch region cue picture top bottom sole room draws =
+    let wide : picture.width ≡ region.width = sole.picture_wide ∙ sym sole.wide in
+    let high : picture.height ≡ region.height = sole.picture_high ∙ sym sole.high in
+    record {
+      wide = let across = room.across in let same = sole.picture_wide in omega arith;
+      high = let down = room.down in let same = sole.picture_high in omega arith;
+      pixels = rw (wide, high) room.pixels;
+      nodes = room.nodes;
+      top_depth = none_too_deep region.depth draws.top_parts top draws.top_whole;
+      bottom_depth = none_too_deep region.depth draws.bottom_has bottom draws.bottom_whole;
+    }
+
+-- the two sets are handed on
+handed : (name : ProfileName) (pid page : ℕ) (script : Script) (epoch : Epoch) (region : Region) (cue : Cue) (picture : Picture) (bytes : List ℕ) → IsFree pid → IsSome (profile_of name).step → IsSoleCue script epoch region cue picture
+    → (compiled : IsCompiledTo name pid page script bytes) → Handed name pid page script region cue picture (packets_in name pid page script bytes compiled)
+handed name pid page script epoch region cue picture bytes free steps sole compiled =
+    let sets = sole_cue_plan script epoch region cue picture (profile_of name) compiled.sets sole compiled.planned.plan in
+    by sets.0 sets.1
+    (two_packets script page (first_set region cue sets.0) (last_set cue sets.1) compiled.units (subst (λ (all : List PlannedSet). AreUnits script page all compiled.units) sets.2 compiled.carried))
+  where
+    coded : ℕ
+    coded = (profile_of name).coded
+
+    by : (first_row last_row : ℕ) → TwoPackets script page (first_set region cue first_row) (last_set cue last_row) compiled.units → Handed name pid page script region cue picture (packets_in name pid page script bytes compiled)
+    by first_row last_row two =
+        let known = are_packets name pid page script bytes free steps compiled in
+        let units : AllByRecursion (IsUnit coded) (two.first ∷ two.last ∷ []) = subst (AllByRecursion (IsUnit coded)) two.are known.units in
+        let few = coded_few name steps in
+        let facts = sole_cue_facts script epoch region cue picture sole in
+        let first_fits = units.0.fits in
+        let last_fits = units.1.0.fits in
+        let rising = (sole_cue_fills script epoch region cue picture sole).lasts in
+        let opening = first_field script epoch region cue picture page first_row two.first_is.field_bytes sole two.first_is.carried in
+        let made = cue_of script region picture opening.top opening.bottom opening.draws.top_parts opening.draws.bottom_has in
+        let closing = last_field script epoch region cue picture page last_row two.last_is.field_bytes opening.top opening.bottom opening.draws.top_parts opening.draws.bottom_has sole two.last_is.carried in
+        let timed : List TimedSet = set_with page cue.start (first_values made) ∷ set_with page cue.end (last_values made) ∷ [] in
+        let are : AreUnitsOf coded page (two.first ∷ two.last ∷ []) timed =
+        one_more (first_unit coded page cue.start made two.first_is.field_bytes two.first opening.is two.first_is.packet facts.early_start first_fits (omega arith))
+        (one_more (last_unit coded page cue.end made two.last_is.field_bytes two.last closing two.last_is.packet facts.early_end last_fits (omega arith)) no_unit) in
+        let apart : eqb cue.start cue.end ≡ false = grind (arith, nat_tests) in
+        let received = known.received timed (subst (λ (all : List (List ℕ)). AreUnitsOf coded page all timed) (sym two.are) are) (apart, tt) in
+        let parts : AreFields (of_object (shown.object_for made)) made.top made.bottom = (parts_in_eight region.depth opening.draws.top_parts opening.top opening.draws.top_whole, parts_in_eight region.depth opening.draws.bottom_has opening.bottom opening.draws.bottom_whole) in
+        record {
+          top = opening.top;
+          bottom = opening.bottom;
+          draws = opening.draws;
+          are_read = subst (λ (all : List (Delivery (List ℕ))). AreDeliveriesRead (reverse all) (both_sets made cue.start cue.end)) (sym received) (
+            (shown.last_readings made, last_read page cue.end made two.last_is.field_bytes closing, refl),
+            ((shown.first_readings made, first_read page cue.start made two.first_is.field_bytes opening.is parts, refl), tt),
+          );
+        }
+
+-- the page is not timed out before the cue ends, since it lasts less than a refresh
+in_time : (script : Script) (epoch : Epoch) (region : Region) (cue : Cue) (picture : Picture) → IsSoleCue script epoch region cue picture → cue.end ≤ cue.start + 90000 * time_out_of script
+in_time script epoch region cue picture sole = let short = sole.short in omega arith
+
+agree_clear : (a b : View) → IsClear a → IsClear b → Agrees a b
+agree_clear a b h k = inr (h, k)
+
+-- at every tick the view is the authored one
+view_agrees : (name : ProfileName) (script : Script) (epoch : Epoch) (region : Region) (cue : Cue) (picture : Picture) (tick : ℕ) (made : shown.Cue) → IsSoleCue script epoch region cue picture
+    → made.picture ≡ picture → made.depth ≡ region.depth → made.time_out ≡ time_out_of script → shown.Fits (profile_of name) made → IsDrawn made
+    → Agrees (view_at (profile_of name) tick (both_sets made cue.start cue.end)) (authored_view script tick)
+view_agrees name script epoch region cue picture tick made sole its_picture its_depth its_time fits drawn = by (cases_lt tick cue.start) (cases_lt tick cue.end)
+  where
+    rising : cue.start < cue.end
+    rising = (sole_cue_fills script epoch region cue picture sole).lasts
+
+    by : (tick < cue.start) ⊎ (cue.start ≤ tick) → (tick < cue.end) ⊎ (cue.end ≤ tick) → Agrees (view_at (profile_of name) tick (both_sets made cue.start cue.end)) (authored_view script tick)
+    by (inl early) late =
+        agree_clear (view_at (profile_of name) tick (both_sets made cue.start cue.end)) (authored_view script tick)
+        (subst IsClear (sym (nothing_before (profile_of name) made cue.start cue.end tick rising early)) tt) (clear_outside script epoch region cue picture tick sole (inl early))
+    by (inr come) (inr late) =
+        agree_clear (view_at (profile_of name) tick (both_sets made cue.start cue.end)) (authored_view script tick)
+        (clear_after (profile_of name) made cue.start cue.end tick fits rising late) (clear_outside script epoch region cue picture tick sole (inr late))
+    by (inr come) (inl within) =
+        let until : cue.end ≤ cue.start + 90000 * made.time_out = rw its_time (in_time script epoch region cue picture sole) in
+        let same : coloured made ≡ record { width = picture.width; height = picture.height; colours = map (default_of region.depth) picture.codes } = rw (its_picture, its_depth) refl in
+        inl (picture_while (profile_of name) made cue.start cue.end tick fits drawn come within until ∙ ap plane same ∙ sym (picture_inside script epoch region cue picture tick sole come within))
+
+-- what a receiver of the profile shows of the packets, from the first on, is what the script authors, at every tick
+pub sole_cue_shown : (name : ProfileName) (pid page : ℕ) (script : Script) (epoch : Epoch) (region : Region) (cue : Cue) (picture : Picture) (bytes : List ℕ) → IsFree pid → IsSome (profile_of name).step
+    → IsSoleCue script epoch region cue picture → (compiled : IsCompiledTo name pid page script bytes) → (tick : ℕ)
+    → Shows (profile_of name) pid page (packets_in name pid page script bytes compiled) tick (authored_view script tick)
+sole_cue_shown name pid page script epoch region cue picture bytes free steps sole compiled tick =
+    let given = handed name pid page script epoch region cue picture bytes free steps sole compiled in
+    let made = cue_of script region picture given.top given.bottom given.draws.top_parts given.draws.bottom_has in
+    let room = sole_cue_room script epoch region cue picture (profile_of name) compiled.sets sole compiled.planned.plan in
+    let facts = sole_cue_facts script epoch region cue picture sole in
+    record {
+      shown = view_at (profile_of name) tick (both_sets made cue.start cue.end);
+      is_shown = record { past = both_sets made cue.start cue.end; are_read = given.are_read; is_view = refl };
+      agrees = view_agrees name script epoch region cue picture tick made sole refl refl refl
+          (cue_fits (profile_of name) script epoch region cue picture given.top given.bottom sole room given.draws) (record { is_picture = facts.is_picture; fields = given.draws.draws });
+    }
