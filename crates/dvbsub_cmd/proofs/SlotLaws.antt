@@ -149,7 +149,7 @@ range-suc zero a = ap (λ k. k ∷ []) (omega arith)
 range-suc (suc n) a = ap (λ rest. a ∷ rest) (range-suc n (a + 1) ∙ ap (λ k. range_with_len (a + 1) n ++ k ∷ []) (omega arith))
 
 -- some numbers, and those after them
-range-split : (n a m : ℕ) → range_with_len a (n + m) ≡ range_with_len a n ++ range_with_len (a + n) m
+pub range-split : (n a m : ℕ) → range_with_len a (n + m) ≡ range_with_len a n ++ range_with_len (a + n) m
 range-split zero a m =
     let same : a ≡ a + 0 = omega arith in
     let none : 0 + m ≡ m = omega arith in
