@@ -7,7 +7,7 @@ use Rattle.dvbsub_cmd.specs.Command.{command_of}
 use Rattle.dvbsub_cmd.specs.CompileOutcome.{IsCompileCause, IsCompilable}
 use Rattle.dvbsub_cmd.specs.Completeness.{IsComplete, IsUntroubled}
 use Rattle.dvbsub_cmd.specs.ExpectOutcome.{IsExpectCause, IsExpectable}
-use Rattle.dvbsub_cmd.specs.Outcome.{HasCause, IsCausedBy, Tells, untold}
+use Rattle.dvbsub_cmd.specs.Outcome.{HasCause, IsCausedBy, Tells}
 use Rattle.dvbsub_cmd.specs.ReadScript.{HasRightScript, IsInputCause}
 use Rattle.dvbsub_cmd.specs.Shown.{Shown, Supplied, Received}
 use Rattle.dvbsub_cmd.specs.declared.command.Command.{Command}
@@ -29,13 +29,13 @@ calm_input has_font a b c d P (status.ScriptRefused fault) cause calm = absurd (
 calm_input has_font a b c d P (status.PlanRefused fault) cause calm = absurd cause
 calm_input has_font a b c d P (status.ScheduleRefused row fault) cause calm = absurd cause
 calm_input has_font a b c d P (status.StreamRefused packet fault) cause calm = absurd cause
-calm_input has_font a b c d P (status.ReadFault which.First) cause calm = absurd (calm.first_read cause)
+calm_input has_font a b c d P (status.ReadFault which.First) cause calm = absurd (calm.first_read cause.1)
 calm_input has_font a b c d P (status.ReadFault which.Second) cause calm = absurd (calm.second_read cause.0 cause.1)
 calm_input has_font a b c d P (status.ReadFault which.Out) cause calm = absurd cause
 calm_input has_font a b c d P (status.ReadFault which.Notes) cause calm = absurd cause
 calm_input has_font a b c d P (status.WriteFault which) cause calm = absurd cause
 calm_input has_font a b c d P status.Memory cause calm = inr refl
-calm_input has_font a b c d P (status.InputTooLong which.First) cause calm = absurd (calm.first_within cause)
+calm_input has_font a b c d P (status.InputTooLong which.First) cause calm = absurd (calm.first_within cause.1)
 calm_input has_font a b c d P (status.InputTooLong which.Second) cause calm = absurd (calm.second_within cause.0 cause.1)
 calm_input has_font a b c d P (status.InputTooLong which.Out) cause calm = absurd cause
 calm_input has_font a b c d P (status.InputTooLong which.Notes) cause calm = absurd cause

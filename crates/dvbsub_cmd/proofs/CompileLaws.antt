@@ -1,5 +1,5 @@
 -- The packets of a plan's sets, and the refusals of a schedule.
-use Rattle.std.proofs.Common.{◌≡◌, ◌∙◌, refl, sym, ap, subst, ℕ, ◌+◌, ◌<◌, ◌≤◌, ◌^◌, Bool, true, false, Option, IsSome, List, [], ◌∷◌, length, get_or, map, All, arith}
+use Rattle.std.proofs.Common.{◌≡◌, ◌∙◌, sym, ap, subst, ℕ, ◌<◌, ◌≤◌, ◌^◌, true, false, Option, IsSome, List, [], ◌∷◌, length, get_or, map, All, arith}
 use Rattle.std.specs.Io.KnownBytes.{Keeps}
 use Rattle.std.proofs.lemmas.List.{length-map, get_or_default}
 use Rattle.cue_list.specs.declared.script.Script.{Script}
@@ -8,14 +8,14 @@ use Rattle.page_epoch.specs.Refusals.{IsCause as IsPlanCause}
 use Rattle.page_epoch.specs.declared.fault.PlanFault.{PlanFault}
 use Rattle.page_epoch.specs.declared.fault.PlanFault.TheVariants as plan
 use Rattle.page_epoch.specs.declared.planned_set.PlannedSet.{PlannedSet}
-use Rattle.schedule.specs.Packets.{first_packet, load_of, size_of, no_load}
+use Rattle.schedule.specs.Packets.{first_packet, load_of, no_load}
 use Rattle.schedule.specs.Refusals.{IsCause}
 use Rattle.sub_base.specs.Pace.{pace_of}
 use Rattle.schedule.specs.Slots.{Timetable, IsSchedule, IsOnTime}
 use Rattle.schedule.specs.declared.fault.ScheduleFault.{ScheduleFault}
 use Rattle.schedule.specs.declared.fault.ScheduleFault.TheVariants as schedule
 use Rattle.sub_base.specs.declared.pace.Pace.{Pace}
-use Rattle.set_coder.specs.SetSizes.{IsSetLoad}
+use Rattle.set_coder.specs.SetSizes.{FitsPacket, IsSetLoad}
 use Rattle.sub_base.specs.Counts.{HasRisen}
 use Rattle.sub_base.specs.Transfer.{AppendsFront}
 use Rattle.sub_base.specs.Profile.{profile_of}
@@ -24,17 +24,16 @@ use Rattle.sub_base.specs.declared.profile.Profile.{Profile}
 use Rattle.sub_base.specs.declared.profile.ProfileName.{ProfileName}
 use Rattle.sub_base.specs.declared.profile.ProfileName.TheVariants.{Sd, Hd, Wide}
 use Rattle.shown_stream.specs.Compiled.{AreLoads, AreUnits, IsCompiledTo, IsPlanned}
-use Rattle.dvbsub_cmd.specs.CompileRefused.{IsPlanRefused, IsRowAt, IsScheduleRefused}
+use Rattle.dvbsub_cmd.specs.CompileRefused.{IsPlanRefused, IsScheduleRefused}
 use Rattle.dvbsub_cmd.specs.PieceView.{plain}
 use Rattle.dvbsub_cmd.specs.Sending.{IsAmong, IsRefusal, IsScheduleRefusal, plan_refusal}
 use Rattle.shown_stream.specs.SlotStream.{all_pieces, slot_count, stream_of}
-use Rattle.shown_stream.specs.Compiled.{AreSizedAs}
-use Rattle.dvbsub_cmd.specs.UnitSizes.{AreShort}
+use Rattle.dvbsub_cmd.specs.UnitSizes.{AreSized}
 use Rattle.dvbsub_cmd.specs.declared.compile.SendFault.{SendFault}
 use Rattle.dvbsub_cmd.specs.declared.compile.SendFault.TheVariants as fault
 use Rattle.dvbsub_cmd.specs.declared.slot_stream.Piece.{Piece as Lent}
-use Rattle.shown_stream.proofs.CompiledPackets.{count_pieces}
-use Rattle.dvbsub_cmd.proofs.UnitLaws.{AllZip-length}
+use Rattle.shown_stream.proofs.CompiledPackets.{coded_few, count_pieces}
+use Rattle.dvbsub_cmd.proofs.UnitLaws.{AllZip-length, AreShort, all_fit, sized_as}
 
 -- there are fewer than 2 ^ 64 slots up to the last one
 pub slot_count-small : (slots all : List ℕ) → all ≡ slots → All (λ slot. slot < 2 ^ 54) slots → slot_count all < 2 ^ 64
@@ -44,14 +43,8 @@ slot_count-small slots all same small = subst (λ (s : List ℕ). slot_count s <
     below [] small = omega arith
     below (slot ∷ slots) small = let last : get_or (slot ∷ slots) (length slots) 0 < 2 ^ 54 = small (length slots) 0 (omega arith) in omega arith
 
--- a profile with a step has a coded data buffer that a packet can tell
-coded_few : (name : ProfileName) → IsSome (profile_of name).step → (profile_of name).coded ≤ 65541
-coded_few Sd steps = omega arith
-coded_few Hd steps = omega arith
-coded_few Wide steps = let never : false ≡ true = steps in absurd cc
-
--- sets that are on time fit packets whose length is told
-pub are_short : (name : ProfileName) (receiver : Profile) (origin : ℕ) (loads given : List SetLoad) (table : Timetable) → receiver ≡ profile_of name → IsSome (profile_of name).step → given ≡ loads →
+-- loads that are on time are short enough for a packet whose length is told
+are_short : (name : ProfileName) (receiver : Profile) (origin : ℕ) (loads given : List SetLoad) (table : Timetable) → receiver ≡ profile_of name → IsSome (profile_of name).step → given ≡ loads →
     IsOnTime given (length given) (pace_of origin receiver) table → AreShort given
 are_short name receiver origin loads given table is_profile steps same on_time k d below =
     let fits : (load_of given k).size ≤ receiver.coded = on_time.fits k below in
@@ -59,11 +52,18 @@ are_short name receiver origin loads given table is_profile steps same on_time k
     let at : get_or given k d ≡ load_of given k = get_or_default given k d no_load below in
     subst (λ (load : SetLoad). load.size ≤ 65541) (sym at) (omega arith)
 
+-- sets that are on time fit packets whose length is told
+pub sets_fit : (name : ProfileName) (script : Script) (sets : List PlannedSet) (receiver : Profile) (origin : ℕ) (loads given : List SetLoad) (table : Timetable) → receiver ≡ profile_of name → IsSome (profile_of name).step →
+    AreLoads script sets loads → given ≡ loads → IsOnTime given (length given) (pace_of origin receiver) table → All (FitsPacket script) sets
+sets_fit name script sets receiver origin loads given table is_profile steps asked same on_time =
+    all_fit script sets given (subst (AreLoads script sets) (sym same) asked) (are_short name receiver origin loads given table is_profile steps same on_time)
+
 -- one slot a piece
-pub slots_pair : (loads : List SetLoad) (units : List (List ℕ)) (slots all : List ℕ) (pieces lent : List Lent) → all ≡ slots → lent ≡ pieces → length slots ≡ first_packet loads (length loads) →
-    AreSizedAs loads units → map plain pieces ≡ all_pieces units → length all ≡ length lent
-slots_pair loads units slots all pieces lent all_is lent_is packets sized are =
-    ap length all_is ∙ packets ∙ count_pieces loads units sized ∙ ap length (sym are) ∙ length-map pieces plain ∙ ap length (sym lent_is)
+pub slots_pair : (script : Script) (sets : List PlannedSet) (loads given : List SetLoad) (units : List (List ℕ)) (slots all : List ℕ) (pieces lent : List Lent) → AreLoads script sets loads → given ≡ loads → all ≡ slots → lent ≡ pieces →
+    length slots ≡ first_packet given (length given) → AreSized script sets units → map plain pieces ≡ all_pieces units → length all ≡ length lent
+slots_pair script sets loads given units slots all pieces lent asked same all_is lent_is packets sized are =
+    let counted : first_packet given (length given) ≡ length (all_pieces units) = count_pieces given units (sized_as script sets given units (subst (AreLoads script sets) (sym same) asked) sized) in
+    ap length all_is ∙ packets ∙ counted ∙ ap length (sym are) ∙ length-map pieces plain ∙ ap length (sym lent_is)
 
 -- the set of a schedule's fault is one of the plan
 pub among : (script : Script) (sets : List PlannedSet) (loads given : List SetLoad) (pace : Pace) (refused : ScheduleFault) → AreLoads script sets loads → given ≡ loads → IsCause given pace refused → IsAmong sets refused
@@ -81,7 +81,7 @@ planned_by name script sets own loads given receiver is_profile plan same_sets a
 
 -- the packets of the plan's sets in the slots of their schedule are those that the script is compiled to
 pub compiled : (name : ProfileName) (pid page : ℕ) (script : Script) (sets own : List PlannedSet) (loads given : List SetLoad) (receiver : Profile) (table : Timetable) (units : List (List ℕ)) (pieces : List Lent) →
-    receiver ≡ profile_of name → IsPlan script receiver own → sets ≡ own → AreLoads script sets loads → given ≡ loads → AreUnits script page sets units → AreSizedAs given units →
+    receiver ≡ profile_of name → IsPlan script receiver own → sets ≡ own → AreLoads script sets loads → given ≡ loads → AreUnits script page sets units → AreSized script sets units →
     IsSchedule given (length given) (pace_of script.origin receiver) table → IsOnTime given (length given) (pace_of script.origin receiver) table →
     map plain pieces ≡ all_pieces units → IsCompiledTo name pid page script (stream_of pid (map plain pieces) table.slots)
 compiled name pid page script sets own loads given receiver table units pieces is_profile plan same_sets asked same_loads carried sized schedule on_time are =
@@ -91,7 +91,7 @@ compiled name pid page script sets own loads given receiver table units pieces i
       planned = planned_by name script sets own loads given receiver is_profile plan same_sets asked same_loads;
       units = units;
       carried = carried;
-      sized = sized;
+      sized = sized_as script sets given units (subst (AreLoads script sets) (sym same_loads) asked) sized;
       table = table;
       schedule = subst (λ (p : Profile). IsSchedule given (length given) (pace_of script.origin p) table) is_profile schedule;
       on_time = subst (λ (p : Profile). IsOnTime given (length given) (pace_of script.origin p) table) is_profile on_time;

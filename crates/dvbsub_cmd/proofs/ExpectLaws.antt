@@ -1,12 +1,11 @@
 -- The end of a text that was put out whole.
-use Rattle.std.proofs.Common.{◌≡◌, ◌∙◌, refl, sym, ap, subst, ℕ, ◌≤◌, Bool, true, false, List, [], ◌++◌, append-nil, arith}
+use Rattle.std.proofs.Common.{◌≡◌, ◌∙◌, refl, sym, ap, subst, ℕ, true, false, List, [], ◌++◌, append-nil, arith}
 use Rattle.std.specs.Io.KnownBytes.{Appends}
 use Rattle.std.proofs.KnownBytes.{Appends-nil}
 use Rattle.sub_base.specs.Counts.{HasRisen}
 use Rattle.sub_base.specs.Transfer.{AppendsFront}
 use Rattle.dvbsub_cmd.specs.Putting.{Buffered, IsPutOut, PutsOut}
 use Rattle.dvbsub_cmd.specs.Shown.{Received}
-use Rattle.dvbsub_cmd.specs.SlotWalk.{Sent}
 
 -- a buffer without text, at the start
 abbrev pub fresh : Buffered

@@ -2,6 +2,7 @@
 use Rattle.std.proofs.Common.{◌≡◌, ℕ, ◌≤◌, Bool, true, false, List, [], ◌++◌, append-nil, append_assoc, refl, sym, subst, arith}
 use Rattle.sub_base.specs.Counts.{HasRisen}
 use Rattle.sub_base.specs.Transfer.{AppendsFront}
+use Rattle.sub_base.proofs.TransferSteps.{HasRisen-since}
 use Rattle.dvbsub_cmd.specs.Putting.{Buffered, IsPutOut, PutsOut}
 use Rattle.dvbsub_cmd.specs.Shown.{Received}
 use Rattle.dvbsub_cmd.proofs.SlotLaws.{Sent-front}
@@ -19,10 +20,6 @@ PutsOut-both a b c old mid new first second one other = record {
       subst (λ (text : List ℕ). IsPutOut start c new text) (append_assoc told first second) (other.extends start (told ++ first) (one.extends start told out));
 }
 
--- a count that rose later rose
-risen_since : (a b c : ℕ) → a ≤ b → HasRisen b c → HasRisen a c
-risen_since a b c below risen = grind arith
-
 -- the sink failed while the waiting text was written
 pub PutsOut-failed : (before now : Received) (old new : Buffered) (bytes : List ℕ) → old.failed ≡ false → bytes ≡ old.waits → AppendsFront before.written now.written bytes → HasRisen before.faults now.faults → before.faults ≤ now.faults → new.failed ≡ true
     → PutsOut before now old new []
@@ -31,7 +28,7 @@ PutsOut-failed before now old new bytes good same front risen kept failed = reco
     sent = λ well. absurd (clash new.failed failed well);
     front = λ _. (
       Sent-front start.written before.written now.written old.waits told [] (told ++ []) (out.sent good) (subst (λ (b : List ℕ). AppendsFront before.written now.written b) same front) refl,
-      risen_since start.faults before.faults now.faults out.kept risen,
+      HasRisen-since start.faults before.faults now.faults out.kept risen,
     );
     kept = omega (arith, out.kept);
   };

@@ -12,6 +12,7 @@ use Rattle.std.specs.List.{flat_map, range_with_len}
 use Rattle.sub_base.specs.Transfer.{AppendsFront}
 use Rattle.stream_syntax.specs.TransportPackets.{null_packet}
 use Rattle.dvbsub_cmd.specs.PieceView.{plain}
+use Rattle.shown_stream.proofs.LaidPackets.{range-split}
 use Rattle.shown_stream.specs.SlotStream.{place_from, slot_packet, packet_at, packet_of, no_piece}
 use Rattle.dvbsub_cmd.specs.SlotWalk.{IsNext, Sent}
 use Rattle.dvbsub_cmd.specs.declared.slot_stream.Piece.{Piece as Lent}
@@ -148,17 +149,6 @@ Sent-front start now next pending bytes rest all sent front joined =
 range-suc : (n a : ℕ) → range_with_len a (suc n) ≡ range_with_len a n ++ (a + n) ∷ []
 range-suc zero a = ap (λ k. k ∷ []) (omega arith)
 range-suc (suc n) a = ap (λ rest. a ∷ rest) (range-suc n (a + 1) ∙ ap (λ k. range_with_len (a + 1) n ++ k ∷ []) (omega arith))
-
--- some numbers, and those after them
-range-split : (n a m : ℕ) → range_with_len a (n + m) ≡ range_with_len a n ++ range_with_len (a + n) m
-range-split zero a m =
-    let same : a ≡ a + 0 = omega arith in
-    let none : 0 + m ≡ m = omega arith in
-    ap (range_with_len a) none ∙ ap (λ k. range_with_len k m) same
-range-split (suc n) a m =
-    let more : suc n + m ≡ suc (n + m) = omega arith in
-    let next : (a + 1) + n ≡ a + suc n = omega arith in
-    ap (range_with_len a) more ∙ ap (λ rest. a ∷ rest) (range-split n (a + 1) m ∙ ap (λ k. range_with_len (a + 1) n ++ range_with_len k m) next)
 
 -- the packets of one slot more
 pub stream-more : (f : ℕ → List ℕ) (slot : ℕ) → flat_map f (range_with_len 0 (slot + 1)) ≡ flat_map f (range_with_len 0 slot) ++ f slot

@@ -1,19 +1,24 @@
 -- Laws of the packets of several sets, one set after the other.
-use Rattle.std.proofs.Common.{◌≡◌, ◌∙◌, refl, sym, ap, subst, zero, suc, ℕ, ◌+◌, ◌*◌, ◌/◌, ◌<◌, ◌≤◌, List, [], ◌∷◌, ◌++◌, length, get_or, map, take, sum, All, append-nil, length-append, arith}
-use Rattle.std.specs.List.{AllZip, flat_map, range_with_len}
-use Rattle.std.proofs.lemmas.List.{take_more, length-map}
+use Rattle.std.proofs.Common.{◌≡◌, ◌∙◌, refl, sym, ap, subst, zero, suc, ℕ, ◌+◌, ◌<◌, ◌≤◌, List, [], ◌∷◌, ◌++◌, length, get_or, take, All, append-nil, length-append, arith}
+use Rattle.std.specs.List.{AllZip}
+use Rattle.std.proofs.lemmas.List.{take_more}
 use Rattle.std.proofs.lemmas.List.Concat.{flat_map-append}
 use Rattle.std.proofs.lemmas.List.Elements.{All-push}
 use Rattle.std.proofs.lemmas.List.FromFn.{length-map-range_with_len}
-use Rattle.schedule.specs.Packets.{sum_below, first_packet, packets_of, packet_count, size_of, load_of}
-use Rattle.schedule.proofs.SumLaws.{sum_below-zero, sum_below-suc, sum_below-same}
+use Rattle.schedule.specs.Packets.{first_packet, packets_of, packet_count, no_load}
+use Rattle.schedule.proofs.SumLaws.{sum_below-zero, sum_below-suc}
 use Rattle.cue_list.specs.declared.script.Script.{Script}
 use Rattle.page_epoch.specs.declared.planned_set.PlannedSet.{PlannedSet}
-use Rattle.set_coder.specs.SetSizes.{IsSetSize}
+use Rattle.set_coder.specs.SetSizes.{FitsPacket, IsSetLoad, IsSetSize}
 use Rattle.set_coder.proofs.SetSizeLaws.{one_set_size}
 use Rattle.sub_base.specs.declared.load.SetLoad.{SetLoad}
-use Rattle.shown_stream.specs.SlotStream.{all_pieces, pieces_of, piece_of, piece_count}
 use Rattle.shown_stream.specs.Compiled.{AreSizedAs}
+use Rattle.shown_stream.specs.SlotStream.{all_pieces, pieces_of, piece_of, piece_count}
+use Rattle.dvbsub_cmd.specs.UnitSizes.{AreSized}
+
+-- each fits a PES packet whose length is told
+abbrev pub AreShort : List SetLoad → Type 0
+AreShort loads = All (λ load. load.size ≤ 65541) loads
 
 module _ {A B : Type 0} (R : A → B → Type 0) where
   -- one more at the end of both
@@ -53,12 +58,29 @@ all_pieces-more units k d inside =
     ap all_pieces (take_more units k d inside) ∙ flat_map-append pieces_of (take k units) (get_or units k d ∷ [])
     ∙ ap (λ (end : List _). all_pieces (take k units) ++ end) (append-nil (pieces_of (get_or units k d)))
 
--- the size of a set's packet is the one that its load says
-pub unit_size : (script : Script) (set : PlannedSet) (unit written before bytes : List ℕ) (size : ℕ) → unit ≡ written → written ≡ before ++ bytes → before ≡ [] →
-    IsSetSize script set (length bytes) → IsSetSize script set size → length unit ≡ size
-unit_size script set unit written before bytes size is_unit appended none sized loaded =
+-- the size of a set's packet is the one of what was written
+pub unit_size : (script : Script) (set : PlannedSet) (unit written before bytes : List ℕ) → unit ≡ written → written ≡ before ++ bytes → before ≡ [] →
+    IsSetSize script set (length bytes) → IsSetSize script set (length unit)
+unit_size script set unit written before bytes is_unit appended none sized =
     let same : unit ≡ bytes = is_unit ∙ appended ∙ ap (λ (front : List ℕ). front ++ bytes) none in
-    ap length same ∙ one_set_size script set (length bytes) size sized loaded
+    subst (λ (all : List ℕ). IsSetSize script set (length all)) (sym same) sized
+
+-- the packets have the sizes that the loads of their sets say
+pub sized_as : (script : Script) (sets : List PlannedSet) (loads : List SetLoad) (units : List (List ℕ)) → AllZip (IsSetLoad script) sets loads → AreSized script sets units → AreSizedAs loads units
+sized_as script [] [] [] asked sized = tt
+sized_as script [] [] (unit ∷ units) asked sized = absurd sized
+sized_as script [] (load ∷ loads) units asked sized = absurd asked
+sized_as script (set ∷ sets) [] units asked sized = absurd asked
+sized_as script (set ∷ sets) (load ∷ loads) [] asked sized = absurd sized
+sized_as script (set ∷ sets) (load ∷ loads) (unit ∷ units) asked sized =
+    (one_set_size script set (length unit) load.size sized.0 asked.0.size, sized_as script sets loads units asked.1 sized.1)
+
+-- sets whose loads are short fit packets whose length is told
+pub all_fit : (script : Script) (sets : List PlannedSet) (loads : List SetLoad) → AllZip (IsSetLoad script) sets loads → AreShort loads → All (FitsPacket script) sets
+all_fit script sets loads asked short k d below =
+    let within : k < length loads = omega (arith, AllZip-length (IsSetLoad script) sets loads asked) in
+    let load : IsSetLoad script (get_or sets k d) (get_or loads k no_load) = AllZip-at (IsSetLoad script) sets loads k d no_load below asked in
+    record { size = (get_or loads k no_load).size; sized = load.size; few = short k no_load within }
 
 -- one more that P holds of
 pub All-step : {X : Type 0} (P : X → Type 0) (xs new : List X) (x : X) → All P xs → new ≡ xs ++ x ∷ [] → P x → All P new

@@ -28,6 +28,10 @@ abbrev pub HasFont : Bool → Supplied → Supplied → FontValue → Type 0
 HasFont false before now value = value ≡ no_font
 HasFont true before now value = (text : List ℕ) × WasRead text_limit before now text × IsFont text value
 
+-- the command names no font, or its font was read and is right
+abbrev pub HasSomeFont : Bool → Supplied → Supplied → Type 0
+HasSomeFont has_font before now = (font : FontValue) × HasFont has_font before now font
+
 -- the first source was read to its end and is this script, in the command's font
 pub record ReadsScript (has_font : Bool) (first_before first_now second_before second_now : Supplied) (script : Script) : Type 0 where
   pub font : FontValue
@@ -53,23 +57,29 @@ abbrev pub IsScriptRefused : Bool → Supplied → Supplied → Supplied → Sup
 IsScriptRefused has_font first_before first_now second_before second_now script.Memory = ⊥
 IsScriptRefused has_font first_before first_now second_before second_now (script.Refused row kind) = IsRefusedAt has_font first_before first_now second_before second_now (script.Refused row kind)
 
--- why a command has no script: the font's faults come before the script's
+-- why a command has no script. The font is read first: a fault of the second source comes before the first one is called,
+-- and a fault of the first source with a font that is right
 abbrev pub IsInputCause : Bool → Supplied → Supplied → Supplied → Supplied → Status → Type 0
 IsInputCause has_font first_before first_now second_before second_now (status.Done cut) = ⊥
 IsInputCause has_font first_before first_now second_before second_now status.Usage = ⊥
-IsInputCause has_font first_before first_now second_before second_now (status.FontRefused fault) = (has_font ≡ true) × IsFontRefused fault second_before second_now
+IsInputCause has_font first_before first_now second_before second_now (status.FontRefused fault) =
+    (has_font ≡ true) × IsFontRefused fault second_before second_now × (first_now ≡ first_before)
 IsInputCause has_font first_before first_now second_before second_now (status.ScriptRefused fault) = IsScriptRefused has_font first_before first_now second_before second_now fault
 IsInputCause has_font first_before first_now second_before second_now (status.PlanRefused fault) = ⊥
 IsInputCause has_font first_before first_now second_before second_now (status.ScheduleRefused row fault) = ⊥
 IsInputCause has_font first_before first_now second_before second_now (status.StreamRefused packet fault) = ⊥
-IsInputCause has_font first_before first_now second_before second_now (status.ReadFault which.First) = HasRisen first_before.faults first_now.faults
-IsInputCause has_font first_before first_now second_before second_now (status.ReadFault which.Second) = (has_font ≡ true) × HasRisen second_before.faults second_now.faults
+IsInputCause has_font first_before first_now second_before second_now (status.ReadFault which.First) =
+    HasSomeFont has_font second_before second_now × HasRisen first_before.faults first_now.faults
+IsInputCause has_font first_before first_now second_before second_now (status.ReadFault which.Second) =
+    (has_font ≡ true) × HasRisen second_before.faults second_now.faults × (first_now ≡ first_before)
 IsInputCause has_font first_before first_now second_before second_now (status.ReadFault which.Out) = ⊥
 IsInputCause has_font first_before first_now second_before second_now (status.ReadFault which.Notes) = ⊥
 IsInputCause has_font first_before first_now second_before second_now (status.WriteFault which) = ⊥
 IsInputCause has_font first_before first_now second_before second_now status.Memory = Unit {0}
-IsInputCause has_font first_before first_now second_before second_now (status.InputTooLong which.First) = HasRisenPast text_limit first_before.given first_now.given
-IsInputCause has_font first_before first_now second_before second_now (status.InputTooLong which.Second) = (has_font ≡ true) × HasRisenPast text_limit second_before.given second_now.given
+IsInputCause has_font first_before first_now second_before second_now (status.InputTooLong which.First) =
+    HasSomeFont has_font second_before second_now × HasRisenPast text_limit first_before.given first_now.given
+IsInputCause has_font first_before first_now second_before second_now (status.InputTooLong which.Second) =
+    (has_font ≡ true) × HasRisenPast text_limit second_before.given second_now.given × (first_now ≡ first_before)
 IsInputCause has_font first_before first_now second_before second_now (status.InputTooLong which.Out) = ⊥
 IsInputCause has_font first_before first_now second_before second_now (status.InputTooLong which.Notes) = ⊥
 

@@ -92,7 +92,7 @@ fn send<K: Sink>(
         Ok(schedule) => schedule,
         Err(fault) => return Err(schedule_refused(sets, fault)),
     };
-    let Ok(units) = units_of(alloc, script, sets, asked, page) else {
+    let Ok(units) = units_of(alloc, script, sets, page) else {
         return Err(SendFault::Memory);
     };
     let Ok(pieces) = pieces_of(alloc, units.as_slice()) else {

@@ -15,9 +15,9 @@ ghost use Rattle.dvbsub_cmd.specs.Walking.{IsEnd, Closes, EndsWith};
 use crate::list_packets::{Refused, list_packets};
 use crate::status::{Status, Which};
 use crate::text_buffer::{TextBuffer, flush};
-use std::alloc::{AllocError, Global};
+use std::alloc::Global;
 use stream_syntax::PacketFault;
-use sub_base::{ReadFailed, Sink, Source};
+use sub_base::{ReadFailed, Sink, Source, zeros};
 use ts_packets::Demux;
 
 /// The bytes of a packet.
@@ -67,13 +67,6 @@ pub fn list<A: Source, K: Sink>(alloc: Global, pid: u16, stream: &mut A, out: &m
     };
     let end = walk(stream, out, &mut buffer, &mut demux, room.as_mut_slice());
     close(out, &mut buffer, end)
-}
-
-/// A buffer of that many bytes.
-fn zeros(alloc: Global, size: usize) -> Result<Vec<u8>, AllocError>
-    ensures { IfOk result (λ buffer. vec_len buffer ≡ size) }
-{
-    vec![in alloc; 0u8; size]
 }
 
 /// Takes the packets of a stream one after the other, up to its end or to what stops the walk.

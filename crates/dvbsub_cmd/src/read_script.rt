@@ -55,7 +55,7 @@ fn font_of<B: Source>(alloc: Global, has_font: bool, second: &mut B) -> Result<F
     ensures font { IfOk result (HasFont has_font
         (record { left = B.left second.old; given = B.given second.old; faults = B.faults second.old })
         (record { left = B.left second.new; given = B.given second.new; faults = B.faults second.new })) }
-    ensures cause { IfErr result (λ status. (first_before first_now : Supplied) → IsInputCause has_font first_before first_now
+    ensures cause { IfErr result (λ status. (first : Supplied) → IsInputCause has_font first first
         (record { left = B.left second.old; given = B.given second.old; faults = B.faults second.old })
         (record { left = B.left second.new; given = B.given second.new; faults = B.faults second.new }) status) }
     ensures second { has_font ≡ false → second.new ≡ second.old }

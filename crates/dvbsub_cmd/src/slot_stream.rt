@@ -9,7 +9,7 @@ ghost use Rattle.dvbsub_cmd.specs.PieceView.{plain};
 
 use std::alloc::{AllocError, Global};
 use std::marker::Model;
-use sub_base::{Sink, WriteFailed, write_whole};
+use sub_base::{Sink, WriteFailed, write_whole, zeros};
 use ts_packets::{Packetiser, null_packet};
 
 /// The bytes of a packet.
@@ -84,13 +84,6 @@ impl Outgoing {
     {
         self.filled = 0;
     }
-}
-
-/// A buffer of that many bytes.
-fn zeros(alloc: Global, size: usize) -> Result<Vec<u8>, AllocError>
-    ensures { IfOk result (λ buffer. vec_len buffer ≡ size) }
-{
-    vec![in alloc; 0u8; size]
 }
 
 /// Makes the packet of a slot: that of the next piece where this is its slot, and else the null packet. Answers how many

@@ -4,7 +4,7 @@ ghost use Rattle.dvbsub_cmd.specs.Shown.{Received};
 
 use std::alloc::{AllocError, Global};
 use std::marker::Model;
-use sub_base::{Sink, write_whole};
+use sub_base::{Sink, write_whole, zeros};
 
 /// How many bytes of text are written at once, at most.
 const ROOM: usize = 65_536;
@@ -88,13 +88,6 @@ impl TextBuffer {
     {
         self.failed = true;
     }
-}
-
-/// A buffer of that many bytes.
-fn zeros(alloc: Global, size: usize) -> Result<Vec<u8>, AllocError>
-    ensures { IfOk result (λ buffer. vec_len buffer ≡ size) }
-{
-    vec![in alloc; 0u8; size]
 }
 
 /// Puts out a text of at most 128 bytes: it waits behind the text before it, which is written first where there is no room.

@@ -6,8 +6,7 @@ ghost use Rattle.set_coder.specs.SetSegments.{IsSetPacket};
 ghost use Rattle.shown_stream.specs.Compiled.{AreLoads, AreUnits};
 ghost use Rattle.dvbsub_cmd.specs.PieceView.{plain};
 ghost use Rattle.shown_stream.specs.SlotStream.{IsPiece, all_pieces};
-ghost use Rattle.shown_stream.specs.Compiled.{AreSizedAs};
-ghost use Rattle.dvbsub_cmd.specs.UnitSizes.{AreShort};
+ghost use Rattle.dvbsub_cmd.specs.UnitSizes.{AreSized};
 
 use crate::pieces::push_pieces;
 use crate::slot_stream::Piece;
@@ -39,18 +38,16 @@ pub fn units_of(
     alloc: Global,
     script: &Script,
     sets: &[PlannedSet],
-    loads: &[SetLoad],
     page: u16,
 ) -> Result<Vec<Unit>, NoMemory>
     requires sendable { All (IsSendable script.now) sets.now }
-    requires loads { AreLoads script.now sets.now loads.now }
-    requires short { AreShort loads.now }
+    requires fit { All (FitsPacket script.now) sets.now }
     ensures units { IfOk result (λ units. AreUnits script.now page sets.now units.items) }
-    ensures sizes { IfOk result (λ units. AreSizedAs loads.now units.items) }
+    ensures sizes { IfOk result (λ units. AreSized script.now sets.now units.items) }
 {
     let mut units = Vec::new(alloc);
-    for (place, set) in sets.iter().enumerate() {
-        units.push(unit_of(alloc, script, set, loads[place], page)?)?;
+    for set in sets {
+        units.push(unit_of(alloc, script, set, page)?)?;
     }
     Ok(units)
 }
@@ -59,20 +56,12 @@ pub fn units_of(
 pub type Unit = Items<u8>;
 
 /// The PES packet of a set.
-fn unit_of(
-    alloc: Global,
-    script: &Script,
-    set: &PlannedSet,
-    load: SetLoad,
-    page: u16,
-) -> Result<Unit, NoMemory>
+fn unit_of(alloc: Global, script: &Script, set: &PlannedSet, page: u16) -> Result<Unit, NoMemory>
     requires sendable { IsSendable script.now set.now }
-    requires size { IsSetSize script.now set.now load.size }
-    requires short { load.size ≤ 65541 }
+    requires fits { FitsPacket script.now set.now }
     ensures packet { IfOk result (IsSetPacket script.now page set.now) }
-    ensures size { IfOk result (λ unit. length unit ≡ load.size) }
+    ensures size { IfOk result (λ unit. IsSetSize script.now set.now (length unit)) }
 {
-    let _load = load;
     let mut bytes = Vec::new(alloc);
     write_set(script, set, page, &mut bytes)?;
     Ok(Items::new(bytes))

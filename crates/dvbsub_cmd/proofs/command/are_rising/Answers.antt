@@ -1,4 +1,4 @@
-use Rattle.std.proofs.Common.{◌≡◌, ◌∙◌, ◌+◌, ◌<◌, ◌≤◌, length, sym, ap, subst, arith}
+use Rattle.std.proofs.Common.{◌∙◌, sym, arith}
 use Rattle.dvbsub_cmd.proofs.TickLaws.{rising_not, rising_below, rising_more}
 use Rattle.dvbsub_cmd.proofs.command.are_rising.Goals as goal
 

@@ -1,4 +1,4 @@
-use Rattle.std.proofs.Common.{◌≡◌, ◌∙◌, refl, sym}
+use Rattle.std.proofs.Common.{◌∙◌, refl, sym}
 use Rattle.dvbsub_cmd.proofs.ExpectLaws.{written_whole, written_front}
 use Rattle.dvbsub_cmd.proofs.expect.expect.Goals as goal
 

@@ -1,10 +1,5 @@
-use Rattle.std.proofs.Common.{◌≡◌, ◌∙◌, ◌+◌, ◌-◌, ◌==◌, ◌<◌, ◌≤◌, ℕ, Bool, true, false, List, length, drop, get_or, ap, sym, subst, refl, length-drop, arith}
+use Rattle.std.proofs.Common.{◌≡◌, ◌∙◌, ◌==◌, ◌≤◌, ℕ, true, false, length, ap, sym, length-drop, arith}
 use Rattle.std.proofs.lemmas.Bool.Decides.{nat_tests}
-use Rattle.std.proofs.lemmas.List.{get_or_default}
-use Rattle.sub_base.specs.Colour.{clear}
-use Rattle.sub_base.specs.declared.colour.Colour.{Colour}
-use Rattle.dvbsub_cmd.specs.PictureText.{PutsRow, run_piece}
-use Rattle.dvbsub_cmd.specs.Putting.{PutsOut}
 use Rattle.dvbsub_cmd.proofs.PictureLaws.{PutsRow-none, PutsRow-step, PutsRow-all}
 use Rattle.dvbsub_cmd.proofs.picture_text.put_row.Goals as goal
 

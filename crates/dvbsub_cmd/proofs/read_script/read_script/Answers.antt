@@ -1,4 +1,4 @@
 use Rattle.dvbsub_cmd.proofs.read_script.read_script.Goals as goal
 
 pub returns-in-Err-clause-cause : goal.returns-in-Err-clause-cause
-returns-in-Err-clause-cause g c = c.in-Err.ensures.cause _ _
+returns-in-Err-clause-cause g c = c.in-Err.ensures.cause _

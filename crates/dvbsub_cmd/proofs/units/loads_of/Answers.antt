@@ -1,4 +1,4 @@
-use Rattle.std.proofs.Common.{◌≡◌, ◌^◌, ◌<◌, ◌≤◌, ap, arith}
+use Rattle.std.proofs.Common.{arith}
 use Rattle.schedule.specs.Slots.{IsLoad}
 use Rattle.set_coder.specs.SetSizes.{IsSetLoad}
 use Rattle.dvbsub_cmd.proofs.UnitLaws.{AllZip-step, All-step}
