@@ -1,5 +1,5 @@
 -- The packets of a plan's sets, and the refusals of a schedule.
-use Rattle.std.proofs.Common.{◌≡◌, ◌∙◌, sym, ap, subst, ℕ, ◌<◌, ◌≤◌, ◌^◌, true, false, Option, IsSome, List, [], ◌∷◌, length, get_or, map, All, arith}
+use Rattle.std.proofs.Common.{◌≡◌, ◌∙◌, sym, ap, subst, ℕ, ◌<◌, ◌≤◌, ◌^◌, Option, IsSome, List, [], ◌∷◌, length, get_or, map, All, arith}
 use Rattle.std.specs.Io.KnownBytes.{Keeps}
 use Rattle.std.proofs.lemmas.List.{length-map, get_or_default}
 use Rattle.cue_list.specs.declared.script.Script.{Script}
@@ -22,7 +22,6 @@ use Rattle.sub_base.specs.Profile.{profile_of}
 use Rattle.sub_base.specs.declared.load.SetLoad.{SetLoad}
 use Rattle.sub_base.specs.declared.profile.Profile.{Profile}
 use Rattle.sub_base.specs.declared.profile.ProfileName.{ProfileName}
-use Rattle.sub_base.specs.declared.profile.ProfileName.TheVariants.{Sd, Hd, Wide}
 use Rattle.shown_stream.specs.Compiled.{AreLoads, AreUnits, IsCompiledTo, IsPlanned}
 use Rattle.dvbsub_cmd.specs.CompileRefused.{IsPlanRefused, IsScheduleRefused}
 use Rattle.dvbsub_cmd.specs.PieceView.{plain}
@@ -80,11 +79,11 @@ planned_by name script sets own loads given receiver is_profile plan same_sets a
 }
 
 -- the packets of the plan's sets in the slots of their schedule are those that the script is compiled to
-pub compiled : (name : ProfileName) (pid page : ℕ) (script : Script) (sets own : List PlannedSet) (loads given : List SetLoad) (receiver : Profile) (table : Timetable) (units : List (List ℕ)) (pieces : List Lent) →
+pub compiled : (name : ProfileName) (pid page : ℕ) (script : Script) (sets own : List PlannedSet) (loads given : List SetLoad) (receiver : Profile) (table : Timetable) (units : List (List ℕ)) (pieces lent : List Lent) (all : List ℕ) →
     receiver ≡ profile_of name → IsPlan script receiver own → sets ≡ own → AreLoads script sets loads → given ≡ loads → AreUnits script page sets units → AreSized script sets units →
     IsSchedule given (length given) (pace_of script.origin receiver) table → IsOnTime given (length given) (pace_of script.origin receiver) table →
-    map plain pieces ≡ all_pieces units → IsCompiledTo name pid page script (stream_of pid (map plain pieces) table.slots)
-compiled name pid page script sets own loads given receiver table units pieces is_profile plan same_sets asked same_loads carried sized schedule on_time are =
+    map plain pieces ≡ all_pieces units → lent ≡ pieces → all ≡ table.slots → IsCompiledTo name pid page script (stream_of pid (map plain lent) all)
+compiled name pid page script sets own loads given receiver table units pieces lent all is_profile plan same_sets asked same_loads carried sized schedule on_time are lent_is all_is =
     record {
       sets = sets;
       loads = given;
@@ -95,7 +94,7 @@ compiled name pid page script sets own loads given receiver table units pieces i
       table = table;
       schedule = subst (λ (p : Profile). IsSchedule given (length given) (pace_of script.origin p) table) is_profile schedule;
       on_time = subst (λ (p : Profile). IsOnTime given (length given) (pace_of script.origin p) table) is_profile on_time;
-      sent = ap (λ all. stream_of pid all table.slots) are;
+      sent = ap (λ slots. stream_of pid (map plain lent) slots) all_is ∙ ap (λ own. stream_of pid (map plain own) table.slots) lent_is ∙ ap (λ own. stream_of pid own table.slots) are;
     }
 
 -- a refusal of the plan is one of the script

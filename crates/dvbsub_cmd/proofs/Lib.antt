@@ -1,5 +1,6 @@
 pub mod CauseLaws
 pub mod CloseLaws
+pub mod HeadlineLaws
 pub mod ListLaws
 pub mod ListingLaws
 pub mod PieceLaws

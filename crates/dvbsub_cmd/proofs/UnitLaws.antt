@@ -1,19 +1,17 @@
 -- Laws of the packets of several sets, one set after the other.
-use Rattle.std.proofs.Common.{◌≡◌, ◌∙◌, refl, sym, ap, subst, zero, suc, ℕ, ◌+◌, ◌<◌, ◌≤◌, List, [], ◌∷◌, ◌++◌, length, get_or, take, All, append-nil, length-append, arith}
+use Rattle.std.proofs.Common.{◌≡◌, ◌∙◌, refl, sym, ap, subst, zero, suc, ℕ, ◌+◌, ◌<◌, ◌≤◌, List, [], ◌∷◌, ◌++◌, length, get_or, take, All, append-nil, arith}
 use Rattle.std.specs.List.{AllZip}
 use Rattle.std.proofs.lemmas.List.{take_more}
 use Rattle.std.proofs.lemmas.List.Concat.{flat_map-append}
 use Rattle.std.proofs.lemmas.List.Elements.{All-push}
-use Rattle.std.proofs.lemmas.List.FromFn.{length-map-range_with_len}
-use Rattle.schedule.specs.Packets.{first_packet, packets_of, packet_count, no_load}
-use Rattle.schedule.proofs.SumLaws.{sum_below-zero, sum_below-suc}
+use Rattle.schedule.specs.Packets.{no_load}
 use Rattle.cue_list.specs.declared.script.Script.{Script}
 use Rattle.page_epoch.specs.declared.planned_set.PlannedSet.{PlannedSet}
 use Rattle.set_coder.specs.SetSizes.{FitsPacket, IsSetLoad, IsSetSize}
 use Rattle.set_coder.proofs.SetSizeLaws.{one_set_size}
 use Rattle.sub_base.specs.declared.load.SetLoad.{SetLoad}
 use Rattle.shown_stream.specs.Compiled.{AreSizedAs}
-use Rattle.shown_stream.specs.SlotStream.{all_pieces, pieces_of, piece_of, piece_count}
+use Rattle.shown_stream.specs.SlotStream.{all_pieces, pieces_of}
 use Rattle.dvbsub_cmd.specs.UnitSizes.{AreSized}
 
 -- each fits a PES packet whose length is told

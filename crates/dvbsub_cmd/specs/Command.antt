@@ -100,8 +100,9 @@ places_of (Some (command.Compile profile pid page has_font)) = record { first = 
 places_of (Some (command.List pid)) = record { first = Some 2; second = None; out = Some 3 }
 places_of (Some (command.Expect has_font)) = record { first = Some 1; second = font_place has_font 2; out = Some 3 }
 
--- a command that sends packets has a PID of 13 bits, and a profile with a step from packet to packet
+-- a command that sends packets has a PID of 13 bits that null packets do not have, and a profile with a step from packet to
+-- packet
 abbrev pub IsSending : Command → Type 0
-IsSending (command.Compile profile pid page has_font) = (pid < 8192) × IsSome (profile_of profile).step
+IsSending (command.Compile profile pid page has_font) = (pid < 8191) × IsSome (profile_of profile).step
 IsSending (command.List pid) = Unit {0}
 IsSending (command.Expect has_font) = Unit {0}

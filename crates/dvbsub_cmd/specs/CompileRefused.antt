@@ -1,24 +1,18 @@
 -- Why no packets of a script are sent.
-use Rattle.std.specs.Prelude.{◌≡◌, ℕ, List, length, slice_get, Some}
-use Rattle.std.specs.List.{AllZip}
+use Rattle.std.specs.Prelude.{◌≡◌, ℕ, List, slice_get, Some}
 use Rattle.cue_list.specs.declared.script.Script.{Script}
-use Rattle.page_epoch.specs.Plan.{IsPlan}
 use Rattle.page_epoch.specs.Refusals.{IsCause as IsPlanCause}
 use Rattle.page_epoch.specs.declared.fault.PlanFault.{PlanFault}
 use Rattle.page_epoch.specs.declared.fault.PlanFault.TheVariants as plan
 use Rattle.page_epoch.specs.declared.planned_set.PlannedSet.{PlannedSet}
 use Rattle.schedule.specs.Refusals.{IsCause}
 use Rattle.sub_base.specs.Pace.{pace_of}
-use Rattle.schedule.specs.Slots.{Timetable, IsSchedule, IsOnTime}
 use Rattle.schedule.specs.declared.fault.ScheduleFault.{ScheduleFault}
 use Rattle.schedule.specs.declared.fault.ScheduleFault.TheVariants as fault
-use Rattle.set_coder.specs.SetSegments.{IsSetPacket}
-use Rattle.set_coder.specs.SetSizes.{IsSetLoad}
 use Rattle.sub_base.specs.Profile.{profile_of}
 use Rattle.sub_base.specs.declared.profile.ProfileName.{ProfileName}
 use Rattle.sub_base.specs.declared.load.SetLoad.{SetLoad}
-use Rattle.shown_stream.specs.SlotStream.{all_pieces, stream_of}
-use Rattle.shown_stream.specs.Compiled.{AreUnits, AreLoads, IsPlanned, IsCompiledTo}
+use Rattle.shown_stream.specs.Compiled.{IsPlanned}
 
 -- the plan is refused for this reason
 abbrev pub IsPlanRefused : ProfileName → Script → PlanFault → Type 0

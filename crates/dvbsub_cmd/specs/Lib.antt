@@ -2,6 +2,7 @@ pub mod Command
 pub mod CompileOutcome
 pub mod CompileRefused
 pub mod Completeness
+pub mod Headline
 pub mod KindNames
 pub mod ListLines
 pub mod ListOutcome

@@ -1,5 +1,6 @@
 ghost use Rattle.dvbsub_cmd.specs.Command.{command_of as command_of_words};
 ghost use Rattle.dvbsub_cmd.specs.Completeness.{IsComplete};
+ghost use Rattle.dvbsub_cmd.specs.Headline.{IsShownBy};
 ghost use Rattle.dvbsub_cmd.specs.Outcome.{HasCause, IsCaused, IsSecondKept, Tells};
 ghost use Rattle.dvbsub_cmd.specs.Shown.{Shown, Supplied, Received};
 ghost use Rattle.std.specs.Prelude.{◌≡◌, Some};
@@ -63,6 +64,21 @@ where
         (record { written = N.written notes.new; faults = N.faults notes.new })
         result }
 
+    // Where a script was compiled that is one cue that fills the display, a receiver that gets the packets from the first on
+    // shows the authored picture at every tick.
+    ensures shown { IsShownBy (command_of_words words.now)
+        (record {
+          first = record { left = A.left first.old; given = A.given first.old; faults = A.faults first.old };
+          second = record { left = B.left second.old; given = B.given second.old; faults = B.faults second.old };
+          out = record { written = K.written out.old; faults = K.faults out.old };
+        })
+        (record {
+          first = record { left = A.left first.new; given = A.given first.new; faults = A.faults first.new };
+          second = record { left = B.left second.new; given = B.given second.new; faults = B.faults second.new };
+          out = record { written = K.written out.new; faults = K.faults out.new };
+        })
+        result }
+
     // A command that names no font does not call the second source.
     ensures second { IsSecondKept (command_of_words words.now) second.old second.new }
 {
@@ -96,6 +112,18 @@ fn run<A: Source, B: Source, K: Sink>(
     out: &mut K,
 ) -> Status
     ensures cause { IsCaused words.now
+        (record {
+          first = record { left = A.left first.old; given = A.given first.old; faults = A.faults first.old };
+          second = record { left = B.left second.old; given = B.given second.old; faults = B.faults second.old };
+          out = record { written = K.written out.old; faults = K.faults out.old };
+        })
+        (record {
+          first = record { left = A.left first.new; given = A.given first.new; faults = A.faults first.new };
+          second = record { left = B.left second.new; given = B.given second.new; faults = B.faults second.new };
+          out = record { written = K.written out.new; faults = K.faults out.new };
+        })
+        result }
+    ensures shown { IsShownBy (command_of_words words.now)
         (record {
           first = record { left = A.left first.old; given = A.given first.old; faults = A.faults first.old };
           second = record { left = B.left second.old; given = B.given second.old; faults = B.faults second.old };

@@ -2,6 +2,7 @@ ghost use Rattle.std.specs.Prelude.{◌≡◌, ◌<◌, false, All, IfErr, IsSom
 ghost use Rattle.sub_base.specs.Profile.{profile_of};
 ghost use Rattle.dvbsub_cmd.specs.CompileRefused.{IsRowAt};
 ghost use Rattle.dvbsub_cmd.specs.CompileOutcome.{IsCompileCause};
+ghost use Rattle.dvbsub_cmd.specs.Headline.{OnDone, ShowsScript};
 ghost use Rattle.dvbsub_cmd.specs.Sending.{Sends, IsRefusal, IsAmong, IsScheduleRefusal, plan_refusal};
 ghost use Rattle.dvbsub_cmd.specs.Shown.{Shown, Supplied, Received};
 
@@ -26,7 +27,7 @@ pub fn compile<A: Source, B: Source, K: Sink>(
     second: &mut B,
     out: &mut K,
 ) -> Status
-    requires pid { pid < 8192 }
+    requires pid { pid < 8191 }
     requires profile { IsSome (profile_of profile).step }
     ensures cause { IsCompileCause profile pid page has_font
         (record {
@@ -40,6 +41,17 @@ pub fn compile<A: Source, B: Source, K: Sink>(
           out = record { written = K.written out.new; faults = K.faults out.new };
         })
         result }
+    ensures shown { OnDone result (ShowsScript profile pid page has_font
+        (record {
+          first = record { left = A.left first.old; given = A.given first.old; faults = A.faults first.old };
+          second = record { left = B.left second.old; given = B.given second.old; faults = B.faults second.old };
+          out = record { written = K.written out.old; faults = K.faults out.old };
+        })
+        (record {
+          first = record { left = A.left first.new; given = A.given first.new; faults = A.faults first.new };
+          second = record { left = B.left second.new; given = B.given second.new; faults = B.faults second.new };
+          out = record { written = K.written out.new; faults = K.faults out.new };
+        })) }
     ensures second { has_font ≡ false → second.new ≡ second.old }
 {
     let script = match read_script(alloc, has_font, first, second) {

@@ -1,0 +1,77 @@
+-- What a receiver shows of a compiled script.
+use Rattle.std.proofs.Common.{ℕ, ◌<◌, Bool, List, Option, Some, None, IsSome, inl, inr, sym, subst, arith}
+use Rattle.std.specs.Io.KnownBytes.{Appends}
+use Rattle.cue_list.specs.declared.script.Script.{Script}
+use Rattle.shown_stream.specs.Compiled.{IsCompiledTo}
+use Rattle.shown_stream.proofs.CompiledPackets.{packets_in, are_packets}
+use Rattle.shown_stream.proofs.SentPieces.{IsFree}
+use Rattle.shown_stream.proofs.SoleCueShown.{sole_cue_shown}
+use Rattle.sub_base.specs.Profile.{profile_of}
+use Rattle.sub_base.specs.declared.profile.ProfileName.{ProfileName}
+use Rattle.dvbsub_cmd.specs.Headline.{ShowsScript, OnDone, IsShownBy}
+use Rattle.dvbsub_cmd.specs.Outcome.{Tells, untold}
+use Rattle.dvbsub_cmd.specs.ReadScript.{ReadsScript, IsInputCause}
+use Rattle.dvbsub_cmd.specs.Shown.{Shown, Supplied, Received}
+use Rattle.dvbsub_cmd.specs.declared.command.Command.{Command}
+use Rattle.dvbsub_cmd.specs.declared.command.Command.TheVariants as command
+use Rattle.dvbsub_cmd.specs.declared.status.Status.{Status}
+use Rattle.dvbsub_cmd.specs.declared.status.Status.TheVariants as status
+
+is_free : (pid : ℕ) → pid < 8191 → IsFree pid
+is_free pid below = record { small = omega arith; no_null = λ same. omega (arith, same) }
+
+-- the packets of a compiled script are shown
+pub shows_script : (profile : ProfileName) (pid page : ℕ) (has_font : Bool) (before now : Shown) (script : Script) (bytes : List ℕ) → pid < 8191 → IsSome (profile_of profile).step
+    → ReadsScript has_font before.first now.first before.second now.second script → IsCompiledTo profile pid page script bytes → Appends before.out.written now.out.written bytes
+    → ShowsScript profile pid page has_font before now
+shows_script profile pid page has_font before now script bytes below steps reads compiled written =
+    let free = is_free pid below in
+    let known = are_packets profile pid page script bytes free steps compiled in
+    record {
+      script = script;
+      reads = reads;
+      packets = packets_in profile pid page script bytes compiled;
+      whole = known.whole;
+      compiled = subst (IsCompiledTo profile pid page script) known.joined compiled;
+      written = subst (λ (all : List ℕ). Appends before.out.written now.out.written all) known.joined written;
+      shown = λ epoch region cue picture sole tick. sole_cue_shown profile pid page script epoch region cue picture bytes free steps sole compiled tick;
+    }
+
+-- a command whose script could not be read was not done
+pub not_done : (has_font : Bool) (a b c d : Supplied) (holds : Type 0) (answer : Status) → IsInputCause has_font a b c d answer → OnDone answer holds
+not_done has_font a b c d holds (status.Done cut) cause = absurd cause
+not_done has_font a b c d holds status.Usage cause = tt
+not_done has_font a b c d holds (status.FontRefused fault) cause = tt
+not_done has_font a b c d holds (status.ScriptRefused fault) cause = tt
+not_done has_font a b c d holds (status.PlanRefused fault) cause = tt
+not_done has_font a b c d holds (status.ScheduleRefused row fault) cause = tt
+not_done has_font a b c d holds (status.StreamRefused packet fault) cause = tt
+not_done has_font a b c d holds (status.ReadFault which) cause = tt
+not_done has_font a b c d holds (status.WriteFault which) cause = tt
+not_done has_font a b c d holds status.Memory cause = tt
+not_done has_font a b c d holds (status.InputTooLong which) cause = tt
+
+-- a status whose line could not be written is not that a command was done
+untold_is_not_done : (command : Option Command) (before now : Shown) (run : Status) → IsShownBy command before now (untold run)
+untold_is_not_done None before now run = tt
+untold_is_not_done (Some (command.List pid)) before now run = tt
+untold_is_not_done (Some (command.Expect has_font)) before now run = tt
+untold_is_not_done (Some (command.Compile profile pid page has_font)) before now run = by run
+  where
+    by : (run : Status) → OnDone (untold run) (ShowsScript profile pid page has_font before now)
+    by (status.Done cut) = tt
+    by status.Usage = tt
+    by (status.FontRefused fault) = tt
+    by (status.ScriptRefused fault) = tt
+    by (status.PlanRefused fault) = tt
+    by (status.ScheduleRefused row fault) = tt
+    by (status.StreamRefused packet fault) = tt
+    by (status.ReadFault which) = tt
+    by (status.WriteFault which) = tt
+    by status.Memory = tt
+    by (status.InputTooLong which) = tt
+
+-- what was shown of a run is shown of the answer that tells it
+pub shown_as_told : (command : Option Command) (before now : Shown) (notes_before notes_now : Received) (run answer : Status) → IsShownBy command before now run → Tells notes_before notes_now run answer → IsShownBy command before now answer
+shown_as_told command before now notes_before notes_now run answer is (inl line) = subst (IsShownBy command before now) (sym line.1) is
+shown_as_told command before now notes_before notes_now run answer is (inr front) = subst (IsShownBy command before now) (sym front.2) (untold_is_not_done command before now run)
