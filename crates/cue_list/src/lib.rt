@@ -9,6 +9,7 @@ mod codes;
 mod cue_rows;
 mod epoch;
 mod fault;
+mod hex;
 mod items;
 mod kind_rows;
 mod names;

@@ -3,11 +3,11 @@ ghost use Rattle.std.specs.List.{list_all, list_any};
 ghost use Rattle.csv.specs.Records.{fields_of};
 ghost use Rattle.cue_list.specs.CellFaults.{is_text_row as is_text_row_of};
 ghost use Rattle.cue_list.specs.Cells.{cell_at};
-ghost use Rattle.cue_list.specs.Codes.{hex_value as hex_value_of};
 ghost use Rattle.cue_list.specs.RowFaults.{codes_fault as codes_fault_of, is_hex as is_hex_of, is_large as is_large_of, digits_of};
 
 use crate::cells::cell;
 use crate::fault::ScriptKind;
+use crate::hex::hex_value;
 use crate::kind_rows::{PictureHead, is_utf8};
 use crate::row_tests::area;
 use csv::ByteRecord;
@@ -99,21 +99,5 @@ fn is_large(depth: Depth, character: char) -> bool
             None => false,
         },
         Depth::Four | Depth::Eight => false,
-    }
-}
-
-/// The value of a hexadecimal digit, in capital or small letters.
-fn hex_value(character: char) -> Option<u32>
-    ensures { result ≡ hex_value_of character }
-{
-    let code = u32::from(character);
-    if 48 <= code && code <= 57 {
-        Some(code - 48)
-    } else if 65 <= code && code <= 70 {
-        Some(code - 55)
-    } else if 97 <= code && code <= 102 {
-        Some(code - 87)
-    } else {
-        None
     }
 }
