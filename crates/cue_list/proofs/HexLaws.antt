@@ -7,7 +7,7 @@ use Rattle.std.proofs.lemmas.Str.{encodes-chars, encodes-IsAscii}
 use Rattle.sub_base.specs.declared.depth.Depth.{Depth}
 use Rattle.sub_base.specs.declared.depth.Depth.TheVariants.{Two, Four, Eight}
 use Rattle.cue_list.specs.declared.fault.ScriptKind.{ScriptKind}
-use Rattle.cue_list.specs.declared.kind_rows.PictureHead.{PictureHead}
+use Rattle.cue_list.specs.declared.row_values.PictureHead.{PictureHead}
 use Rattle.cue_list.specs.CellFaults.{first_of, fails}
 use Rattle.cue_list.specs.Codes.{hex_value, single_code, double_code, single_codes, double_codes, codes_of, with_code}
 use Rattle.cue_list.specs.Past.{area}

@@ -12,12 +12,12 @@ ghost use Rattle.cue_list.specs.Ticks.{near_by};
 
 use crate::epoch::{Cue, Region};
 use crate::fault::ScriptKind;
-use crate::kind_rows::{PictureHead, PlaceRow};
 use crate::reader::Reader;
 use crate::row_cells::{CueCells, cue_cells, place_cells};
 use crate::row_fault::RowFault;
 use crate::row_steps::add_cue;
 use crate::row_tests::{area, lies_in, region_with};
+use crate::row_values::{PictureHead, PlaceRow};
 use crate::setting::head_of;
 use crate::texts::text_cell;
 use bitmap_font::Font;

@@ -8,9 +8,9 @@ ghost use Rattle.std.specs.Prelude.{nat_lt, nat_le};
 
 use crate::epoch::{ColourRow, Cue, Region};
 use crate::fault::ScriptKind;
-use crate::kind_rows::{PictureHead, PlaceRow};
 use crate::reader::Reader;
 use crate::row_kind::RowKind;
+use crate::row_values::{PictureHead, PlaceRow};
 use crate::ticks::is_close;
 
 /// How many epochs a script has at the most.

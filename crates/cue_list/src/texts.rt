@@ -1,5 +1,6 @@
 ghost use Rattle.std.specs.Prelude.{◌≡◌, ◌≤◌, true, chars, length};
 ghost use Rattle.std.specs.List.{list_all, list_any};
+ghost use Rattle.std.specs.Str.{is_utf8 as is_utf8_of};
 ghost use Rattle.csv.specs.Records.{fields_of};
 ghost use Rattle.cue_list.specs.CellFaults.{is_text_row as is_text_row_of};
 ghost use Rattle.cue_list.specs.Cells.{cell_at};
@@ -8,8 +9,8 @@ ghost use Rattle.cue_list.specs.RowFaults.{codes_fault as codes_fault_of, is_hex
 use crate::cells::cell;
 use crate::fault::ScriptKind;
 use crate::hex::hex_value;
-use crate::kind_rows::{PictureHead, is_utf8};
 use crate::row_tests::area;
+use crate::row_values::PictureHead;
 use csv::ByteRecord;
 use sub_base::Depth;
 
@@ -23,6 +24,13 @@ pub(crate) fn is_text_row(row: &ByteRecord) -> bool
         }
     }
     true
+}
+
+/// Whether a cell is text in UTF-8.
+fn is_utf8(cell: &[u8]) -> bool
+    ensures { result ≡ is_utf8_of cell.now }
+{
+    std::str::from_utf8(cell).is_ok()
 }
 
 /// The text of a cell.
