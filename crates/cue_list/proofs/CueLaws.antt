@@ -3,8 +3,8 @@ use Rattle.bitmap_font.specs.Font.{FontValue}
 use Rattle.cue_list.specs.declared.epoch.Cue.{Cue}
 use Rattle.cue_list.specs.declared.epoch.Epoch.{Epoch}
 use Rattle.cue_list.specs.declared.epoch.Region.{Region}
-use Rattle.cue_list.specs.declared.kind_rows.PictureHead.{PictureHead}
-use Rattle.cue_list.specs.declared.kind_rows.PlaceRow.{PlaceRow}
+use Rattle.cue_list.specs.declared.row_values.PictureHead.{PictureHead}
+use Rattle.cue_list.specs.declared.row_values.PlaceRow.{PlaceRow}
 use Rattle.cue_list.specs.declared.row_kind.RowKind.TheVariants as kinds
 use Rattle.cue_list.specs.CellFaults.{value_at}
 use Rattle.cue_list.specs.Cells.{cell_at}

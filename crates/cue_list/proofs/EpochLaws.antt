@@ -11,7 +11,7 @@ use Rattle.cue_list.specs.declared.epoch.ColourRow.{ColourRow}
 use Rattle.cue_list.specs.declared.epoch.Cue.{Cue}
 use Rattle.cue_list.specs.declared.epoch.Epoch.{Epoch}
 use Rattle.cue_list.specs.declared.epoch.Region.{Region}
-use Rattle.cue_list.specs.declared.kind_rows.PictureHead.{PictureHead}
+use Rattle.cue_list.specs.declared.row_values.PictureHead.{PictureHead}
 use Rattle.cue_list.specs.CellFaults.{value_at, value_of, number_fault, depth_fault, region_cells, colour_cells}
 use Rattle.cue_list.specs.Cells.{cell_at}
 use Rattle.cue_list.specs.Past.{region_with}

@@ -1,5 +1,5 @@
 -- Texts that pass the tests of codes have codes, one for each pixel.
-use Rattle.std.proofs.Common.{zero, suc, ◌≡◌, ◌∙◌, refl, sym, ap, ℕ, ◌+◌, ◌*◌, ◌<◌, ◌==◌, Bool, true, false, not, ◌&&◌, ◌||◌, nat_lt, List, [], ◌∷◌, length, chars, get_or, Option, Some, None, is_some, option_map, Result, Ok, Err, IsOk, arith}
+use Rattle.std.proofs.Common.{zero, suc, ◌≡◌, ◌∙◌, refl, sym, ap, ℕ, ◌+◌, ◌*◌, ◌<◌, ◌==◌, Bool, true, false, ◌&&◌, nat_lt, List, [], ◌∷◌, length, chars, get_or, Option, Some, None, is_some, option_map, Result, Ok, Err, IsOk, arith}
 use Rattle.std.specs.List.{list_all, list_any}
 use Rattle.std.specs.Str.{IsUtf8}
 use Rattle.std.proofs.lemmas.Bool.Decides.{nat_tests}
@@ -7,20 +7,12 @@ use Rattle.std.proofs.lemmas.Str.{encodes-chars, encodes-IsAscii}
 use Rattle.sub_base.specs.declared.depth.Depth.{Depth}
 use Rattle.sub_base.specs.declared.depth.Depth.TheVariants.{Two, Four, Eight}
 use Rattle.cue_list.specs.declared.fault.ScriptKind.{ScriptKind}
-use Rattle.cue_list.specs.declared.kind_rows.PictureHead.{PictureHead}
+use Rattle.cue_list.specs.declared.row_values.PictureHead.{PictureHead}
 use Rattle.cue_list.specs.CellFaults.{first_of, fails}
 use Rattle.cue_list.specs.Codes.{hex_value, single_code, double_code, single_codes, double_codes, codes_of, with_code}
 use Rattle.cue_list.specs.Past.{area}
 use Rattle.cue_list.specs.RowFaults.{codes_fault, digits_of, is_hex, is_large}
-
--- both tests of two passed
-both : (a b : Bool) → (a && b) ≡ true → (a ≡ true) × (b ≡ true)
-both true b h = (refl, h)
-both false b h = absurd (let never : false ≡ true = h in cc)
-
-neither : (a b : Bool) → (a || b) ≡ false → (a ≡ false) × (b ≡ false)
-neither true b h = absurd (let never : true ≡ false = h in cc)
-neither false b h = (refl, h)
+use Rattle.cue_list.proofs.FactLaws.{both-true, both-false, not-false}
 
 -- where three tests find nothing each one passes
 pub three-pass : (a b c : Bool) (j k l : ScriptKind) → first_of (fails a j ∷ fails b k ∷ fails c l ∷ []) ≡ None → (a ≡ false) × (b ≡ false) × (c ≡ false)
@@ -28,10 +20,6 @@ three-pass true b c j k l h = absurd (let never : Some j ≡ None = h in cc)
 three-pass false true c j k l h = absurd (let never : Some k ≡ None = h in cc)
 three-pass false false true j k l h = absurd (let never : Some l ≡ None = h in cc)
 three-pass false false false j k l h = (refl, refl, refl)
-
-not-not : (a : Bool) → not a ≡ false → a ≡ true
-not-not true h = refl
-not-not false h = absurd (let never : true ≡ false = h in cc)
 
 given : {A : Type 0} (o : Option A) → is_some o ≡ true → (x : A) × (o ≡ Some x)
 given None h = absurd (let never : false ≡ true = h in cc)
@@ -46,8 +34,8 @@ hex-ascii d h = grind (arith, nat_tests)
 
 ascii-hex : (cs : List ℕ) (i : ℕ) → list_all is_hex cs ≡ true → get_or cs i 0 < 128
 ascii-hex [] i all = omega arith
-ascii-hex (c ∷ cs) zero all = hex-ascii c (both (is_hex c) (list_all is_hex cs) all).0
-ascii-hex (c ∷ cs) (suc i) all = ascii-hex cs i (both (is_hex c) (list_all is_hex cs) all).1
+ascii-hex (c ∷ cs) zero all = hex-ascii c (both-true (is_hex c) (list_all is_hex cs) all).0
+ascii-hex (c ∷ cs) (suc i) all = ascii-hex cs i (both-true (is_hex c) (list_all is_hex cs) all).1
 
 -- a text of digits has one byte a character
 pub chars-hex : (text : List ℕ) → IsUtf8 text → list_all is_hex (chars text) ≡ true → chars text ≡ text
@@ -71,8 +59,8 @@ single-four d v is =
 codes-two : (cs : List ℕ) → list_all is_hex cs ≡ true → list_any (is_large Two) cs ≡ false → (codes : List ℕ) × (single_codes 4 cs ≡ Some codes) × (length codes ≡ length cs)
 codes-two [] all small = ([], refl, refl)
 codes-two (c ∷ cs) all small =
-    let digit = both (is_hex c) (list_all is_hex cs) all in
-    let low = neither (is_large Two c) (list_any (is_large Two) cs) small in
+    let digit = both-true (is_hex c) (list_all is_hex cs) all in
+    let low = both-false (is_large Two c) (list_any (is_large Two) cs) small in
     let value = given (hex_value c) digit.0 in
     let rest = codes-two cs digit.1 low.1 in
     (value.0 ∷ rest.0, more value.0 rest.0 _ _ (single-two c value.0 value.1 low.0) rest.1, ap suc rest.2)
@@ -80,7 +68,7 @@ codes-two (c ∷ cs) all small =
 codes-four : (cs : List ℕ) → list_all is_hex cs ≡ true → (codes : List ℕ) × (single_codes 16 cs ≡ Some codes) × (length codes ≡ length cs)
 codes-four [] all = ([], refl, refl)
 codes-four (c ∷ cs) all =
-    let digit = both (is_hex c) (list_all is_hex cs) all in
+    let digit = both-true (is_hex c) (list_all is_hex cs) all in
     let value = given (hex_value c) digit.0 in
     let rest = codes-four cs digit.1 in
     (value.0 ∷ rest.0, more value.0 rest.0 _ _ (single-four c value.0 value.1) rest.1, ap suc rest.2)
@@ -95,8 +83,8 @@ codes-eight n [] count all =
 codes-eight n (c ∷ []) count all = absurd (omega arith)
 codes-eight zero (c ∷ d ∷ cs) count all = absurd (omega arith)
 codes-eight (suc n) (c ∷ d ∷ cs) count all =
-    let first = both (is_hex c) (is_hex d && list_all is_hex cs) all in
-    let second = both (is_hex d) (list_all is_hex cs) first.1 in
+    let first = both-true (is_hex c) (is_hex d && list_all is_hex cs) all in
+    let second = both-true (is_hex d) (list_all is_hex cs) first.1 in
     let high = given (hex_value c) first.0 in
     let low = given (hex_value d) second.0 in
     let fewer : length cs ≡ 2 * n = omega arith in
@@ -123,8 +111,8 @@ pub codes-read : (head : PictureHead) (text : List ℕ) → IsUtf8 text → code
 unfolding codes_fault
 codes-read head text utf8 right =
     let passed = three-pass _ _ _ _ _ _ right in
-    let count : length (chars text) ≡ digits_of head.depth * area head = same-count _ _ (not-not _ passed.0) in
-    let all : list_all is_hex (chars text) ≡ true = not-not _ passed.1 in
+    let count : length (chars text) ≡ digits_of head.depth * area head = same-count _ _ (not-false _ passed.0) in
+    let all : list_all is_hex (chars text) ≡ true = not-false _ passed.1 in
     let read = codes-chars head.depth (area head) (chars text) count all passed.2 in
     let same : chars text ≡ text = chars-hex text utf8 all in
     (read.0, ap (codes_of head.depth) (sym same) ∙ read.1, read.2)

@@ -8,7 +8,7 @@ use Rattle.bitmap_font.specs.Setting.{AllCanBeSet, IsFirstMissing, IsSetting, Is
 use Rattle.bitmap_font.specs.declared.set_fault.SetFault.{SetFault}
 use Rattle.bitmap_font.specs.declared.set_fault.SetFault.TheVariants as set
 use Rattle.cue_list.specs.declared.epoch.Region.{Region}
-use Rattle.cue_list.specs.declared.kind_rows.PlaceRow.{PlaceRow}
+use Rattle.cue_list.specs.declared.row_values.PlaceRow.{PlaceRow}
 use Rattle.cue_list.specs.declared.row_fault.RowFault.{RowFault}
 use Rattle.cue_list.specs.CellFaults.{first_of}
 use Rattle.cue_list.specs.Past.{Past}

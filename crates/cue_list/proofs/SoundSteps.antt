@@ -7,7 +7,7 @@ use Rattle.bitmap_font.specs.Font.{FontValue}
 use Rattle.cue_list.specs.declared.epoch.Cue.{Cue}
 use Rattle.cue_list.specs.declared.epoch.Epoch.{Epoch}
 use Rattle.cue_list.specs.declared.epoch.Region.{Region}
-use Rattle.cue_list.specs.declared.kind_rows.PictureHead.{PictureHead}
+use Rattle.cue_list.specs.declared.row_values.PictureHead.{PictureHead}
 use Rattle.cue_list.specs.declared.row_kind.RowKind.TheVariants as kinds
 use Rattle.cue_list.specs.CellFaults.{value_at, number_fault, placing_cells, place_cells, cue_cells, epoch_cells, display_cells, refresh_cells}
 use Rattle.cue_list.specs.Cells.{cell_at}

@@ -1,9 +1,10 @@
-use Rattle.std.proofs.Common.{zero, suc, ◌+◌, ◌<◌, ◌&&◌, [], ◌∷◌, length, drop, add-one, arith, ◌≡◌, ℕ, List, Bool, true, false, ◌⊎◌, inl, inr, refl, sym, Result, Ok, Err, MatchResult, is_ok}
+use Rattle.std.proofs.Common.{zero, suc, ◌+◌, ◌<◌, [], ◌∷◌, length, drop, add-one, arith, ◌≡◌, ℕ, List, Bool, true, false, ◌⊎◌, inl, inr, refl, sym, Result, Ok, Err, MatchResult, is_ok}
 use Rattle.std.specs.Str.{IsUtf8, is_utf8}
 use Rattle.csv.specs.Records.{field_at}
 use Rattle.cue_list.specs.CellFaults.{is_text_row}
 use Rattle.cue_list.specs.Cells.{cell_at}
 use Rattle.cue_list.specs.Rows.{Row}
+use Rattle.cue_list.proofs.FactLaws.{both-true}
 use Rattle.std.proofs.lemmas.Str.{is_utf8-from_IsUtf8, IsUtf8-from_is_utf8}
 
 -- a test is true or false
@@ -31,16 +32,8 @@ drop-cell (cell ∷ row) (suc place) within = rw add-one (rw add-one at (drop-ce
 pub is_utf8-cell : (row : Row) (place : ℕ) → is_text_row row ≡ true → is_utf8 (cell_at row place) ≡ true
 unfolding field_at
 is_utf8-cell [] place all = is_utf8-from_IsUtf8 [] ([], (refl, refl))
-is_utf8-cell (cell ∷ row) zero all = first (is_utf8 cell) _ all
-  where
-    first : (a b : Bool) → (a && b) ≡ true → a ≡ true
-    first true b h = refl
-    first false b h = absurd (let never : false ≡ true = h in cc)
-is_utf8-cell (cell ∷ row) (suc place) all = is_utf8-cell row place (second (is_utf8 cell) _ all)
-  where
-    second : (a b : Bool) → (a && b) ≡ true → b ≡ true
-    second true b h = h
-    second false b h = absurd (let never : false ≡ true = h in cc)
+is_utf8-cell (cell ∷ row) zero all = (both-true (is_utf8 cell) (is_text_row row) all).0
+is_utf8-cell (cell ∷ row) (suc place) all = is_utf8-cell row place (both-true (is_utf8 cell) (is_text_row row) all).1
 
 -- the tests of the cells from a place on
 pub is_text_row-next : (row : Row) (place : ℕ) → place < length row → is_utf8 (cell_at row place) ≡ true → is_text_row (drop place row) ≡ is_text_row (drop (place + 1) row)

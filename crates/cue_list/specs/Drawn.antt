@@ -3,7 +3,7 @@ use Rattle.std.specs.Prelude.{◌≡◌, List, [], ◌∷◌, ◌++◌, ℕ, Som
 use Rattle.bitmap_font.specs.Font.{FontValue}
 use Rattle.sub_base.specs.Picture.{Picture, IsPicture, picture_of}
 use Rattle.cue_list.specs.declared.epoch.Region.{Region}
-use Rattle.cue_list.specs.declared.kind_rows.PictureHead.{PictureHead}
+use Rattle.cue_list.specs.declared.row_values.PictureHead.{PictureHead}
 use Rattle.cue_list.specs.declared.row_kind.RowKind.{RowKind}
 use Rattle.cue_list.specs.declared.row_kind.RowKind.TheVariants as kinds
 use Rattle.cue_list.specs.Cells.{cell_at}

@@ -6,8 +6,8 @@ use Rattle.sub_base.specs.declared.depth.Depth.{Depth}
 use Rattle.sub_base.specs.declared.depth.Depth.TheVariants.{Two, Four, Eight}
 use Rattle.cue_list.specs.declared.epoch.ColourRow.{ColourRow}
 use Rattle.cue_list.specs.declared.epoch.Region.{Region}
-use Rattle.cue_list.specs.declared.kind_rows.PictureHead.{PictureHead}
-use Rattle.cue_list.specs.declared.kind_rows.PlaceRow.{PlaceRow}
+use Rattle.cue_list.specs.declared.row_values.PictureHead.{PictureHead}
+use Rattle.cue_list.specs.declared.row_values.PlaceRow.{PlaceRow}
 use Rattle.cue_list.specs.CellFaults.{value_at}
 use Rattle.cue_list.specs.Cells.{cell_at}
 use Rattle.cue_list.specs.Rows.{Row}

@@ -1,7 +1,8 @@
 ghost use Rattle.std.specs.Prelude.{◌≡◌, ◌<◌, IfOk, All, IfSome, Some, ℕ, option_map};
 ghost use Rattle.sub_base.specs.Depth.{code_count};
-ghost use Rattle.cue_list.specs.Codes.{hex_value as hex_value_of, single_code as single_code_of, double_code as double_code_of, single_codes as single_codes_of, double_codes as double_codes_of, codes_of as codes_of_text};
+ghost use Rattle.cue_list.specs.Codes.{single_code as single_code_of, double_code as double_code_of, single_codes as single_codes_of, double_codes as double_codes_of, codes_of as codes_of_text};
 
+use crate::hex::hex_value;
 use std::alloc::Global;
 use sub_base::{Depth, NoMemory};
 
@@ -55,7 +56,7 @@ fn single_code(limit: u8, digit: u8) -> Option<u8>
     ensures value { result ≡ single_code_of limit digit }
     ensures range { IfSome result (λ code. code < limit) }
 {
-    let value = hex_value(digit)?;
+    let value = hex_value(char::from(digit))?;
     if value < limit { Some(value) } else { None }
 }
 
@@ -63,19 +64,7 @@ fn double_code(high: u8, low: u8) -> Option<u8>
     ensures value { result ≡ double_code_of high low }
     ensures range { IfSome result (λ code. code < 256) }
 {
-    let high = hex_value(high)?;
-    let low = hex_value(low)?;
+    let high = hex_value(char::from(high))?;
+    let low = hex_value(char::from(low))?;
     Some(16 * high + low)
-}
-
-fn hex_value(digit: u8) -> Option<u8>
-    ensures value { result ≡ hex_value_of digit }
-    ensures small { IfSome result (λ value. value < 16) }
-{
-    match digit {
-        b'0'..=b'9' => Some(digit - b'0'),
-        b'A'..=b'F' => Some(digit - b'A' + 10),
-        b'a'..=b'f' => Some(digit - b'a' + 10),
-        _ => None,
-    }
 }

@@ -1,6 +1,5 @@
 ghost use Rattle.std.specs.Prelude.{◌≡◌, ◌≤◌, ◌<◌, ◌+◌, ◌^◌, ◌∷◌, [], ◌++◌, true, false, None, Some, chars, length, map, option_map, IfNone, IfSome, OnOk, IfOk, IfErr};
 ghost use Rattle.csv.specs.Records.{fields_of};
-ghost use Rattle.sub_base.specs.Depth.{code_count as depth_codes};
 ghost use Rattle.cue_list.specs.CellFaults.{first_of, is_text_row, value_at, place_cells as place_cells_of, cue_cells as cue_cells_of};
 ghost use Rattle.cue_list.specs.Cells.{cell_at};
 ghost use Rattle.cue_list.specs.Past.{area as area_of_head, region_with as region_with_of, is_close};
@@ -13,12 +12,12 @@ ghost use Rattle.cue_list.specs.Ticks.{near_by};
 
 use crate::epoch::{Cue, Region};
 use crate::fault::ScriptKind;
-use crate::kind_rows::{PictureHead, PlaceRow};
 use crate::reader::Reader;
 use crate::row_cells::{CueCells, cue_cells, place_cells};
 use crate::row_fault::RowFault;
 use crate::row_steps::add_cue;
-use crate::row_tests::{area, bits_of, code_count, lies_in, region_with};
+use crate::row_tests::{area, lies_in, region_with};
+use crate::row_values::{PictureHead, PlaceRow};
 use crate::setting::head_of;
 use crate::texts::text_cell;
 use bitmap_font::Font;
@@ -58,7 +57,7 @@ impl Reader {
         let Some(head) = head else {
             return Some(ScriptKind::NoPicture);
         };
-        if bits_of(region.depth) < bits_of(head.depth) {
+        if region.depth.bits() < head.depth.bits() {
             return Some(ScriptKind::CodeRange);
         }
         if !lies_in(region, placing.x, placing.y, head) {
@@ -137,8 +136,8 @@ impl Reader {
         let Some(region) = region_with(self.regions(), cue.placing.region) else {
             return Err(RowFault::Wrong(ScriptKind::NoRegion));
         };
-        if u16::from(cue.ink) >= code_count(region.depth)
-            || u16::from(cue.paper) >= code_count(region.depth)
+        if u16::from(cue.ink) >= region.depth.code_count()
+            || u16::from(cue.paper) >= region.depth.code_count()
         {
             return Err(RowFault::Wrong(ScriptKind::CodeRange));
         }

@@ -1,5 +1,5 @@
 ghost use Rattle.std.specs.Prelude.{◌≡◌, ◌==◌, ◌&&◌, ◌≢◌, ◌↔◌, ℕ, ◌+◌, ◌*◌, ◌<◌, ◌≤◌, List, [], length, slice_index, IsTrue, option_map};
-ghost use Rattle.sub_base.specs.Depth.{bits_of, code_count};
+ghost use Rattle.sub_base.specs.Depth.{code_count};
 ghost use Rattle.sub_base.specs.Picture.{IsPicture};
 ghost use Rattle.cue_list.specs.Authored.{authored_picture, picture_at_place, epoch_at as epoch_at_tick, is_live as is_live_at, live_cues};
 ghost use Rattle.sub_base.specs.declared.colour.Colour.{Colour};
@@ -98,7 +98,7 @@ fn entries_at(colours: &[ColourRow], clut: u8, depth: Depth, tick: u64) -> [Colo
 fn sets_clut(row: &ColourRow, clut: u8, depth: Depth, tick: u64) -> bool
     ensures { result ≡ sets_clut_by clut depth tick row.now }
 {
-    row.clut == clut && are_same(row.depth, depth) && row.tick <= tick
+    row.clut == clut && row.depth.bits() == depth.bits() && row.tick <= tick
 }
 
 fn no_ticks() -> [u64; 256]
@@ -120,34 +120,14 @@ fn put_row(entries: &mut [Colour; 256], ticks: &mut [u64; 256], row: &ColourRow)
     }
 }
 
-fn are_same(first: Depth, second: Depth) -> bool
-    ensures { result ≡ (bits_of first == bits_of second) }
-{
-    match first {
-        Depth::Two => matches!(second, Depth::Two),
-        Depth::Four => matches!(second, Depth::Four),
-        Depth::Eight => matches!(second, Depth::Eight),
-    }
-}
-
 fn default_entries(depth: Depth) -> [Colour; 256]
     ensures { HasDefaults depth (code_count depth) result }
 {
     let mut entries = [CLEAR; 256];
-    for code in 0..code_count_of(depth) {
+    for code in 0..depth.code_count() {
         entries[usize::from(code)] = default_colour(depth, code as u8);
     }
     entries
-}
-
-fn code_count_of(depth: Depth) -> u16
-    ensures { result ≡ code_count depth }
-{
-    match depth {
-        Depth::Two => 4,
-        Depth::Four => 16,
-        Depth::Eight => 256,
-    }
 }
 
 /// Paints a region: where a cue is live in it, all of the region in the colours of its codes.

@@ -9,7 +9,7 @@ ghost use Rattle.std.specs.Prelude.{codes};
 use crate::cells::{cell, is_text};
 use crate::epoch::{ColourRow, Region};
 use crate::fault::ScriptKind;
-use crate::kind_rows::{DisplayRow, PictureHead, PlaceRow};
+use crate::row_values::{DisplayRow, PictureHead, PlaceRow};
 use csv::ByteRecord;
 use sub_base::{Colour, Depth, decimal_number};
 

@@ -1,6 +1,5 @@
 ghost use Rattle.std.specs.Prelude.{◌≡◌, ◌<◌, ◌≤◌, ◌^◌, ◌+◌, length, false, IfNone};
 ghost use Rattle.std.specs.List.{list_any};
-ghost use Rattle.sub_base.specs.Depth.{bits_of as depth_bits, code_count as depth_codes};
 ghost use Rattle.cue_list.specs.Past.{region_with as region_with_of, area as area_of_head, is_close as is_close_of};
 ghost use Rattle.cue_list.specs.RowFaults.{is_misplaced as is_misplaced_of, is_full as is_full_of, is_used as is_used_of, epoch_count, regions_of, starts_before, lasts_past, is_early as is_early_of, lies_on as lies_on_of, share_row as share_row_of, lies_in as lies_in_of, are_too_many as are_too_many_of, epoch_fault as epoch_fault_of, region_fault as region_fault_of, colour_fault as colour_fault_of, span_fault as span_fault_of, placed_fault as placed_fault_of};
 ghost use Rattle.cue_list.specs.State.{IsReader, past_of};
@@ -9,11 +8,10 @@ ghost use Rattle.std.specs.Prelude.{nat_lt, nat_le};
 
 use crate::epoch::{ColourRow, Cue, Region};
 use crate::fault::ScriptKind;
-use crate::kind_rows::{PictureHead, PlaceRow};
 use crate::reader::Reader;
 use crate::row_kind::RowKind;
+use crate::row_values::{PictureHead, PlaceRow};
 use crate::ticks::is_close;
-use sub_base::Depth;
 
 /// How many epochs a script has at the most.
 const MOST_EPOCHS: usize = 512;
@@ -168,7 +166,7 @@ impl Reader {
         ensures fault { result ≡ colour_fault_of (past_of self.now) row }
         ensures apart { IfNone result (near_by self.now.ticks row.tick ≡ false) }
     {
-        if u16::from(row.entry) >= code_count(row.depth) {
+        if u16::from(row.entry) >= row.depth.code_count() {
             return Some(ScriptKind::CodeRange);
         }
         if self.is_early(row.tick) {
@@ -274,26 +272,4 @@ pub(crate) fn lies_in(region: Region, x: u16, y: u16, head: PictureHead) -> bool
 {
     u32::from(x) + u32::from(head.width) <= u32::from(region.width)
         && u32::from(y) + u32::from(head.height) <= u32::from(region.height)
-}
-
-/// How many codes a depth has.
-pub(crate) fn code_count(depth: Depth) -> u16
-    ensures { result ≡ depth_codes depth }
-{
-    match depth {
-        Depth::Two => 4,
-        Depth::Four => 16,
-        Depth::Eight => 256,
-    }
-}
-
-/// The bits of a depth.
-pub(crate) fn bits_of(depth: Depth) -> u8
-    ensures { result ≡ depth_bits depth }
-{
-    match depth {
-        Depth::Two => 2,
-        Depth::Four => 4,
-        Depth::Eight => 8,
-    }
 }

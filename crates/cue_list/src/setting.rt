@@ -10,10 +10,10 @@ ghost use Rattle.cue_list.specs.Setting.{row_fault_of as row_fault_of_set};
 
 use crate::epoch::Region;
 use crate::fault::ScriptKind;
-use crate::kind_rows::PictureHead;
 use crate::reader::Reader;
 use crate::row_cells::CueCells;
 use crate::row_fault::RowFault;
+use crate::row_values::PictureHead;
 use bitmap_font::{Font, SetFault};
 use indexed_picture::Indexed;
 

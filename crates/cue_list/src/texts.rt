@@ -1,15 +1,16 @@
 ghost use Rattle.std.specs.Prelude.{◌≡◌, ◌≤◌, true, chars, length};
 ghost use Rattle.std.specs.List.{list_all, list_any};
+ghost use Rattle.std.specs.Str.{is_utf8 as is_utf8_of};
 ghost use Rattle.csv.specs.Records.{fields_of};
 ghost use Rattle.cue_list.specs.CellFaults.{is_text_row as is_text_row_of};
 ghost use Rattle.cue_list.specs.Cells.{cell_at};
-ghost use Rattle.cue_list.specs.Codes.{hex_value as hex_value_of};
 ghost use Rattle.cue_list.specs.RowFaults.{codes_fault as codes_fault_of, is_hex as is_hex_of, is_large as is_large_of, digits_of};
 
 use crate::cells::cell;
 use crate::fault::ScriptKind;
-use crate::kind_rows::{PictureHead, is_utf8};
+use crate::hex::hex_value;
 use crate::row_tests::area;
+use crate::row_values::PictureHead;
 use csv::ByteRecord;
 use sub_base::Depth;
 
@@ -23,6 +24,13 @@ pub(crate) fn is_text_row(row: &ByteRecord) -> bool
         }
     }
     true
+}
+
+/// Whether a cell is text in UTF-8.
+fn is_utf8(cell: &[u8]) -> bool
+    ensures { result ≡ is_utf8_of cell.now }
+{
+    std::str::from_utf8(cell).is_ok()
 }
 
 /// The text of a cell.
@@ -99,21 +107,5 @@ fn is_large(depth: Depth, character: char) -> bool
             None => false,
         },
         Depth::Four | Depth::Eight => false,
-    }
-}
-
-/// The value of a hexadecimal digit, in capital or small letters.
-fn hex_value(character: char) -> Option<u32>
-    ensures { result ≡ hex_value_of character }
-{
-    let code = u32::from(character);
-    if 48 <= code && code <= 57 {
-        Some(code - 48)
-    } else if 65 <= code && code <= 70 {
-        Some(code - 55)
-    } else if 97 <= code && code <= 102 {
-        Some(code - 87)
-    } else {
-        None
     }
 }

@@ -15,14 +15,6 @@ use Rattle.pixel_codes.proofs.Sizes.{one_row_size}
 use Rattle.pixel_codes.specs.Lists.{Extends}
 use Rattle.set_coder.specs.Rows.{IsRowOf, AreRows, room_of}
 
--- ---- bytes that grow
-
-pub extends_none : (a : List ℕ) → Extends a a
-extends_none a = ([], sym (append-nil a))
-
-pub extends_trans : (a b c : List ℕ) → Extends a b → Extends b c → Extends a c
-extends_trans a b c p q = (p.0 ++ q.0, q.1 ∙ ap (λ (t : List ℕ). t ++ q.0) p.1 ∙ append_assoc a p.0 q.0)
-
 -- ---- a field, row by row
 
 -- the block of a field as far as rows are written, and those that are left

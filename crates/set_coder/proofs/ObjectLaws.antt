@@ -18,8 +18,9 @@ use Rattle.segments.specs.Writing.{padding_bytes}
 use Rattle.cue_list.specs.declared.epoch.Cue.{Cue}
 use Rattle.cue_list.specs.declared.epoch.Epoch.{Epoch}
 use Rattle.cue_list.specs.declared.epoch.Region.{Region}
+use Rattle.page_epoch.specs.Live.{cue_at}
 use Rattle.page_epoch.specs.Sendable.{HasCue}
-use Rattle.set_coder.specs.SetSegments.{region_of, cue_at, picture_of_cue, depth_of_cue, object_of, IsObjectOf, AreObjectsOf, data_field}
+use Rattle.set_coder.specs.SetSegments.{region_of, picture_of_cue, depth_of_cue, object_of, IsObjectOf, AreObjectsOf, data_field}
 use Rattle.set_coder.specs.SetSizes.{made_even, IsObjectSize, AreObjectSizes}
 use Rattle.set_coder.specs.Usable.{IsDrawable, AreDrawable}
 use Rattle.set_coder.proofs.FieldLaws.{field_size, one_sizes}
@@ -62,17 +63,17 @@ same_item : {X : Type 0} (xs : List X) (i : ℕ) (d e : X) → i < length xs →
 same_item xs i d e h = sym (get_or_from_slice_get xs i (get_or xs i d) e (slice_get-get_or xs i d h))
 
 -- the picture of a cue and the depth of its region
-pub object_named : (pictures seen : List Picture) (epoch : Epoch) (place : ℕ) (cue : Cue) (picture : Picture) (region : Region) → AreDrawable pictures epoch → HasCue epoch place → cue ≡ cue_at epoch place
+pub object_named : (pictures seen : List Picture) (epoch : Epoch) (place : ℕ) (cue : Cue) (picture : Picture) (region : Region) → AreDrawable pictures epoch → HasCue epoch place → cue ≡ cue_at epoch.cues place
     → seen ≡ pictures → picture ≡ get_or seen cue.picture picture → region ≡ region_of epoch cue.region → (picture ≡ picture_of_cue pictures epoch place) × (region.depth ≡ depth_of_cue epoch place)
 object_named pictures seen epoch place cue picture region drawable has named same is found =
-    let here : IsDrawable pictures epoch (cue_at epoch place) = drawable place _ has in
-    let number : cue.picture ≡ (cue_at epoch place).picture = ap (λ (c : Cue). c.picture) named in (
-      is ∙ ap (λ (xs : List Picture). get_or xs cue.picture picture) same ∙ ap (λ (n : ℕ). get_or pictures n picture) number ∙ same_item pictures (cue_at epoch place).picture picture (picture_of 0 0 Two []) here.picture,
+    let here : IsDrawable pictures epoch (cue_at epoch.cues place) = drawable place _ has in
+    let number : cue.picture ≡ (cue_at epoch.cues place).picture = ap (λ (c : Cue). c.picture) named in (
+      is ∙ ap (λ (xs : List Picture). get_or xs cue.picture picture) same ∙ ap (λ (n : ℕ). get_or pictures n picture) number ∙ same_item pictures (cue_at epoch.cues place).picture picture (picture_of 0 0 Two []) here.picture,
       ap (λ (r : Region). r.depth) found ∙ ap (λ (c : Cue). (region_of epoch c.region).depth) named,
     )
 
 -- the object with these blocks is that of the cue
-pub object_is : (pictures : List Picture) (epoch : Epoch) (place : ℕ) (cue : Cue) (picture : Picture) (depth : Depth) (top bottom : List ℕ) → cue ≡ cue_at epoch place → picture ≡ picture_of_cue pictures epoch place → depth ≡ depth_of_cue epoch place
+pub object_is : (pictures : List Picture) (epoch : Epoch) (place : ℕ) (cue : Cue) (picture : Picture) (depth : Depth) (top bottom : List ℕ) → cue ≡ cue_at epoch.cues place → picture ≡ picture_of_cue pictures epoch place → depth ≡ depth_of_cue epoch place
     → AreFieldBlocks picture depth top bottom → DrawsPicture picture depth top bottom → IsObjectOf pictures epoch place (object_of place cue.see_through top bottom)
 object_is pictures epoch place cue picture depth top bottom named p d blocks drawn = record {
   top = top;

@@ -15,11 +15,7 @@ use Rattle.pixel_codes.proofs.Chosen.{table_least}
 use Rattle.pixel_codes.proofs.Rows.{next_run, taken_front, front}
 use Rattle.pixel_codes.proofs.RowStrings.{runs_of-maximal}
 use Rattle.pixel_codes.proofs.Sizes.{one_least}
-use Rattle.pixel_codes.proofs.Tokens.{end_width, length-ending}
 use Rattle.set_coder.specs.Rows.{IsRowOf, AreRows}
-
-pub ending_bits : (depth : Depth) → length (ending depth) ≡ end_width depth
-ending_bits depth = length-ending depth
 
 -- ---- rows
 

@@ -25,11 +25,13 @@ use Rattle.cue_list.specs.Sound.{IsSound}
 use Rattle.cue_list.specs.declared.epoch.Epoch.{Epoch}
 use Rattle.cue_list.specs.declared.epoch.Region.{Region}
 use Rattle.cue_list.specs.declared.script.Script.{Script}
+use Rattle.page_epoch.specs.Live.{cue_at}
+use Rattle.page_epoch.specs.SentCluts.{row_at}
 use Rattle.page_epoch.specs.Sendable.{HasRegion, HasCue, HasColour, IsSendableRegion, IsSendableClut, IsSendableIn}
 use Rattle.page_epoch.specs.declared.planned_set.PlannedSet.{PlannedSet}
 use Rattle.page_epoch.specs.declared.planned_set.SentClut.{SentClut}
 use Rattle.page_epoch.specs.declared.planned_set.SentRegion.{SentRegion}
-use Rattle.set_coder.specs.SetSegments.{region_of, cue_at, colour_at, display_of, time_out_of, page_entry_of, page_of, listing_of, region_segment_of, clut_entry_of, clut_segment_of, leading_segments}
+use Rattle.set_coder.specs.SetSegments.{region_of, display_of, time_out_of, page_entry_of, page_of, listing_of, region_segment_of, clut_entry_of, clut_segment_of, leading_segments}
 use Rattle.set_coder.specs.SetSizes.{region_size, clut_size}
 use Rattle.set_coder.specs.Usable.{IsUsable, IsUsableRegion, IsUsablePlace, IsUsableColour}
 use Rattle.set_coder.proofs.UsableLaws.{usable_region}
@@ -95,7 +97,7 @@ fits_listings : (epoch : Epoch) (places : List ℕ) → IsUsable epoch → All (
 fits_listings epoch [] u has = tt
 fits_listings epoch (place ∷ places) u has =
     let here : place < length epoch.cues = All-head (HasCue epoch) place places has in
-    let cue : IsUsablePlace (cue_at epoch place) = u.cues place _ here in
+    let cue : IsUsablePlace (cue_at epoch.cues place) = u.cues place _ here in
     (omega (arith, u.few_cues), (omega arith, (omega arith, (omega (arith, cue.x), (tt, (omega (arith, cue.y), fits_listings epoch places u (All-tail (HasCue epoch) place places has)))))))
 
 depth_small : (depth : Depth) → depth_number depth < 2 ^ 3
@@ -131,7 +133,7 @@ fits_clut_entries : (epoch : Epoch) (places : List ℕ) → IsUsable epoch → A
 fits_clut_entries epoch [] u has = tt
 fits_clut_entries epoch (place ∷ places) u has =
     let here : place < length epoch.colours = All-head (HasColour epoch) place places has in
-    let row : IsUsableColour (colour_at epoch place) = u.colours place _ here in
+    let row : IsUsableColour (row_at epoch.colours place) = u.colours place _ here in
     let entry = clut_entry_of epoch place in
     (row.entry, (flag_small entry.two, (flag_small entry.four, (flag_small entry.eight, (tt, (omega arith, (omega (arith, row.y), (omega (arith, row.cr), (omega (arith, row.cb), (omega (arith, row.t), fits_clut_entries epoch places u (All-tail (HasColour epoch) place places has)))))))))))
 

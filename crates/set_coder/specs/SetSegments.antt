@@ -1,7 +1,6 @@
 -- The segments that a display set of a plan is sent as, and its PES packet (EN 300 743, clauses 5 and 7).
-use Rattle.std.specs.Prelude.{◌≡◌, ℕ, ◌+◌, ◌*◌, ◌/◌, ◌==◌, Bool, false, List, [], ◌∷◌, ◌++◌, map, find, All, Option, Some, None, slice_get, slice_index_or}
+use Rattle.std.specs.Prelude.{◌≡◌, ℕ, ◌+◌, ◌*◌, ◌/◌, ◌==◌, Bool, List, [], ◌∷◌, ◌++◌, map, find, All, Option, Some, None, slice_get}
 use Rattle.std.specs.List.{flat_map}
-use Rattle.sub_base.specs.Colour.{clear}
 use Rattle.sub_base.specs.Depth.{bits_of}
 use Rattle.sub_base.specs.Picture.{Picture}
 use Rattle.sub_base.specs.declared.depth.Depth.{Depth}
@@ -15,11 +14,11 @@ use Rattle.stream_syntax.specs.declared.page.State.{State}
 use Rattle.stream_syntax.specs.declared.page.State.TheVariants.{Normal}
 use Rattle.stream_syntax.specs.declared.region.Listing.{Listing}
 use Rattle.cue_list.specs.Authored.{picture_at_place}
-use Rattle.cue_list.specs.declared.epoch.ColourRow.{ColourRow}
-use Rattle.cue_list.specs.declared.epoch.Cue.{Cue}
 use Rattle.cue_list.specs.declared.epoch.Epoch.{Epoch}
 use Rattle.cue_list.specs.declared.epoch.Region.{Region}
 use Rattle.cue_list.specs.declared.script.Script.{Script}
+use Rattle.page_epoch.specs.Live.{cue_at}
+use Rattle.page_epoch.specs.SentCluts.{row_at}
 use Rattle.page_epoch.specs.declared.planned_set.PlannedSet.{PlannedSet}
 use Rattle.page_epoch.specs.declared.planned_set.SentClut.{SentClut}
 use Rattle.page_epoch.specs.declared.planned_set.SentRegion.{SentRegion}
@@ -34,23 +33,13 @@ region_or_none (Some region) = region
 abbrev pub region_of : Epoch → ℕ → Region
 region_of epoch id = region_or_none (find (λ (region : Region). region.id == id) epoch.regions)
 
--- the cue at that place
-abbrev pub cue_at : Epoch → ℕ → Cue
-cue_at epoch place =
-    slice_index_or epoch.cues place (record { start = 0; end = 0; row = 0; region = 0; x = 0; y = 0; picture = 0; see_through = false })
-
 -- the picture of the cue at that place
 abbrev pub picture_of_cue : List Picture → Epoch → ℕ → Picture
-picture_of_cue pictures epoch place = picture_at_place pictures (cue_at epoch place).picture
+picture_of_cue pictures epoch place = picture_at_place pictures (cue_at epoch.cues place).picture
 
 -- the depth of the region of the cue at that place
 abbrev pub depth_of_cue : Epoch → ℕ → Depth
-depth_of_cue epoch place = (region_of epoch (cue_at epoch place).region).depth
-
--- the colour row at that place
-abbrev pub colour_at : Epoch → ℕ → ColourRow
-colour_at epoch place =
-    slice_index_or epoch.colours place (record { tick = 0; row = 0; clut = 0; depth = Two; entry = 0; colour = clear })
+depth_of_cue epoch place = (region_of epoch (cue_at epoch.cues place).region).depth
 
 -- ---- segments
 
@@ -74,7 +63,7 @@ page_of script epoch set =
 
 -- a cue that a region lists: the object has the number of the cue's place, and stands at the cue's place in the region
 abbrev pub listing_of : Epoch → ℕ → Listing
-listing_of epoch place = record { object = place; x = (cue_at epoch place).x; y = (cue_at epoch place).y }
+listing_of epoch place = record { object = place; x = (cue_at epoch.cues place).x; y = (cue_at epoch.cues place).y }
 
 -- a region, with the cues that it lists; where it is filled, with code 0
 abbrev pub region_segment_of : Epoch → SentRegion → SegmentValue
@@ -99,11 +88,11 @@ region_segment_of epoch sent =
 abbrev pub clut_entry_of : Epoch → ℕ → ClutEntry
 clut_entry_of epoch place =
     record {
-      entry = (colour_at epoch place).entry;
-      two = bits_of (colour_at epoch place).depth == 2;
-      four = bits_of (colour_at epoch place).depth == 4;
-      eight = bits_of (colour_at epoch place).depth == 8;
-      colour = (colour_at epoch place).colour;
+      entry = (row_at epoch.colours place).entry;
+      two = bits_of (row_at epoch.colours place).depth == 2;
+      four = bits_of (row_at epoch.colours place).depth == 4;
+      eight = bits_of (row_at epoch.colours place).depth == 8;
+      colour = (row_at epoch.colours place).colour;
     }
 
 -- a CLUT, with the entries that are sent
@@ -127,7 +116,7 @@ pub record IsObjectOf (pictures : List Picture) (epoch : Epoch) (place : ℕ) (s
   pub bottom : List ℕ
   pub blocks : AreFieldBlocks (picture_of_cue pictures epoch place) (depth_of_cue epoch place) top bottom
   pub drawn : DrawsPicture (picture_of_cue pictures epoch place) (depth_of_cue epoch place) top bottom
-  pub value : segment ≡ object_of place (cue_at epoch place).see_through top bottom
+  pub value : segment ≡ object_of place (cue_at epoch.cues place).see_through top bottom
 
 -- an object for each cue, in order
 abbrev pub AreObjectsOf : List Picture → Epoch → List ℕ → List SegmentValue → Type 0

@@ -107,7 +107,7 @@ fn run_length(codes: &[u8]) -> usize
 }
 
 /// The bits of the end of a string.
-#[tactic(auto, using(crate::proofs::SizeLaws::ending_bits))]
+#[tactic(auto, unfolding(stream_syntax::specs::PixelCodes::ending, stream_syntax::specs::PixelCodes::bits))]
 fn end_bits(depth: Depth) -> u64
     ensures bits { result ≡ length (ending depth) }
     ensures short { result ≤ 16 }

@@ -1,6 +1,8 @@
 ghost use Rattle.std.specs.Prelude.{◌≡◌, ◌==◌, ◌<◌, length, Some, slice_get, slice_index_or};
+ghost use Rattle.page_epoch.specs.Live.{cue_at};
+ghost use Rattle.page_epoch.specs.SentCluts.{row_at};
 ghost use Rattle.page_epoch.specs.Sendable.{HasRegion, HasCue, HasColour, IsSendable, IsSendableIn};
-ghost use Rattle.set_coder.specs.SetSegments.{region_of, cue_at, colour_at};
+ghost use Rattle.set_coder.specs.SetSegments.{region_of};
 ghost use Rattle.set_coder.specs.Usable.{IsUsable, AreDrawable};
 
 use cue_list::{ColourRow, Cue, Epoch, Region, Script};
@@ -34,7 +36,7 @@ pub(crate) fn region_of(epoch: &Epoch, id: u8) -> Region
 /// The cue at that place.
 pub(crate) fn cue_at(epoch: &Epoch, place: u32) -> Cue
     requires { HasCue epoch.now place }
-    ensures { result ≡ cue_at epoch.now place }
+    ensures { result ≡ cue_at epoch.now.cues place }
 {
     epoch.cues.as_slice()[place as usize]
 }
@@ -42,7 +44,7 @@ pub(crate) fn cue_at(epoch: &Epoch, place: u32) -> Cue
 /// The colour row at that place.
 pub(crate) fn colour_at(epoch: &Epoch, place: u32) -> ColourRow
     requires { HasColour epoch.now place }
-    ensures { result ≡ colour_at epoch.now place }
+    ensures { result ≡ row_at epoch.now.colours place }
 {
     epoch.colours.as_slice()[place as usize]
 }

@@ -6,7 +6,7 @@ ghost use Rattle.stream_syntax.specs.SegmentTests.{AreBlocks};
 ghost use Rattle.stream_syntax.specs.Segments.{SegmentValue, spelled, IsWritable};
 ghost use Rattle.page_epoch.specs.Sendable.{HasCue};
 ghost use Rattle.set_coder.specs.BothBlocks.{AreBothBlocks};
-ghost use Rattle.set_coder.specs.SetSegments.{cue_at, picture_of_cue, depth_of_cue, object_of, IsObjectOf, AreObjectsOf};
+ghost use Rattle.set_coder.specs.SetSegments.{picture_of_cue, depth_of_cue, object_of, IsObjectOf, AreObjectsOf};
 ghost use Rattle.set_coder.specs.SetSizes.{made_even, IsObjectSize, AreObjectSizes};
 ghost use Rattle.set_coder.specs.Usable.{AreDrawable};
 

@@ -1,6 +1,5 @@
 ghost use Rattle.std.specs.Prelude.{◌≡◌, ◌==◌, ◌+◌, ◌*◌, ◌/◌, ◌<◌, ◌≤◌, ◌++◌, length, map, sum_by, All, IfOk, OnOk, vec_len};
 ghost use Rattle.std.specs.List.{flat_map};
-ghost use Rattle.sub_base.specs.Depth.{bits_of};
 ghost use Rattle.stream_syntax.specs.Segments.{spelled, end_of_set};
 ghost use Rattle.page_epoch.specs.Sendable.{HasRegion, HasCue, HasColour, IsSendableIn, IsSendableRegion, IsSendableClut};
 ghost use Rattle.set_coder.specs.SetSegments.{display_of, time_out_of, page_entry_of, page_of, listing_of, region_segment_of, clut_entry_of, clut_segment_of, leading_segments};
@@ -12,7 +11,7 @@ use cue_list::{Epoch, Script};
 use page_epoch::{PlannedSet, SentClut, SentRegion, State};
 use segments::{ClutEntry, Listing, PageEntry, RegionHead, SegmentOut, write_segment};
 use std::alloc::Global;
-use sub_base::{Depth, NoMemory};
+use sub_base::NoMemory;
 
 /// Appends the segments of a set before its objects.
 pub(crate) fn append_leading(
@@ -220,7 +219,7 @@ fn clut_entries(alloc: Global, epoch: &Epoch, rows: &[u32]) -> Result<Vec<ClutEn
     let mut entries = Vec::with_capacity(alloc, rows.len())?;
     for place in rows {
         let row = colour_at(epoch, *place);
-        let bits = bits_of(row.depth);
+        let bits = row.depth.bits();
         entries.push(ClutEntry {
             entry: row.entry,
             two: bits == 2,
@@ -230,17 +229,6 @@ fn clut_entries(alloc: Global, epoch: &Epoch, rows: &[u32]) -> Result<Vec<ClutEn
         })?;
     }
     Ok(entries)
-}
-
-/// The bits of a pixel code.
-fn bits_of(depth: Depth) -> u8
-    ensures { result ≡ bits_of depth }
-{
-    match depth {
-        Depth::Two => 2,
-        Depth::Four => 4,
-        Depth::Eight => 8,
-    }
 }
 
 /// Appends the end of a set.

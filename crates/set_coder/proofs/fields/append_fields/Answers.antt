@@ -1,5 +1,6 @@
 use Rattle.std.proofs.Common.{◌≡◌, ap, ◌∙◌, length, ℕ, Vec, Global, arith}
-use Rattle.set_coder.proofs.FieldLaws.{few_rows, top_of, both_own, both_shared, extends_none, extends_trans}
+use Rattle.pixel_codes.proofs.Writing.{extends_none, extends_trans}
+use Rattle.set_coder.proofs.FieldLaws.{few_rows, top_of, both_own, both_shared}
 use Rattle.pixel_codes.specs.Lists.{Extends}
 use Rattle.set_coder.proofs.fields.append_fields.Goals as goal
 use Rattle.set_coder.proofs.fields.append_fields.Goals.{then-not-fields_equal+in_ok-append_bottom_field, else-not-fields_equal}

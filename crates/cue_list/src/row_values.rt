@@ -1,6 +1,3 @@
-ghost use Rattle.std.specs.Prelude.{◌≡◌};
-ghost use Rattle.std.specs.Str.{is_utf8 as is_utf8_of};
-
 use sub_base::Depth;
 
 /// The sides of the display, in pixels.
@@ -26,11 +23,4 @@ pub struct PlaceRow {
     pub region: u8,
     pub x: u16,
     pub y: u16,
-}
-
-/// Whether a cell is text in UTF-8.
-pub(crate) fn is_utf8(cell: &[u8]) -> bool
-    ensures { result ≡ is_utf8_of cell.now }
-{
-    std::str::from_utf8(cell).is_ok()
 }
