@@ -1,5 +1,5 @@
 -- The PES packets of the two sets of a script of one cue, as a receiver reads them.
-use Rattle.std.proofs.Common.{◌≡◌, ◌∙◌, ℕ, true, false, eqb, cond, List, [], ◌∷◌, ◌++◌, get_or, Some, None, refl, sym, ap, subst, arith, All}
+use Rattle.std.proofs.Common.{◌≡◌, ◌∙◌, ℕ, true, false, eqb, cond, List, [], ◌∷◌, ◌++◌, Some, None, refl, sym, ap, subst, arith, All}
 use Rattle.std.specs.Prelude.{slice_get, find}
 use Rattle.std.proofs.lemmas.Bool.Decides.{nat_tests}
 use Rattle.sub_base.specs.Picture.{Picture}
@@ -13,9 +13,10 @@ use Rattle.cue_list.specs.declared.epoch.Cue.{Cue}
 use Rattle.cue_list.specs.declared.epoch.Epoch.{Epoch}
 use Rattle.cue_list.specs.declared.epoch.Region.{Region}
 use Rattle.cue_list.specs.declared.script.Script.{Script}
+use Rattle.page_epoch.specs.Live.{cue_at}
 use Rattle.page_epoch.specs.SoleCue.{IsSoleCue, FillsDisplay, first_set, last_set}
 use Rattle.page_epoch.proofs.SoleCuePlan.{sole_cue_fills}
-use Rattle.set_coder.specs.SetSegments.{region_of, region_or_none, cue_at, picture_of_cue, depth_of_cue, leading_segments, object_of, time_out_of, IsObjectOf, AreObjectsOf, IsSetField, data_field}
+use Rattle.set_coder.specs.SetSegments.{region_of, region_or_none, picture_of_cue, depth_of_cue, leading_segments, object_of, time_out_of, IsObjectOf, AreObjectsOf, IsSetField, data_field}
 use Rattle.decoder_model.proofs.SoleCue as shown
 use Rattle.shown_stream.proofs.DrawnObject.{ObjectDraws, object_draws}
 use Rattle.shown_stream.proofs.AuthoredCue.{sole_cue_facts}
@@ -32,8 +33,8 @@ only_region epoch region is =
     ∙ ap (λ same. region_or_none (cond same (Some region) None)) (same_id region.id)
 
 -- the only cue is the first
-only_cue : (epoch : Epoch) (cue : Cue) → epoch.cues ≡ cue ∷ [] → cue_at epoch 0 ≡ cue
-only_cue epoch cue is = ap (λ cues. get_or cues 0 (record { start = 0; end = 0; row = 0; region = 0; x = 0; y = 0; picture = 0; see_through = false })) is
+only_cue : (epoch : Epoch) (cue : Cue) → epoch.cues ≡ cue ∷ [] → cue_at epoch.cues 0 ≡ cue
+only_cue epoch cue is = ap (λ cues. cue_at cues 0) is
 
 -- the only epoch
 only_epoch : (script : Script) (epoch found : Epoch) → script.epochs ≡ epoch ∷ [] → slice_get script.epochs 0 ≡ Some found → found ≡ epoch
@@ -86,7 +87,7 @@ leading_is script epoch region cue picture row top bottom top_parts bottom_has s
     let its_region = only_region epoch region sole.regions in
     let its_cue = only_cue epoch cue sole.cues in
     ap (λ (found : Region). display_with script.width script.height ∷ page_with (time_out_of script) region.id found.x found.y
-    ∷ region_with region.id found.width found.height found.depth found.clut (cue_at epoch 0).x (cue_at epoch 0).y ∷ []) its_region
+    ∷ region_with region.id found.width found.height found.depth found.clut (cue_at epoch.cues 0).x (cue_at epoch.cues 0).y ∷ []) its_region
     ∙ ap (λ (found : Cue). display_with script.width script.height ∷ page_with (time_out_of script) region.id region.x region.y
     ∷ region_with region.id region.width region.height region.depth region.clut found.x found.y ∷ []) its_cue
     ∙ rw (fills.x, fills.y, fills.at_x, fills.at_y, sole.wide, sole.high, sole.picture_wide, sole.picture_high) refl
@@ -111,7 +112,7 @@ its_object script epoch region cue picture segment sole object =
     ap (λ (found : Cue). (region_of epoch found.region).depth) its_cue ∙ ap (λ id. (region_of epoch id).depth) fills.own ∙ ap (λ (found : Region). found.depth) (only_region epoch region sole.regions) in
     let blocks : AreFieldBlocks picture region.depth object.top object.bottom =
     subst (λ (p : Picture). AreFieldBlocks p region.depth object.top object.bottom) its_picture (subst (λ (d : Depth). AreFieldBlocks (picture_of_cue script.pictures epoch 0) d object.top object.bottom) its_depth object.blocks) in
-    let solid : (cue_at epoch 0).see_through ≡ false = ap (λ (found : Cue). found.see_through) its_cue ∙ sole.solid in
+    let solid : (cue_at epoch.cues 0).see_through ≡ false = ap (λ (found : Cue). found.see_through) its_cue ∙ sole.solid in
     record {
       top = object.top;
       bottom = object.bottom;
