@@ -14,3 +14,4 @@ pub mod CompiledPackets
 pub mod AuthoredCue
 pub mod SoleCueUnits
 pub mod SoleCueShown
+pub mod SoleCueExample
