@@ -6,5 +6,6 @@ pub mod MomentLaws
 pub mod PlanLaws
 pub mod RegionLaws
 pub mod SendLaws
+pub mod ShowLaws
 pub mod SoundLaws
 pub mod SweepLaws

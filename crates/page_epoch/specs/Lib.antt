@@ -10,5 +10,6 @@ pub mod SentRegions
 pub mod States
 pub mod Courses
 pub mod Layouts
+pub mod Showing
 pub mod Steps
 pub mod Sweeps

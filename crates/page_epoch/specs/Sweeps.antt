@@ -16,6 +16,7 @@ use Rattle.page_epoch.specs.States.{is_whole, page_version}
 use Rattle.page_epoch.specs.Courses.{region_courses, clut_courses, is_first, IsSmallCourse, IsSmallVersion}
 use Rattle.page_epoch.specs.Layouts.{IsLayout}
 use Rattle.page_epoch.specs.Needs.{node_need}
+use Rattle.page_epoch.specs.Showing.{AreLasting}
 use Rattle.page_epoch.specs.Plan.{IsCarried}
 
 -- an epoch is within the limits
@@ -81,7 +82,7 @@ pub record IsNumbered (epoch : Epoch) : Type 0 where
   pub apart : AllPairs (λ (first second : Region). first.id ≢ second.id) epoch.regions
 
 -- what the walk relies on: epochs within the limits, in order of their starts, whose ticks are below 2^33 and begin with
--- the start of the first one
+-- the start of the first one, and cues that end after their starts
 pub record IsPlain (epochs : List Epoch) (refresh : ℕ) : Type 0 where
   pub some : 1 ≤ length epochs
   pub few : length epochs ≤ 512
@@ -91,6 +92,7 @@ pub record IsPlain (epochs : List Epoch) (refresh : ℕ) : Type 0 where
   pub numbered : All IsNumbered epochs
   pub rise : AllPairs (λ (earlier later : Epoch). earlier.start < later.start) epochs
   pub early : All (λ tick. tick < 2 ^ 33) (named_ticks epochs)
+  pub lasting : AreLasting epochs
   pub begin : (first : Epoch) → slice_get epochs 0 ≡ Some first → All (λ tick. first.start ≤ tick) (named_ticks epochs)
 
 -- the walk goes on to the next epoch, which begins by a tick

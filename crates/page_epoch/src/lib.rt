@@ -5,6 +5,7 @@
 mod clut_course;
 mod clut_step;
 mod course;
+mod cue_ticks;
 mod fault;
 mod instants;
 mod layout;
