@@ -1,3 +1,4 @@
+pub mod ChangeLaws
 pub mod ClutLaws
 pub mod CourseLaws
 pub mod InstantLaws
@@ -5,6 +6,7 @@ pub mod ListLaws
 pub mod MomentLaws
 pub mod PlanLaws
 pub mod RegionLaws
+pub mod RowLaws
 pub mod SendLaws
 pub mod ShowLaws
 pub mod SoundLaws

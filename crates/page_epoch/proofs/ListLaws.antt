@@ -1,10 +1,11 @@
 -- Facts on lists.
-use Rattle.std.proofs.Common.{◌≡◌, ◌∙◌, ℕ, ◌+◌, ◌<◌, ◌≤◌, Bool, true, false, cond, List, [], ◌∷◌, ◌++◌, map, filter, length, take, get_or, All, Result, Ok, Err, IfOk, refl, sym, ap, subst, append_assoc, arith}
+use Rattle.std.proofs.Common.{◌≡◌, ◌≢◌, ◌∙◌, ℕ, ◌+◌, ◌==◌, ◌<◌, ◌≤◌, Bool, true, false, cond, List, [], ◌∷◌, ◌++◌, map, filter, length, take, get_or, All, Result, Ok, Err, IfOk, refl, sym, ap, subst, append_assoc, arith}
 use Rattle.std.specs.List.{range_with_len, flat_map}
-use Rattle.std.proofs.lemmas.List.{map-id, map-append, append-nil, take_more}
+use Rattle.std.proofs.lemmas.Bool.Decides.{nat_tests}
+use Rattle.std.proofs.lemmas.List.{map-id, map-append, append-nil, take_more, length-append}
 use Rattle.std.proofs.lemmas.List.Sums.{length-filter, count_by-le-length}
 use Rattle.std.proofs.lemmas.List.Concat.{flat_map-append}
-use Rattle.std.proofs.lemmas.List.Elements.{All-filter}
+use Rattle.std.proofs.lemmas.List.Elements.{All-filter, All-cons, All-head, All-tail, All-append}
 use Rattle.std.proofs.lemmas.List.FromFn.{filter_of_map_range_with_len_more, map-range_with_len_more, length-range_with_len, get_or-range_with_len}
 
 -- one place more passes a test or not
@@ -84,3 +85,45 @@ pub refreshes_more : {X : Type 0} (f : ℕ → X) (n : ℕ) (old now next : List
     next ≡ old ++ map f (range_with_len 1 (n + 1))
 refreshes_more f n old now next e push =
     push ∙ ap (λ xs. xs ++ f (n + 1) ∷ []) e ∙ append_assoc old (map f (range_with_len 1 n)) (f (n + 1) ∷ []) ∙ ap (λ xs. old ++ xs) (sym (map-range_with_len_more f 1 n (n + 1) (omega arith)))
+
+-- ---- what holds of each element
+
+pub All-none : {X : Type 0} (P : X → Type 0) → All P []
+All-none P = λ k d h. absurd (omega arith)
+
+pub All-one : {X : Type 0} (P : X → Type 0) (x : X) → P x → All P (x ∷ [])
+All-one P x p = All-cons P x [] p (All-none P)
+
+pub All-pieces : {X Y : Type 0} (P : Y → Type 0) (f : X → List Y) (xs : List X) → All (λ x. All P (f x)) xs → All P (flat_map f xs)
+All-pieces P f [] all = All-none P
+All-pieces P f (x ∷ xs) all = All-append P (f x) (flat_map f xs) (All-head (λ x. All P (f x)) x xs all) (All-pieces P f xs (All-tail (λ x. All P (f x)) x xs all))
+
+pub one_each : {X Y : Type 0} (f : X → List Y) → ((x : X) → length (f x) ≤ 1) → (xs : List X) → length (flat_map f xs) ≤ length xs
+one_each f few [] = omega arith
+one_each f few (x ∷ xs) =
+    let here = few x in
+    let rest = one_each f few xs in
+    let all = length-append (f x) (flat_map f xs) in
+    omega arith
+
+-- tests that agree on a list keep the same of it
+pub filter_agree : {X : Type 0} (p q : X → Bool) (xs : List X) → All (λ x. p x ≡ q x) xs → filter p xs ≡ filter q xs
+filter_agree p q [] same = refl
+filter_agree p q (x ∷ xs) same =
+    ap (λ b. cond b (x ∷ filter p xs) (filter p xs)) (All-head (λ x. p x ≡ q x) x xs same) ∙ ap (λ ys. cond (q x) (x ∷ ys) ys) (filter_agree p q xs (All-tail (λ x. p x ≡ q x) x xs same))
+
+pub filter_none : {X : Type 0} (p : X → Bool) (xs : List X) → All (λ x. p x ≡ false) xs → filter p xs ≡ []
+filter_none p [] none = refl
+filter_none p (x ∷ xs) none = ap (λ b. cond b (x ∷ filter p xs) (filter p xs)) (All-head (λ x. p x ≡ false) x xs none) ∙ filter_none p xs (All-tail (λ x. p x ≡ false) x xs none)
+
+pub flat_map_none : {X Y : Type 0} (xs : List X) → flat_map {A = Y} (λ x. []) xs ≡ []
+flat_map_none [] = refl
+flat_map_none {X} {Y} (x ∷ xs) = flat_map_none {X = X} {Y = Y} xs
+
+-- ---- numbers
+
+pub equal : (a b : ℕ) → a ≡ b → (a == b) ≡ true
+equal a b h = grind (arith, nat_tests)
+
+pub unequal : (a b : ℕ) → a ≢ b → (a == b) ≡ false
+unequal a b h = grind (arith, nat_tests)

@@ -15,7 +15,7 @@ use Rattle.page_epoch.specs.declared.planned_set.SentRegion.{SentRegion}
 use Rattle.page_epoch.specs.declared.planned_set.SentClut.{SentClut}
 use Rattle.page_epoch.specs.declared.region_course.RegionCues.{RegionCues}
 use Rattle.page_epoch.specs.declared.region_course.RegionCourse.{RegionCourse}
-use Rattle.page_epoch.specs.declared.clut_course.ClutRows.{ClutRows}
+use Rattle.page_epoch.specs.declared.clut_changes.ClutChanges.{ClutChanges}
 use Rattle.page_epoch.specs.declared.layout.Layout.{Layout}
 use Rattle.page_epoch.specs.declared.instants.Instant.{Instant}
 use Rattle.page_epoch.specs.Live.{has_some, live_places, own_places}
@@ -24,7 +24,7 @@ use Rattle.page_epoch.specs.SentRegions.{sent_region, held, AreSentRegions, AreS
 use Rattle.page_epoch.specs.SentCluts.{sent_clut, sent_cluts, named_cluts, clut_count}
 use Rattle.page_epoch.specs.States.{page_version}
 use Rattle.page_epoch.specs.Layouts.{IsLayout, shown_of}
-use Rattle.page_epoch.specs.Courses.{region_cues, region_course, region_courses, clut_rows, clut_courses, AreOwn, AreRowsOf, IsSmallCourse, IsSmallVersion, sent_of, is_first}
+use Rattle.page_epoch.specs.Courses.{region_cues, region_course, region_courses, clut_courses, AreOwn, IsSmallCourse, IsSmallVersion, sent_of, is_first}
 use Rattle.page_epoch.specs.Sweeps.{IsTimely, page_after, first_course}
 use Rattle.page_epoch.proofs.ListLaws.{flat_map_mapped, length_kept_places}
 
@@ -34,18 +34,14 @@ pub own_of_layout : (cues : List Cue) (ids : List Region) (regions : List Region
 own_of_layout cues ids regions e =
     subst (AreOwn cues) (sym e) (All-map (λ (region : RegionCues). region.own ≡ own_places cues region.id) (region_cues cues) ids (λ k d h. refl))
 
-pub rows_of_layout : (colours : List ColourRow) (cluts : List ClutRows) → cluts ≡ map (clut_rows colours) (named_cluts colours) → AreRowsOf colours cluts
-rows_of_layout colours cluts e =
-    subst (AreRowsOf colours) (sym e) (All-map (λ (clut : ClutRows). clut ≡ clut_rows colours clut.clut) (clut_rows colours) (named_cluts colours) (λ k d h. refl))
-
 pub count_is : clut_count ≡ 256
 unfolding clut_count
 count_is = refl
 
-pub few_cluts : (colours : List ColourRow) (cluts : List ClutRows) → cluts ≡ map (clut_rows colours) (named_cluts colours) → length cluts ≤ 256
+pub few_cluts : (colours : List ColourRow) (cluts : List ClutChanges) → map (λ (clut : ClutChanges). clut.clut) cluts ≡ named_cluts colours → length cluts ≤ 256
 few_cluts colours cluts e =
     let same = ap length e in
-    let long = length-map (named_cluts colours) (clut_rows colours) in
+    let long = length-map cluts (λ (clut : ClutChanges). clut.clut) in
     let few = length_kept_places (λ clut. list_any (λ row. row.clut == clut) colours) clut_count in
     let all = count_is in
     omega arith
@@ -56,8 +52,8 @@ few_regions cues regions ids by_id perm e = ap length e ∙ length-map ids (regi
 pub small_first : (regions : List RegionCues) → All IsSmallCourse (map (λ _. first_course) regions)
 small_first regions = All-map IsSmallCourse (λ (_ : RegionCues). first_course) regions (λ k d h. record { version = omega arith; held = omega arith })
 
-pub small_none : (cluts : List ClutRows) → All IsSmallVersion (map (λ _. None) cluts)
-small_none cluts = All-map IsSmallVersion (λ (_ : ClutRows). None) cluts (λ k d h. tt)
+pub small_none : (cluts : List ClutChanges) → All IsSmallVersion (map (λ _. None) cluts)
+small_none cluts = All-map IsSmallVersion (λ (_ : ClutChanges). None) cluts (λ k d h. tt)
 
 -- ---- one instant on
 
@@ -105,23 +101,23 @@ shown_on epoch layout cues' by' tick shown lay a b is = record {
   is = is ∙ ap (λ x. shown_of x tick by') a ∙ ap (λ x. shown_of epoch.cues tick x) (b ∙ lay.by_y) ∙ shown_by_y epoch.cues tick lay.ys;
 }
 
-pub versions_on : (colours colours' : List ColourRow) (cluts cluts' : List ClutRows) (versions versions' next : List (Option ℕ)) (seen : List ℕ) (tick : ℕ) → colours' ≡ colours → cluts' ≡ cluts → versions' ≡ versions →
+pub versions_on : (colours colours' : List ColourRow) (cluts cluts' : List ClutChanges) (versions versions' next : List (Option ℕ)) (seen : List ℕ) (tick : ℕ) → colours' ≡ colours → cluts' ≡ cluts → versions' ≡ versions →
     versions ≡ clut_courses colours seen cluts → (versions' ≡ clut_courses colours' seen cluts' → next ≡ clut_courses colours' (tick ∷ seen) cluts') → next ≡ clut_courses colours (tick ∷ seen) cluts
 versions_on colours colours' cluts cluts' versions versions' next seen tick a b e is on =
     let both : (s : List ℕ) → clut_courses colours' s cluts' ≡ clut_courses colours s cluts = λ s. ap (λ x. clut_courses x s cluts') a ∙ ap (λ x. clut_courses colours s x) b in
     on (e ∙ is ∙ sym (both seen)) ∙ both (tick ∷ seen)
 
-sent_named : (colours : List ColourRow) (whole : Bool) (seen : List ℕ) → sent_of colours whole seen (map (clut_rows colours) (named_cluts colours)) ≡ sent_cluts colours whole seen
-sent_named colours whole seen = flat_map_mapped (λ (clut : ClutRows). sent_clut colours whole seen clut.clut) (clut_rows colours) (named_cluts colours)
+sent_named : (colours : List ColourRow) (whole : Bool) (seen : List ℕ) (cluts : List ClutChanges) → map (λ (clut : ClutChanges). clut.clut) cluts ≡ named_cluts colours → sent_of colours whole seen cluts ≡ sent_cluts colours whole seen
+sent_named colours whole seen cluts e = sym (flat_map_mapped (sent_clut colours whole seen) (λ (clut : ClutChanges). clut.clut) cluts) ∙ ap (flat_map (sent_clut colours whole seen)) e
 
 -- what the CLUTs are sent as, for a list that is made of them
-pub cluts_on : {X : Type 0} (f : List SentClut → X) (colours colours' : List ColourRow) (cluts cluts' : List ClutRows) (versions versions' : List (Option ℕ)) (seen : List ℕ) (tick : ℕ) (whole whole' : Bool) (made : X) →
-    cluts ≡ map (clut_rows colours) (named_cluts colours) → colours' ≡ colours → cluts' ≡ cluts → versions' ≡ versions → whole' ≡ whole → versions ≡ clut_courses colours seen cluts →
+pub cluts_on : {X : Type 0} (f : List SentClut → X) (colours colours' : List ColourRow) (cluts cluts' : List ClutChanges) (versions versions' : List (Option ℕ)) (seen : List ℕ) (tick : ℕ) (whole whole' : Bool) (made : X) →
+    map (λ (clut : ClutChanges). clut.clut) cluts ≡ named_cluts colours → colours' ≡ colours → cluts' ≡ cluts → versions' ≡ versions → whole' ≡ whole → versions ≡ clut_courses colours seen cluts →
     (versions' ≡ clut_courses colours' seen cluts' → made ≡ f (sent_of colours' whole' (tick ∷ seen) cluts')) → made ≡ f (sent_cluts colours whole (tick ∷ seen))
 cluts_on f colours colours' cluts cluts' versions versions' seen tick whole whole' made lay a b e w is on =
     let both : clut_courses colours' seen cluts' ≡ clut_courses colours seen cluts = ap (λ x. clut_courses x seen cluts') a ∙ ap (λ x. clut_courses colours seen x) b in
     on (e ∙ is ∙ sym both)
-    ∙ ap f (ap (λ (x : Bool). sent_of colours' x (tick ∷ seen) cluts') w ∙ ap (λ x. sent_of x whole (tick ∷ seen) cluts') a ∙ ap (λ x. sent_of colours whole (tick ∷ seen) x) (b ∙ lay) ∙ sent_named colours whole (tick ∷ seen))
+    ∙ ap f (ap (λ (x : Bool). sent_of colours' x (tick ∷ seen) cluts') w ∙ ap (λ x. sent_of x whole (tick ∷ seen) cluts') a ∙ ap (λ x. sent_of colours whole (tick ∷ seen) x) b ∙ sent_named colours whole (tick ∷ seen) cluts lay)
 
 page_step : (b : Bool) (n : ℕ) → (cond b 1 0 + n) % 16 ≡ cond b ((n % 16 + 1) % 16) (n % 16)
 page_step true n = omega arith

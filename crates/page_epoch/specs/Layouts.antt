@@ -1,5 +1,5 @@
 -- What stays in an epoch, and what is read off it.
-use Rattle.std.specs.Prelude.{◌≡◌, ℕ, List, map, filter}
+use Rattle.std.specs.Prelude.{◌≡◌, ℕ, List, map, filter, All}
 use Rattle.std.specs.List.{flat_map}
 use Rattle.cue_list.specs.declared.epoch.Epoch.{Epoch}
 use Rattle.cue_list.specs.declared.epoch.Region.{Region}
@@ -10,7 +10,8 @@ use Rattle.page_epoch.specs.declared.layout.Layout.{Layout}
 use Rattle.page_epoch.specs.Live.{has_some, live_places}
 use Rattle.page_epoch.specs.SentRegions.{AreOrdered}
 use Rattle.page_epoch.specs.SentCluts.{named_cluts}
-use Rattle.page_epoch.specs.Courses.{region_cues, clut_rows}
+use Rattle.page_epoch.specs.Changes.{AreChanges}
+use Rattle.page_epoch.specs.Courses.{region_cues}
 
 -- the regions, CLUTs and rows of an epoch, in order
 pub record IsLayout (epoch : Epoch) (layout : Layout) : Type 0 where
@@ -20,7 +21,8 @@ pub record IsLayout (epoch : Epoch) (layout : Layout) : Type 0 where
   pub ys : List Region
   pub ordered_ys : AreOrdered (λ region. region.y) epoch.regions ys
   pub by_y : layout.by_y ≡ map (region_cues epoch.cues) ys
-  pub cluts : layout.cluts ≡ map (clut_rows epoch.colours) (named_cluts epoch.colours)
+  pub cluts : map (λ clut. clut.clut) layout.cluts ≡ named_cluts epoch.colours
+  pub changes : All (AreChanges epoch.colours) layout.cluts
 
 -- the regions of these that have a live cue
 abbrev pub shown_of : List Cue → ℕ → List RegionCues → List ℕ

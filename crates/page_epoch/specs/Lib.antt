@@ -8,6 +8,7 @@ pub mod Sendable
 pub mod SentCluts
 pub mod SentRegions
 pub mod States
+pub mod Changes
 pub mod Courses
 pub mod Layouts
 pub mod Showing

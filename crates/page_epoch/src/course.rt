@@ -5,7 +5,7 @@ ghost use Rattle.page_epoch.specs.Courses.{IsSmallCourse, IsSmallVersion};
 ghost use Rattle.page_epoch.specs.Layouts.{IsLayout};
 ghost use Rattle.page_epoch.specs.Sweeps.{IsSmallEpoch, IsCourse, IsSafe, IsTimely, IsSetOf, IsAdvanced, IsSweep, GoesOn, first_course, page_after};
 
-use crate::clut_course::ClutRows;
+use crate::clut_changes::ClutChanges;
 use crate::clut_step::step_cluts;
 use crate::instants::Instant;
 use crate::layout::{Layout, held, listed, shown};
@@ -68,7 +68,7 @@ fn first_courses(alloc: Global, regions: &[RegionCues]) -> Result<Items<RegionCo
 }
 
 /// The versions of CLUTs before the first instant: there are none.
-fn first_versions(alloc: Global, cluts: &[ClutRows]) -> Result<Items<Option<u8>>, AllocError>
+fn first_versions(alloc: Global, cluts: &[ClutChanges]) -> Result<Items<Option<u8>>, AllocError>
     ensures { IfOk result (λ versions. versions ≡ map (λ _. None) cluts.now) }
 {
     let mut versions = Vec::new(alloc);

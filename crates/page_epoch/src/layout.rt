@@ -4,22 +4,20 @@ ghost use Rattle.page_epoch.specs.Courses.{region_cues, AreOwn, IsSmallCourse};
 ghost use Rattle.page_epoch.specs.Layouts.{IsLayout, shown_of, listed_cues};
 ghost use Rattle.page_epoch.specs.Needs.{region_pixels as pixels_of, pixel_need as pixels_of_all};
 ghost use Rattle.page_epoch.specs.SentRegions.{AreOrdered};
-ghost use Rattle.sub_base.specs.Depth.{bits_of};
 
-use crate::clut_course::{ClutRows, all_clut_rows};
+use crate::clut_changes::{ClutChanges, all_changes};
 use crate::live::{cues_of_region, live_of};
 use crate::planned_set::SentRegion;
 use crate::region_course::{RegionCourse, RegionCues};
 use cue_list::{Cue, Epoch, Items, Region};
 use std::alloc::{AllocError, Global};
-use sub_base::Depth;
 
 /// What stays in an epoch: its regions with their cues, by their numbers and from the top of the display, and its CLUTs.
 #[derive(Drop)]
 pub struct Layout {
     pub by_id: Items<RegionCues>,
     pub by_y: Items<RegionCues>,
-    pub cluts: Items<ClutRows>,
+    pub cluts: Items<ClutChanges>,
 }
 
 /// The regions by their numbers.
@@ -68,7 +66,7 @@ impl Layout {
         let cues = epoch.cues.as_slice();
         let by_id = with_cues(alloc, cues, sorted_by_id(alloc, regions)?.as_slice())?;
         let by_y = with_cues(alloc, cues, sorted_by_y(alloc, regions)?.as_slice())?;
-        let cluts = all_clut_rows(alloc, epoch.colours.as_slice())?;
+        let cluts = all_changes(alloc, epoch.colours.as_slice())?;
         Ok(Layout { by_id, by_y, cluts })
     }
 }
@@ -119,24 +117,13 @@ pub fn held(courses: &[RegionCourse]) -> u64
     sum
 }
 
-/// How many bits a pixel code has.
-fn bits(depth: Depth) -> u64
-    ensures value { result ≡ bits_of depth }
-    ensures few { result ≤ 8 }
-{
-    match depth {
-        Depth::Two => 2,
-        Depth::Four => 4,
-        Depth::Eight => 8,
-    }
-}
-
 /// The bytes of a region's pixels, in rows of whole bytes.
 fn region_pixels(region: &Region) -> u64
     ensures value { result ≡ pixels_of region.now }
     ensures few { result ≤ 2 ^ 33 }
 {
-    (u64::from(region.width) * bits(region.depth)).div_ceil(8) * u64::from(region.height)
+    (u64::from(region.width) * u64::from(region.depth.bits())).div_ceil(8)
+        * u64::from(region.height)
 }
 
 /// The bytes of the pixels of an epoch's regions.

@@ -2,6 +2,7 @@
 //! (EN 300 743, clauses 5 and 7).
 #![tactic(auto)]
 
+mod clut_changes;
 mod clut_course;
 mod clut_step;
 mod course;

@@ -1,14 +1,16 @@
-use Rattle.std.proofs.Common.{◌∙◌, ◌∷◌, List, length, refl, sym, ap, subst, true, arith}
+use Rattle.std.proofs.Common.{◌∙◌, ◌∷◌, List, All, map, length, refl, sym, ap, subst, true, arith}
 use Rattle.std.specs.List.Sorted.{IsPermutation}
 use Rattle.cue_list.specs.declared.epoch.Cue.{Cue}
 use Rattle.cue_list.specs.declared.epoch.ColourRow.{ColourRow}
 use Rattle.page_epoch.specs.declared.planned_set.SentClut.{SentClut}
 use Rattle.page_epoch.specs.declared.planned_set.SentRegion.{SentRegion}
-use Rattle.page_epoch.specs.Courses.{AreOwn, AreRowsOf}
+use Rattle.page_epoch.specs.declared.clut_changes.ClutChanges.{ClutChanges}
+use Rattle.page_epoch.specs.Changes.{AreChanges}
+use Rattle.page_epoch.specs.Courses.{AreOwn}
 use Rattle.page_epoch.specs.Layouts.{listed_cues}
 use Rattle.page_epoch.specs.Needs.{clut_nodes}
 use Rattle.page_epoch.specs.States.{is_whole}
-use Rattle.page_epoch.proofs.SweepLaws.{own_of_layout, rows_of_layout, few_cluts, few_regions, regions_on, sent_on, shown_on, versions_on, cluts_on, page_on, held_on}
+use Rattle.page_epoch.proofs.SweepLaws.{own_of_layout, few_cluts, few_regions, regions_on, sent_on, shown_on, versions_on, cluts_on, page_on, held_on}
 use Rattle.page_epoch.proofs.course.Course.advance.Goals as goal
 
 pub step_regions-requires-clause-own : goal.step_regions-requires-clause-own
@@ -16,13 +18,14 @@ step_regions-requires-clause-own c =
     subst (λ (cues : List Cue). AreOwn cues c.as_slice.result.now) (sym c.as_slice-cues.ensures)
     (own_of_layout c.args.epoch.now.cues c.requires.layout.ids c.as_slice.result.now (c.as_slice.ensures ∙ c.requires.layout.by_id))
 
-pub step_cluts-requires-clause-rows : goal.step_cluts-requires-clause-rows
-step_cluts-requires-clause-rows c =
-    subst (λ (colours : List ColourRow). AreRowsOf colours c.as_slice-4.result.now) (sym c.as_slice-3.ensures)
-    (rows_of_layout c.args.epoch.now.colours c.as_slice-4.result.now (c.as_slice-4.ensures ∙ c.requires.layout.cluts))
+pub step_cluts-requires-clause-changes : goal.step_cluts-requires-clause-changes
+step_cluts-requires-clause-changes c =
+    subst (λ (colours : List ColourRow). All (AreChanges colours) c.as_slice-4.result.now) (sym c.as_slice-3.ensures)
+    (subst (λ (cluts : List ClutChanges). All (AreChanges c.args.epoch.now.colours) cluts) (sym c.as_slice-4.ensures) c.requires.layout.changes)
 
 pub step_cluts-requires-clause-few : goal.step_cluts-requires-clause-few
-step_cluts-requires-clause-few c = few_cluts c.args.epoch.now.colours c.as_slice-4.result.now (c.as_slice-4.ensures ∙ c.requires.layout.cluts)
+step_cluts-requires-clause-few c =
+    few_cluts c.args.epoch.now.colours c.as_slice-4.result.now (ap (λ (cluts : List ClutChanges). map (λ (clut : ClutChanges). clut.clut) cluts) c.as_slice-4.ensures ∙ c.requires.layout.cluts)
 
 pub shown-requires : goal.shown-requires
 shown-requires c =
