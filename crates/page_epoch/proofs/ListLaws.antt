@@ -1,8 +1,8 @@
 -- Facts on lists.
-use Rattle.std.proofs.Common.{◌≡◌, ◌≢◌, ◌∙◌, ℕ, ◌+◌, ◌==◌, ◌<◌, ◌≤◌, Bool, true, false, cond, List, [], ◌∷◌, ◌++◌, map, filter, length, take, get_or, All, Result, Ok, Err, IfOk, refl, sym, ap, subst, append_assoc, arith}
+use Rattle.std.proofs.Common.{◌≡◌, ◌≢◌, ◌∙◌, ℕ, zero, suc, ◌+◌, ◌==◌, ◌<◌, ◌≤◌, Bool, true, false, cond, List, [], ◌∷◌, ◌++◌, map, filter, length, take, get_or, All, Result, Ok, Err, IfOk, refl, sym, ap, subst, append_assoc, arith}
 use Rattle.std.specs.List.{range_with_len, flat_map}
 use Rattle.std.proofs.lemmas.Bool.Decides.{nat_tests}
-use Rattle.std.proofs.lemmas.List.{map-id, map-append, append-nil, take_more, length-append}
+use Rattle.std.proofs.lemmas.List.{map-id, map-append, append-nil, take_more, take_all, length-append}
 use Rattle.std.proofs.lemmas.List.Sums.{length-filter, count_by-le-length}
 use Rattle.std.proofs.lemmas.List.Concat.{flat_map-append}
 use Rattle.std.proofs.lemmas.List.Elements.{All-filter, All-cons, All-head, All-tail, All-append}
@@ -32,6 +32,34 @@ keep_mapped f p n own next e t push =
 pub pass_mapped : {X : Type 0} (f : ℕ → X) (p : ℕ → Bool) (n : ℕ) (own : List X) → own ≡ map f (filter p (range_with_len 0 n)) → p n ≡ false →
     own ≡ map f (filter p (range_with_len 0 (n + 1)))
 pass_mapped f p n own e t = e ∙ ap (map f) (pass_place p n (filter p (range_with_len 0 n)) refl t)
+
+-- a list is what stands at its places
+places_back_by : {X : Type 0} (xs : List X) (d : X) (n : ℕ) → n ≤ length xs → map (λ k. get_or xs k d) (range_with_len 0 n) ≡ take n xs
+places_back_by xs d zero h = refl
+places_back_by xs d (suc n) h =
+    let more : suc n ≡ n + 1 = omega arith in
+    ap (λ k. map (λ k. get_or xs k d) (range_with_len 0 k)) more ∙ map-range_with_len_more (λ k. get_or xs k d) 0 n n (omega arith)
+    ∙ ap (λ ys. ys ++ get_or xs n d ∷ []) (places_back_by xs d n (omega arith)) ∙ sym (ap (λ k. take k xs) more ∙ take_more xs n d (omega arith))
+
+pub places_back : {X : Type 0} (xs : List X) (d : X) → map (λ k. get_or xs k d) (range_with_len 0 (length xs)) ≡ xs
+places_back xs d = places_back_by xs d (length xs) (omega arith) ∙ take_all (length xs) xs (omega arith)
+
+pub map_map : {X Y Z : Type 0} (f : Y → Z) (g : X → Y) (xs : List X) → map f (map g xs) ≡ map (λ x. f (g x)) xs
+map_map f g [] = refl
+map_map f g (x ∷ xs) = ap (λ ys. f (g x) ∷ ys) (map_map f g xs)
+
+-- the same of two lists, of which one is made of the other
+map_one : {X Y Z : Type 0} (b : Bool) (f : X → Z) (g : Y → Z) (x : X) (y : Y) (xs : List X) (ys : List Y) → f x ≡ g y → map f xs ≡ map g ys → map f (cond b (x ∷ xs) xs) ≡ map g (cond b (y ∷ ys) ys)
+map_one true f g x y xs ys e rest = λ i. e i ∷ rest i
+map_one false f g x y xs ys e rest = rest
+
+pub map_kept : {X Y Z : Type 0} (f : X → Z) (g : Y → Z) (h : X → Y) (p : X → Bool) (q : Y → Bool) (xs : List X) → All (λ x. (p x ≡ q (h x)) × (f x ≡ g (h x))) xs →
+    map f (filter p xs) ≡ map g (filter q (map h xs))
+map_kept f g h p q [] same = refl
+map_kept f g h p q (x ∷ xs) same =
+    let here = All-head (λ x. (p x ≡ q (h x)) × (f x ≡ g (h x))) x xs same in
+    ap (λ b. map f (cond b (x ∷ filter p xs) (filter p xs))) here.0
+    ∙ map_one (q (h x)) f g x (h x) (filter p xs) (filter q (map h xs)) here.1 (map_kept f g h p q xs (All-tail (λ x. (p x ≡ q (h x)) × (f x ≡ g (h x))) x xs same))
 
 -- each place of a list is below its length
 pub places_within : (n : ℕ) → All (λ place. place < n) (range_with_len 0 n)

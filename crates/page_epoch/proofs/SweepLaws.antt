@@ -1,11 +1,11 @@
 -- An epoch from instant to instant.
-use Rattle.std.proofs.Common.{◌≡◌, ◌∙◌, ℕ, ◌+◌, ◌%◌, ◌==◌, ◌<◌, ◌≤◌, Bool, true, false, not, ◌&&◌, cond, List, [], ◌∷◌, map, filter, length, All, Option, None, sum_by, nat_lt, refl, sym, ap, subst, arith}
+use Rattle.std.proofs.Common.{◌≡◌, ◌∙◌, ℕ, ◌+◌, ◌%◌, ◌==◌, ◌<◌, ◌≤◌, Bool, true, false, not, ◌&&◌, cond, List, [], ◌∷◌, map, length, get_or, All, Option, None, sum_by, nat_lt, refl, sym, ap, subst, arith}
 use Rattle.std.specs.List.{flat_map, list_any}
 use Rattle.std.specs.List.Sorted.{IsPermutation}
 use Rattle.std.proofs.lemmas.Bool.Decides.{nat_tests}
-use Rattle.std.proofs.lemmas.List.{length-map}
-use Rattle.std.proofs.lemmas.List.Elements.{All-map}
-use Rattle.std.proofs.lemmas.List.Sorted.{length_permutation, sum_by-IsPermutation}
+use Rattle.std.proofs.lemmas.List.{length-map, get_or-map}
+use Rattle.std.proofs.lemmas.List.Elements.{All-map, All-weaker}
+use Rattle.std.proofs.lemmas.List.Sorted.{length_permutation, sum_by-IsPermutation, All-permutation, IsPermutation-trans, IsPermutation-map}
 use Rattle.std.proofs.lemmas.List.Sums.{sum_by-cons}
 use Rattle.cue_list.specs.declared.epoch.Epoch.{Epoch}
 use Rattle.cue_list.specs.declared.epoch.Region.{Region}
@@ -17,16 +17,17 @@ use Rattle.page_epoch.specs.declared.region_course.RegionCues.{RegionCues}
 use Rattle.page_epoch.specs.declared.region_course.RegionCourse.{RegionCourse}
 use Rattle.page_epoch.specs.declared.clut_changes.ClutChanges.{ClutChanges}
 use Rattle.page_epoch.specs.declared.layout.Layout.{Layout}
+use Rattle.page_epoch.specs.declared.layout.Spot.{Spot}
 use Rattle.page_epoch.specs.declared.instants.Instant.{Instant}
-use Rattle.page_epoch.specs.Live.{has_some, live_places, own_places}
+use Rattle.page_epoch.specs.Live.{has_some, live_places, own_places, places_below}
 use Rattle.page_epoch.specs.Instants.{is_named}
-use Rattle.page_epoch.specs.SentRegions.{sent_region, held, AreSentRegions, AreShown}
+use Rattle.page_epoch.specs.SentRegions.{sent_region, held, AreSentRegions, AreShown, AreOrdered}
 use Rattle.page_epoch.specs.SentCluts.{sent_clut, sent_cluts, named_cluts, clut_count}
 use Rattle.page_epoch.specs.States.{page_version}
-use Rattle.page_epoch.specs.Layouts.{IsLayout, shown_of}
-use Rattle.page_epoch.specs.Courses.{region_cues, region_course, region_courses, clut_courses, AreOwn, IsSmallCourse, IsSmallVersion, sent_of, is_first}
-use Rattle.page_epoch.specs.Sweeps.{IsTimely, page_after, first_course}
-use Rattle.page_epoch.proofs.ListLaws.{flat_map_mapped, length_kept_places}
+use Rattle.page_epoch.specs.Layouts.{IsLayout, AreSpots, no_region, region_at, spot_at, course_at, shown_of}
+use Rattle.page_epoch.specs.Courses.{first_course, region_cues, region_course, region_courses, clut_courses, AreOwn, IsSmallCourse, IsSmallVersion, sent_of, is_first}
+use Rattle.page_epoch.specs.Sweeps.{IsTimely, page_after}
+use Rattle.page_epoch.proofs.ListLaws.{flat_map_mapped, length_kept_places, map_map, map_kept, places_back, places_within}
 
 -- ---- what stays
 
@@ -82,24 +83,58 @@ sent_on epoch layout cues' by' courses courses' seen tick whole whole' sent lay 
           ∙ sent_by_id epoch.cues whole (tick ∷ seen) lay.ids;
     }
 
-shown_by_y : (cues : List Cue) (tick : ℕ) (ys : List Region) →
-    shown_of cues tick (map (region_cues cues) ys) ≡ map (λ (region : Region). region.id) (filter (λ (region : Region). has_some (live_places cues region.id tick)) ys)
-shown_by_y cues tick [] = refl
-shown_by_y cues tick (y ∷ ys) = shown_one (has_some (live_places cues y.id tick)) cues tick y ys (shown_by_y cues tick ys)
-  where
-    shown_one : (b : Bool) (cues : List Cue) (tick : ℕ) (y : Region) (ys : List Region) → shown_of cues tick (map (region_cues cues) ys) ≡ map (λ (region : Region). region.id) (filter (λ (region : Region). has_some (live_places cues region.id tick)) ys) →
-        map (λ (region : RegionCues). region.id) (cond b (region_cues cues y ∷ filter (λ (region : RegionCues). has_some (live_places cues region.id tick)) (map (region_cues cues) ys)) (filter (λ (region : RegionCues). has_some (live_places cues region.id tick)) (map (region_cues cues) ys)))
-        ≡ map (λ (region : Region). region.id) (cond b (y ∷ filter (λ (region : Region). has_some (live_places cues region.id tick)) ys) (filter (λ (region : Region). has_some (live_places cues region.id tick)) ys))
-    shown_one true cues tick y ys e = ap (λ xs. y.id ∷ xs) e
-    shown_one false cues tick y ys e = e
+-- the regions from the top of the display
+abbrev regions_at : List Region → List Spot → List Region
+regions_at ids spots = map (λ (spot : Spot). region_at ids spot.place) spots
 
-pub shown_on : (epoch : Epoch) (layout : Layout) (cues' : List Cue) (by' : List RegionCues) (tick : ℕ) (shown : List ℕ) → IsLayout epoch layout → cues' ≡ epoch.cues → by' ≡ layout.by_y →
-    shown ≡ shown_of cues' tick by' → AreShown epoch.cues epoch.regions tick shown
-shown_on epoch layout cues' by' tick shown lay a b is = record {
-  by_y = lay.ys;
-  ordered = lay.ordered_ys;
-  is = is ∙ ap (λ x. shown_of x tick by') a ∙ ap (λ x. shown_of epoch.cues tick x) (b ∙ lay.by_y) ∙ shown_by_y epoch.cues tick lay.ys;
-}
+spots_are : (ids : List Region) (spots : List Spot) → AreSpots ids spots → All (λ (spot : Spot). (spot ≡ spot_at ids spot.place) × (spot.place < length ids)) spots
+spots_are ids spots are =
+    All-permutation (λ (spot : Spot). (spot ≡ spot_at ids spot.place) × (spot.place < length ids)) (map (spot_at ids) (places_below (length ids))) spots are.same
+    (All-map (λ (spot : Spot). (spot ≡ spot_at ids spot.place) × (spot.place < length ids)) (spot_at ids) (places_below (length ids)) (λ k d h. (refl, places_within (length ids) k d h)))
+
+pub spots_within : (ids : List Region) (spots : List Spot) → AreSpots ids spots → All (λ (spot : Spot). spot.place < length ids) spots
+spots_within ids spots are = All-weaker (λ (spot : Spot). (spot ≡ spot_at ids spot.place) × (spot.place < length ids)) (λ (spot : Spot). spot.place < length ids) (λ spot is. is.1) spots (spots_are ids spots are)
+
+ordered_at : (regions ids : List Region) (spots : List Spot) → AreOrdered (λ (region : Region). region.id) regions ids → AreSpots ids spots → AreOrdered (λ (region : Region). region.y) regions (regions_at ids spots)
+ordered_at regions ids spots ordered are =
+    let at = λ (spot : Spot). region_at ids spot.place in
+    let back : map at (map (spot_at ids) (places_below (length ids))) ≡ ids = map_map at (spot_at ids) (places_below (length ids)) ∙ places_back ids no_region in
+    record {
+      same = IsPermutation-trans regions ids (regions_at ids spots) ordered.same
+          (subst (λ (xs : List Region). IsPermutation xs (regions_at ids spots)) back (IsPermutation-map at (map (spot_at ids) (places_below (length ids))) spots are.same));
+      rise = λ i j d low short.
+          let long = length-map spots at in
+          let none : Spot = record { y = 0; id = 0; place = 0 } in
+          let y : (k : ℕ) → k < length spots → (get_or (regions_at ids spots) k d).y ≡ (get_or spots k none).y = λ k h.
+          ap (λ (region : Region). region.y) (get_or-map at spots k none d h) ∙ sym (ap (λ (spot : Spot). spot.y) (spots_are ids spots are k none h).0) in
+          let first = y i (omega arith) in
+          let second = y j (omega arith) in
+          let less = are.rise i j none low (omega arith) in
+          omega arith;
+    }
+
+course_there : (cues : List Cue) (seen : List ℕ) (ids : List Region) (by_id : List RegionCues) (courses : List RegionCourse) (place : ℕ) → by_id ≡ map (region_cues cues) ids → courses ≡ region_courses cues seen by_id → place < length ids →
+    course_at courses place ≡ region_course cues seen (region_at ids place).id
+course_there cues seen ids by_id courses place lay is h =
+    ap (λ xs. get_or xs place first_course) (is ∙ ap (λ xs. region_courses cues seen xs) lay ∙ map_map (λ (region : RegionCues). region_course cues seen region.id) (region_cues cues) ids)
+    ∙ get_or-map (λ (region : Region). region_course cues seen region.id) ids place no_region first_course h
+
+pub shown_on : (epoch : Epoch) (layout : Layout) (spots : List Spot) (courses : List RegionCourse) (seen : List ℕ) (tick : ℕ) (shown : List ℕ) → IsLayout epoch layout → spots ≡ layout.by_y →
+    courses ≡ region_courses epoch.cues (tick ∷ seen) layout.by_id → shown ≡ shown_of courses spots → AreShown epoch.cues epoch.regions tick shown
+shown_on epoch layout spots courses seen tick shown lay b is e =
+    let are = subst (AreSpots lay.ids) (sym b) lay.by_y in
+    record {
+      by_y = regions_at lay.ids spots;
+      ordered = ordered_at epoch.regions lay.ids spots lay.ordered_ids are;
+      is = e ∙ map_kept (λ (spot : Spot). spot.id) (λ (region : Region). region.id) (λ (spot : Spot). region_at lay.ids spot.place) (λ (spot : Spot). has_some (course_at courses spot.place).live)
+          (λ (region : Region). has_some (live_places epoch.cues region.id tick)) spots
+          (All-weaker (λ (spot : Spot). (spot ≡ spot_at lay.ids spot.place) × (spot.place < length lay.ids))
+          (λ (spot : Spot). (has_some (course_at courses spot.place).live ≡ has_some (live_places epoch.cues (region_at lay.ids spot.place).id tick)) × (spot.id ≡ (region_at lay.ids spot.place).id))
+          (λ spot h. (
+            ap (λ (course : RegionCourse). has_some course.live) (course_there epoch.cues (tick ∷ seen) lay.ids layout.by_id courses spot.place lay.by_id is h.1),
+            ap (λ (spot : Spot). spot.id) h.0,
+          )) spots (spots_are lay.ids spots are));
+    }
 
 pub versions_on : (colours colours' : List ColourRow) (cluts cluts' : List ClutChanges) (versions versions' next : List (Option ℕ)) (seen : List ℕ) (tick : ℕ) → colours' ≡ colours → cluts' ≡ cluts → versions' ≡ versions →
     versions ≡ clut_courses colours seen cluts → (versions' ≡ clut_courses colours' seen cluts' → next ≡ clut_courses colours' (tick ∷ seen) cluts') → next ≡ clut_courses colours (tick ∷ seen) cluts

@@ -19,6 +19,10 @@ use Rattle.page_epoch.specs.SentCluts.{is_of_entry, is_changed, row_at, later_pl
 abbrev pub region_cues : List Cue → Region → RegionCues
 region_cues cues region = record { id = region.id; own = own_places cues region.id }
 
+-- a region before the first instant
+abbrev pub first_course : RegionCourse
+first_course = record { live = []; version = 0; held = 0 }
+
 -- the region after these instants
 abbrev pub region_course : List Cue → List ℕ → ℕ → RegionCourse
 region_course cues seen region = record {

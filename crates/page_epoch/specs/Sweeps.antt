@@ -4,7 +4,6 @@ use Rattle.stream_syntax.specs.declared.page.State.{State}
 use Rattle.cue_list.specs.declared.epoch.Epoch.{Epoch}
 use Rattle.cue_list.specs.declared.epoch.Region.{Region}
 use Rattle.page_epoch.specs.declared.planned_set.PlannedSet.{PlannedSet}
-use Rattle.page_epoch.specs.declared.region_course.RegionCourse.{RegionCourse}
 use Rattle.page_epoch.specs.declared.layout.Layout.{Layout}
 use Rattle.page_epoch.specs.declared.course.Course.{Course}
 use Rattle.page_epoch.specs.declared.course.Sweep.{Sweep}
@@ -24,10 +23,6 @@ pub record IsSmallEpoch (epoch : Epoch) : Type 0 where
   pub regions : length epoch.regions ≤ 64
   pub colours : length epoch.colours ≤ 8192
   pub cues : length epoch.cues ≤ 4096
-
--- a region before the first instant
-abbrev pub first_course : RegionCourse
-first_course = record { live = []; version = 0; held = 0 }
 
 -- what is kept is that of these instants
 pub record IsCourse (epochs : List Epoch) (epoch : Epoch) (layout : Layout) (seen : List ℕ) (course : Course) : Type 0 where

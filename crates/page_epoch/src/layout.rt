@@ -1,12 +1,12 @@
 ghost use Rattle.std.specs.Prelude.{◌≡◌, ℕ, ◌+◌, ◌*◌, ◌<◌, ◌≤◌, ◌^◌, length, map, All, IfOk, sum_by};
 ghost use Rattle.std.specs.List.Sorted.{IsPermutation, IsNonDecreasing};
-ghost use Rattle.page_epoch.specs.Courses.{region_cues, AreOwn, IsSmallCourse};
-ghost use Rattle.page_epoch.specs.Layouts.{IsLayout, shown_of, listed_cues};
+ghost use Rattle.page_epoch.specs.Courses.{region_cues, IsSmallCourse};
+ghost use Rattle.page_epoch.specs.Layouts.{IsLayout, AreSpots, shown_of, listed_cues};
 ghost use Rattle.page_epoch.specs.Needs.{region_pixels as pixels_of, pixel_need as pixels_of_all};
 ghost use Rattle.page_epoch.specs.SentRegions.{AreOrdered};
 
 use crate::clut_changes::{ClutChanges, all_changes};
-use crate::live::{cues_of_region, live_of};
+use crate::live::cues_of_region;
 use crate::planned_set::SentRegion;
 use crate::region_course::{RegionCourse, RegionCues};
 use cue_list::{Cue, Epoch, Items, Region};
@@ -16,8 +16,17 @@ use std::alloc::{AllocError, Global};
 #[derive(Drop)]
 pub struct Layout {
     pub by_id: Items<RegionCues>,
-    pub by_y: Items<RegionCues>,
+    pub by_y: Items<Spot>,
     pub cluts: Items<ClutChanges>,
+}
+
+/// A region of the display: its upper edge, in pixels from the top, its number, and its place among the regions by
+/// their numbers.
+#[derive(Clone, Copy, Debug)]
+pub struct Spot {
+    pub y: u16,
+    pub id: u8,
+    pub place: u32,
 }
 
 /// The regions by their numbers.
@@ -29,13 +38,21 @@ fn sorted_by_id(alloc: Global, regions: &[Region]) -> Result<Vec<Region>, AllocE
     Ok(ordered)
 }
 
-/// The regions from the top of the display.
-fn sorted_by_y(alloc: Global, regions: &[Region]) -> Result<Vec<Region>, AllocError>
-    ensures { IfOk result (λ ordered. AreOrdered (λ region. region.y) regions.now ordered.items) }
+/// Regions, which are in order of their numbers, from the top of the display.
+fn from_top(alloc: Global, regions: &[Region]) -> Result<Items<Spot>, AllocError>
+    requires { length regions.now ≤ 64 }
+    ensures { IfOk result (AreSpots regions.now) }
 {
-    let mut ordered = Vec::from_slice(alloc, regions)?;
-    ordered.sort_by_key(|region| region.y)?;
-    Ok(ordered)
+    let mut spots = Vec::new(alloc);
+    for (place, region) in regions.iter().enumerate() {
+        spots.push(Spot {
+            y: region.y,
+            id: region.id,
+            place: place as u32,
+        })?;
+    }
+    spots.sort_by_key(|spot| spot.y)?;
+    Ok(Items::new(spots))
 }
 
 /// Regions with their cues.
@@ -58,33 +75,32 @@ fn with_cues(
 impl Layout {
     /// What stays in an epoch.
     pub fn of(alloc: Global, epoch: &Epoch) -> Result<Layout, AllocError>
+        requires regions { length epoch.now.regions ≤ 64 }
         requires cues { length epoch.now.cues ≤ 4096 }
         requires colours { length epoch.now.colours ≤ 8192 }
         ensures { IfOk result (IsLayout epoch.now) }
     {
-        let regions = epoch.regions.as_slice();
-        let cues = epoch.cues.as_slice();
-        let by_id = with_cues(alloc, cues, sorted_by_id(alloc, regions)?.as_slice())?;
-        let by_y = with_cues(alloc, cues, sorted_by_y(alloc, regions)?.as_slice())?;
+        let regions = sorted_by_id(alloc, epoch.regions.as_slice())?;
+        let by_id = with_cues(alloc, epoch.cues.as_slice(), &regions)?;
+        let by_y = from_top(alloc, &regions)?;
         let cluts = all_changes(alloc, epoch.colours.as_slice())?;
         Ok(Layout { by_id, by_y, cluts })
     }
 }
 
-/// The regions of these that have a live cue.
+/// The numbers of the regions that have a live cue, from the top of the display.
 pub fn shown(
     alloc: Global,
-    cues: &[Cue],
-    regions: &[RegionCues],
-    tick: u64,
+    spots: &[Spot],
+    courses: &[RegionCourse],
 ) -> Result<Items<u8>, AllocError>
-    requires { AreOwn cues.now regions.now }
-    ensures { IfOk result (λ shown. shown ≡ shown_of cues.now tick regions.now) }
+    requires { All (λ spot. spot.place < length courses.now) spots.now }
+    ensures { IfOk result (λ shown. shown ≡ shown_of courses.now spots.now) }
 {
     let mut shown = Vec::new(alloc);
-    for region in regions {
-        if live_of(alloc, cues, region.own.as_slice(), tick)?.len() != 0 {
-            shown.push(region.id)?;
+    for spot in spots {
+        if courses[spot.place as usize].live.len() != 0 {
+            shown.push(spot.id)?;
         }
     }
     Ok(Items::new(shown))

@@ -1,16 +1,18 @@
-use Rattle.std.proofs.Common.{◌∙◌, ◌∷◌, List, All, map, length, refl, sym, ap, subst, true, arith}
+use Rattle.std.proofs.Common.{◌∙◌, ◌∷◌, ◌<◌, ℕ, List, All, map, length, refl, sym, ap, subst, true, arith}
 use Rattle.std.specs.List.Sorted.{IsPermutation}
+use Rattle.std.proofs.lemmas.List.{length-map}
 use Rattle.cue_list.specs.declared.epoch.Cue.{Cue}
 use Rattle.cue_list.specs.declared.epoch.ColourRow.{ColourRow}
+use Rattle.page_epoch.specs.declared.layout.Spot.{Spot}
 use Rattle.page_epoch.specs.declared.planned_set.SentClut.{SentClut}
 use Rattle.page_epoch.specs.declared.planned_set.SentRegion.{SentRegion}
 use Rattle.page_epoch.specs.declared.clut_changes.ClutChanges.{ClutChanges}
 use Rattle.page_epoch.specs.Changes.{AreChanges}
-use Rattle.page_epoch.specs.Courses.{AreOwn}
+use Rattle.page_epoch.specs.Courses.{region_cues, AreOwn}
 use Rattle.page_epoch.specs.Layouts.{listed_cues}
 use Rattle.page_epoch.specs.Needs.{clut_nodes}
 use Rattle.page_epoch.specs.States.{is_whole}
-use Rattle.page_epoch.proofs.SweepLaws.{own_of_layout, few_cluts, few_regions, regions_on, sent_on, shown_on, versions_on, cluts_on, page_on, held_on}
+use Rattle.page_epoch.proofs.SweepLaws.{own_of_layout, few_cluts, few_regions, regions_on, sent_on, spots_within, shown_on, versions_on, cluts_on, page_on, held_on}
 use Rattle.page_epoch.proofs.course.Course.advance.Goals as goal
 
 pub step_regions-requires-clause-own : goal.step_regions-requires-clause-own
@@ -29,14 +31,17 @@ step_cluts-requires-clause-few c =
 
 pub shown-requires : goal.shown-requires
 shown-requires c =
-    subst (λ (cues : List Cue). AreOwn cues c.as_slice-6.result.now) (sym c.as_slice-cues.ensures)
-    (own_of_layout c.args.epoch.now.cues c.requires.layout.ys c.as_slice-6.result.now (c.as_slice-6.ensures ∙ c.requires.layout.by_y))
+    let lay = c.requires.layout in
+    let long = ap length c.as_slice-7.ensures ∙ c.in_ok-regions.ensures.long ∙ ap length (c.as_slice.ensures ∙ lay.by_id) ∙ length-map lay.ids (region_cues c.args.epoch.now.cues) in
+    let Within : List Spot → Type 0 = λ spots. All (λ (spot : Spot). spot.place < length c.as_slice-7.result.now) spots in
+    subst Within (sym c.as_slice-6.ensures)
+    (subst (λ (n : ℕ). All (λ (spot : Spot). spot.place < n) c.args.layout.now.by_y) (sym long) (spots_within lay.ids c.args.layout.now.by_y lay.by_y))
 
 pub held-requires-clause-few : goal.held-requires-clause-few
 held-requires-clause-few c =
     let lay = c.requires.layout in
     let few = few_regions c.args.epoch.now.cues c.args.epoch.now.regions lay.ids c.args.layout.now.by_id lay.ordered_ids.same lay.by_id in
-    omega (arith, ap length c.as_slice-8.ensures, c.in_ok-regions.ensures.long, ap length c.as_slice.ensures, few, c.requires.few.regions)
+    omega (arith, ap length c.as_slice-9.ensures, c.in_ok-regions.ensures.long, ap length c.as_slice.ensures, few, c.requires.few.regions)
 
 pub returns-clause-advanced : goal.returns-clause-advanced
 returns-clause-advanced c = λ epochs seen is timely.
@@ -56,17 +61,17 @@ returns-clause-advanced c = λ epochs seen is timely.
         first = refl;
       };
       carried = record {
-        shown = shown_on epoch layout c.as_slice-cues.result.now c.as_slice-6.result.now tick c.in_ok-shown.shown lay c.as_slice-cues.ensures c.as_slice-6.ensures c.in_ok-shown.ensures;
+        shown = shown_on epoch layout c.as_slice-6.result.now c.as_slice-7.result.now seen tick c.in_ok-shown.shown lay c.as_slice-6.ensures (c.as_slice-7.ensures ∙ regions) c.in_ok-shown.ensures;
         regions = sent_on epoch layout c.as_slice-cues.result.now c.as_slice.result.now c.args.self.now.regions c.as_slice-2.result.now seen tick (is_whole c.args.state) c.is_whole-whole.result c.in_ok-regions.regions.sent lay c.as_slice-cues.ensures c.as_slice.ensures
             c.as_slice-2.ensures c.is_whole-whole.ensures is.regions (c.in_ok-regions.ensures.sent seen is.first);
         cluts = cluts_on (λ (xs : List SentClut). xs) epoch.colours c.as_slice-3.result.now layout.cluts c.as_slice-4.result.now c.args.self.now.versions c.as_slice-5.result.now seen tick (is_whole c.args.state) c.is_whole-whole.result c.in_ok-cluts.cluts.sent lay.cluts
             c.as_slice-3.ensures c.as_slice-4.ensures c.as_slice-5.ensures c.is_whole-whole.ensures is.versions (c.in_ok-cluts.ensures.sent seen);
-        cues = subst (λ (xs : List SentRegion). IsPermutation (listed_cues xs) c.in_ok-listed.listed) c.as_slice-7.ensures c.in_ok-listed.ensures.same;
+        cues = subst (λ (xs : List SentRegion). IsPermutation (listed_cues xs) c.in_ok-listed.listed) c.as_slice-8.ensures c.in_ok-listed.ensures.same;
         in_order = c.in_ok-listed.ensures.order;
       };
       version = page;
       nodes =
-          let held = c.held.ensures.value ∙ held_on epoch layout (tick ∷ seen) c.as_slice-8.result.now lay (c.as_slice-8.ensures ∙ regions) in
+          let held = c.held.ensures.value ∙ held_on epoch layout (tick ∷ seen) c.as_slice-9.result.now lay (c.as_slice-9.ensures ∙ regions) in
           let cluts = cluts_on clut_nodes epoch.colours c.as_slice-3.result.now layout.cluts c.as_slice-4.result.now c.args.self.now.versions c.as_slice-5.result.now seen tick true true c.in_ok-cluts.cluts.nodes lay.cluts
           c.as_slice-3.ensures c.as_slice-4.ensures c.as_slice-5.ensures refl is.versions (c.in_ok-cluts.ensures.nodes seen) in
           omega (arith, held, cluts, c.len.ensures, c.len-2.ensures);

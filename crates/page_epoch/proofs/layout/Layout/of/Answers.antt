@@ -1,4 +1,5 @@
-use Rattle.std.proofs.Common.{◌∙◌, List, All, map, ap, subst}
+use Rattle.std.proofs.Common.{◌∙◌, List, All, map, length, ap, subst, arith}
+use Rattle.std.proofs.lemmas.List.Sorted.{length_permutation}
 use Rattle.cue_list.specs.declared.epoch.Region.{Region}
 use Rattle.cue_list.specs.declared.epoch.Cue.{Cue}
 use Rattle.cue_list.specs.declared.epoch.ColourRow.{ColourRow}
@@ -6,16 +7,19 @@ use Rattle.page_epoch.specs.SentRegions.{AreOrdered}
 use Rattle.page_epoch.specs.SentCluts.{named_cluts}
 use Rattle.page_epoch.specs.Changes.{AreChanges}
 use Rattle.page_epoch.specs.Courses.{region_cues}
+use Rattle.page_epoch.specs.Layouts.{AreSpots}
 use Rattle.page_epoch.proofs.layout.Layout.of.Goals as goal
+
+pub from_top-requires : goal.from_top-requires
+from_top-requires c =
+    omega (arith, c.deref-2.ensures.len, ap length c.deref-2.ensures.value, length_permutation c.as_slice.result.now c.in_ok-regions.regions.items c.in_ok-regions.ensures.same, ap length c.as_slice.ensures, c.requires.regions)
 
 pub returns : goal.returns
 returns c = record {
-  ids = c.in_ok-sorted_by_id.field-0.items;
-  ordered_ids = subst (λ (regions : List Region). AreOrdered (λ (region : Region). region.id) regions c.in_ok-sorted_by_id.field-0.items) c.as_slice-regions.ensures c.in_ok-sorted_by_id.ensures;
-  by_id = c.in_ok-by_id.ensures ∙ ap (λ (cues : List Cue). map (region_cues cues) c.as_slice.result.now) c.as_slice-cues.ensures ∙ ap (map (region_cues c.args.epoch.now.cues)) c.as_slice.ensures.value;
-  ys = c.in_ok-sorted_by_y.field-0.items;
-  ordered_ys = subst (λ (regions : List Region). AreOrdered (λ (region : Region). region.y) regions c.in_ok-sorted_by_y.field-0.items) c.as_slice-regions.ensures c.in_ok-sorted_by_y.ensures;
-  by_y = c.in_ok-by_y.ensures ∙ ap (λ (cues : List Cue). map (region_cues cues) c.as_slice-2.result.now) c.as_slice-cues.ensures ∙ ap (map (region_cues c.args.epoch.now.cues)) c.as_slice-2.ensures.value;
+  ids = c.in_ok-regions.regions.items;
+  ordered_ids = subst (λ (regions : List Region). AreOrdered (λ (region : Region). region.id) regions c.in_ok-regions.regions.items) c.as_slice.ensures c.in_ok-regions.ensures;
+  by_id = c.in_ok-by_id.ensures ∙ ap (λ (cues : List Cue). map (region_cues cues) c.deref.result.now) c.as_slice-2.ensures ∙ ap (map (region_cues c.args.epoch.now.cues)) c.deref.ensures.value;
+  by_y = subst (λ (regions : List Region). AreSpots regions c.in_ok-by_y.by_y) c.deref-2.ensures.value c.in_ok-by_y.ensures;
   cluts = c.in_ok-cluts.ensures.named ∙ ap named_cluts c.as_slice-3.ensures;
   changes = subst (λ (colours : List ColourRow). All (AreChanges colours) c.in_ok-cluts.cluts) c.as_slice-3.ensures c.in_ok-cluts.ensures.changes;
 }
