@@ -1,8 +1,10 @@
 pub mod ChangeLaws
 pub mod ClutLaws
+pub mod CountLaws
 pub mod CourseLaws
 pub mod InstantLaws
 pub mod ListLaws
+pub mod LiveLaws
 pub mod MomentLaws
 pub mod PlanLaws
 pub mod RegionLaws

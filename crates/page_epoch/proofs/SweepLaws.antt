@@ -1,5 +1,5 @@
 -- An epoch from instant to instant.
-use Rattle.std.proofs.Common.{◌≡◌, ◌∙◌, ℕ, ◌+◌, ◌%◌, ◌==◌, ◌<◌, ◌≤◌, Bool, true, false, not, ◌&&◌, cond, List, [], ◌∷◌, map, length, get_or, All, Option, None, sum_by, nat_lt, refl, sym, ap, subst, arith}
+use Rattle.std.proofs.Common.{◌≡◌, ◌∙◌, ℕ, ◌+◌, ◌%◌, ◌==◌, ◌<◌, ◌≤◌, Bool, true, false, not, ◌&&◌, cond, List, ◌∷◌, map, length, get_or, All, Option, None, sum_by, nat_lt, refl, sym, ap, subst, arith}
 use Rattle.std.specs.List.{flat_map, list_any}
 use Rattle.std.specs.List.Sorted.{IsPermutation}
 use Rattle.std.proofs.lemmas.Bool.Decides.{nat_tests}
@@ -19,21 +19,17 @@ use Rattle.page_epoch.specs.declared.clut_changes.ClutChanges.{ClutChanges}
 use Rattle.page_epoch.specs.declared.layout.Layout.{Layout}
 use Rattle.page_epoch.specs.declared.layout.Spot.{Spot}
 use Rattle.page_epoch.specs.declared.instants.Instant.{Instant}
-use Rattle.page_epoch.specs.Live.{has_some, live_places, own_places, places_below}
+use Rattle.page_epoch.specs.Live.{has_some, live_places, places_below}
 use Rattle.page_epoch.specs.Instants.{is_named}
 use Rattle.page_epoch.specs.SentRegions.{sent_region, held, AreSentRegions, AreShown, AreOrdered}
 use Rattle.page_epoch.specs.SentCluts.{sent_clut, sent_cluts, named_cluts, clut_count}
 use Rattle.page_epoch.specs.States.{page_version}
 use Rattle.page_epoch.specs.Layouts.{IsLayout, AreSpots, no_region, region_at, spot_at, course_at, shown_of}
-use Rattle.page_epoch.specs.Courses.{first_course, region_cues, region_course, region_courses, clut_courses, AreOwn, IsSmallCourse, IsSmallVersion, sent_of, is_first}
+use Rattle.page_epoch.specs.Courses.{first_course, region_course, region_courses, clut_courses, IsSmallCourse, IsSmallVersion, sent_of, is_first}
 use Rattle.page_epoch.specs.Sweeps.{IsTimely, page_after}
-use Rattle.page_epoch.proofs.ListLaws.{flat_map_mapped, length_kept_places, map_map, map_kept, places_back, places_within}
+use Rattle.page_epoch.proofs.ListLaws.{sum_mapped, flat_map_mapped, length_kept_places, map_map, map_kept, places_back, places_within}
 
 -- ---- what stays
-
-pub own_of_layout : (cues : List Cue) (ids : List Region) (regions : List RegionCues) → regions ≡ map (region_cues cues) ids → AreOwn cues regions
-own_of_layout cues ids regions e =
-    subst (AreOwn cues) (sym e) (All-map (λ (region : RegionCues). region.own ≡ own_places cues region.id) (region_cues cues) ids (λ k d h. refl))
 
 pub count_is : clut_count ≡ 256
 unfolding clut_count
@@ -47,11 +43,12 @@ few_cluts colours cluts e =
     let all = count_is in
     omega arith
 
-pub few_regions : (cues : List Cue) (regions ids : List Region) (by_id : List RegionCues) → IsPermutation regions ids → by_id ≡ map (region_cues cues) ids → length by_id ≡ length regions
-few_regions cues regions ids by_id perm e = ap length e ∙ length-map ids (region_cues cues) ∙ length_permutation regions ids perm
+pub few_regions : (regions ids : List Region) (by_id : List RegionCues) → IsPermutation regions ids → map (λ (region : RegionCues). region.id) by_id ≡ map (λ (region : Region). region.id) ids → length by_id ≡ length regions
+few_regions regions ids by_id perm e =
+    sym (length-map by_id (λ (region : RegionCues). region.id)) ∙ ap length e ∙ length-map ids (λ (region : Region). region.id) ∙ length_permutation regions ids perm
 
 pub small_first : (regions : List RegionCues) → All IsSmallCourse (map (λ _. first_course) regions)
-small_first regions = All-map IsSmallCourse (λ (_ : RegionCues). first_course) regions (λ k d h. record { version = omega arith; held = omega arith })
+small_first regions = All-map IsSmallCourse (λ (_ : RegionCues). first_course) regions (λ k d h. record { version = omega arith; held = omega arith; begun = omega arith; live = omega arith })
 
 pub small_none : (cluts : List ClutChanges) → All IsSmallVersion (map (λ _. None) cluts)
 small_none cluts = All-map IsSmallVersion (λ (_ : ClutChanges). None) cluts (λ k d h. tt)
@@ -64,9 +61,10 @@ regions_on cues cues' by by' courses courses' next seen tick a b e is on =
     let both : (s : List ℕ) → region_courses cues' s by' ≡ region_courses cues s by = λ s. ap (λ x. region_courses x s by') a ∙ ap (λ x. region_courses cues s x) b in
     on (e ∙ is ∙ sym (both seen)) ∙ both (tick ∷ seen)
 
-sent_by_id : (cues : List Cue) (whole : Bool) (seen : List ℕ) (ids : List Region) →
-    flat_map (λ (region : RegionCues). sent_region cues whole seen region.id) (map (region_cues cues) ids) ≡ flat_map (λ (region : Region). sent_region cues whole seen region.id) ids
-sent_by_id cues whole seen ids = flat_map_mapped (λ (region : RegionCues). sent_region cues whole seen region.id) (region_cues cues) ids
+sent_by_id : (cues : List Cue) (whole : Bool) (seen : List ℕ) (by_id : List RegionCues) (ids : List Region) → map (λ (region : RegionCues). region.id) by_id ≡ map (λ (region : Region). region.id) ids →
+    flat_map (λ (region : RegionCues). sent_region cues whole seen region.id) by_id ≡ flat_map (λ (region : Region). sent_region cues whole seen region.id) ids
+sent_by_id cues whole seen by_id ids e =
+    sym (flat_map_mapped (sent_region cues whole seen) (λ (region : RegionCues). region.id) by_id) ∙ ap (flat_map (sent_region cues whole seen)) e ∙ flat_map_mapped (sent_region cues whole seen) (λ (region : Region). region.id) ids
 
 pub sent_on : (epoch : Epoch) (layout : Layout) (cues' : List Cue) (by' : List RegionCues) (courses courses' : List RegionCourse) (seen : List ℕ) (tick : ℕ) (whole whole' : Bool) (sent : List SentRegion) → IsLayout epoch layout →
     cues' ≡ epoch.cues → by' ≡ layout.by_id → courses' ≡ courses → whole' ≡ whole → courses ≡ region_courses epoch.cues seen layout.by_id →
@@ -79,8 +77,8 @@ sent_on epoch layout cues' by' courses courses' seen tick whole whole' sent lay 
       is = on (e ∙ is ∙ sym both)
           ∙ ap (λ (x : Bool). flat_map (λ (region : RegionCues). sent_region cues' x (tick ∷ seen) region.id) by') w
           ∙ ap (λ x. flat_map (λ (region : RegionCues). sent_region x whole (tick ∷ seen) region.id) by') a
-          ∙ ap (λ x. flat_map (λ (region : RegionCues). sent_region epoch.cues whole (tick ∷ seen) region.id) x) (b ∙ lay.by_id)
-          ∙ sent_by_id epoch.cues whole (tick ∷ seen) lay.ids;
+          ∙ ap (λ x. flat_map (λ (region : RegionCues). sent_region epoch.cues whole (tick ∷ seen) region.id) x) b
+          ∙ sent_by_id epoch.cues whole (tick ∷ seen) layout.by_id lay.ids lay.by_id;
     }
 
 -- the regions from the top of the display
@@ -113,11 +111,16 @@ ordered_at regions ids spots ordered are =
           omega arith;
     }
 
-course_there : (cues : List Cue) (seen : List ℕ) (ids : List Region) (by_id : List RegionCues) (courses : List RegionCourse) (place : ℕ) → by_id ≡ map (region_cues cues) ids → courses ≡ region_courses cues seen by_id → place < length ids →
-    course_at courses place ≡ region_course cues seen (region_at ids place).id
+-- the courses of the regions by their numbers
+courses_by : (cues : List Cue) (seen : List ℕ) (by_id : List RegionCues) (ids : List Region) → map (λ (region : RegionCues). region.id) by_id ≡ map (λ (region : Region). region.id) ids →
+    region_courses cues seen by_id ≡ map (λ (region : Region). region_course cues seen region.id) ids
+courses_by cues seen by_id ids e =
+    sym (map_map (region_course cues seen) (λ (region : RegionCues). region.id) by_id) ∙ ap (map (region_course cues seen)) e ∙ map_map (region_course cues seen) (λ (region : Region). region.id) ids
+
+course_there : (cues : List Cue) (seen : List ℕ) (ids : List Region) (by_id : List RegionCues) (courses : List RegionCourse) (place : ℕ) → map (λ (region : RegionCues). region.id) by_id ≡ map (λ (region : Region). region.id) ids →
+    courses ≡ region_courses cues seen by_id → place < length ids → course_at courses place ≡ region_course cues seen (region_at ids place).id
 course_there cues seen ids by_id courses place lay is h =
-    ap (λ xs. get_or xs place first_course) (is ∙ ap (λ xs. region_courses cues seen xs) lay ∙ map_map (λ (region : RegionCues). region_course cues seen region.id) (region_cues cues) ids)
-    ∙ get_or-map (λ (region : Region). region_course cues seen region.id) ids place no_region first_course h
+    ap (λ xs. get_or xs place first_course) (is ∙ courses_by cues seen by_id ids lay) ∙ get_or-map (λ (region : Region). region_course cues seen region.id) ids place no_region first_course h
 
 pub shown_on : (epoch : Epoch) (layout : Layout) (spots : List Spot) (courses : List RegionCourse) (seen : List ℕ) (tick : ℕ) (shown : List ℕ) → IsLayout epoch layout → spots ≡ layout.by_y →
     courses ≡ region_courses epoch.cues (tick ∷ seen) layout.by_id → shown ≡ shown_of courses spots → AreShown epoch.cues epoch.regions tick shown
@@ -176,14 +179,9 @@ page_on epochs start seen instant first old new timely f o n =
 
 -- ---- the nodes
 
-sum_mapped : {X Y : Type 0} (f : Y → ℕ) (g : X → Y) (xs : List X) → sum_by f (map g xs) ≡ sum_by (λ x. f (g x)) xs
-sum_mapped f g [] = refl
-sum_mapped f g (x ∷ xs) = sum_by-cons f (g x) (map g xs) ∙ ap (λ (n : ℕ). f (g x) + n) (sum_mapped f g xs) ∙ sym (sum_by-cons (λ y. f (g y)) x xs)
-
 pub held_on : (epoch : Epoch) (layout : Layout) (seen : List ℕ) (courses : List RegionCourse) → IsLayout epoch layout → courses ≡ region_courses epoch.cues seen layout.by_id →
     sum_by (λ (course : RegionCourse). course.held) courses ≡ sum_by (λ (region : Region). held epoch.cues region.id seen) epoch.regions
 held_on epoch layout seen courses lay is =
-    ap (λ xs. sum_by (λ (course : RegionCourse). course.held) xs) (is ∙ ap (λ xs. region_courses epoch.cues seen xs) lay.by_id)
-    ∙ sum_mapped (λ (course : RegionCourse). course.held) (λ (region : RegionCues). region_course epoch.cues seen region.id) (map (region_cues epoch.cues) lay.ids)
-    ∙ sum_mapped (λ (region : RegionCues). held epoch.cues region.id seen) (region_cues epoch.cues) lay.ids
+    ap (λ xs. sum_by (λ (course : RegionCourse). course.held) xs) (is ∙ courses_by epoch.cues seen layout.by_id lay.ids lay.by_id)
+    ∙ sum_mapped (λ (course : RegionCourse). course.held) (λ (region : Region). region_course epoch.cues seen region.id) lay.ids
     ∙ sum_by-IsPermutation (λ (region : Region). held epoch.cues region.id seen) epoch.regions lay.ids lay.ordered_ids.same

@@ -13,7 +13,7 @@ use Rattle.page_epoch.specs.Live.{has_some, places_below}
 use Rattle.page_epoch.specs.SentRegions.{AreOrdered}
 use Rattle.page_epoch.specs.SentCluts.{named_cluts}
 use Rattle.page_epoch.specs.Changes.{AreChanges}
-use Rattle.page_epoch.specs.Courses.{region_cues, first_course}
+use Rattle.page_epoch.specs.Courses.{first_course, AreOwn}
 
 -- no region
 abbrev pub no_region : Region
@@ -36,7 +36,8 @@ pub record AreSpots (regions : List Region) (spots : List Spot) : Type 0 where
 pub record IsLayout (epoch : Epoch) (layout : Layout) : Type 0 where
   pub ids : List Region
   pub ordered_ids : AreOrdered (λ region. region.id) epoch.regions ids
-  pub by_id : layout.by_id ≡ map (region_cues epoch.cues) ids
+  pub by_id : map (λ region. region.id) layout.by_id ≡ map (λ region. region.id) ids
+  pub own : AreOwn epoch.cues layout.by_id
   pub by_y : AreSpots ids layout.by_y
   pub cluts : map (λ clut. clut.clut) layout.cluts ≡ named_cluts epoch.colours
   pub changes : All (AreChanges epoch.colours) layout.cluts

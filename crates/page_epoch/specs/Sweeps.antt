@@ -12,7 +12,7 @@ use Rattle.page_epoch.specs.declared.instants.Instant.{Instant}
 use Rattle.std.specs.List.{AllPairs}
 use Rattle.page_epoch.specs.Instants.{is_named, named_ticks}
 use Rattle.page_epoch.specs.States.{is_whole, page_version}
-use Rattle.page_epoch.specs.Courses.{region_courses, clut_courses, is_first, IsSmallCourse, IsSmallVersion}
+use Rattle.page_epoch.specs.Courses.{region_courses, clut_courses, is_first, IsAfter, IsSmallCourse, IsSmallVersion}
 use Rattle.page_epoch.specs.Layouts.{IsLayout}
 use Rattle.page_epoch.specs.Needs.{node_need}
 use Rattle.page_epoch.specs.Showing.{AreLasting}
@@ -44,6 +44,7 @@ pub record IsTimely (epochs : List Epoch) (start : ℕ) (seen : List ℕ) (insta
   pub named : instant.named ≡ is_named epochs instant.tick
   pub at_start : is_first seen ≡ true → instant.tick ≡ start
   pub later : is_first seen ≡ false → start < instant.tick
+  pub after : IsAfter seen instant.tick
 
 -- the version of the page one instant on
 abbrev pub page_after : Bool → Bool → ℕ → ℕ

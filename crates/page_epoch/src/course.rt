@@ -60,6 +60,7 @@ fn first_courses(alloc: Global, regions: &[RegionCues]) -> Result<Items<RegionCo
     for _region in regions {
         courses.push(RegionCourse {
             live: Items::new(Vec::new(alloc)),
+            begun: 0,
             version: 0,
             held: 0,
         })?;

@@ -1,12 +1,12 @@
 ghost use Rattle.std.specs.Prelude.{◌≡◌, ℕ, ◌+◌, ◌*◌, ◌<◌, ◌≤◌, ◌^◌, length, map, All, IfOk, sum_by};
 ghost use Rattle.std.specs.List.Sorted.{IsPermutation, IsNonDecreasing};
-ghost use Rattle.page_epoch.specs.Courses.{region_cues, IsSmallCourse};
+ghost use Rattle.page_epoch.specs.Courses.{AreOwn, IsSmallCourse};
 ghost use Rattle.page_epoch.specs.Layouts.{IsLayout, AreSpots, shown_of, listed_cues};
 ghost use Rattle.page_epoch.specs.Needs.{region_pixels as pixels_of, pixel_need as pixels_of_all};
 ghost use Rattle.page_epoch.specs.SentRegions.{AreOrdered};
 
 use crate::clut_changes::{ClutChanges, all_changes};
-use crate::live::cues_of_region;
+use crate::live::begins_of;
 use crate::planned_set::SentRegion;
 use crate::region_course::{RegionCourse, RegionCues};
 use cue_list::{Cue, Epoch, Items, Region};
@@ -62,12 +62,16 @@ fn with_cues(
     regions: &[Region],
 ) -> Result<Items<RegionCues>, AllocError>
     requires { length cues.now ≤ 4096 }
-    ensures { IfOk result (λ found. found ≡ map (region_cues cues.now) regions.now) }
+    ensures ids { IfOk result (λ found. map (λ region. region.id) found ≡ map (λ region. region.id) regions.now) }
+    ensures own { IfOk result (AreOwn cues.now) }
 {
     let mut found = Vec::new(alloc);
     for region in regions {
-        let own = cues_of_region(alloc, cues, region.id)?;
-        found.push(RegionCues { id: region.id, own })?;
+        let begins = begins_of(alloc, cues, region.id)?;
+        found.push(RegionCues {
+            id: region.id,
+            begins,
+        })?;
     }
     Ok(Items::new(found))
 }

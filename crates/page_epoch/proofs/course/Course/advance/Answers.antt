@@ -1,24 +1,25 @@
 use Rattle.std.proofs.Common.{◌∙◌, ◌∷◌, ◌<◌, ℕ, List, All, map, length, refl, sym, ap, subst, true, arith}
 use Rattle.std.specs.List.Sorted.{IsPermutation}
-use Rattle.std.proofs.lemmas.List.{length-map}
+use Rattle.std.proofs.lemmas.List.Sorted.{IsPermutation-refl}
 use Rattle.cue_list.specs.declared.epoch.Cue.{Cue}
 use Rattle.cue_list.specs.declared.epoch.ColourRow.{ColourRow}
 use Rattle.page_epoch.specs.declared.layout.Spot.{Spot}
+use Rattle.page_epoch.specs.declared.region_course.RegionCues.{RegionCues}
 use Rattle.page_epoch.specs.declared.planned_set.SentClut.{SentClut}
 use Rattle.page_epoch.specs.declared.planned_set.SentRegion.{SentRegion}
 use Rattle.page_epoch.specs.declared.clut_changes.ClutChanges.{ClutChanges}
 use Rattle.page_epoch.specs.Changes.{AreChanges}
-use Rattle.page_epoch.specs.Courses.{region_cues, AreOwn}
+use Rattle.page_epoch.specs.Courses.{AreOwn}
 use Rattle.page_epoch.specs.Layouts.{listed_cues}
 use Rattle.page_epoch.specs.Needs.{clut_nodes}
 use Rattle.page_epoch.specs.States.{is_whole}
-use Rattle.page_epoch.proofs.SweepLaws.{own_of_layout, few_cluts, few_regions, regions_on, sent_on, spots_within, shown_on, versions_on, cluts_on, page_on, held_on}
+use Rattle.page_epoch.proofs.SweepLaws.{few_cluts, few_regions, regions_on, sent_on, spots_within, shown_on, versions_on, cluts_on, page_on, held_on}
 use Rattle.page_epoch.proofs.course.Course.advance.Goals as goal
 
 pub step_regions-requires-clause-own : goal.step_regions-requires-clause-own
 step_regions-requires-clause-own c =
     subst (λ (cues : List Cue). AreOwn cues c.as_slice.result.now) (sym c.as_slice-cues.ensures)
-    (own_of_layout c.args.epoch.now.cues c.requires.layout.ids c.as_slice.result.now (c.as_slice.ensures ∙ c.requires.layout.by_id))
+    (subst (λ (regions : List RegionCues). AreOwn c.args.epoch.now.cues regions) (sym c.as_slice.ensures) c.requires.layout.own)
 
 pub step_cluts-requires-clause-changes : goal.step_cluts-requires-clause-changes
 step_cluts-requires-clause-changes c =
@@ -32,7 +33,7 @@ step_cluts-requires-clause-few c =
 pub shown-requires : goal.shown-requires
 shown-requires c =
     let lay = c.requires.layout in
-    let long = ap length c.as_slice-7.ensures ∙ c.in_ok-regions.ensures.long ∙ ap length (c.as_slice.ensures ∙ lay.by_id) ∙ length-map lay.ids (region_cues c.args.epoch.now.cues) in
+    let long = ap length c.as_slice-7.ensures ∙ c.in_ok-regions.ensures.long ∙ ap length c.as_slice.ensures ∙ few_regions lay.ids lay.ids c.args.layout.now.by_id (IsPermutation-refl lay.ids) lay.by_id in
     let Within : List Spot → Type 0 = λ spots. All (λ (spot : Spot). spot.place < length c.as_slice-7.result.now) spots in
     subst Within (sym c.as_slice-6.ensures)
     (subst (λ (n : ℕ). All (λ (spot : Spot). spot.place < n) c.args.layout.now.by_y) (sym long) (spots_within lay.ids c.args.layout.now.by_y lay.by_y))
@@ -40,7 +41,7 @@ shown-requires c =
 pub held-requires-clause-few : goal.held-requires-clause-few
 held-requires-clause-few c =
     let lay = c.requires.layout in
-    let few = few_regions c.args.epoch.now.cues c.args.epoch.now.regions lay.ids c.args.layout.now.by_id lay.ordered_ids.same lay.by_id in
+    let few = few_regions c.args.epoch.now.regions lay.ids c.args.layout.now.by_id lay.ordered_ids.same lay.by_id in
     omega (arith, ap length c.as_slice-9.ensures, c.in_ok-regions.ensures.long, ap length c.as_slice.ensures, few, c.requires.few.regions)
 
 pub returns-clause-advanced : goal.returns-clause-advanced
@@ -50,7 +51,7 @@ returns-clause-advanced c = λ epochs seen is timely.
     let lay = c.requires.layout in
     let tick = c.args.instant.tick in
     let regions = regions_on epoch.cues c.as_slice-cues.result.now layout.by_id c.as_slice.result.now c.args.self.now.regions c.as_slice-2.result.now c.in_ok-regions.regions.courses seen tick c.as_slice-cues.ensures c.as_slice.ensures c.as_slice-2.ensures is.regions
-    (c.in_ok-regions.ensures.courses seen is.first) in
+    (λ same. c.in_ok-regions.ensures.courses seen is.first same timely.after) in
     let page = page_on epochs epoch.start seen c.args.instant c.args.self.now.first c.args.self.now.page_version c.next_page_version-page_version.result timely is.first is.page c.next_page_version-page_version.ensures.value in
     record {
       course = record {
@@ -63,7 +64,7 @@ returns-clause-advanced c = λ epochs seen is timely.
       carried = record {
         shown = shown_on epoch layout c.as_slice-6.result.now c.as_slice-7.result.now seen tick c.in_ok-shown.shown lay c.as_slice-6.ensures (c.as_slice-7.ensures ∙ regions) c.in_ok-shown.ensures;
         regions = sent_on epoch layout c.as_slice-cues.result.now c.as_slice.result.now c.args.self.now.regions c.as_slice-2.result.now seen tick (is_whole c.args.state) c.is_whole-whole.result c.in_ok-regions.regions.sent lay c.as_slice-cues.ensures c.as_slice.ensures
-            c.as_slice-2.ensures c.is_whole-whole.ensures is.regions (c.in_ok-regions.ensures.sent seen is.first);
+            c.as_slice-2.ensures c.is_whole-whole.ensures is.regions (λ same. c.in_ok-regions.ensures.sent seen is.first same timely.after);
         cluts = cluts_on (λ (xs : List SentClut). xs) epoch.colours c.as_slice-3.result.now layout.cluts c.as_slice-4.result.now c.args.self.now.versions c.as_slice-5.result.now seen tick (is_whole c.args.state) c.is_whole-whole.result c.in_ok-cluts.cluts.sent lay.cluts
             c.as_slice-3.ensures c.as_slice-4.ensures c.as_slice-5.ensures c.is_whole-whole.ensures is.versions (c.in_ok-cluts.ensures.sent seen);
         cues = subst (λ (xs : List SentRegion). IsPermutation (listed_cues xs) c.in_ok-listed.listed) c.as_slice-8.ensures c.in_ok-listed.ensures.same;

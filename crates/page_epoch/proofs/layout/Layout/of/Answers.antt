@@ -6,7 +6,7 @@ use Rattle.cue_list.specs.declared.epoch.ColourRow.{ColourRow}
 use Rattle.page_epoch.specs.SentRegions.{AreOrdered}
 use Rattle.page_epoch.specs.SentCluts.{named_cluts}
 use Rattle.page_epoch.specs.Changes.{AreChanges}
-use Rattle.page_epoch.specs.Courses.{region_cues}
+use Rattle.page_epoch.specs.Courses.{AreOwn}
 use Rattle.page_epoch.specs.Layouts.{AreSpots}
 use Rattle.page_epoch.proofs.layout.Layout.of.Goals as goal
 
@@ -18,7 +18,8 @@ pub returns : goal.returns
 returns c = record {
   ids = c.in_ok-regions.regions.items;
   ordered_ids = subst (λ (regions : List Region). AreOrdered (λ (region : Region). region.id) regions c.in_ok-regions.regions.items) c.as_slice.ensures c.in_ok-regions.ensures;
-  by_id = c.in_ok-by_id.ensures ∙ ap (λ (cues : List Cue). map (region_cues cues) c.deref.result.now) c.as_slice-2.ensures ∙ ap (map (region_cues c.args.epoch.now.cues)) c.deref.ensures.value;
+  by_id = c.in_ok-by_id.ensures.ids ∙ ap (map (λ (region : Region). region.id)) c.deref.ensures.value;
+  own = subst (λ (cues : List Cue). AreOwn cues c.in_ok-by_id.by_id) c.as_slice-2.ensures c.in_ok-by_id.ensures.own;
   by_y = subst (λ (regions : List Region). AreSpots regions c.in_ok-by_y.by_y) c.deref-2.ensures.value c.in_ok-by_y.ensures;
   cluts = c.in_ok-cluts.ensures.named ∙ ap named_cluts c.as_slice-3.ensures;
   changes = subst (λ (colours : List ColourRow). All (AreChanges colours) c.in_ok-cluts.cluts) c.as_slice-3.ensures c.in_ok-cluts.ensures.changes;
