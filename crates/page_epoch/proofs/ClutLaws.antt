@@ -13,9 +13,6 @@ use Rattle.page_epoch.specs.Needs.{clut_nodes}
 use Rattle.page_epoch.specs.Courses.{version_of_count, clut_course, clut_courses, clut_after, IsSmallVersion, sent_of, row_nodes}
 use Rattle.page_epoch.proofs.ListLaws.{flat_map_next}
 
-next_of_sixteen : (n : ℕ) → (1 + n) % 16 ≡ (n % 16 + 1) % 16
-next_of_sixteen n = omega arith
-
 -- ---- one CLUT
 
 version_some : (n : ℕ) → 0 < n → version_of_count n ≡ Some ((n - 1) % 16)

@@ -1,9 +1,9 @@
 -- Regions from instant to instant.
-use Rattle.std.proofs.Common.{◌≡◌, ◌∙◌, ℕ, ◌+◌, ◌%◌, ◌<◌, Bool, true, false, cond, List, [], ◌∷◌, ◌++◌, map, take, drop, length, get_or, All, find, Option, Some, refl, sym, ap, arith}
+use Rattle.std.proofs.Common.{◌≡◌, ◌∙◌, ℕ, ◌+◌, ◌%◌, ◌<◌, Bool, true, false, cond, List, [], ◌∷◌, ◌++◌, map, take, drop, length, get_or, All, find, Option, Some, refl, sym, ap}
 use Rattle.std.specs.List.{flat_map, zip, count_by}
 use Rattle.std.specs.Option.{option_map_or}
 use Rattle.std.proofs.lemmas.List.{map_more, get_or-map, length_push}
-use Rattle.page_epoch.proofs.ListLaws.{flat_map_next}
+use Rattle.page_epoch.proofs.ListLaws.{flat_map_next, version_step}
 use Rattle.std.proofs.lemmas.List.Sums.{sum_by-cons}
 use Rattle.std.proofs.lemmas.List.Elements.{All-push}
 use Rattle.cue_list.specs.declared.epoch.Cue.{Cue}
@@ -15,13 +15,6 @@ use Rattle.page_epoch.specs.SentRegions.{rises, region_version, live_before, hel
 use Rattle.page_epoch.specs.Courses.{region_course, region_courses, region_after, version_after, held_after, is_first, IsAfter, IsSmallCourse}
 
 -- ---- one region
-
-next_of_sixteen : (n : ℕ) → (1 + n) % 16 ≡ (n % 16 + 1) % 16
-next_of_sixteen n = omega arith
-
-version_step : (b : Bool) (n : ℕ) → (cond b 1 0 + n) % 16 ≡ cond b ((n % 16 + 1) % 16) (n % 16)
-version_step true n = next_of_sixteen n
-version_step false n = omega arith
 
 pub version-more : (cues : List Cue) (region tick : ℕ) (seen : List ℕ) →
     region_version cues region (tick ∷ seen) ≡ version_after (is_first seen) (live_before cues region seen) (live_places cues region tick) (region_version cues region seen)

@@ -27,7 +27,7 @@ use Rattle.page_epoch.specs.States.{page_version}
 use Rattle.page_epoch.specs.Layouts.{IsLayout, AreSpots, no_region, region_at, spot_at, course_at, shown_of}
 use Rattle.page_epoch.specs.Courses.{first_course, region_course, region_courses, clut_courses, IsSmallCourse, IsSmallVersion, sent_of, is_first}
 use Rattle.page_epoch.specs.Sweeps.{IsTimely, page_after}
-use Rattle.page_epoch.proofs.ListLaws.{sum_mapped, flat_map_mapped, length_kept_places, map_map, map_kept, places_back, places_within}
+use Rattle.page_epoch.proofs.ListLaws.{version_step, sum_mapped, flat_map_mapped, length_kept_places, map_map, map_kept, places_back, places_within}
 
 -- ---- what stays
 
@@ -157,13 +157,9 @@ cluts_on f colours colours' cluts cluts' versions versions' seen tick whole whol
     on (e ∙ is ∙ sym both)
     ∙ ap f (ap (λ (x : Bool). sent_of colours' x (tick ∷ seen) cluts') w ∙ ap (λ x. sent_of x whole (tick ∷ seen) cluts') a ∙ ap (λ x. sent_of colours whole (tick ∷ seen) x) b ∙ sent_named colours whole (tick ∷ seen) cluts lay)
 
-page_step : (b : Bool) (n : ℕ) → (cond b 1 0 + n) % 16 ≡ cond b ((n % 16 + 1) % 16) (n % 16)
-page_step true n = omega arith
-page_step false n = omega arith
-
 counted_by : (later first named counts : Bool) (n : ℕ) → later ≡ not first → counts ≡ named → (cond (later && counts) 1 0 + n) % 16 ≡ page_after first named (n % 16)
 counted_by later first named counts n l c =
-    ap (λ (b : Bool). (cond (b && counts) 1 0 + n) % 16) l ∙ ap (λ (b : Bool). (cond (not first && b) 1 0 + n) % 16) c ∙ page_step (not first && named) n
+    ap (λ (b : Bool). (cond (b && counts) 1 0 + n) % 16) l ∙ ap (λ (b : Bool). (cond (not first && b) 1 0 + n) % 16) c ∙ version_step (not first && named) n
 
 starts_late : (start tick : ℕ) (first : Bool) → (first ≡ true → tick ≡ start) → (first ≡ false → start < tick) → nat_lt start tick ≡ not first
 starts_late start tick true same later = let e = same refl in grind (arith, nat_tests)

@@ -12,6 +12,7 @@ use Rattle.page_epoch.specs.declared.layout.Spot.{Spot}
 use Rattle.page_epoch.specs.Live.{has_some, places_below}
 use Rattle.page_epoch.specs.SentRegions.{AreOrdered}
 use Rattle.page_epoch.specs.SentCluts.{named_cluts}
+use Rattle.page_epoch.specs.Needs.{pixel_need}
 use Rattle.page_epoch.specs.Changes.{AreChanges}
 use Rattle.page_epoch.specs.Courses.{first_course, AreOwn}
 
@@ -41,6 +42,7 @@ pub record IsLayout (epoch : Epoch) (layout : Layout) : Type 0 where
   pub by_y : AreSpots ids layout.by_y
   pub cluts : map (λ clut. clut.clut) layout.cluts ≡ named_cluts epoch.colours
   pub changes : All (AreChanges epoch.colours) layout.cluts
+  pub pixels : layout.pixels ≡ pixel_need epoch.regions
 
 -- the course at a place
 abbrev pub course_at : List RegionCourse → ℕ → RegionCourse

@@ -12,12 +12,14 @@ use crate::region_course::{RegionCourse, RegionCues};
 use cue_list::{Cue, Epoch, Items, Region};
 use std::alloc::{AllocError, Global};
 
-/// What stays in an epoch: its regions with their cues, by their numbers and from the top of the display, and its CLUTs.
+/// What stays in an epoch: its regions with their cues, by their numbers and from the top of the display, its CLUTs, and
+/// the bytes of its regions' pixels.
 #[derive(Drop)]
 pub struct Layout {
     pub by_id: Items<RegionCues>,
     pub by_y: Items<Spot>,
     pub cluts: Items<ClutChanges>,
+    pub pixels: u64,
 }
 
 /// A region of the display: its upper edge, in pixels from the top, its number, and its place among the regions by
@@ -88,7 +90,13 @@ impl Layout {
         let by_id = with_cues(alloc, epoch.cues.as_slice(), &regions)?;
         let by_y = from_top(alloc, &regions)?;
         let cluts = all_changes(alloc, epoch.colours.as_slice())?;
-        Ok(Layout { by_id, by_y, cluts })
+        let pixels = pixel_need(&regions);
+        Ok(Layout {
+            by_id,
+            by_y,
+            cluts,
+            pixels,
+        })
     }
 }
 
@@ -147,7 +155,7 @@ fn region_pixels(region: &Region) -> u64
 }
 
 /// The bytes of the pixels of an epoch's regions.
-pub fn pixel_need(regions: &[Region]) -> u64
+fn pixel_need(regions: &[Region]) -> u64
     requires { length regions.now ≤ 64 }
     ensures { result ≡ pixels_of_all regions.now }
 {
