@@ -1,27 +1,17 @@
 -- CLUTs from instant to instant.
 use Rattle.std.proofs.Common.{◌≡◌, ◌∙◌, ℕ, ◌+◌, ◌-◌, ◌*◌, ◌%◌, ◌==◌, ◌<◌, ◌≤◌, Bool, true, false, cond, List, [], ◌∷◌, ◌++◌, take, length, get_or, All, Option, None, Some, unwrap_or, ◌⊎◌, inl, inr, refl, sym, ap, subst, arith}
-use Rattle.std.specs.List.{flat_map, count_by}
-use Rattle.std.proofs.lemmas.List.{map_more, get_or-map, length_push, length-append, length-map}
+use Rattle.std.specs.List.{count_by}
+use Rattle.std.proofs.lemmas.List.{map_more, get_or-map, length_push, length-append}
 use Rattle.std.proofs.lemmas.List.Sums.{sum_by-cons, sum_by-append}
-use Rattle.std.proofs.lemmas.List.Elements.{All-push, All-map}
+use Rattle.std.proofs.lemmas.List.Elements.{All-push}
 use Rattle.std.proofs.lemmas.Bool.Decides.{nat_tests}
-use Rattle.std.specs.List.{range_with_len}
-use Rattle.std.proofs.lemmas.List.FromFn.{length-range_with_len}
-use Rattle.sub_base.specs.declared.depth.Depth.TheVariants.{Two, Four, Eight}
-use Rattle.sub_base.specs.declared.depth.Depth.{Depth}
-use Rattle.sub_base.specs.Depth.{code_count}
-use Rattle.page_epoch.specs.declared.clut_course.Entry.{Entry}
-use Rattle.page_epoch.specs.declared.clut_course.EntryRows.{EntryRows}
 use Rattle.cue_list.specs.declared.epoch.ColourRow.{ColourRow}
 use Rattle.page_epoch.specs.declared.planned_set.SentClut.{SentClut}
-use Rattle.page_epoch.specs.declared.clut_course.ClutRows.{ClutRows}
-use Rattle.page_epoch.specs.SentCluts.{is_changed, clut_version, clut_with, rows_from, defined_rows, sent_clut, all_entries, entries_at, row_by, row_at, rows_of_entry, is_of_entry}
+use Rattle.page_epoch.specs.declared.clut_changes.ClutChanges.{ClutChanges}
+use Rattle.page_epoch.specs.SentCluts.{is_changed, clut_version, clut_with, rows_from, defined_rows, sent_clut}
 use Rattle.page_epoch.specs.Needs.{clut_nodes}
-use Rattle.page_epoch.specs.Courses.{version_of_count, clut_course, clut_courses, clut_after, IsSmallVersion, sent_of, row_nodes, clut_rows}
-use Rattle.page_epoch.proofs.ListLaws.{flat_map_next, flat_map_mapped, twice_within}
-
-next_of_sixteen : (n : ℕ) → (1 + n) % 16 ≡ (n % 16 + 1) % 16
-next_of_sixteen n = omega arith
+use Rattle.page_epoch.specs.Courses.{version_of_count, clut_course, clut_courses, clut_after, IsSmallVersion, sent_of, row_nodes}
+use Rattle.page_epoch.proofs.ListLaws.{flat_map_next}
 
 -- ---- one CLUT
 
@@ -71,44 +61,10 @@ nodes_joined xs ys =
     let rows = sum_by-append (λ (clut : SentClut). length clut.rows) xs ys in
     omega arith
 
--- ---- its rows
-
-length-entries_at : (depth : Depth) → length (entries_at depth) ≡ code_count depth
-unfolding entries_at
-length-entries_at depth = length-map (range_with_len 0 (code_count depth)) _ ∙ length-range_with_len 0 (code_count depth)
-
-pub length-all_entries : length all_entries ≡ 276
-unfolding all_entries
-length-all_entries =
-    let two = length-entries_at Two in
-    let four = length-entries_at Four in
-    let eight = length-entries_at Eight in
-    let back = length-append (entries_at Four) (entries_at Eight) in
-    let all = length-append (entries_at Two) (entries_at Four ++ entries_at Eight) in
-    omega arith
-
-pub length-entries : (colours : List ColourRow) (clut : ClutRows) → clut ≡ clut_rows colours clut.clut → length clut.entries ≡ 276
-length-entries colours clut e = ap (λ (x : ClutRows). length x.entries) e ∙ length-map all_entries _ ∙ length-all_entries
-
--- the rows of its entries are rows of the epoch
-pub entries_within : (colours : List ColourRow) (clut : ClutRows) → clut ≡ clut_rows colours clut.clut → All (λ entry. All (λ place. place < length colours) entry.rows) clut.entries
-entries_within colours clut e =
-    let Within : ClutRows → Type 0 = λ x. All (λ entry. All (λ place. place < length colours) entry.rows) x.entries in
-    subst Within (sym e)
-    (All-map (λ (entry : EntryRows). All (λ place. place < length colours) entry.rows) (λ (entry : Entry). record { rows = rows_of_entry colours clut.clut entry }) all_entries
-    (λ k d h. twice_within (λ place. (row_at colours place).clut == clut.clut) (λ place. is_of_entry (get_or all_entries k d) (row_at colours place)) (length colours)))
-
--- those that give the entries their colours
-pub rows_defined : (colours : List ColourRow) (clut : ClutRows) (tick : ℕ) → clut ≡ clut_rows colours clut.clut →
-    flat_map (λ entry. row_by colours tick entry.rows) clut.entries ≡ defined_rows colours clut.clut tick
-rows_defined colours clut tick e =
-    ap (λ (x : ClutRows). flat_map (λ (entry : EntryRows). row_by colours tick entry.rows) x.entries) e
-    ∙ flat_map_mapped (λ (entry : EntryRows). row_by colours tick entry.rows) (λ (entry : Entry). record { rows = rows_of_entry colours clut.clut entry }) all_entries
-
 -- ---- all CLUTs
 
 -- the first so many CLUTs were taken to the next instant
-pub record HaveStepped (colours : List ColourRow) (cluts : List ClutRows) (versions : List (Option ℕ)) (tick : ℕ) (whole : Bool) (count : ℕ) (next : List (Option ℕ)) (sent : List SentClut) (nodes : ℕ) : Type 0 where
+pub record HaveStepped (colours : List ColourRow) (cluts : List ClutChanges) (versions : List (Option ℕ)) (tick : ℕ) (whole : Bool) (count : ℕ) (next : List (Option ℕ)) (sent : List SentClut) (nodes : ℕ) : Type 0 where
   pub versions_are : (seen : List ℕ) → versions ≡ clut_courses colours seen cluts → next ≡ clut_courses colours (tick ∷ seen) (take count cluts)
   pub sent_are : (seen : List ℕ) → versions ≡ clut_courses colours seen cluts → sent ≡ sent_of colours whole (tick ∷ seen) (take count cluts)
   pub nodes_are : (seen : List ℕ) → versions ≡ clut_courses colours seen cluts → nodes ≡ clut_nodes (sent_of colours true (tick ∷ seen) (take count cluts))
@@ -116,13 +72,13 @@ pub record HaveStepped (colours : List ColourRow) (cluts : List ClutRows) (versi
   pub small : All IsSmallVersion next
   pub few : nodes ≤ 277 * count
 
-version_there : (colours : List ColourRow) (seen : List ℕ) (cluts : List ClutRows) (versions : List (Option ℕ)) (i : ℕ) (clut : ClutRows) →
+version_there : (colours : List ColourRow) (seen : List ℕ) (cluts : List ClutChanges) (versions : List (Option ℕ)) (i : ℕ) (clut : ClutChanges) →
     versions ≡ clut_courses colours seen cluts → i < length cluts → clut ≡ get_or cluts i clut → get_or versions i None ≡ clut_course colours seen clut.clut
 version_there colours seen cluts versions i clut e h r =
-    ap (λ xs. get_or xs i None) e ∙ get_or-map (λ (x : ClutRows). clut_course colours seen x.clut) cluts i clut None h ∙ ap (λ (x : ClutRows). clut_course colours seen x.clut) (sym r)
+    ap (λ xs. get_or xs i None) e ∙ get_or-map (λ (x : ClutChanges). clut_course colours seen x.clut) cluts i clut None h ∙ ap (λ (x : ClutChanges). clut_course colours seen x.clut) (sym r)
 
-pub HaveStepped-more : {colours : List ColourRow} {cluts : List ClutRows} {versions : List (Option ℕ)} {tick : ℕ} {whole : Bool} {i : ℕ} {next : List (Option ℕ)} {sent : List SentClut} {nodes : ℕ}
-    (clut : ClutRows) (version : Option ℕ) (found : List SentClut) (own : ℕ) →
+pub HaveStepped-more : {colours : List ColourRow} {cluts : List ClutChanges} {versions : List (Option ℕ)} {tick : ℕ} {whole : Bool} {i : ℕ} {next : List (Option ℕ)} {sent : List SentClut} {nodes : ℕ}
+    (clut : ClutChanges) (version : Option ℕ) (found : List SentClut) (own : ℕ) →
     HaveStepped colours cluts versions tick whole i next sent nodes → i < length cluts → clut ≡ get_or cluts i clut →
     version ≡ clut_after (is_changed colours clut.clut tick) (get_or versions i None) → IsSmallVersion version →
     found ≡ clut_with clut.clut (unwrap_or version 0) (rows_from colours whole tick (defined_rows colours clut.clut tick)) →
@@ -131,14 +87,14 @@ pub HaveStepped-more : {colours : List ColourRow} {cluts : List ClutRows} {versi
 HaveStepped-more {colours} {cluts} {versions} {tick} {whole} {i} {next} {sent} {nodes} clut version found own before h r v small f n few =
     let here : (seen : List ℕ) → versions ≡ clut_courses colours seen cluts → version ≡ clut_course colours (tick ∷ seen) clut.clut = λ seen e.
     v ∙ ap (clut_after (is_changed colours clut.clut tick)) (version_there colours seen cluts versions i clut e h r) ∙ sym (clut_course-more colours clut.clut tick seen) in
-    let sends = λ (all : Bool) (seen : List ℕ) (x : ClutRows). sent_clut colours all (tick ∷ seen) x.clut in
+    let sends = λ (all : Bool) (seen : List ℕ) (x : ClutChanges). sent_clut colours all (tick ∷ seen) x.clut in
     let number : (seen : List ℕ) → versions ≡ clut_courses colours seen cluts → unwrap_or version 0 ≡ clut_version colours clut.clut (tick ∷ seen) = λ seen e.
     ap (λ x. unwrap_or x 0) (here seen e) ∙ version_sent colours clut.clut (tick ∷ seen) in
     record {
       versions_are = λ seen e.
           ap (λ xs. xs ++ version ∷ []) (before.versions_are seen e)
-          ∙ ap (λ x. clut_courses colours (tick ∷ seen) (take i cluts) ++ x ∷ []) (here seen e ∙ ap (λ (x : ClutRows). clut_course colours (tick ∷ seen) x.clut) r)
-          ∙ sym (map_more (λ (x : ClutRows). clut_course colours (tick ∷ seen) x.clut) cluts i clut h);
+          ∙ ap (λ x. clut_courses colours (tick ∷ seen) (take i cluts) ++ x ∷ []) (here seen e ∙ ap (λ (x : ClutChanges). clut_course colours (tick ∷ seen) x.clut) r)
+          ∙ sym (map_more (λ (x : ClutChanges). clut_course colours (tick ∷ seen) x.clut) cluts i clut h);
       sent_are = λ seen e.
           ap (λ xs. xs ++ found) (before.sent_are seen e)
           ∙ ap (λ xs. sent_of colours whole (tick ∷ seen) (take i cluts) ++ xs)
@@ -146,7 +102,7 @@ HaveStepped-more {colours} {cluts} {versions} {tick} {whole} {i} {next} {sent} {
           ∙ sym (flat_map_next (sends whole seen) cluts i clut h);
       nodes_are = λ seen e.
           ap (λ (k : ℕ). k + own) (before.nodes_are seen e)
-          ∙ ap (λ (k : ℕ). clut_nodes (sent_of colours true (tick ∷ seen) (take i cluts)) + k) (n ∙ sym (nodes_with clut.clut (clut_version colours clut.clut (tick ∷ seen)) (defined_rows colours clut.clut tick)) ∙ ap (λ (x : ClutRows). clut_nodes (sends true seen x)) r)
+          ∙ ap (λ (k : ℕ). clut_nodes (sent_of colours true (tick ∷ seen) (take i cluts)) + k) (n ∙ sym (nodes_with clut.clut (clut_version colours clut.clut (tick ∷ seen)) (defined_rows colours clut.clut tick)) ∙ ap (λ (x : ClutChanges). clut_nodes (sends true seen x)) r)
           ∙ sym (ap clut_nodes (flat_map_next (sends true seen) cluts i clut h) ∙ nodes_joined (sent_of colours true (tick ∷ seen) (take i cluts)) (sends true seen (get_or cluts i clut)));
       long = length_push next version ∙ ap (λ (k : ℕ). k + 1) before.long;
       small = All-push IsSmallVersion next version before.small small;

@@ -1,11 +1,16 @@
+pub mod ChangeLaws
 pub mod ClutLaws
+pub mod CountLaws
 pub mod CourseLaws
 pub mod InstantLaws
 pub mod ListLaws
+pub mod LiveLaws
 pub mod MomentLaws
 pub mod PlanLaws
 pub mod RegionLaws
+pub mod RowLaws
 pub mod SendLaws
 pub mod SoleCuePlan
+pub mod ShowLaws
 pub mod SoundLaws
 pub mod SweepLaws

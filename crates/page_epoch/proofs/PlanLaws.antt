@@ -22,7 +22,7 @@ use Rattle.page_epoch.specs.Rows.{events_of, IsLeastRow}
 use Rattle.page_epoch.specs.States.{is_whole, last_whole, is_due, state_of, seen_of, page_version}
 use Rattle.page_epoch.specs.Needs.{pixel_need, node_need}
 use Rattle.page_epoch.specs.Steps.{instant_ticks, IsStep, IsFirstNamed, AreSteps}
-use Rattle.page_epoch.specs.Courses.{is_first}
+use Rattle.page_epoch.specs.Courses.{is_first, IsAfter}
 use Rattle.page_epoch.specs.Layouts.{IsLayout}
 use Rattle.page_epoch.specs.Plan.{IsEpochAt, IsRowBefore, IsCarried, IsNext, Needs, Fits, Stands, AreFirstSets, ArePlanned}
 use Rattle.page_epoch.specs.declared.fault.PlanFault.{PlanFault}
@@ -192,6 +192,27 @@ some_same a b e = cc
 no_set : PlannedSet
 no_set = record { pts = 0; state = Normal; row = 0; epoch = 0; page_version = 0; shown = []; regions = []; cluts = []; cues = [] }
 
+-- the latest set was before the instant
+before_instant : (instants : List Instant) (sets : List PlannedSet) (count : ℕ) (instant : Instant) → IsStrictlyIncreasing (instant_ticks instants) → length sets ≡ count → map (λ (set : PlannedSet). set.pts) sets ≡ take count (instant_ticks instants) →
+    count < length instants → instant ≡ get_or instants count instant → 0 < length sets → get_or (map (λ (set : PlannedSet). set.pts) (reverse sets)) 0 0 < instant.tick
+before_instant instants sets count instant rise sized times h r some =
+    let long = length-map instants (λ (x : Instant). x.tick) in
+    let here : get_or (instant_ticks instants) count 0 ≡ instant.tick = get_or-map (λ (x : Instant). x.tick) instants count instant 0 h ∙ ap (λ (x : Instant). x.tick) (sym r) in
+    let last = latest_tick sets no_set some in
+    let before = tick_of_set instants sets count (count - 1) no_set sized times (omega arith) in
+    let same = ap (λ (k : ℕ). (get_or sets k no_set).pts) (ap (λ (k : ℕ). k - 1) sized) in
+    let less = rise (count - 1) (omega arith) in
+    let next = ap (λ (k : ℕ). get_or (instant_ticks instants) k 0) (let e : count - 1 + 1 ≡ count = omega arith in e) in
+    omega arith
+
+after_by : (start x tick : ℕ) (xs seen : List ℕ) (b : Bool) → seen ≡ cond b (x ∷ take_while (nat_le start) xs) [] → x ≤ tick → IsAfter seen tick
+after_by start x tick xs seen true e h = subst (λ (s : List ℕ). IsAfter s tick) (sym e) h
+after_by start x tick xs seen false e h = subst (λ (s : List ℕ). IsAfter s tick) (sym e) tt
+
+after_head : (start : ℕ) (xs seen : List ℕ) (tick : ℕ) → seen ≡ take_while (nat_le start) xs → (0 < length xs → get_or xs 0 0 ≤ tick) → IsAfter seen tick
+after_head start [] seen tick e h = subst (λ (s : List ℕ). IsAfter s tick) (sym e) tt
+after_head start (x ∷ xs) seen tick e h = after_by start x tick xs seen (nat_le start x) (e ∙ take_while-cons (nat_le start) x xs) (h (omega arith))
+
 ready_stays : (epochs : List Epoch) (refresh : ℕ) (profile : Profile) (instants : List Instant) (count : ℕ) (sets : List PlannedSet) (instant : Instant) (old new : Sweep) (whole : ℕ) → IsPlain epochs refresh → AreSteps epochs refresh instants →
     HavePlanned epochs refresh profile instants count sets old whole → count < length instants → instant ≡ get_or instants count instant → Stays epochs instant.tick old new → IsReady epochs refresh instants count sets instant new whole
 ready_stays epochs refresh profile instants count sets instant old new whole plain steps have h r stays =
@@ -211,13 +232,10 @@ ready_stays epochs refresh profile instants count sets instant old new whole pla
       later = λ first.
           let late = head_late epoch.start (map (λ (set : PlannedSet). set.pts) (reverse sets)) have.seen 0 have.seen_is first in
           let some = some_set sets in
-          let d = (have.whole_is first).0 in
-          let last = latest_tick sets d (omega arith) in
-          let before = tick_of_set instants sets count (count - 1) d have.count_is have.times (omega arith) in
-          let same = ap (λ (k : ℕ). (get_or sets k d).pts) (ap (λ (k : ℕ). k - 1) sized) in
-          let less = steps.ticks.rise (count - 1) (omega arith) in
-          let next = ap (λ (k : ℕ). get_or (instant_ticks instants) k 0) (let e : count - 1 + 1 ≡ count = omega arith in e) in
+          let less = before_instant instants sets count instant steps.ticks.rise have.count_is have.times h r (omega arith) in
           omega arith;
+      after = after_head epoch.start (map (λ (set : PlannedSet). set.pts) (reverse sets)) have.seen instant.tick have.seen_is
+          (λ some. let all = some_set sets in let less = before_instant instants sets count instant steps.ticks.rise have.count_is have.times h r (omega arith) in omega arith);
     } in
     let ready : IsReady epochs refresh instants count sets instant old whole = record {
       seen = have.seen;
@@ -253,7 +271,7 @@ ready_enters epochs refresh profile instants count sets instant old new whole pl
       stands = enters.stands;
       seen_is = none_late epoch.start (map (λ (set : PlannedSet). set.pts) (reverse sets))
           (λ some. let all = some_set sets in let last = latest_tick sets d (omega arith) in let less = below (length sets - 1) d (omega arith) in omega arith);
-      timely = record { named = step.named; at_start = λ first. same; later = λ first. cc };
+      timely = record { named = step.named; at_start = λ first. same; later = λ first. cc; after = tt };
       at = record {
         found = enters.stands.found;
         started = begun;

@@ -1,11 +1,10 @@
 -- What a planned set carries is of its epoch, and fits the fields of its segments.
-use Rattle.std.proofs.Common.{◌≡◌, ◌≢◌, ◌∙◌, ◌⊎◌, inl, inr, ℕ, suc, ◌+◌, ◌==◌, ◌<◌, ◌≤◌, ◌^◌, nat_le, Bool, true, false, not, cond, List, [], ◌∷◌, map, filter, take, reverse, length, get_or, All, find, Option, Some, None, IsSome, sum_by, refl, sym, ap, subst, arith}
+use Rattle.std.proofs.Common.{◌≡◌, ◌≢◌, ◌∙◌, ◌⊎◌, inl, inr, ℕ, suc, ◌+◌, ◌==◌, ◌<◌, ◌≤◌, ◌^◌, nat_le, Bool, true, false, not, cond, List, [], ◌∷◌, map, filter, take, reverse, length, get_or, All, find, Option, Some, IsSome, sum_by, refl, sym, ap, subst, arith}
 use Rattle.std.specs.List.{flat_map, list_any, take_while, AllPairs}
 use Rattle.std.specs.List.Sorted.{IsPermutation}
-use Rattle.std.specs.Option.{option_to_list}
 use Rattle.std.proofs.lemmas.Bool.Decides.{nat_tests}
 use Rattle.std.proofs.lemmas.List.{length-map, length-append, length-drop, get_or-map, get_or-take}
-use Rattle.std.proofs.lemmas.List.Elements.{All-cons, All-head, All-tail, All-append, All-map, All-weaker, All-filter, All-drop}
+use Rattle.std.proofs.lemmas.List.Elements.{All-cons, All-head, All-tail, All-map, All-weaker, All-filter, All-drop}
 use Rattle.std.proofs.lemmas.List.Sorted.{length_permutation, All-permutation, sum_by-IsPermutation}
 use Rattle.std.proofs.lemmas.List.Sums.{sum_by-cons}
 use Rattle.std.proofs.lemmas.List.Concat.{flat_map-append}
@@ -19,11 +18,10 @@ use Rattle.cue_list.specs.declared.script.Script.{Script}
 use Rattle.page_epoch.specs.declared.planned_set.PlannedSet.{PlannedSet}
 use Rattle.page_epoch.specs.declared.planned_set.SentRegion.{SentRegion}
 use Rattle.page_epoch.specs.declared.planned_set.SentClut.{SentClut}
-use Rattle.page_epoch.specs.declared.clut_course.Entry.{Entry}
 use Rattle.cue_list.specs.Authored.{is_live}
 use Rattle.page_epoch.specs.Live.{has_some, cue_at, own_places, live_places, places_below}
 use Rattle.page_epoch.specs.SentRegions.{is_risen, is_extended, region_version, live_before, filled, extended, sent_region}
-use Rattle.page_epoch.specs.SentCluts.{row_at, all_entries, clut_count, rows_of_entry, latest_place, later_place, by_tick, row_by, defined_rows, is_of_entry, clut_version, clut_with, rows_from, sent_clut, named_cluts, sent_cluts}
+use Rattle.page_epoch.specs.SentCluts.{row_at, clut_count, defined_rows, clut_version, clut_with, rows_from, sent_clut, named_cluts, sent_cluts}
 use Rattle.page_epoch.specs.Layouts.{listed_cues}
 use Rattle.sub_base.specs.declared.profile.Profile.{Profile}
 use Rattle.page_epoch.specs.Plan.{IsCarried, ArePlanned}
@@ -31,37 +29,15 @@ use Rattle.page_epoch.proofs.PlanLaws.{below_33}
 use Rattle.page_epoch.specs.States.{is_whole}
 use Rattle.page_epoch.specs.Sendable.{HasRegion, HasCue, HasColour, IsSendableRegion, IsSendableClut, IsSendableIn, IsSendable}
 use Rattle.page_epoch.specs.Sweeps.{IsPlain, IsSmallEpoch, IsNumbered}
-use Rattle.page_epoch.proofs.ListLaws.{length_kept, length_kept_places, kept_within, twice_within}
-use Rattle.page_epoch.proofs.ClutLaws.{length-all_entries}
+use Rattle.page_epoch.proofs.ListLaws.{length_kept, length_kept_places, kept_within, twice_within, All-none, All-one, All-pieces, one_each}
+use Rattle.page_epoch.proofs.RowLaws.{defined_within, defined_few}
 use Rattle.page_epoch.proofs.SweepLaws.{count_is}
 
 -- ---- lists
 
-All-pieces : {X Y : Type 0} (P : Y → Type 0) (f : X → List Y) (xs : List X) → All (λ x. All P (f x)) xs → All P (flat_map f xs)
-All-pieces P f [] all = λ k d h. absurd (omega arith)
-All-pieces P f (x ∷ xs) all = All-append P (f x) (flat_map f xs) (All-head (λ x. All P (f x)) x xs all) (All-pieces P f xs (All-tail (λ x. All P (f x)) x xs all))
-
-one_each : {X Y : Type 0} (f : X → List Y) → ((x : X) → length (f x) ≤ 1) → (xs : List X) → length (flat_map f xs) ≤ length xs
-one_each f few [] = omega arith
-one_each f few (x ∷ xs) =
-    let here = few x in
-    let rest = one_each f few xs in
-    let all = length-append (f x) (flat_map f xs) in
-    omega arith
-
-All-one : {X : Type 0} (P : X → Type 0) (x : X) → P x → All P (x ∷ [])
-All-one P x p = All-cons P x [] p (λ k d h. absurd (omega arith))
-
-either_in : (P : ℕ → Type 0) (b : Bool) (x y : ℕ) → P x → P y → P (cond b x y)
-either_in P true x y px py = px
-either_in P false x y px py = py
-
 one_more : (b : Bool) (x : ℕ) (xs : List ℕ) → length (cond b (x ∷ xs) xs) ≡ cond b 1 0 + length xs
 one_more true x xs = omega arith
 one_more false x xs = omega arith
-
-All-none : {X : Type 0} (P : X → Type 0) → All P []
-All-none P = λ k d h. absurd (omega arith)
 
 -- ---- each has its own
 
@@ -220,33 +196,6 @@ shared g (x ∷ xs) regions pairs =
     omega arith
 
 -- ---- CLUTs
-
-later_in : (P : ℕ → Type 0) (colours : List ColourRow) (place : ℕ) (found : Option ℕ) → P place → All P (option_to_list found) → P (later_place colours place found)
-later_in P colours place None p all = p
-later_in P colours place (Some q) p all = either_in P (nat_le (row_at colours place).tick (row_at colours q).tick) q place (All-head P q [] all) p
-
-latest_in : (P : ℕ → Type 0) (colours : List ColourRow) (places : List ℕ) → All P places → All P (option_to_list (latest_place colours places))
-unfolding latest_place
-latest_in P colours [] all = All-none P
-latest_in P colours (place ∷ places) all =
-    All-one P (later_place colours place (latest_place colours places)) (later_in P colours place (latest_place colours places) (All-head P place places all) (latest_in P colours places (All-tail P place places all)))
-
-option_few : (found : Option ℕ) → length (option_to_list found) ≤ 1
-option_few None = omega arith
-option_few (Some x) = omega arith
-
-defined_within : (colours : List ColourRow) (clut tick : ℕ) → All (λ place. place < length colours) (defined_rows colours clut tick)
-defined_within colours clut tick =
-    All-pieces (λ place. place < length colours) (λ (entry : Entry). row_by colours tick (rows_of_entry colours clut entry)) all_entries
-    (λ k d h. latest_in (λ place. place < length colours) colours (by_tick colours tick (rows_of_entry colours clut (get_or all_entries k d)))
-    (All-filter (λ place. nat_le (row_at colours place).tick tick) (λ place. place < length colours) (rows_of_entry colours clut (get_or all_entries k d))
-    (twice_within (λ place. (row_at colours place).clut == clut) (λ place. is_of_entry (get_or all_entries k d) (row_at colours place)) (length colours))))
-
-defined_few : (colours : List ColourRow) (clut tick : ℕ) → length (defined_rows colours clut tick) ≤ 276
-defined_few colours clut tick =
-    let few = one_each (λ (entry : Entry). row_by colours tick (rows_of_entry colours clut entry)) (λ entry. option_few (latest_place colours (by_tick colours tick (rows_of_entry colours clut entry)))) all_entries in
-    let all = length-all_entries in
-    omega arith
 
 rows_fit : (P : ℕ → Type 0) (colours : List ColourRow) (whole : Bool) (tick : ℕ) (rows : List ℕ) → All P rows → All P (rows_from colours whole tick rows)
 rows_fit P colours true tick rows all = all

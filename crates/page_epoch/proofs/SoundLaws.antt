@@ -77,6 +77,8 @@ plain_from origin width height refresh epochs pictures sound =
       };
       rise = rise;
       early = all_ticks (λ (t : ℕ). t < 2 ^ 33) epochs (λ k d h. early_epoch origin width height pictures (get_or epochs k d) sound.early (sound.each k d h));
+      lasting = λ k d h.
+          All-weaker (IsCue origin (get_or epochs k d).start (get_or epochs k d).regions pictures) (λ (cue : Cue). cue.start < cue.end) (λ cue good. good.lasts) (get_or epochs k d).cues (sound.each k d h).cues;
       begin = λ first found. all_ticks (λ (t : ℕ). first.start ≤ t) epochs (λ k d h. late_epoch origin width height pictures (get_or epochs k d) first.start (start_from epochs first k d found rise h (grind arith)) (sound.each k d h));
     }
 

@@ -1,27 +1,38 @@
 -- What is kept of an epoch from instant to instant. The instants so far are given, the latest first.
-use Rattle.std.specs.Prelude.{◌≡◌, ℕ, ◌+◌, ◌-◌, ◌%◌, ◌==◌, ◌<◌, ◌≤◌, nat_le, All, Bool, true, false, not, ◌&&◌, if◌then◌else◌, List, [], ◌∷◌, length, map, count_by, Option, Some, None}
+use Rattle.std.specs.Prelude.{ℕ, ◌+◌, ◌-◌, ◌%◌, ◌==◌, ◌<◌, ◌≤◌, nat_le, All, Bool, true, false, not, ◌&&◌, if◌then◌else◌, List, [], ◌∷◌, length, map, filter, count_by, Option, Some, None, ⊤}
 use Rattle.cue_list.specs.declared.epoch.Cue.{Cue}
 use Rattle.cue_list.specs.declared.epoch.ColourRow.{ColourRow}
-use Rattle.cue_list.specs.declared.epoch.Region.{Region}
 use Rattle.page_epoch.specs.declared.region_course.RegionCues.{RegionCues}
 use Rattle.page_epoch.specs.declared.region_course.RegionCourse.{RegionCourse}
 use Rattle.page_epoch.specs.declared.clut_course.Entry.{Entry}
-use Rattle.page_epoch.specs.declared.clut_course.ClutRows.{ClutRows}
+use Rattle.page_epoch.specs.declared.clut_course.EntryRows.{EntryRows}
+use Rattle.page_epoch.specs.declared.clut_changes.ClutChanges.{ClutChanges}
 use Rattle.std.specs.List.{flat_map}
 use Rattle.std.specs.Option.{IfSome}
 use Rattle.page_epoch.specs.declared.planned_set.SentClut.{SentClut}
-use Rattle.page_epoch.specs.Live.{has_some, own_places}
+use Rattle.page_epoch.specs.Live.{has_some, begun_by, AreBegins}
 use Rattle.page_epoch.specs.SentRegions.{is_risen, region_version, live_before, held}
-use Rattle.page_epoch.specs.SentCluts.{rows_of_entry, all_entries, is_changed, row_at, later_place, sent_clut}
+use Rattle.page_epoch.specs.SentCluts.{is_of_entry, is_changed, row_at, later_place, sent_clut}
 
--- the region and its cues
-abbrev pub region_cues : List Cue → Region → RegionCues
-region_cues cues region = record { id = region.id; own = own_places cues region.id }
+-- how many cues of a region had started at the instant before
+abbrev pub begun_before : List Cue → ℕ → List ℕ → ℕ
+begun_before cues region [] = 0
+begun_before cues region (before ∷ earlier) = begun_by cues region before
+
+-- the latest of these instants is not after a tick
+abbrev pub IsAfter : List ℕ → ℕ → Type 0
+IsAfter [] tick = ⊤
+IsAfter (before ∷ earlier) tick = before ≤ tick
+
+-- a region before the first instant
+abbrev pub first_course : RegionCourse
+first_course = record { live = []; begun = 0; version = 0; held = 0 }
 
 -- the region after these instants
 abbrev pub region_course : List Cue → List ℕ → ℕ → RegionCourse
 region_course cues seen region = record {
   live = live_before cues region seen;
+  begun = begun_before cues region seen;
   version = region_version cues region seen;
   held = held cues region seen;
 }
@@ -32,12 +43,14 @@ region_courses cues seen regions = map (λ region. region_course cues seen regio
 
 -- these are regions with their cues
 abbrev pub AreOwn : List Cue → List RegionCues → Type 0
-AreOwn cues regions = All (λ region. region.own ≡ own_places cues region.id) regions
+AreOwn cues regions = All (λ region. AreBegins cues region.id region.begins) regions
 
 -- the numbers of a region at an instant are small
 pub record IsSmallCourse (course : RegionCourse) : Type 0 where
   pub version : course.version < 16
   pub held : course.held ≤ 4096
+  pub begun : course.begun ≤ 4096
+  pub live : length course.live ≤ course.begun
 
 -- no instant was before
 abbrev pub is_first : List ℕ → Bool
@@ -51,20 +64,18 @@ version_after first old new version = if not first && is_risen old new then (ver
 abbrev pub held_after : List ℕ → ℕ → ℕ
 held_after new before = if has_some new then length new else before
 
--- the region one instant on, with its live cues
-abbrev pub region_after : Bool → RegionCourse → List ℕ → RegionCourse
-region_after first course new = record {
+-- the region one instant on, with the number of cues that have started, and those that are live
+abbrev pub region_after : Bool → RegionCourse → ℕ → List ℕ → RegionCourse
+region_after first course begun new = record {
   live = new;
+  begun = begun;
   version = version_after first course.live new course.version;
   held = held_after new course.held;
 }
 
--- the CLUT and its rows
-abbrev pub clut_rows : List ColourRow → ℕ → ClutRows
-clut_rows colours clut = record {
-  clut = clut;
-  entries = map (λ (entry : Entry). record { rows = rows_of_entry colours clut entry }) all_entries;
-}
+-- the rows of these that set an entry
+abbrev pub entry_rows : List ColourRow → List ℕ → Entry → EntryRows
+entry_rows colours own entry = record { rows = filter (λ place. is_of_entry entry (row_at colours place)) own }
 
 -- the version of a CLUT that changed so often
 abbrev pub version_of_count : ℕ → Option ℕ
@@ -87,12 +98,8 @@ abbrev pub latest_step : List ColourRow → ℕ → ℕ → Option ℕ → Optio
 latest_step colours tick place found =
     if nat_le (row_at colours place).tick tick then Some (later_place colours place found) else found
 
--- these are CLUTs with their rows
-abbrev pub AreRowsOf : List ColourRow → List ClutRows → Type 0
-AreRowsOf colours cluts = All (λ clut. clut ≡ clut_rows colours clut.clut) cluts
-
 -- the versions of CLUTs after these instants
-abbrev pub clut_courses : List ColourRow → List ℕ → List ClutRows → List (Option ℕ)
+abbrev pub clut_courses : List ColourRow → List ℕ → List ClutChanges → List (Option ℕ)
 clut_courses colours seen cluts = map (λ clut. clut_course colours seen clut.clut) cluts
 
 -- a version is small, where there is one
@@ -100,7 +107,7 @@ abbrev pub IsSmallVersion : Option ℕ → Type 0
 IsSmallVersion version = IfSome version (λ version. version < 16)
 
 -- the CLUTs as a set sends them
-abbrev pub sent_of : List ColourRow → Bool → List ℕ → List ClutRows → List SentClut
+abbrev pub sent_of : List ColourRow → Bool → List ℕ → List ClutChanges → List SentClut
 sent_of colours whole seen cluts = flat_map (λ clut. sent_clut colours whole seen clut.clut) cluts
 
 -- the nodes of a CLUT with these rows

@@ -9,7 +9,9 @@ pub mod SentCluts
 pub mod SentRegions
 pub mod SoleCue
 pub mod States
+pub mod Changes
 pub mod Courses
 pub mod Layouts
+pub mod Showing
 pub mod Steps
 pub mod Sweeps

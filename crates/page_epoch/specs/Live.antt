@@ -1,9 +1,11 @@
 -- The cues of an epoch that a region shows, given by their places in the epoch's list.
-use Rattle.std.specs.Prelude.{ℕ, ◌==◌, Bool, false, true, List, [], ◌∷◌, length, filter, slice_index_or}
+use Rattle.std.specs.Prelude.{ℕ, ◌==◌, nat_le, Bool, false, true, List, [], ◌∷◌, length, map, filter, count_by, slice_index_or}
 use Rattle.std.specs.List.{range_with_len}
+use Rattle.std.specs.List.Sorted.{IsPermutation, IsNonDecreasingBy}
 use Rattle.std.specs.Str.{bytes_eq}
 use Rattle.cue_list.specs.declared.epoch.Cue.{Cue}
 use Rattle.cue_list.specs.Authored.{is_live}
+use Rattle.page_epoch.specs.declared.live.Begin.{Begin}
 
 -- a list of places has some
 abbrev pub has_some : List ℕ → Bool
@@ -33,3 +35,20 @@ own_places cues region = filter (λ place. (cue_at cues place).region == region)
 -- the cues of a region that are live at a tick, in the script's order
 abbrev pub live_places : List Cue → ℕ → ℕ → List ℕ
 live_places cues region tick = filter (λ place. is_live tick (cue_at cues place)) (own_places cues region)
+
+-- how many cues of a region have started by a tick
+abbrev pub begun_by : List Cue → ℕ → ℕ → ℕ
+begun_by cues region tick = count_by (λ place. nat_le (cue_at cues place).start tick) (own_places cues region)
+
+-- how often a place is in a list
+abbrev pub times : ℕ → List ℕ → ℕ
+times place places = count_by (λ other. other == place) places
+
+-- the start of the cue at a place, with that place
+abbrev pub begin_at : List Cue → ℕ → Begin
+begin_at cues place = record { tick = (cue_at cues place).start; place = place }
+
+-- the cues of a region, in order of their starts
+pub record AreBegins (cues : List Cue) (region : ℕ) (begins : List Begin) : Type 0 where
+  pub same : IsPermutation (map (begin_at cues) (own_places cues region)) begins
+  pub rise : IsNonDecreasingBy (λ begin. begin.tick) begins

@@ -1,5 +1,5 @@
 -- Why a script has no plan for a receiver.
-use Rattle.std.specs.Prelude.{◌≡◌, ℕ, ◌<◌, ◌≤◌, ◌⊎◌, List, length, reverse, slice_get, Some, codes, ⊤}
+use Rattle.std.specs.Prelude.{◌≡◌, ℕ, ◌<◌, ◌≤◌, ◌⊎◌, List, length, reverse, slice_get, Some, ⊤}
 use Rattle.sub_base.specs.declared.profile.Profile.{Profile}
 use Rattle.cue_list.specs.declared.epoch.Epoch.{Epoch}
 use Rattle.cue_list.specs.declared.script.Script.{Script}
@@ -59,10 +59,3 @@ IsNeedFault profile pixels nodes row Memory = ⊥
 IsNeedFault profile pixels nodes row (DisplayTooLarge other) = ⊥
 IsNeedFault profile pixels nodes row (PixelFull other need) = (other ≡ row) × (need ≡ pixels) × (profile.pixels < need)
 IsNeedFault profile pixels nodes row (CompositionFull other need) = (other ≡ row) × (need ≡ nodes) × (pixels ≤ profile.pixels) × (profile.nodes < need)
-
--- the names of what is wrong
-abbrev pub fault_name : PlanFault → List ℕ
-fault_name Memory = codes "Memory"
-fault_name (DisplayTooLarge row) = codes "DisplayTooLarge"
-fault_name (PixelFull row need) = codes "PixelFull"
-fault_name (CompositionFull row need) = codes "CompositionFull"

@@ -4,7 +4,6 @@ use Rattle.stream_syntax.specs.declared.page.State.{State}
 use Rattle.cue_list.specs.declared.epoch.Epoch.{Epoch}
 use Rattle.cue_list.specs.declared.epoch.Region.{Region}
 use Rattle.page_epoch.specs.declared.planned_set.PlannedSet.{PlannedSet}
-use Rattle.page_epoch.specs.declared.region_course.RegionCourse.{RegionCourse}
 use Rattle.page_epoch.specs.declared.layout.Layout.{Layout}
 use Rattle.page_epoch.specs.declared.course.Course.{Course}
 use Rattle.page_epoch.specs.declared.course.Sweep.{Sweep}
@@ -13,9 +12,10 @@ use Rattle.page_epoch.specs.declared.instants.Instant.{Instant}
 use Rattle.std.specs.List.{AllPairs}
 use Rattle.page_epoch.specs.Instants.{is_named, named_ticks}
 use Rattle.page_epoch.specs.States.{is_whole, page_version}
-use Rattle.page_epoch.specs.Courses.{region_courses, clut_courses, is_first, IsSmallCourse, IsSmallVersion}
+use Rattle.page_epoch.specs.Courses.{region_courses, clut_courses, is_first, IsAfter, IsSmallCourse, IsSmallVersion}
 use Rattle.page_epoch.specs.Layouts.{IsLayout}
 use Rattle.page_epoch.specs.Needs.{node_need}
+use Rattle.page_epoch.specs.Showing.{AreLasting}
 use Rattle.page_epoch.specs.Plan.{IsCarried}
 
 -- an epoch is within the limits
@@ -23,10 +23,6 @@ pub record IsSmallEpoch (epoch : Epoch) : Type 0 where
   pub regions : length epoch.regions ≤ 64
   pub colours : length epoch.colours ≤ 8192
   pub cues : length epoch.cues ≤ 4096
-
--- a region before the first instant
-abbrev pub first_course : RegionCourse
-first_course = record { live = []; version = 0; held = 0 }
 
 -- what is kept is that of these instants
 pub record IsCourse (epochs : List Epoch) (epoch : Epoch) (layout : Layout) (seen : List ℕ) (course : Course) : Type 0 where
@@ -48,6 +44,7 @@ pub record IsTimely (epochs : List Epoch) (start : ℕ) (seen : List ℕ) (insta
   pub named : instant.named ≡ is_named epochs instant.tick
   pub at_start : is_first seen ≡ true → instant.tick ≡ start
   pub later : is_first seen ≡ false → start < instant.tick
+  pub after : IsAfter seen instant.tick
 
 -- the version of the page one instant on
 abbrev pub page_after : Bool → Bool → ℕ → ℕ
@@ -81,7 +78,7 @@ pub record IsNumbered (epoch : Epoch) : Type 0 where
   pub apart : AllPairs (λ (first second : Region). first.id ≢ second.id) epoch.regions
 
 -- what the walk relies on: epochs within the limits, in order of their starts, whose ticks are below 2^33 and begin with
--- the start of the first one
+-- the start of the first one, and cues that end after their starts
 pub record IsPlain (epochs : List Epoch) (refresh : ℕ) : Type 0 where
   pub some : 1 ≤ length epochs
   pub few : length epochs ≤ 512
@@ -91,6 +88,7 @@ pub record IsPlain (epochs : List Epoch) (refresh : ℕ) : Type 0 where
   pub numbered : All IsNumbered epochs
   pub rise : AllPairs (λ (earlier later : Epoch). earlier.start < later.start) epochs
   pub early : All (λ tick. tick < 2 ^ 33) (named_ticks epochs)
+  pub lasting : AreLasting epochs
   pub begin : (first : Epoch) → slice_get epochs 0 ≡ Some first → All (λ tick. first.start ≤ tick) (named_ticks epochs)
 
 -- the walk goes on to the next epoch, which begins by a tick

@@ -1,8 +1,7 @@
-ghost use Rattle.std.specs.Prelude.{◌≡◌, ℕ, ◌+◌, ◌++◌, ◌==◌, ◌<◌, ◌≤◌, ◌^◌, length, map, filter, All, IfOk, OnOk, IfSome, Some, sum_by};
-ghost use Rattle.std.specs.List.{flat_map, list_any, range_with_len};
-ghost use Rattle.sub_base.specs.Depth.{bits_of, code_count as codes_of};
-ghost use Rattle.page_epoch.specs.SentCluts.{row_at, entries_at, all_entries as entries_of, rows_of_clut as clut_rows_of, is_of_entry as is_of, rows_of_entry as entry_rows_of, by_tick, latest_place, row_by, is_changed as is_changed_at, clut_count, named_cluts};
-ghost use Rattle.page_epoch.specs.Courses.{clut_rows as rows_of_whole, clut_after, latest_step};
+ghost use Rattle.std.specs.Prelude.{◌≡◌, ℕ, ◌+◌, ◌++◌, ◌==◌, ◌<◌, ◌≤◌, ◌^◌, length, map, filter, All, IfOk, OnOk, IfSome, Some};
+ghost use Rattle.std.specs.List.{flat_map};
+ghost use Rattle.page_epoch.specs.SentCluts.{row_at, entries_at, all_entries as entries_of, rows_of_clut as clut_rows_of, is_of_entry as is_of, by_tick, latest_place, row_by};
+ghost use Rattle.page_epoch.specs.Courses.{entry_rows, latest_step};
 
 use cue_list::{ColourRow, Items};
 use std::alloc::{AllocError, Global};
@@ -21,41 +20,11 @@ pub struct EntryRows {
     pub rows: Items<u32>,
 }
 
-/// A CLUT and the colour rows that set its entries, by depth and number.
-#[derive(Drop)]
-pub struct ClutRows {
-    pub clut: u8,
-    pub entries: Items<EntryRows>,
-}
-
-/// How many bits a pixel code has.
-fn bits(depth: Depth) -> u32
-    ensures { result ≡ bits_of depth }
-{
-    match depth {
-        Depth::Two => 2,
-        Depth::Four => 4,
-        Depth::Eight => 8,
-    }
-}
-
-/// How many codes, and entries, a depth has.
-fn code_count(depth: Depth) -> u32
-    ensures value { result ≡ codes_of depth }
-    ensures few { result ≤ 256 }
-{
-    match depth {
-        Depth::Two => 4,
-        Depth::Four => 16,
-        Depth::Eight => 256,
-    }
-}
-
 /// Appends the entries of a depth.
 fn push_entries(entries: &mut Vec<Entry>, depth: Depth) -> Result<(), AllocError>
     ensures { OnOk result (entries.new.items ≡ entries.old.items ++ entries_at depth) }
 {
-    for number in 0..code_count(depth) {
+    for number in 0..depth.code_count() {
         entries.push(Entry {
             depth,
             number: number as u8,
@@ -76,7 +45,11 @@ pub fn all_entries(alloc: Global) -> Result<Items<Entry>, AllocError>
 }
 
 /// The places of the rows of a CLUT.
-fn rows_of_clut(alloc: Global, colours: &[ColourRow], clut: u8) -> Result<Items<u32>, AllocError>
+pub fn rows_of_clut(
+    alloc: Global,
+    colours: &[ColourRow],
+    clut: u8,
+) -> Result<Items<u32>, AllocError>
     requires few { length colours.now ≤ 8192 }
     ensures { IfOk result (λ own. own ≡ clut_rows_of colours.now clut) }
 {
@@ -93,7 +66,7 @@ fn rows_of_clut(alloc: Global, colours: &[ColourRow], clut: u8) -> Result<Items<
 fn is_of_entry(entry: &Entry, row: &ColourRow) -> bool
     ensures { result ≡ is_of entry.now row.now }
 {
-    bits(row.depth) == bits(entry.depth) && row.entry == entry.number
+    row.depth.bits() == entry.depth.bits() && row.entry == entry.number
 }
 
 /// The rows of these that set an entry.
@@ -115,6 +88,23 @@ fn rows_of_entry(
     Ok(EntryRows {
         rows: Items::new(rows),
     })
+}
+
+/// The rows of these that set each of the entries.
+pub fn rows_of_entries(
+    alloc: Global,
+    colours: &[ColourRow],
+    own: &[u32],
+    entries: &[Entry],
+) -> Result<Items<EntryRows>, AllocError>
+    requires { All (λ place. place < length colours.now) own.now }
+    ensures { IfOk result (λ rows. rows ≡ map (entry_rows colours.now own.now) entries.now) }
+{
+    let mut rows = Vec::new(alloc);
+    for entry in entries {
+        rows.push(rows_of_entry(alloc, colours, own, entry)?)?;
+    }
+    Ok(Items::new(rows))
 }
 
 /// Of a row and the latest of those after it, the one that counts at a tick.
@@ -185,72 +175,4 @@ pub fn rows_of_tick(
         }
     }
     Ok(Items::new(found))
-}
-
-/// Whether a colour of a CLUT changes at a tick.
-pub fn is_changed(colours: &[ColourRow], clut: u8, tick: u64) -> bool
-    ensures { result ≡ is_changed_at colours.now clut tick }
-{
-    colours
-        .iter()
-        .any(|row| row.clut == clut && row.tick == tick)
-}
-
-/// Whether some row is of the CLUT.
-fn is_named(colours: &[ColourRow], clut: u8) -> bool
-    ensures { result ≡ list_any (λ row. row.clut == clut) colours.now }
-{
-    colours.iter().any(|row| row.clut == clut)
-}
-
-/// The version of a CLUT one instant on, where it has one.
-pub fn next_version(changed: bool, version: Option<u8>) -> Option<u8>
-    requires { IfSome version (λ version. version < 16) }
-    ensures { result ≡ clut_after changed version }
-{
-    match version {
-        _ if !changed => version,
-        None => Some(0),
-        Some(version) => Some((version + 1) % 16),
-    }
-}
-
-/// A CLUT and its rows.
-fn clut_rows(
-    alloc: Global,
-    colours: &[ColourRow],
-    entries: &[Entry],
-    clut: u8,
-) -> Result<ClutRows, AllocError>
-    requires few { length colours.now ≤ 8192 }
-    requires entries { entries.now ≡ entries_of }
-    ensures { IfOk result (λ rows. rows ≡ rows_of_whole colours.now clut) }
-{
-    let own = rows_of_clut(alloc, colours, clut)?;
-    let mut rows = Vec::new(alloc);
-    for entry in entries {
-        rows.push(rows_of_entry(alloc, colours, own.as_slice(), entry)?)?;
-    }
-    Ok(ClutRows {
-        clut,
-        entries: Items::new(rows),
-    })
-}
-
-/// How many numbers of CLUTs there are.
-const CLUTS: u32 = 256;
-
-/// The CLUTs that colour rows name, and their rows, by their numbers.
-pub fn all_clut_rows(alloc: Global, colours: &[ColourRow]) -> Result<Items<ClutRows>, AllocError>
-    requires { length colours.now ≤ 8192 }
-    ensures { IfOk result (λ cluts. cluts ≡ map (rows_of_whole colours.now) (named_cluts colours.now)) }
-{
-    let entries = all_entries(alloc)?;
-    let mut cluts = Vec::new(alloc);
-    for clut in 0..CLUTS {
-        if is_named(colours, clut as u8) {
-            cluts.push(clut_rows(alloc, colours, entries.as_slice(), clut as u8)?)?;
-        }
-    }
-    Ok(Items::new(cluts))
 }

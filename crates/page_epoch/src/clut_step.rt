@@ -1,10 +1,12 @@
-ghost use Rattle.std.specs.Prelude.{◌≡◌, ℕ, ◌+◌, ◌*◌, ◌++◌, ◌∷◌, ◌==◌, ◌<◌, ◌≤◌, ◌^◌, true, List, length, All, IfOk, unwrap_or};
+ghost use Rattle.std.specs.Prelude.{◌≡◌, ℕ, ◌+◌, ◌*◌, ◌++◌, ◌∷◌, ◌==◌, ◌<◌, ◌≤◌, ◌^◌, true, false, List, length, All, IfOk, unwrap_or};
 ghost use Rattle.std.specs.Option.{option_to_list};
-ghost use Rattle.page_epoch.specs.SentCluts.{clut_with as with_rows_of, rows_from, defined_rows as defined_rows_of, is_changed as is_changed_at};
-ghost use Rattle.page_epoch.specs.Courses.{clut_rows as rows_of_whole, clut_after, clut_courses, AreRowsOf, IsSmallVersion, sent_of, row_nodes};
+ghost use Rattle.page_epoch.specs.SentCluts.{row_at, clut_with as with_rows_of, rows_from, defined_rows as defined_rows_of, is_changed as is_changed_at};
+ghost use Rattle.page_epoch.specs.Changes.{AreChanges};
+ghost use Rattle.page_epoch.specs.Courses.{clut_after, clut_courses, IsSmallVersion, sent_of, row_nodes};
 ghost use Rattle.page_epoch.specs.Needs.{clut_nodes};
 
-use crate::clut_course::{ClutRows, defined_rows, is_changed, next_version, rows_of_tick};
+use crate::clut_changes::{Change, ClutChanges, count_by_tick, next_version};
+use crate::clut_course::rows_of_tick;
 use crate::planned_set::SentClut;
 use crate::region_course::push_some;
 use cue_list::{ColourRow, Items};
@@ -53,33 +55,37 @@ fn nodes_of(rows: &[u32]) -> u64
     }
 }
 
-/// The rows that a set sends of those that are defined.
+/// The rows that a set at a tick sends of a CLUT, whose last change by then is given.
 fn sent_rows(
     alloc: Global,
     colours: &[ColourRow],
     whole: bool,
     tick: u64,
-    rows: Items<u32>,
+    change: &Change,
 ) -> Result<Items<u32>, AllocError>
-    requires { All (λ place. place < length colours.now) rows }
-    ensures { IfOk result (λ sent. sent ≡ rows_from colours.now whole tick rows) }
+    requires within { All (λ place. place < length colours.now) change.now.rows }
+    requires others { (change.now.tick == tick) ≡ false → All (λ place. ((row_at colours.now place).tick == tick) ≡ false) change.now.rows }
+    ensures { IfOk result (λ sent. sent ≡ rows_from colours.now whole tick change.now.rows) }
 {
     if whole {
-        return Ok(rows);
+        return Ok(Items::new(Vec::from_slice(alloc, change.rows.as_slice())?));
     }
-    rows_of_tick(alloc, colours, rows.as_slice(), tick)
+    if change.tick != tick {
+        return Ok(Items::new(Vec::new(alloc)));
+    }
+    rows_of_tick(alloc, colours, change.rows.as_slice(), tick)
 }
 
 /// Takes a CLUT to the next instant.
 fn step_clut(
     alloc: Global,
     colours: &[ColourRow],
-    clut: &ClutRows,
+    clut: &ClutChanges,
     version: Option<u8>,
     tick: u64,
     whole: bool,
 ) -> Result<ClutStep, AllocError>
-    requires rows { clut.now ≡ rows_of_whole colours.now clut.now.clut }
+    requires changes { AreChanges colours.now clut.now }
     requires small { IsSmallVersion version }
     ensures version { IfOk result (λ step. step.version ≡ clut_after (is_changed_at colours.now clut.now.clut tick) version) }
     ensures small { IfOk result (λ step. IsSmallVersion step.version) }
@@ -87,15 +93,22 @@ fn step_clut(
     ensures nodes { IfOk result (λ step. step.nodes ≡ row_nodes (defined_rows_of colours.now clut.now.clut tick)) }
     ensures few { IfOk result (λ step. step.nodes ≤ 277) }
 {
-    let changed = is_changed(colours, clut.clut, tick);
-    let next = next_version(changed, version);
-    let rows = defined_rows(alloc, colours, clut.entries.as_slice(), tick)?;
-    let nodes = nodes_of(rows.as_slice());
-    let sent = sent_rows(alloc, colours, whole, tick, rows)?;
+    let changes = clut.changes.as_slice();
+    let count = count_by_tick(changes, tick);
+    if count == 0 {
+        return Ok(ClutStep {
+            version,
+            sent: None,
+            nodes: 0,
+        });
+    }
+    let change = &changes[count - 1];
+    let next = next_version(change.tick == tick, version);
+    let sent = sent_rows(alloc, colours, whole, tick, change)?;
     Ok(ClutStep {
         version: next,
         sent: clut_with(clut.clut, next.unwrap_or(0), sent),
-        nodes,
+        nodes: nodes_of(change.rows.as_slice()),
     })
 }
 
@@ -103,12 +116,12 @@ fn step_clut(
 pub fn step_cluts(
     alloc: Global,
     colours: &[ColourRow],
-    cluts: &[ClutRows],
+    cluts: &[ClutChanges],
     versions: &[Option<u8>],
     tick: u64,
     whole: bool,
 ) -> Result<ClutSteps, AllocError>
-    requires rows { AreRowsOf colours.now cluts.now }
+    requires changes { All (AreChanges colours.now) cluts.now }
     requires few { length cluts.now ≤ 256 }
     requires long { length versions.now ≡ length cluts.now }
     requires small { All IsSmallVersion versions.now }

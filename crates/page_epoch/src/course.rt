@@ -1,11 +1,11 @@
 ghost use Rattle.std.specs.Prelude.{◌≡◌, ℕ, ◌+◌, ◌<◌, ◌≤◌, ◌^◌, Bool, List, [], ◌∷◌, length, map, All, IfOk, Some, slice_get};
 ghost use Rattle.cue_list.specs.declared.epoch.Epoch.{Epoch as EpochValue};
 ghost use Rattle.page_epoch.specs.States.{is_whole as is_whole_of};
-ghost use Rattle.page_epoch.specs.Courses.{IsSmallCourse, IsSmallVersion};
+ghost use Rattle.page_epoch.specs.Courses.{first_course, IsSmallCourse, IsSmallVersion};
 ghost use Rattle.page_epoch.specs.Layouts.{IsLayout};
-ghost use Rattle.page_epoch.specs.Sweeps.{IsSmallEpoch, IsCourse, IsSafe, IsTimely, IsSetOf, IsAdvanced, IsSweep, GoesOn, first_course, page_after};
+ghost use Rattle.page_epoch.specs.Sweeps.{IsSmallEpoch, IsCourse, IsSafe, IsTimely, IsSetOf, IsAdvanced, IsSweep, GoesOn, page_after};
 
-use crate::clut_course::ClutRows;
+use crate::clut_changes::ClutChanges;
 use crate::clut_step::step_cluts;
 use crate::instants::Instant;
 use crate::layout::{Layout, held, listed, shown};
@@ -60,6 +60,7 @@ fn first_courses(alloc: Global, regions: &[RegionCues]) -> Result<Items<RegionCo
     for _region in regions {
         courses.push(RegionCourse {
             live: Items::new(Vec::new(alloc)),
+            begun: 0,
             version: 0,
             held: 0,
         })?;
@@ -68,7 +69,7 @@ fn first_courses(alloc: Global, regions: &[RegionCues]) -> Result<Items<RegionCo
 }
 
 /// The versions of CLUTs before the first instant: there are none.
-fn first_versions(alloc: Global, cluts: &[ClutRows]) -> Result<Items<Option<u8>>, AllocError>
+fn first_versions(alloc: Global, cluts: &[ClutChanges]) -> Result<Items<Option<u8>>, AllocError>
     ensures { IfOk result (λ versions. versions ≡ map (λ _. None) cluts.now) }
 {
     let mut versions = Vec::new(alloc);
@@ -142,7 +143,7 @@ impl Course {
             tick,
             whole,
         )?;
-        let shown = shown(alloc, cues, layout.by_y.as_slice(), tick)?;
+        let shown = shown(alloc, layout.by_y.as_slice(), regions.courses.as_slice())?;
         let listed = listed(alloc, regions.sent.as_slice())?;
         let page_version = next_page_version(self.page_version, self.first, instant.named);
         let nodes = epoch.regions.len() as u64

@@ -1,5 +1,4 @@
 ghost use Rattle.std.specs.Prelude.{◌≡◌};
-ghost use Rattle.page_epoch.specs.Refusals.{fault_name};
 ghost use Rattle.page_epoch.specs.declared.fault.PlanFault.TheVariants.{Memory};
 
 use std::alloc::{AllocError, AllocFailed};
@@ -19,20 +18,6 @@ pub enum PlanFault {
     /// The set needs more nodes of composition memory than the receiver has.
     #[error("plan CompositionFull {row} {need}")]
     CompositionFull { row: u64, need: u64 },
-}
-
-impl PlanFault {
-    /// The fault's name, as texts show it.
-    pub fn name(self) -> &'static str
-        ensures { result.now ≡ fault_name self }
-    {
-        match self {
-            PlanFault::Memory => "Memory",
-            PlanFault::DisplayTooLarge { .. } => "DisplayTooLarge",
-            PlanFault::PixelFull { .. } => "PixelFull",
-            PlanFault::CompositionFull { .. } => "CompositionFull",
-        }
-    }
 }
 
 impl From<AllocError> for PlanFault {

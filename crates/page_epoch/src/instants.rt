@@ -1,13 +1,11 @@
 ghost use Rattle.std.specs.Prelude.{◌≡◌, ℕ, ◌+◌, ◌<◌, ◌≤◌, ◌^◌, List, true, length, All, IfOk, OnOk};
-ghost use Rattle.std.specs.List.{list_any};
-ghost use Rattle.cue_list.specs.Authored.{is_live as is_live_at};
-ghost use Rattle.page_epoch.specs.Instants.{shows_cue as shows_cue_at, named_ticks};
-ghost use Rattle.page_epoch.specs.Rows.{AreMoments};
+ghost use Rattle.page_epoch.specs.Instants.{named_ticks};
+ghost use Rattle.page_epoch.specs.Showing.{AreLasting};
 ghost use Rattle.page_epoch.specs.Steps.{HasRefreshes, AreSteps};
 
-use crate::live::is_live;
+use crate::cue_ticks::CueTicks;
 use crate::moments::{Event, moments_of};
-use cue_list::{Cue, Epoch};
+use cue_list::Epoch;
 use std::alloc::{AllocError, Global};
 
 /// An instant at which a display set is shown.
@@ -18,22 +16,6 @@ pub struct Instant {
     pub row: u64,
     /// Whether a record names it. Else it is a refresh.
     pub named: bool,
-}
-
-/// Whether one of these cues is live at a tick.
-fn has_live(cues: &[Cue], tick: u64) -> bool
-    ensures { result ≡ list_any (is_live_at tick) cues.now }
-{
-    cues.iter().any(|cue| is_live(cue, tick))
-}
-
-/// Whether some cue is live at a tick.
-fn shows_cue(epochs: &[Epoch], tick: u64) -> bool
-    ensures { result ≡ shows_cue_at epochs.now tick }
-{
-    epochs
-        .iter()
-        .any(|epoch| has_live(epoch.cues.as_slice(), tick))
 }
 
 /// Appends the refreshes between a named tick and the next one.
@@ -70,9 +52,11 @@ pub fn instants_of(
     requires some { 1 ≤ refresh }
     requires refresh { refresh < 2 ^ 40 }
     requires small { All (λ tick. tick < 2 ^ 40) (named_ticks epochs.now) }
+    requires lasting { AreLasting epochs.now }
     ensures { IfOk result (λ instants. AreSteps epochs.now refresh instants.items) }
 {
     let moments = moments_of(alloc, epochs)?;
+    let cues = CueTicks::of(alloc, epochs)?;
     let mut instants = Vec::new(alloc);
     for (i, moment) in moments.iter().enumerate() {
         instants.push(Instant {
@@ -80,7 +64,7 @@ pub fn instants_of(
             row: moment.row,
             named: true,
         })?;
-        if i + 1 < moments.len() && shows_cue(epochs, moment.tick) {
+        if i + 1 < moments.len() && cues.show_cue(moment.tick) {
             push_refreshes(&mut instants, *moment, moments[i + 1].tick, refresh)?;
         }
     }

@@ -1,25 +1,34 @@
 ghost use Rattle.std.specs.Prelude.{◌≡◌, ℕ, ◌+◌, ◌*◌, ◌<◌, ◌≤◌, ◌^◌, length, map, All, IfOk, sum_by};
 ghost use Rattle.std.specs.List.Sorted.{IsPermutation, IsNonDecreasing};
-ghost use Rattle.page_epoch.specs.Courses.{region_cues, AreOwn, IsSmallCourse};
-ghost use Rattle.page_epoch.specs.Layouts.{IsLayout, shown_of, listed_cues};
+ghost use Rattle.page_epoch.specs.Courses.{AreOwn, IsSmallCourse};
+ghost use Rattle.page_epoch.specs.Layouts.{IsLayout, AreSpots, shown_of, listed_cues};
 ghost use Rattle.page_epoch.specs.Needs.{region_pixels as pixels_of, pixel_need as pixels_of_all};
 ghost use Rattle.page_epoch.specs.SentRegions.{AreOrdered};
-ghost use Rattle.sub_base.specs.Depth.{bits_of};
 
-use crate::clut_course::{ClutRows, all_clut_rows};
-use crate::live::{cues_of_region, live_of};
+use crate::clut_changes::{ClutChanges, all_changes};
+use crate::live::begins_of;
 use crate::planned_set::SentRegion;
 use crate::region_course::{RegionCourse, RegionCues};
 use cue_list::{Cue, Epoch, Items, Region};
 use std::alloc::{AllocError, Global};
-use sub_base::Depth;
 
-/// What stays in an epoch: its regions with their cues, by their numbers and from the top of the display, and its CLUTs.
+/// What stays in an epoch: its regions with their cues, by their numbers and from the top of the display, its CLUTs, and
+/// the bytes of its regions' pixels.
 #[derive(Drop)]
 pub struct Layout {
     pub by_id: Items<RegionCues>,
-    pub by_y: Items<RegionCues>,
-    pub cluts: Items<ClutRows>,
+    pub by_y: Items<Spot>,
+    pub cluts: Items<ClutChanges>,
+    pub pixels: u64,
+}
+
+/// A region of the display: its upper edge, in pixels from the top, its number, and its place among the regions by
+/// their numbers.
+#[derive(Clone, Copy, Debug)]
+pub struct Spot {
+    pub y: u16,
+    pub id: u8,
+    pub place: u32,
 }
 
 /// The regions by their numbers.
@@ -31,13 +40,21 @@ fn sorted_by_id(alloc: Global, regions: &[Region]) -> Result<Vec<Region>, AllocE
     Ok(ordered)
 }
 
-/// The regions from the top of the display.
-fn sorted_by_y(alloc: Global, regions: &[Region]) -> Result<Vec<Region>, AllocError>
-    ensures { IfOk result (λ ordered. AreOrdered (λ region. region.y) regions.now ordered.items) }
+/// Regions, which are in order of their numbers, from the top of the display.
+fn from_top(alloc: Global, regions: &[Region]) -> Result<Items<Spot>, AllocError>
+    requires { length regions.now ≤ 64 }
+    ensures { IfOk result (AreSpots regions.now) }
 {
-    let mut ordered = Vec::from_slice(alloc, regions)?;
-    ordered.sort_by_key(|region| region.y)?;
-    Ok(ordered)
+    let mut spots = Vec::new(alloc);
+    for (place, region) in regions.iter().enumerate() {
+        spots.push(Spot {
+            y: region.y,
+            id: region.id,
+            place: place as u32,
+        })?;
+    }
+    spots.sort_by_key(|spot| spot.y)?;
+    Ok(Items::new(spots))
 }
 
 /// Regions with their cues.
@@ -47,12 +64,16 @@ fn with_cues(
     regions: &[Region],
 ) -> Result<Items<RegionCues>, AllocError>
     requires { length cues.now ≤ 4096 }
-    ensures { IfOk result (λ found. found ≡ map (region_cues cues.now) regions.now) }
+    ensures ids { IfOk result (λ found. map (λ region. region.id) found ≡ map (λ region. region.id) regions.now) }
+    ensures own { IfOk result (AreOwn cues.now) }
 {
     let mut found = Vec::new(alloc);
     for region in regions {
-        let own = cues_of_region(alloc, cues, region.id)?;
-        found.push(RegionCues { id: region.id, own })?;
+        let begins = begins_of(alloc, cues, region.id)?;
+        found.push(RegionCues {
+            id: region.id,
+            begins,
+        })?;
     }
     Ok(Items::new(found))
 }
@@ -60,33 +81,38 @@ fn with_cues(
 impl Layout {
     /// What stays in an epoch.
     pub fn of(alloc: Global, epoch: &Epoch) -> Result<Layout, AllocError>
+        requires regions { length epoch.now.regions ≤ 64 }
         requires cues { length epoch.now.cues ≤ 4096 }
         requires colours { length epoch.now.colours ≤ 8192 }
         ensures { IfOk result (IsLayout epoch.now) }
     {
-        let regions = epoch.regions.as_slice();
-        let cues = epoch.cues.as_slice();
-        let by_id = with_cues(alloc, cues, sorted_by_id(alloc, regions)?.as_slice())?;
-        let by_y = with_cues(alloc, cues, sorted_by_y(alloc, regions)?.as_slice())?;
-        let cluts = all_clut_rows(alloc, epoch.colours.as_slice())?;
-        Ok(Layout { by_id, by_y, cluts })
+        let regions = sorted_by_id(alloc, epoch.regions.as_slice())?;
+        let by_id = with_cues(alloc, epoch.cues.as_slice(), &regions)?;
+        let by_y = from_top(alloc, &regions)?;
+        let cluts = all_changes(alloc, epoch.colours.as_slice())?;
+        let pixels = pixel_need(&regions);
+        Ok(Layout {
+            by_id,
+            by_y,
+            cluts,
+            pixels,
+        })
     }
 }
 
-/// The regions of these that have a live cue.
+/// The numbers of the regions that have a live cue, from the top of the display.
 pub fn shown(
     alloc: Global,
-    cues: &[Cue],
-    regions: &[RegionCues],
-    tick: u64,
+    spots: &[Spot],
+    courses: &[RegionCourse],
 ) -> Result<Items<u8>, AllocError>
-    requires { AreOwn cues.now regions.now }
-    ensures { IfOk result (λ shown. shown ≡ shown_of cues.now tick regions.now) }
+    requires { All (λ spot. spot.place < length courses.now) spots.now }
+    ensures { IfOk result (λ shown. shown ≡ shown_of courses.now spots.now) }
 {
     let mut shown = Vec::new(alloc);
-    for region in regions {
-        if live_of(alloc, cues, region.own.as_slice(), tick)?.len() != 0 {
-            shown.push(region.id)?;
+    for spot in spots {
+        if courses[spot.place as usize].live.len() != 0 {
+            shown.push(spot.id)?;
         }
     }
     Ok(Items::new(shown))
@@ -119,28 +145,17 @@ pub fn held(courses: &[RegionCourse]) -> u64
     sum
 }
 
-/// How many bits a pixel code has.
-fn bits(depth: Depth) -> u64
-    ensures value { result ≡ bits_of depth }
-    ensures few { result ≤ 8 }
-{
-    match depth {
-        Depth::Two => 2,
-        Depth::Four => 4,
-        Depth::Eight => 8,
-    }
-}
-
 /// The bytes of a region's pixels, in rows of whole bytes.
 fn region_pixels(region: &Region) -> u64
     ensures value { result ≡ pixels_of region.now }
     ensures few { result ≤ 2 ^ 33 }
 {
-    (u64::from(region.width) * bits(region.depth)).div_ceil(8) * u64::from(region.height)
+    (u64::from(region.width) * u64::from(region.depth.bits())).div_ceil(8)
+        * u64::from(region.height)
 }
 
 /// The bytes of the pixels of an epoch's regions.
-pub fn pixel_need(regions: &[Region]) -> u64
+fn pixel_need(regions: &[Region]) -> u64
     requires { length regions.now ≤ 64 }
     ensures { result ≡ pixels_of_all regions.now }
 {

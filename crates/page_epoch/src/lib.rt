@@ -2,9 +2,11 @@
 //! (EN 300 743, clauses 5 and 7).
 #![tactic(auto)]
 
+mod clut_changes;
 mod clut_course;
 mod clut_step;
 mod course;
+mod cue_ticks;
 mod fault;
 mod instants;
 mod layout;

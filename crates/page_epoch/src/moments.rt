@@ -1,6 +1,6 @@
 ghost use Rattle.std.specs.Prelude.{◌≡◌, ℕ, ◌==◌, ◌++◌, map, IfOk, OnOk, Some, if◌then◌else◌};
 ghost use Rattle.std.specs.Ordering.{nat_cmp};
-ghost use Rattle.std.specs.BTreeMap.{get};
+ghost use Rattle.std.specs.BTreeMap.{get, IsOrdered};
 ghost use Rattle.std.specs.List.{flat_map};
 ghost use Rattle.page_epoch.specs.Rows.{events_of as events_of_epoch, events_of_cue, event, least_of, Noted, AreMoments, moment};
 
@@ -93,7 +93,8 @@ fn least_rows(alloc: Global, events: &[Event]) -> Result<BTreeMap<u64, u64>, All
 
 /// The events of a map's entries.
 fn in_order(alloc: Global, rows: &BTreeMap<u64, u64>) -> Result<Vec<Event>, AllocError>
-    ensures { IfOk result (λ moments. moments.items ≡ map moment rows.now.entries) }
+    ensures ordered { IsOrdered nat_cmp rows.now }
+    ensures events { IfOk result (λ moments. moments.items ≡ map moment rows.now.entries) }
 {
     rows.iter()
         .map(|(tick, row)| Event {
@@ -109,6 +110,5 @@ pub fn moments_of(alloc: Global, epochs: &[Epoch]) -> Result<Vec<Event>, AllocEr
 {
     let events = all_events(alloc, epochs)?;
     let rows = least_rows(alloc, &events)?;
-    let _count = rows.len();
     in_order(alloc, &rows)
 }

@@ -1,6 +1,5 @@
 ghost use Rattle.std.specs.Prelude.{◌≡◌, ℕ, ◌+◌, ◌<◌, ◌≤◌, ◌^◌, All, length, IfOk, IfErr, OnOk, nat_le};
 ghost use Rattle.page_epoch.specs.States.{state_of as state_by};
-ghost use Rattle.page_epoch.specs.Needs.{pixel_need as pixels_of};
 ghost use Rattle.page_epoch.specs.Plan.{ArePlanned, IsPlan};
 ghost use Rattle.page_epoch.specs.Refusals.{IsCause, IsNeedFault, IsSetCause};
 ghost use Rattle.page_epoch.specs.Sendable.{IsSendable};
@@ -9,9 +8,8 @@ ghost use Rattle.page_epoch.specs.Sweeps.{IsPlain};
 use crate::course::{Sweep, is_whole};
 use crate::fault::PlanFault;
 use crate::instants::instants_of;
-use crate::layout::pixel_need;
 use crate::planned_set::PlannedSet;
-use cue_list::{Epoch, Items, Region, Script};
+use cue_list::{Epoch, Items, Script};
 use std::alloc::Global;
 use stream_syntax::State;
 use sub_base::Profile;
@@ -33,12 +31,10 @@ impl Plan {
         if u32::from(script.width) > profile.width || u32::from(script.height) > profile.height {
             return Err(PlanFault::DisplayTooLarge { row: 2 });
         }
-        match plan_sets(alloc, script.epochs.as_slice(), script.refresh, profile) {
-            Ok(sets) => Ok(Plan {
-                sets: Items::new(sets),
-            }),
-            Err(fault) => Err(fault),
-        }
+        let sets = plan_sets(alloc, script.epochs.as_slice(), script.refresh, profile)?;
+        Ok(Plan {
+            sets: Items::new(sets),
+        })
     }
 }
 
@@ -56,15 +52,13 @@ fn state_of(begins: bool, named: bool, due: bool) -> State
     }
 }
 
-/// Tests what a set needs: the pixels of its epoch first, then its nodes.
-fn check_needs(profile: &Profile, regions: &[Region], nodes: u64, row: u64) -> Result<(), PlanFault>
-    requires { length regions.now ≤ 64 }
-    ensures held { OnOk result ((pixels_of regions.now ≤ profile.now.pixels) × (nodes ≤ profile.now.nodes)) }
-    ensures fault { IfErr result (IsNeedFault profile.now (pixels_of regions.now) nodes row) }
+/// Tests what a set needs: the bytes of its epoch's pixels first, then its nodes.
+fn check_needs(profile: &Profile, pixels: u64, nodes: u64, row: u64) -> Result<(), PlanFault>
+    ensures held { OnOk result ((pixels ≤ profile.now.pixels) × (nodes ≤ profile.now.nodes)) }
+    ensures fault { IfErr result (IsNeedFault profile.now pixels nodes row) }
 {
-    let need = pixel_need(regions);
-    if need > profile.pixels {
-        return Err(PlanFault::PixelFull { row, need });
+    if pixels > profile.pixels {
+        return Err(PlanFault::PixelFull { row, need: pixels });
     }
     if nodes > u64::from(profile.nodes) {
         return Err(PlanFault::CompositionFull { row, need: nodes });
@@ -95,10 +89,7 @@ fn plan_sets(
         let step = sweep
             .course
             .advance(alloc, epoch, &sweep.layout, sweep.place, *instant, state)?;
-        match check_needs(profile, epoch.regions.as_slice(), step.nodes, instant.row) {
-            Ok(()) => {}
-            Err(fault) => return Err(fault),
-        }
+        check_needs(profile, sweep.layout.pixels, step.nodes, instant.row)?;
         if is_whole(state) {
             whole = instant.tick;
         }

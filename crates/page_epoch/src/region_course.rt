@@ -1,38 +1,42 @@
 ghost use Rattle.std.specs.Prelude.{◌≡◌, ℕ, ◌+◌, ◌==◌, ◌<◌, ◌≤◌, ◌^◌, Bool, true, false, not, ◌&&◌, if◌then◌else◌, length, ◌∷◌, ◌++◌, All, IfOk, OnOk, List};
 ghost use Rattle.std.specs.Option.{option_to_list};
 ghost use Rattle.std.specs.List.{flat_map};
-ghost use Rattle.page_epoch.specs.Live.{own_places, live_places};
-ghost use Rattle.page_epoch.specs.Courses.{region_after, region_courses, is_first, AreOwn, IsSmallCourse};
+ghost use Rattle.page_epoch.specs.Live.{begun_by, live_places, AreBegins};
+ghost use Rattle.page_epoch.specs.Courses.{region_after, region_course, region_courses, is_first, IsAfter, AreOwn, IsSmallCourse};
 ghost use Rattle.page_epoch.specs.SentRegions.{is_risen as is_risen_of, is_extended as is_extended_of, region_from, sent_region};
 
-use crate::live::live_of;
+use crate::live::{Begin, count_begun, live_after};
 use crate::planned_set::SentRegion;
 use cue_list::{Cue, Items};
 use std::alloc::{AllocError, Global};
 
-/// A region and the cues that it shows, by their places.
+/// A region and the cues that it shows, in order of their starts.
 #[derive(Drop)]
 pub struct RegionCues {
     pub id: u8,
-    pub own: Items<u32>,
+    pub begins: Items<Begin>,
 }
 
 /// A region at an instant.
 #[derive(Drop)]
 pub struct RegionCourse {
-    /// The cues that are live.
+    /// The cues that are live, by their places.
     pub live: Items<u32>,
+    /// How many cues have started.
+    pub begun: usize,
     pub version: u8,
     /// How many cues were live at the latest instant at which some were.
     pub held: u64,
 }
 
 impl RegionCourse {
-    /// The region at the next instant, or at the first one of its epoch, where these cues are live.
-    pub fn after(&self, first: bool, new: Items<u32>) -> RegionCourse
+    /// The region at the next instant, or at the first one of its epoch, where so many cues have started, and these are
+    /// live.
+    pub fn after(&self, first: bool, begun: usize, new: Items<u32>) -> RegionCourse
         requires small { IsSmallCourse self.now }
-        requires few { length new ≤ 4096 }
-        ensures next { result ≡ region_after first self.now new }
+        requires live { length new ≤ begun }
+        requires few { begun ≤ 4096 }
+        ensures next { result ≡ region_after first self.now begun new }
         ensures small { IsSmallCourse result }
     {
         let risen = !first && is_risen(self.live.as_slice(), new.as_slice());
@@ -48,6 +52,7 @@ impl RegionCourse {
         };
         RegionCourse {
             live: new,
+            begun,
             version,
             held,
         }
@@ -75,8 +80,8 @@ pub fn step_regions(
     requires own { AreOwn cues.now regions.now }
     requires long { length courses.now ≡ length regions.now }
     requires small { All IsSmallCourse courses.now }
-    ensures courses { (seen : List ℕ) → first ≡ is_first seen → courses.now ≡ region_courses cues.now seen regions.now → IfOk result (λ steps. steps.courses ≡ region_courses cues.now (tick ∷ seen) regions.now) }
-    ensures sent { (seen : List ℕ) → first ≡ is_first seen → courses.now ≡ region_courses cues.now seen regions.now → IfOk result (λ steps. steps.sent ≡ flat_map (λ region. sent_region cues.now whole (tick ∷ seen) region.id) regions.now) }
+    ensures courses { (seen : List ℕ) → first ≡ is_first seen → courses.now ≡ region_courses cues.now seen regions.now → IsAfter seen tick → IfOk result (λ steps. steps.courses ≡ region_courses cues.now (tick ∷ seen) regions.now) }
+    ensures sent { (seen : List ℕ) → first ≡ is_first seen → courses.now ≡ region_courses cues.now seen regions.now → IsAfter seen tick → IfOk result (λ steps. steps.sent ≡ flat_map (λ region. sent_region cues.now whole (tick ∷ seen) region.id) regions.now) }
     ensures long { IfOk result (λ steps. length steps.courses ≡ length regions.now) }
     ensures small { IfOk result (λ steps. All IsSmallCourse steps.courses) }
 {
@@ -112,13 +117,16 @@ fn step_course(
     first: bool,
 ) -> Result<RegionCourse, AllocError>
     requires few { length cues.now ≤ 4096 }
-    requires own { region.now.own ≡ own_places cues.now region.now.id }
+    requires own { AreBegins cues.now region.now.id region.now.begins }
     requires small { IsSmallCourse course.now }
-    ensures next { IfOk result (λ next. next ≡ region_after first course.now (live_places cues.now region.now.id tick)) }
+    ensures next { (seen : List ℕ) → course.now ≡ region_course cues.now seen region.now.id → IsAfter seen tick → IfOk result (λ next. next ≡ region_after first course.now (begun_by cues.now region.now.id tick) (live_places cues.now region.now.id tick)) }
     ensures small { IfOk result IsSmallCourse }
 {
-    let new = live_of(alloc, cues, region.own.as_slice(), tick)?;
-    Ok(course.after(first, new))
+    let begins = region.begins.as_slice();
+    let begun = count_begun(begins, tick);
+    let old = course.live.as_slice();
+    let live = live_after(alloc, cues, begins, old, course.begun, begun, tick)?;
+    Ok(course.after(first, begun.max(course.begun), live))
 }
 
 /// Puts what was found last, if something was.

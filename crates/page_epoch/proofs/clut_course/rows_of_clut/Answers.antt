@@ -1,21 +1,14 @@
-use Rattle.std.proofs.Common.{◌≡◌, ◌∙◌, ◌==◌, ℕ, true, false, ap, arith}
-use Rattle.std.proofs.lemmas.Bool.Decides.{nat_tests}
+use Rattle.std.proofs.Common.{◌∙◌, ◌==◌, ℕ, ap}
 use Rattle.page_epoch.specs.SentCluts.{row_at}
-use Rattle.page_epoch.proofs.ListLaws.{keep_place, pass_place}
+use Rattle.page_epoch.proofs.ListLaws.{keep_place, pass_place, equal, unequal}
 use Rattle.page_epoch.proofs.clut_course.rows_of_clut.Goals as goal
 use Rattle.page_epoch.proofs.clut_course.rows_of_clut.Goals.{then-row-clut+in_ok-push, else-row-clut}
-
-yes : (a b : ℕ) → a ≡ b → (a == b) ≡ true
-yes a b h = grind (arith, nat_tests)
-
-no : (a b : ℕ) → (a ≡ b → ⊥) → (a == b) ≡ false
-no a b h = grind (arith, nat_tests)
 
 pub loop-place-preserved : goal.loop-place-preserved
 loop-place-preserved c =
     let p = λ (place : ℕ). (row_at c.args.colours.now place).clut == c.args.clut in
     elim c.if-row-clut.branch [
       | then-row-clut+in_ok-push w ↦
-          keep_place p c.loop-place.place c.loop-place.own.items _ c.loop-place.invariant (yes _ _ w.if-row-clut.true) (ap (λ own. own.items) w.own-is ∙ w.in_ok-push.ensures.items)
-      | else-row-clut w ↦ pass_place p c.loop-place.place _ (ap (λ own. own.items) w.own-is ∙ c.loop-place.invariant) (no _ _ w.if-row-clut.false)
+          keep_place p c.loop-place.place c.loop-place.own.items _ c.loop-place.invariant (equal _ _ w.if-row-clut.true) (ap (λ own. own.items) w.own-is ∙ w.in_ok-push.ensures.items)
+      | else-row-clut w ↦ pass_place p c.loop-place.place _ (ap (λ own. own.items) w.own-is ∙ c.loop-place.invariant) (unequal _ _ w.if-row-clut.false)
     ]

@@ -1,5 +1,5 @@
 use Rattle.std.proofs.Common.{◌≡◌, map, take}
-use Rattle.page_epoch.specs.Sweeps.{first_course}
+use Rattle.page_epoch.specs.Courses.{first_course}
 use Rattle.page_epoch.proofs.course.first_courses.Given as goal
 
 abbrev pub invariant-loop-region : goal.invariant-loop-region

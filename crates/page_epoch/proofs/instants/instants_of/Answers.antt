@@ -6,7 +6,7 @@ use Rattle.page_epoch.specs.Rows.{AreMoments, event}
 use Rattle.page_epoch.proofs.InstantLaws.{AreStepsUpTo, AreStepsUpTo-none, AreStepsUpTo-refreshed, AreStepsUpTo-alone, AreSteps-all, small_there}
 use Rattle.std.proofs.lemmas.Bool.{false≢true}
 use Rattle.page_epoch.proofs.instants.instants_of.Goals as goal
-use Rattle.page_epoch.proofs.instants.instants_of.Goals.{then-i-len+then-shows_cue+in_ok-push_refreshes, else-i-len, else-i-len-via-then-i-len+else-shows_cue, else-i-len-via-else-i-len}
+use Rattle.page_epoch.proofs.instants.instants_of.Goals.{then-i-len+then-show_cue+in_ok-push_refreshes, else-i-len, else-i-len-via-then-i-len+else-show_cue, else-i-len-via-else-i-len}
 
 pub loop-i-init : goal.loop-i-init
 loop-i-init c =
@@ -21,14 +21,14 @@ loop-i-preserved c =
     let r : m ≡ get_or moments i m = get_or_default moments i (event 0 0) m (omega arith) in
     let are = subst (λ (xs : List Event). AreMoments c.args.epochs.now xs) (sym c.deref-moment-items.ensures.value) c.in_ok-moments.ensures in
     elim c.if-i-len.branch [
-      | then-i-len+then-shows_cue+in_ok-push_refreshes w ↦
+      | then-i-len+then-show_cue+in_ok-push_refreshes w ↦
           subst (λ (xs : List Instant). AreStepsUpTo c.args.epochs.now c.args.refresh moments (i + 1) xs) (ap (λ instants. instants.items) (sym w.instants-is))
           (AreStepsUpTo-refreshed c.args.epochs.now c.args.refresh moments i c.loop-i.instants.items c.push.new.self.items w.push_refreshes.new.instants.items m w.index.result.now c.requires.some are c.loop-i.invariant
-          (omega (arith, w.if-i-len.true, c.len.ensures, c.deref-moment-items.ensures.len)) r (w.index.ensures ∙ ap (λ (xs : List Event). get_or xs (i + 1) w.index.result.now) (sym c.deref-moment-items.ensures.value)) c.in_ok-push.ensures.items w.in_ok-push_refreshes.ensures (sym w.if-shows_cue.ensures))
+          (omega (arith, w.if-i-len.true, c.len.ensures, c.deref-moment-items.ensures.len)) r (w.index.ensures ∙ ap (λ (xs : List Event). get_or xs (i + 1) w.index.result.now) (sym c.deref-moment-items.ensures.value)) c.in_ok-push.ensures.items w.in_ok-push_refreshes.ensures (sym (w.show_cue.ensures c.args.epochs.now c.in_ok-cues.ensures c.requires.lasting) ∙ w.if-show_cue.true))
       | else-i-len w ↦
           AreStepsUpTo-alone c.args.epochs.now c.args.refresh moments i c.loop-i.instants.items _ m c.requires.some are c.loop-i.invariant (omega arith) r (ap (λ instants. instants.items) w.instants-is ∙ c.in_ok-push.ensures.items)
           (λ inside shown. elim w.else-i-len.branch [
-            | else-i-len-via-then-i-len+else-shows_cue w' ↦ absurd (false≢true (sym w'.if-shows_cue.false ∙ w'.shows_cue.ensures ∙ shown))
+            | else-i-len-via-then-i-len+else-show_cue w' ↦ absurd (false≢true (sym w'.if-show_cue.false ∙ w'.show_cue.ensures c.args.epochs.now c.in_ok-cues.ensures c.requires.lasting ∙ shown))
             | else-i-len-via-else-i-len w' ↦ absurd (omega (arith, w'.if-i-len.false, inside, c.len.ensures, c.deref-moment-items.ensures.len))
           ])
     ]

@@ -1,6 +1,6 @@
 use Rattle.std.proofs.Common.{◌≡◌, map, take}
-use Rattle.page_epoch.specs.Courses.{region_cues}
+use Rattle.page_epoch.specs.Courses.{AreOwn}
 use Rattle.page_epoch.proofs.layout.with_cues.Given as goal
 
 abbrev pub invariant-loop-region : goal.invariant-loop-region
-invariant-loop-region l = l.found.items ≡ map (region_cues l.cues) (take l.region-index l.regions)
+invariant-loop-region l = (map (λ region. region.id) l.found.items ≡ map (λ region. region.id) (take l.region-index l.regions)) × AreOwn l.cues l.found.items

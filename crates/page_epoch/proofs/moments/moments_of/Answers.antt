@@ -13,4 +13,4 @@ returns c =
     let noted = subst NotedIn (c.deref.ensures.value ∙ c.in_ok-events.ensures) c.in_ok-rows.ensures in
     let AreGood : List Event → Type 0 = λ moments. AreMoments c.args.epochs.now moments in
     ok_then (λ (moments : Vec Event Global). moments.items ≡ map moment c.in_ok-rows.rows.entries) (λ (moments : Vec Event Global). AreGood moments.items) c.in_order.result
-    (λ moments is. subst AreGood (sym is) (AreMoments-from c.args.epochs.now c.in_ok-rows.rows c.len-count.ensures.ordered noted)) c.in_order.ensures
+    (λ moments is. subst AreGood (sym is) (AreMoments-from c.args.epochs.now c.in_ok-rows.rows c.in_order.ensures.ordered noted)) c.in_order.ensures.events

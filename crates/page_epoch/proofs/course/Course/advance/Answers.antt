@@ -1,39 +1,48 @@
-use Rattle.std.proofs.Common.{◌∙◌, ◌∷◌, List, length, refl, sym, ap, subst, true, arith}
+use Rattle.std.proofs.Common.{◌∙◌, ◌∷◌, ◌<◌, ℕ, List, All, map, length, refl, sym, ap, subst, true, arith}
 use Rattle.std.specs.List.Sorted.{IsPermutation}
+use Rattle.std.proofs.lemmas.List.Sorted.{IsPermutation-refl}
 use Rattle.cue_list.specs.declared.epoch.Cue.{Cue}
 use Rattle.cue_list.specs.declared.epoch.ColourRow.{ColourRow}
+use Rattle.page_epoch.specs.declared.layout.Spot.{Spot}
+use Rattle.page_epoch.specs.declared.region_course.RegionCues.{RegionCues}
 use Rattle.page_epoch.specs.declared.planned_set.SentClut.{SentClut}
 use Rattle.page_epoch.specs.declared.planned_set.SentRegion.{SentRegion}
-use Rattle.page_epoch.specs.Courses.{AreOwn, AreRowsOf}
+use Rattle.page_epoch.specs.declared.clut_changes.ClutChanges.{ClutChanges}
+use Rattle.page_epoch.specs.Changes.{AreChanges}
+use Rattle.page_epoch.specs.Courses.{AreOwn}
 use Rattle.page_epoch.specs.Layouts.{listed_cues}
 use Rattle.page_epoch.specs.Needs.{clut_nodes}
 use Rattle.page_epoch.specs.States.{is_whole}
-use Rattle.page_epoch.proofs.SweepLaws.{own_of_layout, rows_of_layout, few_cluts, few_regions, regions_on, sent_on, shown_on, versions_on, cluts_on, page_on, held_on}
+use Rattle.page_epoch.proofs.SweepLaws.{few_cluts, few_regions, regions_on, sent_on, spots_within, shown_on, versions_on, cluts_on, page_on, held_on}
 use Rattle.page_epoch.proofs.course.Course.advance.Goals as goal
 
 pub step_regions-requires-clause-own : goal.step_regions-requires-clause-own
 step_regions-requires-clause-own c =
     subst (λ (cues : List Cue). AreOwn cues c.as_slice.result.now) (sym c.as_slice-cues.ensures)
-    (own_of_layout c.args.epoch.now.cues c.requires.layout.ids c.as_slice.result.now (c.as_slice.ensures ∙ c.requires.layout.by_id))
+    (subst (λ (regions : List RegionCues). AreOwn c.args.epoch.now.cues regions) (sym c.as_slice.ensures) c.requires.layout.own)
 
-pub step_cluts-requires-clause-rows : goal.step_cluts-requires-clause-rows
-step_cluts-requires-clause-rows c =
-    subst (λ (colours : List ColourRow). AreRowsOf colours c.as_slice-4.result.now) (sym c.as_slice-3.ensures)
-    (rows_of_layout c.args.epoch.now.colours c.as_slice-4.result.now (c.as_slice-4.ensures ∙ c.requires.layout.cluts))
+pub step_cluts-requires-clause-changes : goal.step_cluts-requires-clause-changes
+step_cluts-requires-clause-changes c =
+    subst (λ (colours : List ColourRow). All (AreChanges colours) c.as_slice-4.result.now) (sym c.as_slice-3.ensures)
+    (subst (λ (cluts : List ClutChanges). All (AreChanges c.args.epoch.now.colours) cluts) (sym c.as_slice-4.ensures) c.requires.layout.changes)
 
 pub step_cluts-requires-clause-few : goal.step_cluts-requires-clause-few
-step_cluts-requires-clause-few c = few_cluts c.args.epoch.now.colours c.as_slice-4.result.now (c.as_slice-4.ensures ∙ c.requires.layout.cluts)
+step_cluts-requires-clause-few c =
+    few_cluts c.args.epoch.now.colours c.as_slice-4.result.now (ap (λ (cluts : List ClutChanges). map (λ (clut : ClutChanges). clut.clut) cluts) c.as_slice-4.ensures ∙ c.requires.layout.cluts)
 
 pub shown-requires : goal.shown-requires
 shown-requires c =
-    subst (λ (cues : List Cue). AreOwn cues c.as_slice-6.result.now) (sym c.as_slice-cues.ensures)
-    (own_of_layout c.args.epoch.now.cues c.requires.layout.ys c.as_slice-6.result.now (c.as_slice-6.ensures ∙ c.requires.layout.by_y))
+    let lay = c.requires.layout in
+    let long = ap length c.as_slice-7.ensures ∙ c.in_ok-regions.ensures.long ∙ ap length c.as_slice.ensures ∙ few_regions lay.ids lay.ids c.args.layout.now.by_id (IsPermutation-refl lay.ids) lay.by_id in
+    let Within : List Spot → Type 0 = λ spots. All (λ (spot : Spot). spot.place < length c.as_slice-7.result.now) spots in
+    subst Within (sym c.as_slice-6.ensures)
+    (subst (λ (n : ℕ). All (λ (spot : Spot). spot.place < n) c.args.layout.now.by_y) (sym long) (spots_within lay.ids c.args.layout.now.by_y lay.by_y))
 
 pub held-requires-clause-few : goal.held-requires-clause-few
 held-requires-clause-few c =
     let lay = c.requires.layout in
-    let few = few_regions c.args.epoch.now.cues c.args.epoch.now.regions lay.ids c.args.layout.now.by_id lay.ordered_ids.same lay.by_id in
-    omega (arith, ap length c.as_slice-8.ensures, c.in_ok-regions.ensures.long, ap length c.as_slice.ensures, few, c.requires.few.regions)
+    let few = few_regions c.args.epoch.now.regions lay.ids c.args.layout.now.by_id lay.ordered_ids.same lay.by_id in
+    omega (arith, ap length c.as_slice-9.ensures, c.in_ok-regions.ensures.long, ap length c.as_slice.ensures, few, c.requires.few.regions)
 
 pub returns-clause-advanced : goal.returns-clause-advanced
 returns-clause-advanced c = λ epochs seen is timely.
@@ -42,7 +51,7 @@ returns-clause-advanced c = λ epochs seen is timely.
     let lay = c.requires.layout in
     let tick = c.args.instant.tick in
     let regions = regions_on epoch.cues c.as_slice-cues.result.now layout.by_id c.as_slice.result.now c.args.self.now.regions c.as_slice-2.result.now c.in_ok-regions.regions.courses seen tick c.as_slice-cues.ensures c.as_slice.ensures c.as_slice-2.ensures is.regions
-    (c.in_ok-regions.ensures.courses seen is.first) in
+    (λ same. c.in_ok-regions.ensures.courses seen is.first same timely.after) in
     let page = page_on epochs epoch.start seen c.args.instant c.args.self.now.first c.args.self.now.page_version c.next_page_version-page_version.result timely is.first is.page c.next_page_version-page_version.ensures.value in
     record {
       course = record {
@@ -53,17 +62,17 @@ returns-clause-advanced c = λ epochs seen is timely.
         first = refl;
       };
       carried = record {
-        shown = shown_on epoch layout c.as_slice-cues.result.now c.as_slice-6.result.now tick c.in_ok-shown.shown lay c.as_slice-cues.ensures c.as_slice-6.ensures c.in_ok-shown.ensures;
+        shown = shown_on epoch layout c.as_slice-6.result.now c.as_slice-7.result.now seen tick c.in_ok-shown.shown lay c.as_slice-6.ensures (c.as_slice-7.ensures ∙ regions) c.in_ok-shown.ensures;
         regions = sent_on epoch layout c.as_slice-cues.result.now c.as_slice.result.now c.args.self.now.regions c.as_slice-2.result.now seen tick (is_whole c.args.state) c.is_whole-whole.result c.in_ok-regions.regions.sent lay c.as_slice-cues.ensures c.as_slice.ensures
-            c.as_slice-2.ensures c.is_whole-whole.ensures is.regions (c.in_ok-regions.ensures.sent seen is.first);
+            c.as_slice-2.ensures c.is_whole-whole.ensures is.regions (λ same. c.in_ok-regions.ensures.sent seen is.first same timely.after);
         cluts = cluts_on (λ (xs : List SentClut). xs) epoch.colours c.as_slice-3.result.now layout.cluts c.as_slice-4.result.now c.args.self.now.versions c.as_slice-5.result.now seen tick (is_whole c.args.state) c.is_whole-whole.result c.in_ok-cluts.cluts.sent lay.cluts
             c.as_slice-3.ensures c.as_slice-4.ensures c.as_slice-5.ensures c.is_whole-whole.ensures is.versions (c.in_ok-cluts.ensures.sent seen);
-        cues = subst (λ (xs : List SentRegion). IsPermutation (listed_cues xs) c.in_ok-listed.listed) c.as_slice-7.ensures c.in_ok-listed.ensures.same;
+        cues = subst (λ (xs : List SentRegion). IsPermutation (listed_cues xs) c.in_ok-listed.listed) c.as_slice-8.ensures c.in_ok-listed.ensures.same;
         in_order = c.in_ok-listed.ensures.order;
       };
       version = page;
       nodes =
-          let held = c.held.ensures.value ∙ held_on epoch layout (tick ∷ seen) c.as_slice-8.result.now lay (c.as_slice-8.ensures ∙ regions) in
+          let held = c.held.ensures.value ∙ held_on epoch layout (tick ∷ seen) c.as_slice-9.result.now lay (c.as_slice-9.ensures ∙ regions) in
           let cluts = cluts_on clut_nodes epoch.colours c.as_slice-3.result.now layout.cluts c.as_slice-4.result.now c.args.self.now.versions c.as_slice-5.result.now seen tick true true c.in_ok-cluts.cluts.nodes lay.cluts
           c.as_slice-3.ensures c.as_slice-4.ensures c.as_slice-5.ensures refl is.versions (c.in_ok-cluts.ensures.nodes seen) in
           omega (arith, held, cluts, c.len.ensures, c.len-2.ensures);

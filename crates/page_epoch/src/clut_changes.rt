@@ -1,0 +1,126 @@
+ghost use Rattle.std.specs.Prelude.{◌≡◌, ℕ, ◌==◌, ◌<◌, ◌≤◌, nat_le, true, false, length, map, All, IfOk, IfSome};
+ghost use Rattle.std.specs.List.{flat_map, list_any};
+ghost use Rattle.std.specs.List.Sorted.{IsNonDecreasingBy, IsPartitionPoint};
+ghost use Rattle.page_epoch.specs.SentCluts.{all_entries as entries_of, row_by, named_cluts};
+ghost use Rattle.page_epoch.specs.Courses.{clut_after};
+ghost use Rattle.page_epoch.specs.Changes.{change_at, AreTicksOf, AreChanges};
+
+use crate::clut_course::{
+    Entry, EntryRows, all_entries, defined_rows, rows_of_clut, rows_of_entries,
+};
+use cue_list::{ColourRow, Items};
+use std::alloc::{AllocError, Global};
+
+/// A tick at which colours of a CLUT change.
+#[derive(Drop)]
+pub struct Change {
+    pub tick: u64,
+    /// The rows that give the entries of the CLUT their colours from then on, by depth and entry.
+    pub rows: Items<u32>,
+}
+
+/// A CLUT and its changes, in order.
+#[derive(Drop)]
+pub struct ClutChanges {
+    pub clut: u8,
+    pub changes: Items<Change>,
+}
+
+/// The ticks of these rows, each once and in order.
+fn ticks_of(alloc: Global, colours: &[ColourRow], own: &[u32]) -> Result<Vec<u64>, AllocError>
+    requires { All (λ place. place < length colours.now) own.now }
+    ensures { IfOk result (λ ticks. AreTicksOf colours.now own.now ticks.items) }
+{
+    let mut ticks = Vec::new(alloc);
+    for place in own {
+        ticks.push(colours[*place as usize].tick)?;
+    }
+    ticks.sort()?;
+    ticks.dedup();
+    Ok(ticks)
+}
+
+/// The changes of a CLUT at these ticks, from the rows of its entries.
+fn changes_at(
+    alloc: Global,
+    colours: &[ColourRow],
+    entries: &[EntryRows],
+    ticks: &[u64],
+) -> Result<Items<Change>, AllocError>
+    requires { All (λ entry. All (λ place. place < length colours.now) entry.rows) entries.now }
+    ensures { IfOk result (λ changes. changes ≡ map (change_at colours.now entries.now) ticks.now) }
+{
+    let mut changes = Vec::new(alloc);
+    for tick in ticks {
+        changes.push(Change {
+            tick: *tick,
+            rows: defined_rows(alloc, colours, entries, *tick)?,
+        })?;
+    }
+    Ok(Items::new(changes))
+}
+
+/// A CLUT and its changes.
+fn changes_of(
+    alloc: Global,
+    colours: &[ColourRow],
+    entries: &[Entry],
+    clut: u8,
+) -> Result<ClutChanges, AllocError>
+    requires few { length colours.now ≤ 8192 }
+    requires entries { entries.now ≡ entries_of }
+    ensures clut { IfOk result (λ changes. changes.clut ≡ clut) }
+    ensures changes { IfOk result (AreChanges colours.now) }
+{
+    let own = rows_of_clut(alloc, colours, clut)?;
+    let rows = rows_of_entries(alloc, colours, own.as_slice(), entries)?;
+    let ticks = ticks_of(alloc, colours, own.as_slice())?;
+    let changes = changes_at(alloc, colours, rows.as_slice(), &ticks)?;
+    Ok(ClutChanges { clut, changes })
+}
+
+/// Whether some row is of the CLUT.
+fn is_named(colours: &[ColourRow], clut: u8) -> bool
+    ensures { result ≡ list_any (λ row. row.clut == clut) colours.now }
+{
+    colours.iter().any(|row| row.clut == clut)
+}
+
+/// How many numbers of CLUTs there are.
+const CLUTS: u32 = 256;
+
+/// The CLUTs that colour rows name, and their changes, by their numbers.
+pub fn all_changes(alloc: Global, colours: &[ColourRow]) -> Result<Items<ClutChanges>, AllocError>
+    requires { length colours.now ≤ 8192 }
+    ensures named { IfOk result (λ cluts. map (λ clut. clut.clut) cluts ≡ named_cluts colours.now) }
+    ensures changes { IfOk result (All (AreChanges colours.now)) }
+{
+    let entries = all_entries(alloc)?;
+    let mut cluts = Vec::new(alloc);
+    for clut in 0..CLUTS {
+        if is_named(colours, clut as u8) {
+            cluts.push(changes_of(alloc, colours, entries.as_slice(), clut as u8)?)?;
+        }
+    }
+    Ok(Items::new(cluts))
+}
+
+/// How many of these changes, which are in order, have come by a tick.
+pub fn count_by_tick(changes: &[Change], tick: u64) -> usize
+    ensures few { result ≤ length changes.now }
+    ensures point { IsNonDecreasingBy (λ change. change.tick) changes.now → IsPartitionPoint (λ change. nat_le change.tick tick ≡ true) (λ change. nat_le change.tick tick ≡ false) changes.now result }
+{
+    changes.partition_point(|change| change.tick <= tick)
+}
+
+/// The version of a CLUT one instant on, where it has one.
+pub fn next_version(changed: bool, version: Option<u8>) -> Option<u8>
+    requires { IfSome version (λ version. version < 16) }
+    ensures { result ≡ clut_after changed version }
+{
+    match version {
+        _ if !changed => version,
+        None => Some(0),
+        Some(version) => Some((version + 1) % 16),
+    }
+}
