@@ -20,3 +20,6 @@ pub use fault::PlanFault;
 pub use plan::Plan;
 pub use planned_set::{PlannedSet, SentClut, SentRegion};
 pub use stream_syntax::State;
+
+#[cfg(test)]
+mod tests;

@@ -107,7 +107,7 @@ pub fn step_regions(
     })
 }
 
-/// Takes a region to the next instant, or to the first one of its epoch.
+/// Takes a region to the next instant, or to the first one of its epoch. A cue that has started stays so.
 fn step_course(
     alloc: Global,
     cues: &[Cue],
