@@ -126,6 +126,7 @@ fn step_course(
     let begun = count_begun(begins, tick);
     let old = course.live.as_slice();
     let live = live_after(alloc, cues, begins, old, course.begun, begun, tick)?;
+    // No fewer have begun than at the instant before, whatever the tick: the course then keeps its bounds.
     Ok(course.after(first, begun.max(course.begun), live))
 }
 
