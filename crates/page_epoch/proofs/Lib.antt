@@ -1,7 +1,7 @@
 pub mod ChangeLaws
 pub mod ClutLaws
 pub mod CountLaws
-pub mod CourseLaws
+pub mod WalkLaws
 pub mod InstantLaws
 pub mod ListLaws
 pub mod LiveLaws

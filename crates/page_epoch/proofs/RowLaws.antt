@@ -1,17 +1,15 @@
 -- The rows that give the entries of a CLUT their colours.
-use Rattle.std.proofs.Common.{◌≡◌, ◌∙◌, ℕ, ◌==◌, ◌<◌, ◌≤◌, nat_le, Bool, true, false, cond, List, [], ◌∷◌, ◌++◌, map, length, get_or, All, Option, None, Some, ap, arith}
+use Rattle.std.proofs.Common.{◌≡◌, ◌∙◌, ℕ, ◌==◌, ◌<◌, ◌≤◌, nat_le, Bool, true, false, cond, List, [], ◌∷◌, ◌++◌, length, get_or, All, Option, None, Some, ap, arith}
 use Rattle.std.specs.List.{flat_map, range_with_len}
 use Rattle.std.specs.Option.{option_to_list}
 use Rattle.std.proofs.lemmas.List.{length-map, length-append}
-use Rattle.std.proofs.lemmas.List.Elements.{All-head, All-tail, All-filter, All-map}
+use Rattle.std.proofs.lemmas.List.Elements.{All-head, All-tail, All-filter}
 use Rattle.std.proofs.lemmas.List.FromFn.{length-range_with_len}
 use Rattle.sub_base.specs.declared.depth.Depth.TheVariants.{Two, Four, Eight}
 use Rattle.sub_base.specs.declared.depth.Depth.{Depth}
 use Rattle.sub_base.specs.Depth.{code_count}
 use Rattle.cue_list.specs.declared.epoch.ColourRow.{ColourRow}
-use Rattle.page_epoch.specs.declared.clut_course.Entry.{Entry}
-use Rattle.page_epoch.specs.declared.clut_course.EntryRows.{EntryRows}
-use Rattle.page_epoch.specs.Courses.{entry_rows}
+use Rattle.page_epoch.specs.declared.clut_rows.Entry.{Entry}
 use Rattle.page_epoch.specs.SentCluts.{row_at, entries_at, all_entries, rows_of_clut, rows_of_entry, is_of_entry, later_place, latest_place, by_tick, row_by, defined_rows}
 use Rattle.page_epoch.proofs.ListLaws.{All-none, All-one, All-pieces, one_each, kept_within, filter_agree, filter_none, flat_map_none}
 
@@ -57,11 +55,6 @@ own_within colours clut = kept_within (λ place. (row_at colours place).clut == 
 
 pub defined_within : (colours : List ColourRow) (clut tick : ℕ) → All (λ place. place < length colours) (defined_rows colours clut tick)
 defined_within colours clut tick = defined_in (λ place. place < length colours) colours clut tick (own_within colours clut)
-
-pub entries_within : (colours : List ColourRow) (own : List ℕ) (entries : List Entry) → All (λ place. place < length colours) own → All (λ entry. All (λ place. place < length colours) entry.rows) (map (entry_rows colours own) entries)
-entries_within colours own entries within =
-    All-map (λ (entry : EntryRows). All (λ place. place < length colours) entry.rows) (entry_rows colours own) entries
-    (λ k d h. All-filter (λ place. is_of_entry (get_or entries k d) (row_at colours place)) (λ place. place < length colours) own within)
 
 option_few : (found : Option ℕ) → length (option_to_list found) ≤ 1
 option_few None = omega arith

@@ -1,18 +1,16 @@
 -- What is kept of an epoch from instant to instant. The instants so far are given, the latest first.
-use Rattle.std.specs.Prelude.{ℕ, ◌+◌, ◌-◌, ◌%◌, ◌==◌, ◌<◌, ◌≤◌, nat_le, All, Bool, true, false, not, ◌&&◌, if◌then◌else◌, List, [], ◌∷◌, length, map, filter, count_by, Option, Some, None, ⊤}
+use Rattle.std.specs.Prelude.{ℕ, ◌+◌, ◌-◌, ◌%◌, ◌==◌, ◌<◌, ◌≤◌, All, Bool, true, false, not, ◌&&◌, if◌then◌else◌, List, [], ◌∷◌, length, map, count_by, Option, Some, None, ⊤}
 use Rattle.cue_list.specs.declared.epoch.Cue.{Cue}
 use Rattle.cue_list.specs.declared.epoch.ColourRow.{ColourRow}
 use Rattle.page_epoch.specs.declared.region_course.RegionCues.{RegionCues}
 use Rattle.page_epoch.specs.declared.region_course.RegionCourse.{RegionCourse}
-use Rattle.page_epoch.specs.declared.clut_course.Entry.{Entry}
-use Rattle.page_epoch.specs.declared.clut_course.EntryRows.{EntryRows}
 use Rattle.page_epoch.specs.declared.clut_changes.ClutChanges.{ClutChanges}
 use Rattle.std.specs.List.{flat_map}
 use Rattle.std.specs.Option.{IfSome}
 use Rattle.page_epoch.specs.declared.planned_set.SentClut.{SentClut}
 use Rattle.page_epoch.specs.Live.{has_some, begun_by, AreBegins}
 use Rattle.page_epoch.specs.SentRegions.{is_risen, region_version, live_before, held}
-use Rattle.page_epoch.specs.SentCluts.{is_of_entry, is_changed, row_at, later_place, sent_clut}
+use Rattle.page_epoch.specs.SentCluts.{is_changed, sent_clut}
 
 -- how many cues of a region had started at the instant before
 abbrev pub begun_before : List Cue → ℕ → List ℕ → ℕ
@@ -73,10 +71,6 @@ region_after first course begun new = record {
   held = held_after new course.held;
 }
 
--- the rows of these that set an entry
-abbrev pub entry_rows : List ColourRow → List ℕ → Entry → EntryRows
-entry_rows colours own entry = record { rows = filter (λ place. is_of_entry entry (row_at colours place)) own }
-
 -- the version of a CLUT that changed so often
 abbrev pub version_of_count : ℕ → Option ℕ
 version_of_count count = if count == 0 then None else Some ((count - 1) % 16)
@@ -92,11 +86,6 @@ next_version (Some version) = Some ((version + 1) % 16)
 
 abbrev pub clut_after : Bool → Option ℕ → Option ℕ
 clut_after changed course = if changed then next_version course else course
-
--- of a row and the latest of those after it, the one that counts at a tick
-abbrev pub latest_step : List ColourRow → ℕ → ℕ → Option ℕ → Option ℕ
-latest_step colours tick place found =
-    if nat_le (row_at colours place).tick tick then Some (later_place colours place found) else found
 
 -- the versions of CLUTs after these instants
 abbrev pub clut_courses : List ColourRow → List ℕ → List ClutChanges → List (Option ℕ)

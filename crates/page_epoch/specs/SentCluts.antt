@@ -7,7 +7,7 @@ use Rattle.sub_base.specs.declared.depth.Depth.{Depth}
 use Rattle.sub_base.specs.declared.depth.Depth.TheVariants.{Two, Four, Eight}
 use Rattle.cue_list.specs.declared.epoch.ColourRow.{ColourRow}
 use Rattle.page_epoch.specs.declared.planned_set.SentClut.{SentClut}
-use Rattle.page_epoch.specs.declared.clut_course.Entry.{Entry}
+use Rattle.page_epoch.specs.declared.clut_rows.Entry.{Entry}
 use Rattle.page_epoch.specs.Live.{places_below}
 
 -- no colour row

@@ -1,12 +1,11 @@
-ghost use Rattle.std.specs.Prelude.{◌≡◌, ℕ, ◌==◌, ◌<◌, ◌≤◌, nat_le, true, false, length, map, All, IfOk, IfSome};
-ghost use Rattle.std.specs.List.{flat_map, list_any};
-ghost use Rattle.std.specs.List.Sorted.{IsNonDecreasingBy, IsPartitionPoint};
-ghost use Rattle.page_epoch.specs.SentCluts.{all_entries as entries_of, row_by, named_cluts};
-ghost use Rattle.page_epoch.specs.Courses.{clut_after};
+ghost use Rattle.std.specs.Prelude.{◌≡◌, ℕ, ◌==◌, ◌<◌, ◌≤◌, nat_le, true, false, length, map, All, IfOk};
+ghost use Rattle.std.specs.List.{list_any};
+ghost use Rattle.std.specs.List.Sorted.{IsNonDecreasingBy, IsPartitionPoint, IsStrictlyIncreasing};
+ghost use Rattle.page_epoch.specs.SentCluts.{row_at, all_entries as entries_of, named_cluts};
 ghost use Rattle.page_epoch.specs.Changes.{change_at, AreTicksOf, AreChanges};
 
-use crate::clut_course::{
-    Entry, EntryRows, all_entries, defined_rows, rows_of_clut, rows_of_entries,
+use crate::clut_rows::{
+    Entry, all_entries, defined_rows, in_order, no_rows, rows_by, rows_of_clut, take_in,
 };
 use cue_list::{ColourRow, Items};
 use std::alloc::{AllocError, Global};
@@ -40,22 +39,30 @@ fn ticks_of(alloc: Global, colours: &[ColourRow], own: &[u32]) -> Result<Vec<u64
     Ok(ticks)
 }
 
-/// The changes of a CLUT at these ticks, from the rows of its entries.
+/// The changes of a CLUT at these ticks, from its rows in order of theirs: each row is taken in once.
 fn changes_at(
     alloc: Global,
     colours: &[ColourRow],
-    entries: &[EntryRows],
+    entries: &[Entry],
+    rows: &[u32],
     ticks: &[u64],
 ) -> Result<Items<Change>, AllocError>
-    requires { All (λ entry. All (λ place. place < length colours.now) entry.rows) entries.now }
-    ensures { IfOk result (λ changes. changes ≡ map (change_at colours.now entries.now) ticks.now) }
+    requires within { All (λ place. place < length colours.now) rows.now }
+    requires rows { IsNonDecreasingBy (λ place. (row_at colours.now place).tick) rows.now }
+    requires ticks { IsStrictlyIncreasing ticks.now }
+    ensures { IfOk result (λ changes. changes ≡ map (change_at colours.now entries.now rows.now) ticks.now) }
 {
+    let mut current = no_rows(alloc, entries)?;
+    let mut come = 0;
     let mut changes = Vec::new(alloc);
     for tick in ticks {
+        let next = rows_by(colours, rows, *tick);
+        take_in(&mut current, colours, entries, rows, come, next);
         changes.push(Change {
             tick: *tick,
-            rows: defined_rows(alloc, colours, entries, *tick)?,
+            rows: defined_rows(alloc, &current)?,
         })?;
+        come = next;
     }
     Ok(Items::new(changes))
 }
@@ -73,9 +80,9 @@ fn changes_of(
     ensures changes { IfOk result (AreChanges colours.now) }
 {
     let own = rows_of_clut(alloc, colours, clut)?;
-    let rows = rows_of_entries(alloc, colours, own.as_slice(), entries)?;
+    let rows = in_order(alloc, colours, own.as_slice())?;
     let ticks = ticks_of(alloc, colours, own.as_slice())?;
-    let changes = changes_at(alloc, colours, rows.as_slice(), &ticks)?;
+    let changes = changes_at(alloc, colours, entries, &rows, &ticks)?;
     Ok(ClutChanges { clut, changes })
 }
 
@@ -106,21 +113,9 @@ pub fn all_changes(alloc: Global, colours: &[ColourRow]) -> Result<Items<ClutCha
 }
 
 /// How many of these changes, which are in order, have come by a tick.
-pub fn count_by_tick(changes: &[Change], tick: u64) -> usize
+pub fn changes_by(changes: &[Change], tick: u64) -> usize
     ensures few { result ≤ length changes.now }
     ensures point { IsNonDecreasingBy (λ change. change.tick) changes.now → IsPartitionPoint (λ change. nat_le change.tick tick ≡ true) (λ change. nat_le change.tick tick ≡ false) changes.now result }
 {
     changes.partition_point(|change| change.tick <= tick)
-}
-
-/// The version of a CLUT one instant on, where it has one.
-pub fn next_version(changed: bool, version: Option<u8>) -> Option<u8>
-    requires { IfSome version (λ version. version < 16) }
-    ensures { result ≡ clut_after changed version }
-{
-    match version {
-        _ if !changed => version,
-        None => Some(0),
-        Some(version) => Some((version + 1) % 16),
-    }
 }

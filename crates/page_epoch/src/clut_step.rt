@@ -1,12 +1,12 @@
-ghost use Rattle.std.specs.Prelude.{◌≡◌, ℕ, ◌+◌, ◌*◌, ◌++◌, ◌∷◌, ◌==◌, ◌<◌, ◌≤◌, ◌^◌, true, false, List, length, All, IfOk, unwrap_or};
+ghost use Rattle.std.specs.Prelude.{◌≡◌, ℕ, ◌+◌, ◌*◌, ◌++◌, ◌∷◌, ◌==◌, ◌<◌, ◌≤◌, ◌^◌, true, false, List, length, All, IfOk, IfSome, unwrap_or};
 ghost use Rattle.std.specs.Option.{option_to_list};
 ghost use Rattle.page_epoch.specs.SentCluts.{row_at, clut_with as with_rows_of, rows_from, defined_rows as defined_rows_of, is_changed as is_changed_at};
 ghost use Rattle.page_epoch.specs.Changes.{AreChanges};
 ghost use Rattle.page_epoch.specs.Courses.{clut_after, clut_courses, IsSmallVersion, sent_of, row_nodes};
 ghost use Rattle.page_epoch.specs.Needs.{clut_nodes};
 
-use crate::clut_changes::{Change, ClutChanges, count_by_tick, next_version};
-use crate::clut_course::rows_of_tick;
+use crate::clut_changes::{Change, ClutChanges, changes_by};
+use crate::clut_rows::rows_of_tick;
 use crate::planned_set::SentClut;
 use crate::region_course::push_some;
 use cue_list::{ColourRow, Items};
@@ -76,6 +76,18 @@ fn sent_rows(
     rows_of_tick(alloc, colours, change.rows.as_slice(), tick)
 }
 
+/// The version of a CLUT one instant on, where it has one.
+fn next_version(changed: bool, version: Option<u8>) -> Option<u8>
+    requires { IfSome version (λ version. version < 16) }
+    ensures { result ≡ clut_after changed version }
+{
+    match version {
+        _ if !changed => version,
+        None => Some(0),
+        Some(version) => Some((version + 1) % 16),
+    }
+}
+
 /// Takes a CLUT to the next instant.
 fn step_clut(
     alloc: Global,
@@ -94,7 +106,7 @@ fn step_clut(
     ensures few { IfOk result (λ step. step.nodes ≤ 277) }
 {
     let changes = clut.changes.as_slice();
-    let count = count_by_tick(changes, tick);
+    let count = changes_by(changes, tick);
     if count == 0 {
         return Ok(ClutStep {
             version,

@@ -3,7 +3,7 @@
 #![tactic(auto)]
 
 mod clut_changes;
-mod clut_course;
+mod clut_rows;
 mod clut_step;
 mod course;
 mod cue_ticks;

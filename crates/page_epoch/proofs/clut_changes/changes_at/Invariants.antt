@@ -1,6 +1,5 @@
-use Rattle.std.proofs.Common.{◌≡◌, map, take}
-use Rattle.page_epoch.specs.Changes.{change_at}
+use Rattle.page_epoch.proofs.WalkLaws.{HaveWalked}
 use Rattle.page_epoch.proofs.clut_changes.changes_at.Given as goal
 
 abbrev pub invariant-loop-tick : goal.invariant-loop-tick
-invariant-loop-tick l = l.changes.items ≡ map (change_at l.colours l.entries) (take l.tick-index l.ticks)
+invariant-loop-tick l = HaveWalked l.colours l.entries l.rows l.ticks l.tick-index l.come l.current.items l.changes.items

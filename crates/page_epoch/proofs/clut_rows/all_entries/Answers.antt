@@ -1,7 +1,7 @@
 use Rattle.std.proofs.Common.{◌∙◌}
 use Rattle.page_epoch.specs.SentCluts.{all_entries}
 use Rattle.page_epoch.proofs.ListLaws.{three_joined}
-use Rattle.page_epoch.proofs.clut_course.all_entries.Goals as goal
+use Rattle.page_epoch.proofs.clut_rows.all_entries.Goals as goal
 
 pub returns : goal.returns
 unfolding all_entries

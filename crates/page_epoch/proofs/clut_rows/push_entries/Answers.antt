@@ -1,10 +1,10 @@
 use Rattle.std.proofs.Common.{◌≡◌, ◌∙◌, ◌++◌, ℕ, ap, map, arith}
 use Rattle.std.specs.List.{range_with_len}
 use Rattle.sub_base.specs.Depth.{code_count}
-use Rattle.page_epoch.specs.declared.clut_course.Entry.{Entry}
+use Rattle.page_epoch.specs.declared.clut_rows.Entry.{Entry}
 use Rattle.page_epoch.specs.SentCluts.{entries_at}
 use Rattle.page_epoch.proofs.ListLaws.{mapped_more}
-use Rattle.page_epoch.proofs.clut_course.push_entries.Goals as goal
+use Rattle.page_epoch.proofs.clut_rows.push_entries.Goals as goal
 
 pub loop-number-preserved : goal.loop-number-preserved
 loop-number-preserved c =

@@ -1,8 +1,8 @@
 use Rattle.std.proofs.Common.{◌∙◌, ◌==◌, ℕ, ap}
 use Rattle.page_epoch.specs.SentCluts.{row_at}
 use Rattle.page_epoch.proofs.ListLaws.{keep_place, pass_place, equal, unequal}
-use Rattle.page_epoch.proofs.clut_course.rows_of_clut.Goals as goal
-use Rattle.page_epoch.proofs.clut_course.rows_of_clut.Goals.{then-row-clut+in_ok-push, else-row-clut}
+use Rattle.page_epoch.proofs.clut_rows.rows_of_clut.Goals as goal
+use Rattle.page_epoch.proofs.clut_rows.rows_of_clut.Goals.{then-row-clut+in_ok-push, else-row-clut}
 
 pub loop-place-preserved : goal.loop-place-preserved
 loop-place-preserved c =

@@ -1,7 +1,7 @@
 use Rattle.std.proofs.Common.{nat_le, rules}
 use Rattle.std.proofs.lemmas.List.Sorted.{IsPartitionPoint-from_clause, IsPartitionedBy-leb}
 use Rattle.page_epoch.specs.declared.clut_changes.Change.{Change}
-use Rattle.page_epoch.proofs.clut_changes.count_by_tick.Goals as goal
+use Rattle.page_epoch.proofs.clut_changes.changes_by.Goals as goal
 
 pub returns-clause-point : goal.returns-clause-point
 returns-clause-point c = λ rise.

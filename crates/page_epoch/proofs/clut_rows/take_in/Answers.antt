@@ -1,0 +1,12 @@
+use Rattle.std.proofs.Common.{refl, arith, get_or}
+use Rattle.std.proofs.lemmas.List.{get_or_default}
+use Rattle.page_epoch.specs.SentCluts.{row_at}
+use Rattle.page_epoch.proofs.WalkLaws.{current_more}
+use Rattle.page_epoch.proofs.clut_rows.take_in.Goals as goal
+
+pub loop-i-preserved : goal.loop-i-preserved
+loop-i-preserved c =
+    let colours = c.args.colours.now in
+    let place = get_or c.args.rows.now c.loop-i.i 0 in
+    current_more colours c.args.entries.now c.args.rows.now c.loop-i.i place (row_at colours place) c.loop-i.current.items c.note.new.current.items c.requires.rows (omega (arith, c.requires.few, c.loop-i-test.true))
+    (get_or_default c.args.rows.now c.loop-i.i 0 place (omega (arith, c.requires.few, c.loop-i-test.true))) refl c.loop-i.invariant c.note.ensures.long c.note.ensures.each

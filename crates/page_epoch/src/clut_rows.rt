@@ -1,0 +1,172 @@
+ghost use Rattle.std.specs.Prelude.{◌≡◌, ℕ, ◌+◌, ◌++◌, ◌==◌, ◌<◌, ◌≤◌, ◌^◌, nat_le, true, false, List, [], length, map, take, filter, All, IfOk, OnOk, Some, None, if◌then◌else◌, slice_index_or as get_or};
+ghost use Rattle.std.specs.List.{flat_map};
+ghost use Rattle.std.specs.List.Sorted.{IsNonDecreasingBy, IsPartitionPoint};
+ghost use Rattle.std.specs.Option.{option_to_list};
+ghost use Rattle.cue_list.specs.declared.epoch.ColourRow.{ColourRow};
+ghost use Rattle.page_epoch.specs.declared.clut_rows.Entry.{Entry};
+ghost use Rattle.page_epoch.specs.SentCluts.{row_at, entries_at, all_entries as entries_of, rows_of_clut as clut_rows_of, is_of_entry as is_of};
+ghost use Rattle.page_epoch.specs.Changes.{current_of, AreInOrder};
+
+use cue_list::{ColourRow, Items};
+use std::alloc::{AllocError, Global};
+use sub_base::Depth;
+
+/// An entry of a CLUT: the depth of its pixel codes, and its number.
+#[derive(Clone, Copy, Debug, PartialEq, Eq)]
+pub struct Entry {
+    pub depth: Depth,
+    pub number: u8,
+}
+
+/// Appends the entries of a depth.
+fn push_entries(entries: &mut Vec<Entry>, depth: Depth) -> Result<(), AllocError>
+    ensures { OnOk result (entries.new.items ≡ entries.old.items ++ entries_at depth) }
+{
+    for number in 0..depth.code_count() {
+        entries.push(Entry {
+            depth,
+            number: number as u8,
+        })?;
+    }
+    Ok(())
+}
+
+/// The entries of a CLUT, by depth and number.
+pub fn all_entries(alloc: Global) -> Result<Items<Entry>, AllocError>
+    ensures { IfOk result (λ entries. entries ≡ entries_of) }
+{
+    let mut entries = Vec::new(alloc);
+    push_entries(&mut entries, Depth::Two)?;
+    push_entries(&mut entries, Depth::Four)?;
+    push_entries(&mut entries, Depth::Eight)?;
+    Ok(Items::new(entries))
+}
+
+/// The places of the rows of a CLUT.
+pub fn rows_of_clut(
+    alloc: Global,
+    colours: &[ColourRow],
+    clut: u8,
+) -> Result<Items<u32>, AllocError>
+    requires few { length colours.now ≤ 8192 }
+    ensures { IfOk result (λ own. own ≡ clut_rows_of colours.now clut) }
+{
+    let mut own = Vec::new(alloc);
+    for (place, row) in colours.iter().enumerate() {
+        if row.clut == clut {
+            own.push(place as u32)?;
+        }
+    }
+    Ok(Items::new(own))
+}
+
+/// Whether a row sets that entry of its CLUT.
+fn is_of_entry(entry: &Entry, row: &ColourRow) -> bool
+    ensures { result ≡ is_of entry.now row.now }
+{
+    row.depth.bits() == entry.depth.bits() && row.entry == entry.number
+}
+
+/// The tick of the row at a place.
+fn tick_of(colours: &[ColourRow], place: u32) -> u64
+    ensures { result ≡ (row_at colours.now place).tick }
+{
+    match colours.get(place as usize) {
+        Some(row) => row.tick,
+        None => 0,
+    }
+}
+
+/// These rows in order of their ticks, and rows of one tick in the order that they have.
+pub fn in_order(alloc: Global, colours: &[ColourRow], own: &[u32]) -> Result<Vec<u32>, AllocError>
+    ensures { IfOk result (λ rows. AreInOrder colours.now own.now rows.items) }
+{
+    let mut rows = Vec::from_slice(alloc, own)?;
+    rows.sort_by_key(|place| tick_of(colours, *place))?;
+    Ok(rows)
+}
+
+/// How many of these rows, which are in order of their ticks, have come by a tick.
+pub fn rows_by(colours: &[ColourRow], rows: &[u32], tick: u64) -> usize
+    ensures few { result ≤ length rows.now }
+    ensures point { IsNonDecreasingBy (λ place. (row_at colours.now place).tick) rows.now → IsPartitionPoint (λ place. nat_le (row_at colours.now place).tick tick ≡ true) (λ place. nat_le (row_at colours.now place).tick tick ≡ false) rows.now result }
+{
+    rows.partition_point(|place| tick_of(colours, *place) <= tick)
+}
+
+/// The current rows of entries before the first change: none.
+pub fn no_rows(alloc: Global, entries: &[Entry]) -> Result<Vec<Option<u32>>, AllocError>
+    ensures { IfOk result (λ current. (colours : List ColourRow) → current.items ≡ current_of colours entries.now []) }
+{
+    let mut current = Vec::new(alloc);
+    for _entry in entries {
+        current.push(None)?;
+    }
+    Ok(current)
+}
+
+/// Makes a row the current one of its entry.
+fn note(current: &mut Vec<Option<u32>>, entries: &[Entry], row: &ColourRow, place: u32)
+    requires { length current.old.items ≡ length entries.now }
+    ensures long { length current.new.items ≡ length current.old.items }
+    ensures each { (k : ℕ) (d : Entry) → k < length entries.now → get_or current.new.items k None ≡ (if is_of (get_or entries.now k d) row.now then Some place else get_or current.old.items k None) }
+{
+    for (i, entry) in entries.iter().enumerate() {
+        if is_of_entry(entry, row) {
+            current[i] = Some(place);
+        }
+    }
+}
+
+/// Takes in the rows of these that have come since, in order of their ticks: the later one counts.
+pub fn take_in(
+    current: &mut Vec<Option<u32>>,
+    colours: &[ColourRow],
+    entries: &[Entry],
+    rows: &[u32],
+    come: usize,
+    next: usize,
+)
+    requires within { All (λ place. place < length colours.now) rows.now }
+    requires rows { IsNonDecreasingBy (λ place. (row_at colours.now place).tick) rows.now }
+    requires order { come ≤ next }
+    requires few { next ≤ length rows.now }
+    requires current { current.old.items ≡ current_of colours.now entries.now (take come rows.now) }
+    ensures { current.new.items ≡ current_of colours.now entries.now (take next rows.now) }
+{
+    for i in come..next {
+        note(current, entries, &colours[rows[i] as usize], rows[i]);
+    }
+}
+
+/// The rows that there are among the current ones.
+pub fn defined_rows(alloc: Global, current: &[Option<u32>]) -> Result<Items<u32>, AllocError>
+    ensures { IfOk result (λ rows. rows ≡ flat_map option_to_list current.now) }
+{
+    let mut rows = Vec::new(alloc);
+    for found in current {
+        if let Some(place) = found {
+            rows.push(*place)?;
+        }
+    }
+    Ok(Items::new(rows))
+}
+
+/// The rows of these that have that tick.
+pub fn rows_of_tick(
+    alloc: Global,
+    colours: &[ColourRow],
+    rows: &[u32],
+    tick: u64,
+) -> Result<Items<u32>, AllocError>
+    requires { All (λ place. place < length colours.now) rows.now }
+    ensures { IfOk result (λ found. found ≡ filter (λ place. (row_at colours.now place).tick == tick) rows.now) }
+{
+    let mut found = Vec::new(alloc);
+    for place in rows {
+        if colours[*place as usize].tick == tick {
+            found.push(*place)?;
+        }
+    }
+    Ok(Items::new(found))
+}
