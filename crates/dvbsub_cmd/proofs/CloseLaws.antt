@@ -39,15 +39,7 @@ at_most start had now limit within given = grind arith
 given_at_most : (before now : Supplied) (packets : List (List ℕ)) (rest : List ℕ) → AreWithin before now packets rest → now.given ≤ counted before.given stream_limit
 given_at_most before now packets rest within = at_most before.given (188 * length packets + length rest) now.given stream_limit within.short within.count
 
--- the text that waits was written, or the sink failed
-pub closed_whole : (before now : Received) (old new : Buffered) (run : Status) → PutsOut before now old new [] → new.failed ≡ false → new.waits ≡ [] → Closes before now old run run
-closed_whole before now old new run puts well empty = λ start text. λ out.
-    let ended : IsPutOut start now new (text ++ []) = puts.extends start text out in
-    let sent : Sent start.written now.written new.waits (text ++ []) = ended.sent well in
-    let whole : sent.written ≡ text =
-    sym (append-nil sent.written) ∙ (ap (λ (w : List ℕ). sent.written ++ w) (sym empty) ∙ (sent.whole ∙ append-nil text)) in
-    inl (refl, subst (λ (l : List ℕ). Appends start.written now.written l) whole sent.appended)
-
+-- the sink failed
 pub closed_failed : (before now : Received) (old new : Buffered) (run : Status) → PutsOut before now old new [] → new.failed ≡ true → Closes before now old run (status.WriteFault which.Out)
 closed_failed before now old new run puts failed = λ start text. λ out.
     let ended : IsPutOut start now new (text ++ []) = puts.extends start text out in

@@ -37,20 +37,6 @@ shows_script profile pid page has_font before now script bytes below steps reads
       shown = λ epoch region cue picture sole tick. sole_cue_shown profile pid page script epoch region cue picture bytes free steps sole compiled tick;
     }
 
--- a command whose script could not be read was not done
-pub not_done : (has_font : Bool) (a b c d : Supplied) (holds : Type 0) (answer : Status) → IsInputCause has_font a b c d answer → OnDone answer holds
-not_done has_font a b c d holds (status.Done cut) cause = absurd cause
-not_done has_font a b c d holds status.Usage cause = tt
-not_done has_font a b c d holds (status.FontRefused fault) cause = tt
-not_done has_font a b c d holds (status.ScriptRefused fault) cause = tt
-not_done has_font a b c d holds (status.PlanRefused fault) cause = tt
-not_done has_font a b c d holds (status.ScheduleRefused row fault) cause = tt
-not_done has_font a b c d holds (status.StreamRefused packet fault) cause = tt
-not_done has_font a b c d holds (status.ReadFault which) cause = tt
-not_done has_font a b c d holds (status.WriteFault which) cause = tt
-not_done has_font a b c d holds status.Memory cause = tt
-not_done has_font a b c d holds (status.InputTooLong which) cause = tt
-
 -- a status whose line could not be written is not that a command was done
 untold_is_not_done : (command : Option Command) (before now : Shown) (run : Status) → IsShownBy command before now (untold run)
 untold_is_not_done None before now run = tt
