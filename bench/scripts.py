@@ -2,6 +2,7 @@
 
     python3 bench/scripts.py hour   > hour.csv      # an hour of cues of two lines, one every four seconds
     python3 bench/scripts.py limits > limits.csv    # 512 epochs, 4,096 cues and 8,192 colours over ten hours
+    python3 bench/scripts.py epoch  > epoch.csv     # as many cues and colours in one epoch, one region and one CLUT
 """
 import sys
 
@@ -31,4 +32,14 @@ def limits():
             print(f"cue,{begin},{begin + step},0,24,16,7,8,Cue {cue} of epoch {epoch}")
 
 
-{"hour": hour, "limits": limits}[sys.argv[1]]()
+def epoch():
+    print("origin,0\ndisplay,720,576\nrefresh,1\nepoch,900000\nregion,0,0,480,720,80,8,0")
+    step = 36_000 * SECOND // 8_300
+    for number in range(8_192):
+        print(f"colour,{900_000 + (number + 1) * step},0,8,{number % 256},100,128,128,0")
+    for number in range(4_096):
+        begin = 900_000 + 2 * number * step
+        print(f"cue,{begin},{begin + 2 * step},0,24,16,7,8,Cue {number}")
+
+
+{"hour": hour, "limits": limits, "epoch": epoch}[sys.argv[1]]()

@@ -1,5 +1,5 @@
-ghost use Rattle.std.specs.Prelude.{◌≡◌, ℕ, ◌+◌, ◌^◌, ◌<◌, ◌≤◌, List, [], ◌∷◌, IfOk, unwrap_or};
-ghost use Rattle.sub_base.specs.Pace.{pace_of, IsSending, IsSound};
+ghost use Rattle.std.specs.Prelude.{◌≡◌, ◌+◌, ◌^◌, ◌<◌, ◌≤◌, List, [], ◌∷◌, IfOk};
+ghost use Rattle.sub_base.specs.Pace.{pace_of, IsSending};
 ghost use Rattle.buffer_model.specs.Calls.{Call, Arrived, SetWhole, Dropped, done_of, measured, greatest, first_breach_of};
 ghost use Rattle.buffer_model.specs.Meters.{Stands};
 

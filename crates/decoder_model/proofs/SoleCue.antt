@@ -12,7 +12,7 @@ use Rattle.stream_syntax.specs.Segments.{SegmentValue, of_page, of_region, of_ob
 use Rattle.stream_syntax.specs.declared.page.State.TheVariants.{Normal, ModeChange}
 use Rattle.stream_syntax.specs.declared.region.RegionHead.{RegionHead}
 use Rattle.decoder_model.specs.Contents.{first_given}
-use Rattle.decoder_model.specs.Faults.{segment_fault, epoch_fault, too_deep_at, display_fault, display_in_force, page_fault, first_fault_by, region_changed, pixels_full, composition_fault, object_too_deep, fault_in_region, all_region_ids}
+use Rattle.decoder_model.specs.Faults.{epoch_fault, too_deep_at, display_fault, display_in_force, page_fault, first_fault_by, region_changed, pixels_full, composition_fault, object_too_deep, fault_in_region, all_region_ids}
 use Rattle.decoder_model.specs.Kept.{epoch_of, is_later, greatest}
 use Rattle.decoder_model.specs.Nodes.{pixel_bytes, region_ids, clut_ids, table_entries}
 use Rattle.decoder_model.specs.Pixels.{painted_listings}
@@ -84,9 +84,6 @@ pub record Fits (profile : Profile) (cue : Cue) : Type 0 where
   pub bottom_depth : too_deep_at cue.depth cue.bottom ≡ None
 
 -- ---- the first set
-
-no_segment_fault : (cue : Cue) → segment_fault (first_readings cue) ≡ None
-no_segment_fault cue = refl
 
 pub begins_epoch : (cue : Cue) → epoch_of (first_contents cue ∷ []) ≡ Some (first_contents cue ∷ [])
 unfolding epoch_of

@@ -2,8 +2,6 @@ ghost use Rattle.dvbsub_cmd.specs.Command.{command_of as command_of_words};
 ghost use Rattle.dvbsub_cmd.specs.Completeness.{IsComplete};
 ghost use Rattle.dvbsub_cmd.specs.Headline.{IsShownBy};
 ghost use Rattle.dvbsub_cmd.specs.Outcome.{HasCause, IsCaused, IsSecondKept, Tells};
-ghost use Rattle.dvbsub_cmd.specs.Shown.{Shown, Supplied, Received};
-ghost use Rattle.std.specs.Prelude.{◌≡◌, Some};
 
 use crate::command::{Command, command_of};
 use crate::compile::compile;

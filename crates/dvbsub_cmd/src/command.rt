@@ -1,9 +1,7 @@
 ghost use Rattle.std.specs.Prelude.{◌≡◌, ◌<◌, ◌≤◌, length, drop, IfSome, None};
 ghost use Rattle.std.specs.List.{list_all};
 ghost use Rattle.std.specs.Option.{option_or};
-ghost use Rattle.std.specs.Str.{bytes_eq};
-ghost use Rattle.sub_base.specs.Profile.{profile_of};
-ghost use Rattle.dvbsub_cmd.specs.Command.{command_of as command_of_words, compile_of as compile_of_words, expect_of as expect_of_words, font_place as font_place_of, has_word as has_word_at, is_above as is_tick_above, is_expect as is_expect_words, is_plain as is_plain_word, list_of as list_of_words, named_command, names_font as is_font_named, places_of, sending_profile as profile_of_word, tick_of, are_rising as are_ticks_rising, IsSending};
+ghost use Rattle.dvbsub_cmd.specs.Command.{command_of as command_of_words, compile_of as compile_of_words, expect_of as expect_of_words, font_place as font_place_of, has_word as has_word_at, is_above as is_tick_above, is_expect as is_expect_words, is_plain as is_plain_word, list_of as list_of_words, named_command, names_font as is_font_named, places_of, sending_profile as profile_of_word, are_rising as are_ticks_rising, IsSending};
 
 use sub_base::{ProfileName, Words, number_in};
 

@@ -1,10 +1,9 @@
-ghost use Rattle.std.specs.Prelude.{◌≡◌, ◌<◌, false, All, IfErr, IsSome, OnOk, length};
+ghost use Rattle.std.specs.Prelude.{◌≡◌, ◌<◌, false, IfErr, IsSome, OnOk, length};
 ghost use Rattle.sub_base.specs.Profile.{profile_of};
 ghost use Rattle.dvbsub_cmd.specs.CompileRefused.{IsRowAt};
 ghost use Rattle.dvbsub_cmd.specs.CompileOutcome.{IsCompileCause};
 ghost use Rattle.dvbsub_cmd.specs.Headline.{OnDone, ShowsScript};
 ghost use Rattle.dvbsub_cmd.specs.Sending.{Sends, IsRefusal, IsAmong, IsScheduleRefusal, plan_refusal};
-ghost use Rattle.dvbsub_cmd.specs.Shown.{Shown, Supplied, Received};
 
 use crate::read_script::read_script;
 use crate::slot_stream::{StreamFault, write_stream};
@@ -85,7 +84,7 @@ fn send<K: Sink>(
     script: &Script,
     out: &mut K,
 ) -> Result<(), SendFault>
-    requires pid { pid < 8192 }
+    requires pid { pid < 8191 }
     requires profile { IsSome (profile_of profile).step }
     ensures sent { OnOk result (Sends profile pid page script.now (K.written out.old) (K.written out.new)) }
     ensures refused { IfErr result (IsRefusal profile pid page script.now (K.written out.old) (K.written out.new) (K.faults out.old) (K.faults out.new)) }

@@ -1,8 +1,7 @@
-ghost use Rattle.std.specs.Prelude.{◌≡◌, ◌*◌, ◌<◌, ◌≤◌, false, length, vec_len, IfOk};
+ghost use Rattle.std.specs.Prelude.{◌≡◌, ◌*◌, ◌<◌, false, length, vec_len, IfOk};
 ghost use Rattle.dvbsub_cmd.specs.Command.{asked_ticks, tick_or_zero, word_at};
 ghost use Rattle.dvbsub_cmd.specs.ExpectOutcome.{IsExpectCause, authored_text, expect_text};
 ghost use Rattle.dvbsub_cmd.specs.Putting.{PutsOut};
-ghost use Rattle.dvbsub_cmd.specs.Shown.{Shown, Supplied, Received};
 
 use crate::picture_text::put_picture;
 use crate::read_script::read_script;

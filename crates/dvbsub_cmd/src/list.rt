@@ -1,15 +1,13 @@
-ghost use Rattle.std.specs.Prelude.{◌≡◌, ◌+◌, ◌*◌, ◌-◌, ◌/◌, ◌%◌, ◌<◌, ◌≤◌, List, ℕ, [], length, take, drop, slice_index_or, Some, IfOk, IfErr, OnErr, vec_len, false, OnOk, ◌^◌};
+ghost use Rattle.std.specs.Prelude.{◌≡◌, ◌+◌, ◌*◌, ◌/◌, ◌%◌, ◌<◌, ◌≤◌, ℕ, [], length, take, drop, slice_index_or, Some, IfErr, OnErr, false, OnOk, ◌^◌};
 ghost use Rattle.stream_syntax.specs.TransportPackets.{packet_fault};
 ghost use Rattle.std.specs.Io.{ReadsAtMost};
 ghost use Rattle.std.specs.Io.KnownBytes.{ReadConsumes};
 ghost use Rattle.std.specs.Simd.{first_chunks};
 ghost use Rattle.sub_base.specs.Counts.{HasRisen, CountsOnOk};
-ghost use Rattle.ts_packets.specs.Demuxing.{Demuxing, Stands};
+ghost use Rattle.ts_packets.specs.Demuxing.{Stands};
 ghost use Rattle.dvbsub_cmd.specs.Listing.{Lists};
 ghost use Rattle.dvbsub_cmd.specs.ListOutcome.{IsListCause};
 ghost use Rattle.dvbsub_cmd.specs.ListText.{unit_limit};
-ghost use Rattle.dvbsub_cmd.specs.Putting.{Buffered};
-ghost use Rattle.dvbsub_cmd.specs.Shown.{Supplied, Received};
 ghost use Rattle.dvbsub_cmd.specs.Walking.{IsEnd, Closes, EndsWith};
 
 use crate::list_packets::{Refused, list_packets};

@@ -5,7 +5,6 @@ ghost use Rattle.dvbsub_cmd.specs.ListLines.{loss_line as loss_line_of};
 ghost use Rattle.dvbsub_cmd.specs.Listing.{Lists};
 ghost use Rattle.dvbsub_cmd.specs.ListText.{AreEndLines};
 ghost use Rattle.dvbsub_cmd.specs.Putting.{PutsOut};
-ghost use Rattle.dvbsub_cmd.specs.Shown.{Received};
 
 use crate::list_lines::loss_line;
 use crate::list_units::list_unit;

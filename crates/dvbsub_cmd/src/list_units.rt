@@ -2,7 +2,6 @@ ghost use Rattle.std.specs.Prelude.{◌≡◌, ◌+◌, ◌<◌, ◌≤◌, ◌^
 ghost use Rattle.stream_syntax.specs.Tests.{byte_at, word_at};
 ghost use Rattle.dvbsub_cmd.specs.ListText.{AreSegmentLines, AreUnitLines, IsSegmentLine, ends_segments as ends_segments_of};
 ghost use Rattle.dvbsub_cmd.specs.Putting.{PutsOut};
-ghost use Rattle.dvbsub_cmd.specs.Shown.{Received};
 
 use crate::line::Line;
 use crate::list_lines::{fault_line, pes_line, segment_line, unit_line};

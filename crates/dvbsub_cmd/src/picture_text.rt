@@ -1,9 +1,8 @@
-ghost use Rattle.std.specs.Prelude.{◌≡◌, ◌+◌, ◌*◌, ◌<◌, ◌≤◌, ◌∷◌, ◌++◌, [], codes, drop, length, map, slice_index_or};
-ghost use Rattle.std.specs.List.{flat_map, join_with_byte, range_with_len};
+ghost use Rattle.std.specs.Prelude.{◌≡◌, ◌+◌, ◌*◌, ◌≤◌, ◌∷◌, drop, length, slice_index_or};
+ghost use Rattle.std.specs.List.{flat_map, range_with_len};
 ghost use Rattle.sub_base.specs.Colour.{clear};
-ghost use Rattle.dvbsub_cmd.specs.PictureText.{is_clear as is_clear_plane, is_same_colour as is_same, runs_of, run_text, row_line, plane_row, clear_line as clear_line_of, sides_line as sides_line_of, run_piece, picture_text};
+ghost use Rattle.dvbsub_cmd.specs.PictureText.{is_clear as is_clear_plane, is_same_colour as is_same, runs_of, row_line, plane_row, clear_line as clear_line_of, sides_line as sides_line_of, run_piece, picture_text};
 ghost use Rattle.dvbsub_cmd.specs.Putting.{PutsOut};
-ghost use Rattle.dvbsub_cmd.specs.Shown.{Received};
 
 use crate::line::Line;
 use crate::list_lines::push_hex;

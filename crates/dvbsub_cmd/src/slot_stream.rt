@@ -1,4 +1,4 @@
-ghost use Rattle.std.specs.Prelude.{◌≡◌, ◌+◌, ◌-◌, ◌*◌, ◌%◌, ◌<◌, ◌≤◌, ◌++◌, ◌↔◌, List, Option, ℕ, [], length, map, IsTrue, IfOk, OnOk, OnErr, IfErr, All, ◌^◌, slice_index, vec_len};
+ghost use Rattle.std.specs.Prelude.{◌≡◌, ◌+◌, ◌%◌, ◌<◌, ◌≤◌, ◌++◌, ◌↔◌, List, Option, ℕ, [], length, map, IsTrue, IfOk, OnOk, OnErr, IfErr, All, ◌^◌, vec_len};
 ghost use Rattle.std.specs.List.Sorted.{IsStrictlyIncreasing};
 ghost use Rattle.std.specs.Io.KnownBytes.{Appends, Keeps};
 ghost use Rattle.sub_base.specs.Counts.{HasRisen};

@@ -1,6 +1,5 @@
 ghost use Rattle.std.specs.Prelude.{◌≡◌, ◌+◌, ◌≤◌, ◌++◌, ◌<◌, ◌↔◌, [], length, true, false, IsTrue, IfOk, vec_len};
 ghost use Rattle.dvbsub_cmd.specs.Putting.{Buffered, PutsOut};
-ghost use Rattle.dvbsub_cmd.specs.Shown.{Received};
 
 use std::alloc::{AllocError, Global};
 use std::marker::Model;

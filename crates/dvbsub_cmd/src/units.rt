@@ -1,4 +1,4 @@
-ghost use Rattle.std.specs.Prelude.{◌≡◌, ◌<◌, ◌≤◌, ◌++◌, List, ℕ, [], All, length, map, IfOk, OnOk, vec_len};
+ghost use Rattle.std.specs.Prelude.{◌≡◌, All, length, map, IfOk};
 ghost use Rattle.page_epoch.specs.Sendable.{IsSendable};
 ghost use Rattle.schedule.specs.Slots.{IsLoad};
 ghost use Rattle.set_coder.specs.SetSizes.{FitsPacket, IsSetSize};

@@ -258,13 +258,6 @@ left_part xs ys t h = subst (λ zs. Contains zs t) (sym (map-append (λ (x : Ins
 right_part : (xs ys : List Instant) (t : ℕ) → Contains (instant_ticks ys) t → Contains (instant_ticks (xs ++ ys)) t
 right_part xs ys t h = subst (λ zs. Contains zs t) (sym (map-append (λ (x : Instant). x.tick) xs ys)) (Contains-append_right (instant_ticks xs) (instant_ticks ys) t h)
 
-named_more : (xs ys : List Instant) (moments : List Event) (i k : ℕ) → ((k : ℕ) → k < i → Contains (instant_ticks xs) (tick_at moments k)) → Contains (instant_ticks ys) (tick_at moments i) →
-    (k < i) ⊎ (k ≡ i) → Contains (instant_ticks (xs ++ ys)) (tick_at moments k)
-named_more xs ys moments i k before here (inl h) = left_part xs ys (tick_at moments k) (before k h)
-named_more xs ys moments i k before here (inr e) =
-    let Here : ℕ → Type 0 = λ (j : ℕ). Contains (instant_ticks (xs ++ ys)) (tick_at moments j) in
-    subst Here (sym e) (right_part xs ys (tick_at moments i) here)
-
 top_below : (tick count refresh next : ℕ) → (count ≡ 0) ⊎ (1 ≤ count) → tick < next → (1 ≤ count → tick + count * refresh + 3600 < next) → tick + count * refresh < next
 top_below tick count refresh next (inl none) less room = let P : ℕ → Type 0 = λ n. tick + n * refresh < next in subst P (sym none) (omega arith)
 top_below tick count refresh next (inr some) less room = let inside = room some in omega arith

@@ -11,6 +11,7 @@ pub mod RegionLaws
 pub mod RowLaws
 pub mod SendLaws
 pub mod SoleCuePlan
+pub mod SoleCueSets
 pub mod ShowLaws
 pub mod SoundLaws
 pub mod SweepLaws

@@ -22,7 +22,7 @@ use Rattle.cue_list.specs.Authored.{is_live}
 use Rattle.page_epoch.specs.Live.{has_some, cue_at, own_places, live_places, places_below}
 use Rattle.page_epoch.specs.SentRegions.{is_risen, is_extended, region_version, live_before, filled, extended, sent_region}
 use Rattle.page_epoch.specs.SentCluts.{row_at, clut_count, defined_rows, clut_version, clut_with, rows_from, sent_clut, named_cluts, sent_cluts}
-use Rattle.page_epoch.specs.Layouts.{listed_cues}
+use Rattle.page_epoch.specs.SentRegions.{listed_cues}
 use Rattle.sub_base.specs.declared.profile.Profile.{Profile}
 use Rattle.page_epoch.specs.Plan.{IsCarried, ArePlanned}
 use Rattle.page_epoch.proofs.PlanLaws.{below_33}

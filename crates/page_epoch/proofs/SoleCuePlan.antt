@@ -25,10 +25,11 @@ use Rattle.page_epoch.specs.Live.{has_some, cue_at, live_places}
 use Rattle.page_epoch.specs.States.{is_whole, last_whole, is_due, state_of, seen_of, page_version}
 use Rattle.page_epoch.specs.SentRegions.{filled, region_version, region_from, sent_region, AreShown, AreSentRegions}
 use Rattle.page_epoch.specs.SentCluts.{named_cluts, sent_cluts, sent_clut, clut_count}
-use Rattle.page_epoch.specs.Layouts.{listed_cues}
+use Rattle.page_epoch.specs.SentRegions.{listed_cues}
 use Rattle.page_epoch.specs.Needs.{region_pixels, pixel_need, clut_nodes, node_need}
 use Rattle.page_epoch.specs.Plan.{IsCarried, IsNext, Fits, Stands, ArePlanned, IsPlan}
-use Rattle.page_epoch.specs.SoleCue.{IsSoleCue, FillsDisplay, first_set, last_set, HasRoom}
+use Rattle.page_epoch.specs.SoleCue.{IsSoleCue}
+use Rattle.page_epoch.proofs.SoleCueSets.{FillsDisplay, first_set, last_set, HasRoom}
 
 -- ---- lists of one or two
 

@@ -1,11 +1,9 @@
 -- What stays in an epoch, and what is read off it.
 use Rattle.std.specs.Prelude.{◌≡◌, ℕ, List, length, map, filter, All, slice_index_or}
-use Rattle.std.specs.List.{flat_map}
 use Rattle.std.specs.List.Sorted.{IsPermutation, IsNonDecreasingBy}
 use Rattle.sub_base.specs.declared.depth.Depth.TheVariants.{Two}
 use Rattle.cue_list.specs.declared.epoch.Epoch.{Epoch}
 use Rattle.cue_list.specs.declared.epoch.Region.{Region}
-use Rattle.page_epoch.specs.declared.planned_set.SentRegion.{SentRegion}
 use Rattle.page_epoch.specs.declared.region_course.RegionCourse.{RegionCourse}
 use Rattle.page_epoch.specs.declared.layout.Layout.{Layout}
 use Rattle.page_epoch.specs.declared.layout.Spot.{Spot}
@@ -51,7 +49,3 @@ course_at courses place = slice_index_or courses place first_course
 -- the numbers of the regions of these whose course has a live cue
 abbrev pub shown_of : List RegionCourse → List Spot → List ℕ
 shown_of courses spots = map (λ spot. spot.id) (filter (λ spot. has_some (course_at courses spot.place).live) spots)
-
--- the cues that regions list
-abbrev pub listed_cues : List SentRegion → List ℕ
-listed_cues regions = flat_map (λ region. region.cues) regions

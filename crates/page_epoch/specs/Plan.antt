@@ -11,7 +11,7 @@ use Rattle.page_epoch.specs.Rows.{events_of, IsLeastRow}
 use Rattle.page_epoch.specs.States.{is_whole, last_whole, is_due, state_of, seen_of, page_version}
 use Rattle.page_epoch.specs.SentRegions.{AreSentRegions, AreShown}
 use Rattle.page_epoch.specs.SentCluts.{sent_cluts}
-use Rattle.page_epoch.specs.Layouts.{listed_cues}
+use Rattle.page_epoch.specs.SentRegions.{listed_cues}
 use Rattle.page_epoch.specs.Needs.{pixel_need, node_need}
 
 -- an epoch is the last one that has started by a tick

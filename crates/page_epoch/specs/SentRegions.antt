@@ -69,6 +69,10 @@ pub record AreSentRegions (cues : List Cue) (regions : List Region) (whole : Boo
   pub ordered : AreOrdered (λ region. region.id) regions by_id
   pub is : sent ≡ flat_map (λ region. sent_region cues whole seen region.id) by_id
 
+-- the cues that regions list
+abbrev pub listed_cues : List SentRegion → List ℕ
+listed_cues regions = flat_map (λ region. region.cues) regions
+
 -- the regions that have a live cue, from the top of the display
 pub record AreShown (cues : List Cue) (regions : List Region) (tick : ℕ) (shown : List ℕ) : Type 0 where
   pub by_y : List Region

@@ -1,4 +1,4 @@
-ghost use Rattle.std.specs.Prelude.{◌≡◌, ℕ, ◌+◌, ◌++◌, ◌==◌, ◌<◌, ◌≤◌, ◌^◌, nat_le, true, false, List, [], length, map, take, filter, All, IfOk, OnOk, Some, None, if◌then◌else◌, slice_index_or as get_or};
+ghost use Rattle.std.specs.Prelude.{◌≡◌, ℕ, ◌+◌, ◌++◌, ◌==◌, ◌<◌, ◌≤◌, nat_le, true, false, List, [], length, take, filter, All, IfOk, OnOk, Some, None, if◌then◌else◌, slice_index_or as get_or};
 ghost use Rattle.std.specs.List.{flat_map};
 ghost use Rattle.std.specs.List.Sorted.{IsNonDecreasingBy, IsPartitionPoint};
 ghost use Rattle.std.specs.Option.{option_to_list};

@@ -1,4 +1,4 @@
-ghost use Rattle.std.specs.Prelude.{◌≡◌, ℕ, ◌+◌, ◌*◌, ◌++◌, ◌∷◌, ◌==◌, ◌<◌, ◌≤◌, ◌^◌, true, false, List, length, All, IfOk, IfSome, unwrap_or};
+ghost use Rattle.std.specs.Prelude.{◌≡◌, ℕ, ◌*◌, ◌∷◌, ◌==◌, ◌<◌, ◌≤◌, true, false, List, length, All, IfOk, IfSome, unwrap_or};
 ghost use Rattle.std.specs.Option.{option_to_list};
 ghost use Rattle.page_epoch.specs.SentCluts.{row_at, clut_with as with_rows_of, rows_from, defined_rows as defined_rows_of, is_changed as is_changed_at};
 ghost use Rattle.page_epoch.specs.Changes.{AreChanges};

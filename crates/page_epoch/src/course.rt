@@ -1,7 +1,7 @@
-ghost use Rattle.std.specs.Prelude.{◌≡◌, ℕ, ◌+◌, ◌<◌, ◌≤◌, ◌^◌, Bool, List, [], ◌∷◌, length, map, All, IfOk, Some, slice_get};
+ghost use Rattle.std.specs.Prelude.{◌≡◌, ℕ, ◌<◌, ◌≤◌, List, [], length, map, All, IfOk};
 ghost use Rattle.cue_list.specs.declared.epoch.Epoch.{Epoch as EpochValue};
 ghost use Rattle.page_epoch.specs.States.{is_whole as is_whole_of};
-ghost use Rattle.page_epoch.specs.Courses.{first_course, IsSmallCourse, IsSmallVersion};
+ghost use Rattle.page_epoch.specs.Courses.{first_course};
 ghost use Rattle.page_epoch.specs.Layouts.{IsLayout};
 ghost use Rattle.page_epoch.specs.Sweeps.{IsSmallEpoch, IsCourse, IsSafe, IsTimely, IsSetOf, IsAdvanced, IsSweep, GoesOn, page_after};
 

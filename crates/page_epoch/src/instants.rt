@@ -1,4 +1,4 @@
-ghost use Rattle.std.specs.Prelude.{◌≡◌, ℕ, ◌+◌, ◌<◌, ◌≤◌, ◌^◌, List, true, length, All, IfOk, OnOk};
+ghost use Rattle.std.specs.Prelude.{◌<◌, ◌≤◌, ◌^◌, All, IfOk, OnOk};
 ghost use Rattle.page_epoch.specs.Instants.{named_ticks};
 ghost use Rattle.page_epoch.specs.Showing.{AreLasting};
 ghost use Rattle.page_epoch.specs.Steps.{HasRefreshes, AreSteps};

@@ -1,9 +1,9 @@
-ghost use Rattle.std.specs.Prelude.{◌≡◌, ℕ, ◌+◌, ◌*◌, ◌<◌, ◌≤◌, ◌^◌, length, map, All, IfOk, sum_by};
+ghost use Rattle.std.specs.Prelude.{◌≡◌, ◌*◌, ◌<◌, ◌≤◌, ◌^◌, length, map, All, IfOk, sum_by};
 ghost use Rattle.std.specs.List.Sorted.{IsPermutation, IsNonDecreasing};
 ghost use Rattle.page_epoch.specs.Courses.{AreOwn, IsSmallCourse};
-ghost use Rattle.page_epoch.specs.Layouts.{IsLayout, AreSpots, shown_of, listed_cues};
+ghost use Rattle.page_epoch.specs.Layouts.{IsLayout, AreSpots, shown_of};
+ghost use Rattle.page_epoch.specs.SentRegions.{listed_cues, AreOrdered};
 ghost use Rattle.page_epoch.specs.Needs.{region_pixels as pixels_of, pixel_need as pixels_of_all};
-ghost use Rattle.page_epoch.specs.SentRegions.{AreOrdered};
 
 use crate::clut_changes::{ClutChanges, all_changes};
 use crate::live::begins_of;

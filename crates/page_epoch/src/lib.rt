@@ -23,3 +23,5 @@ pub use stream_syntax::State;
 
 #[cfg(test)]
 mod tests;
+#[cfg(test)]
+mod wanted;

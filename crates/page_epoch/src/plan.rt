@@ -1,4 +1,4 @@
-ghost use Rattle.std.specs.Prelude.{◌≡◌, ℕ, ◌+◌, ◌<◌, ◌≤◌, ◌^◌, All, length, IfOk, IfErr, OnOk, nat_le};
+ghost use Rattle.std.specs.Prelude.{◌≡◌, ◌≤◌, All, IfOk, IfErr, OnOk};
 ghost use Rattle.page_epoch.specs.States.{state_of as state_by};
 ghost use Rattle.page_epoch.specs.Plan.{ArePlanned, IsPlan};
 ghost use Rattle.page_epoch.specs.Refusals.{IsCause, IsNeedFault, IsSetCause};

@@ -1,4 +1,4 @@
-ghost use Rattle.std.specs.Prelude.{◌≡◌, ℕ, ◌+◌, ◌==◌, ◌<◌, ◌≤◌, ◌^◌, Bool, true, false, not, ◌&&◌, if◌then◌else◌, length, ◌∷◌, ◌++◌, All, IfOk, OnOk, List};
+ghost use Rattle.std.specs.Prelude.{◌≡◌, ℕ, ◌+◌, ◌≤◌, true, length, ◌∷◌, ◌++◌, All, IfOk, OnOk, List};
 ghost use Rattle.std.specs.Option.{option_to_list};
 ghost use Rattle.std.specs.List.{flat_map};
 ghost use Rattle.page_epoch.specs.Live.{begun_by, live_places, AreBegins};
@@ -126,6 +126,7 @@ fn step_course(
     let begun = count_begun(begins, tick);
     let old = course.live.as_slice();
     let live = live_after(alloc, cues, begins, old, course.begun, begun, tick)?;
+    // No fewer have begun than at the instant before, whatever the tick: the course then keeps its bounds.
     Ok(course.after(first, begun.max(course.begun), live))
 }
 

@@ -1,28 +1,11 @@
 use super::*;
+use crate::wanted::*;
 use bitmap_font::Font;
 use cue_list::Script;
 use std::alloc::Global;
 use std::process::Abort;
 use std::test::Fail;
 use sub_base::{Profile, ProfileName};
-
-/// A region as a set is to send it: its number, version, fill and cues.
-type WantedRegion = (u8, u8, bool, &'static [u32]);
-
-/// A CLUT as a set is to send it: its number, version and rows.
-type WantedClut = (u8, u8, &'static [u32]);
-
-/// A set as it is to be.
-struct Wanted {
-    pts: u64,
-    state: State,
-    row: u64,
-    page_version: u8,
-    shown: &'static [u8],
-    regions: &'static [WantedRegion],
-    cluts: &'static [WantedClut],
-    cues: &'static [u32],
-}
 
 /// The script of a text.
 fn script_of<R: Abort>(rt: &R, alloc: Global, text: &str) -> Script {
@@ -92,283 +75,48 @@ fn check_plan<R: Abort>(rt: &R, alloc: Global, text: &str, wanted: &[Wanted]) {
     }
 }
 
-const THREE_CUES: &str = "origin,0
-display,8,8
-refresh,5
-epoch,90000
-region,0,0,0,8,8,4,0
-picture,a,4,1,1,3
-place,90000,360000,0,0,0,solid,a
-place,180000,450000,0,1,0,solid,a
-place,270000,450000,0,2,0,solid,a
-";
-
-/// Cues that come in are drawn on top; when one goes, all that are live are drawn anew.
-const THREE_CUES_SETS: [Wanted; 5] = [
-    Wanted {
-        pts: 90_000,
-        state: State::ModeChange,
-        row: 4,
-        page_version: 0,
-        shown: &[0],
-        regions: &[(0, 0, true, &[0])],
-        cluts: &[],
-        cues: &[0],
-    },
-    Wanted {
-        pts: 180_000,
-        state: State::Normal,
-        row: 8,
-        page_version: 1,
-        shown: &[0],
-        regions: &[(0, 1, false, &[1])],
-        cluts: &[],
-        cues: &[1],
-    },
-    Wanted {
-        pts: 270_000,
-        state: State::Normal,
-        row: 9,
-        page_version: 2,
-        shown: &[0],
-        regions: &[(0, 2, false, &[2])],
-        cluts: &[],
-        cues: &[2],
-    },
-    Wanted {
-        pts: 360_000,
-        state: State::Normal,
-        row: 7,
-        page_version: 3,
-        shown: &[0],
-        regions: &[(0, 3, true, &[1, 2])],
-        cluts: &[],
-        cues: &[1, 2],
-    },
-    Wanted {
-        pts: 450_000,
-        state: State::Normal,
-        row: 8,
-        page_version: 4,
-        shown: &[],
-        regions: &[],
-        cluts: &[],
-        cues: &[],
-    },
-];
-
-const EMPTY_REGION: &str = "origin,0
-display,8,8
-refresh,2
-epoch,90000
-region,0,0,0,8,4,4,0
-region,1,0,4,8,4,4,0
-picture,a,4,1,1,3
-place,90000,180000,0,0,0,solid,a
-place,495000,585000,0,0,0,solid,a
-place,90000,675000,1,0,0,solid,a
-";
-
-/// An acquisition point sends the region that is empty too. The one at 360,000 is a refresh, that at 585,000 is due.
-const EMPTY_REGION_SETS: [Wanted; 6] = [
-    Wanted {
-        pts: 90_000,
-        state: State::ModeChange,
-        row: 4,
-        page_version: 0,
-        shown: &[0, 1],
-        regions: &[(0, 0, true, &[0]), (1, 0, true, &[2])],
-        cluts: &[],
-        cues: &[0, 2],
-    },
-    Wanted {
-        pts: 180_000,
-        state: State::Normal,
-        row: 8,
-        page_version: 1,
-        shown: &[1],
-        regions: &[],
-        cluts: &[],
-        cues: &[],
-    },
-    Wanted {
-        pts: 360_000,
-        state: State::Acquisition,
-        row: 8,
-        page_version: 1,
-        shown: &[1],
-        regions: &[(0, 0, true, &[]), (1, 0, true, &[2])],
-        cluts: &[],
-        cues: &[2],
-    },
-    Wanted {
-        pts: 495_000,
-        state: State::Normal,
-        row: 9,
-        page_version: 2,
-        shown: &[0, 1],
-        regions: &[(0, 1, true, &[1])],
-        cluts: &[],
-        cues: &[1],
-    },
-    Wanted {
-        pts: 585_000,
-        state: State::Acquisition,
-        row: 9,
-        page_version: 3,
-        shown: &[1],
-        regions: &[(0, 1, true, &[]), (1, 0, true, &[2])],
-        cluts: &[],
-        cues: &[2],
-    },
-    Wanted {
-        pts: 675_000,
-        state: State::Normal,
-        row: 10,
-        page_version: 4,
-        shown: &[],
-        regions: &[],
-        cluts: &[],
-        cues: &[],
-    },
-];
-
-const COLOURS: &str = "origin,0
-display,8,8
-refresh,2
-epoch,90000
-region,9,0,4,8,4,4,0
-region,3,0,0,8,4,4,0
-colour,90000,0,4,3,81,240,90,255
-colour,90000,0,2,1,81,240,90,255
-colour,180000,0,4,3,145,34,54,255
-colour,180000,1,8,255,41,110,240,255
-colour,90000,0,4,3,16,128,128,255
-picture,a,4,1,1,3
-place,90000,600000,9,0,0,solid,a
-place,180000,600000,3,0,0,through,a
-";
-
-/// Of two rows of an entry at a tick the second counts; a normal set sends the entries of its tick, and an acquisition
-/// point all that are defined, by depth and entry. The page shows regions from the top, and sends them by their numbers.
-const COLOURS_SETS: [Wanted; 5] = [
-    Wanted {
-        pts: 90_000,
-        state: State::ModeChange,
-        row: 4,
-        page_version: 0,
-        shown: &[9],
-        regions: &[(3, 0, true, &[]), (9, 0, true, &[0])],
-        cluts: &[(0, 0, &[1, 4])],
-        cues: &[0],
-    },
-    Wanted {
-        pts: 180_000,
-        state: State::Normal,
-        row: 9,
-        page_version: 1,
-        shown: &[3, 9],
-        regions: &[(3, 1, true, &[1])],
-        cluts: &[(0, 1, &[2]), (1, 0, &[3])],
-        cues: &[1],
-    },
-    Wanted {
-        pts: 360_000,
-        state: State::Acquisition,
-        row: 9,
-        page_version: 1,
-        shown: &[3, 9],
-        regions: &[(3, 1, true, &[1]), (9, 0, true, &[0])],
-        cluts: &[(0, 1, &[1, 2]), (1, 0, &[3])],
-        cues: &[0, 1],
-    },
-    Wanted {
-        pts: 540_000,
-        state: State::Acquisition,
-        row: 9,
-        page_version: 1,
-        shown: &[3, 9],
-        regions: &[(3, 1, true, &[1]), (9, 0, true, &[0])],
-        cluts: &[(0, 1, &[1, 2]), (1, 0, &[3])],
-        cues: &[0, 1],
-    },
-    Wanted {
-        pts: 600_000,
-        state: State::Normal,
-        row: 13,
-        page_version: 2,
-        shown: &[],
-        regions: &[],
-        cluts: &[],
-        cues: &[],
-    },
-];
-
-const TWO_EPOCHS: &str = "origin,0
-display,8,8
-refresh,60
-epoch,90000
-region,0,0,0,8,8,4,0
-colour,90000,0,4,3,81,240,90,255
-picture,a,4,1,1,3
-place,90000,180000,0,0,0,solid,a
-place,180000,270000,0,0,0,solid,a
-epoch,270000
-region,0,0,0,8,8,4,0
-place,270000,360000,0,0,0,solid,a
-";
-
-/// A new epoch begins anew: versions, cues and colours are its own.
-const TWO_EPOCHS_SETS: [Wanted; 4] = [
-    Wanted {
-        pts: 90_000,
-        state: State::ModeChange,
-        row: 4,
-        page_version: 0,
-        shown: &[0],
-        regions: &[(0, 0, true, &[0])],
-        cluts: &[(0, 0, &[0])],
-        cues: &[0],
-    },
-    Wanted {
-        pts: 180_000,
-        state: State::Normal,
-        row: 8,
-        page_version: 1,
-        shown: &[0],
-        regions: &[(0, 1, true, &[1])],
-        cluts: &[],
-        cues: &[1],
-    },
-    Wanted {
-        pts: 270_000,
-        state: State::ModeChange,
-        row: 9,
-        page_version: 0,
-        shown: &[0],
-        regions: &[(0, 0, true, &[0])],
-        cluts: &[],
-        cues: &[0],
-    },
-    Wanted {
-        pts: 360_000,
-        state: State::Normal,
-        row: 12,
-        page_version: 1,
-        shown: &[],
-        regions: &[],
-        cluts: &[],
-        cues: &[],
-    },
-];
-
 #[test]
 fn plans_of_small_scripts(rt: HostRuntime) {
     let alloc = rt.alloc();
+    check_plan(&rt, alloc, SEE_THROUGH, &SEE_THROUGH_SETS);
     check_plan(&rt, alloc, THREE_CUES, &THREE_CUES_SETS);
     check_plan(&rt, alloc, EMPTY_REGION, &EMPTY_REGION_SETS);
     check_plan(&rt, alloc, COLOURS, &COLOURS_SETS);
     check_plan(&rt, alloc, TWO_EPOCHS, &TWO_EPOCHS_SETS);
+}
+
+/// A cue of forty seconds is sent again each five seconds, by the record of the set before; where the eighth refresh would
+/// be, the cue ends: a receiver is due to begin there, so the region is sent too, which is empty then.
+#[test]
+fn a_cue_of_forty_seconds(rt: HostRuntime) -> Result<(), Fail> {
+    let text =
+        "origin,0\ndisplay,8,8\nrefresh,5\nepoch,90000\nregion,0,0,0,8,8,4,0\npicture,a,4,1,1,3\nplace,90000,3690000,0,0,0,solid,a\n";
+    let plan = plan_of(&rt, rt.alloc(), text)?;
+    let sets = plan.sets.as_slice();
+    assert_eq!(rt; sets.len(), 9);
+    for (i, set) in sets.iter().enumerate() {
+        let shown = i < 8;
+        let wanted = Wanted {
+            pts: 90_000 + 450_000 * i as u64,
+            state: if i == 0 {
+                State::ModeChange
+            } else {
+                State::Acquisition
+            },
+            row: if shown { 4 } else { 7 },
+            page_version: if shown { 0 } else { 1 },
+            shown: if shown { &[0] } else { &[] },
+            regions: if shown {
+                &[(0, 0, true, &[0])]
+            } else {
+                &[(0, 0, true, &[])]
+            },
+            cluts: &[],
+            cues: if shown { &[0] } else { &[] },
+        };
+        check_set(&rt, set, &wanted);
+    }
+    Ok(())
 }
 
 /// A script of one region that shows twenty cues, each for a second.

@@ -1,8 +1,8 @@
-ghost use Rattle.std.specs.Prelude.{◌≡◌, ℕ, ◌+◌, ◌*◌, ◌^◌, ◌<◌, ◌≤◌, List, [], ◌∷◌, ◌++◌, length, All, OnOk, OnErr, IfOk};
+ghost use Rattle.std.specs.Prelude.{◌≡◌, ℕ, ◌+◌, ◌*◌, ◌^◌, ◌<◌, ◌≤◌, List, ◌++◌, length, All, OnOk, OnErr, IfOk};
 ghost use Rattle.sub_base.specs.Depth.{code_count};
 ghost use Rattle.sub_base.specs.Picture.{IsPicture, top_field, bottom_field};
 ghost use Rattle.stream_syntax.specs.PixelBlocks.{IsNoDeeper, string_type};
-ghost use Rattle.stream_syntax.specs.FieldBlocks.{identity_table, IsRowBlock, AreRowBlocks, IsFieldBlock, AreFieldBlocks, AreFieldSizes, DrawsPicture};
+ghost use Rattle.stream_syntax.specs.FieldBlocks.{identity_table, IsRowBlock, IsFieldBlock, AreFieldBlocks, AreFieldSizes, DrawsPicture};
 ghost use Rattle.pixel_codes.specs.Lists.{Extends};
 ghost use Rattle.set_coder.specs.Rows.{AreRows, room_of};
 

@@ -1,4 +1,4 @@
-ghost use Rattle.std.specs.Prelude.{◌≡◌, ◌==◌, ◌<◌, length, Some, slice_get, slice_index_or};
+ghost use Rattle.std.specs.Prelude.{◌≡◌, Some, slice_get};
 ghost use Rattle.page_epoch.specs.Live.{cue_at};
 ghost use Rattle.page_epoch.specs.SentCluts.{row_at};
 ghost use Rattle.page_epoch.specs.Sendable.{HasRegion, HasCue, HasColour, IsSendable, IsSendableIn};

@@ -1,12 +1,11 @@
-ghost use Rattle.std.specs.Prelude.{◌≡◌, ℕ, ◌+◌, ◌*◌, ◌<◌, ◌≤◌, ◌++◌, List, length, All, OnOk};
+ghost use Rattle.std.specs.Prelude.{◌≡◌, ℕ, ◌+◌, ◌≤◌, ◌++◌, List, length, All, OnOk};
 ghost use Rattle.std.specs.List.{flat_map};
-ghost use Rattle.cue_list.specs.Authored.{picture_at_place};
-ghost use Rattle.stream_syntax.specs.FieldBlocks.{AreFieldBlocks, AreFieldSizes, DrawsPicture};
+ghost use Rattle.stream_syntax.specs.FieldBlocks.{AreFieldBlocks, DrawsPicture};
 ghost use Rattle.stream_syntax.specs.SegmentTests.{AreBlocks};
 ghost use Rattle.stream_syntax.specs.Segments.{SegmentValue, spelled, IsWritable};
 ghost use Rattle.page_epoch.specs.Sendable.{HasCue};
 ghost use Rattle.set_coder.specs.BothBlocks.{AreBothBlocks};
-ghost use Rattle.set_coder.specs.SetSegments.{picture_of_cue, depth_of_cue, object_of, IsObjectOf, AreObjectsOf};
+ghost use Rattle.set_coder.specs.SetSegments.{object_of, IsObjectOf, AreObjectsOf};
 ghost use Rattle.set_coder.specs.SetSizes.{made_even, IsObjectSize, AreObjectSizes};
 ghost use Rattle.set_coder.specs.Usable.{AreDrawable};
 

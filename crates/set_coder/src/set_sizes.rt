@@ -1,7 +1,5 @@
-ghost use Rattle.std.specs.Prelude.{◌≡◌, ℕ, ◌+◌, ◌*◌, ◌^◌, ◌<◌, ◌≤◌, length, sum_by, All, slice_index_or};
-ghost use Rattle.cue_list.specs.Authored.{picture_at_place};
-ghost use Rattle.page_epoch.specs.Sendable.{HasCue, IsSendable, IsSendableRegion, IsSendableClut};
-ghost use Rattle.set_coder.specs.SetSegments.{picture_of_cue, depth_of_cue};
+ghost use Rattle.std.specs.Prelude.{◌≡◌, ℕ, ◌*◌, ◌^◌, ◌<◌, ◌≤◌, length, sum_by, All};
+ghost use Rattle.page_epoch.specs.Sendable.{HasCue, IsSendable, IsSendableRegion};
 ghost use Rattle.set_coder.specs.SetSizes.{display_size, region_size, clut_size, leading_size, made_even, painting_of, IsObjectSize, AreObjectSizes, IsSetSize, IsPaintedIn, IsSetLoad};
 ghost use Rattle.set_coder.specs.Usable.{AreDrawable};
 

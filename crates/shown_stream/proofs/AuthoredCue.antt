@@ -18,7 +18,8 @@ use Rattle.cue_list.specs.declared.epoch.Cue.{Cue}
 use Rattle.cue_list.specs.declared.epoch.Epoch.{Epoch}
 use Rattle.cue_list.specs.declared.epoch.Region.{Region}
 use Rattle.cue_list.specs.declared.script.Script.{Script}
-use Rattle.page_epoch.specs.SoleCue.{IsSoleCue, FillsDisplay}
+use Rattle.page_epoch.specs.SoleCue.{IsSoleCue}
+use Rattle.page_epoch.proofs.SoleCueSets.{FillsDisplay}
 use Rattle.page_epoch.proofs.SoleCuePlan.{sole_cue_fills}
 use Rattle.decoder_model.specs.Shown.{IsClear, plane}
 use Rattle.decoder_model.proofs.Planes.{picture_colours, all_clear}

@@ -1,7 +1,7 @@
 -- A script of one cue that fills the display: there are such scripts, and what one of them authors is computed.
 use Rattle.std.proofs.Common.{◌≡◌, ℕ, ◌<◌, ◌≤◌, false, [], ◌∷◌, inl, inr, refl, arith}
 use Rattle.std.specs.Prelude.{All, AllPairs}
-use Rattle.std.proofs.lemmas.List.Elements.{All-cons, All-from_recursion}
+use Rattle.std.proofs.lemmas.List.Elements.{All-nil, All-cons, All-from_recursion}
 use Rattle.std.proofs.lemmas.List.Kept.{AllPairs-cons}
 use Rattle.sub_base.specs.Colour.{clear}
 use Rattle.sub_base.specs.Picture.{Picture, IsPicture}
@@ -14,14 +14,11 @@ use Rattle.cue_list.specs.declared.epoch.Region.{Region}
 use Rattle.cue_list.specs.declared.script.Script.{Script}
 use Rattle.page_epoch.specs.SoleCue.{IsSoleCue}
 
-none : {X : Type 0} (P : X → Type 0) → All P []
-none P = λ k d h. absurd (omega arith)
-
 one : {X : Type 0} (P : X → Type 0) (x : X) → P x → All P (x ∷ [])
-one P x h = All-cons P x [] h (none P)
+one P x h = All-cons P x [] h (All-nil P)
 
 one_pair : {X : Type 0} (R : X → X → Type 0) (x : X) → AllPairs R (x ∷ [])
-one_pair R x = AllPairs-cons R x [] (none (R x)) (λ i j d h l. absurd (omega arith))
+one_pair R x = AllPairs-cons R x [] (All-nil (R x)) (λ i j d h l. absurd (omega arith))
 
 -- two rows of codes on a display of four by two pixels, shown for a second from one second on
 abbrev pub picture : Picture
@@ -69,7 +66,7 @@ is_sound = record {
       each = one (IsRegion 4 2) region (record { numbers = (omega arith, omega arith); wide = omega arith; high = omega arith; across = omega arith; down = omega arith });
       apart = one_pair AreApart region;
     };
-    colours = none (IsColourRow 0 90000);
+    colours = All-nil (IsColourRow 0 90000);
     cues = one (IsCue 0 90000 (region ∷ []) (picture ∷ [])) cue (record { starts = tick 90000 (omega arith); ends = tick 180000 (omega arith); within = omega arith; lasts = omega arith; short = omega arith; picture = omega arith; region = region; found = refl; fits = record { across = omega arith; down = omega arith; shallow = omega arith } });
   });
   follow = one_pair Follows epoch;

@@ -18,7 +18,8 @@ use Rattle.cue_list.specs.declared.epoch.Cue.{Cue}
 use Rattle.cue_list.specs.declared.epoch.Epoch.{Epoch}
 use Rattle.cue_list.specs.declared.epoch.Region.{Region}
 use Rattle.cue_list.specs.declared.script.Script.{Script}
-use Rattle.page_epoch.specs.SoleCue.{IsSoleCue, HasRoom, first_set, last_set}
+use Rattle.page_epoch.specs.SoleCue.{IsSoleCue}
+use Rattle.page_epoch.proofs.SoleCueSets.{HasRoom, first_set, last_set}
 use Rattle.page_epoch.specs.declared.planned_set.PlannedSet.{PlannedSet}
 use Rattle.page_epoch.proofs.SoleCuePlan.{sole_cue_fills, sole_cue_plan, sole_cue_room}
 use Rattle.set_coder.specs.SetSegments.{IsSetPacket, time_out_of}

@@ -1,7 +1,6 @@
 -- The PES packets of the two sets of a script of one cue, as a receiver reads them.
-use Rattle.std.proofs.Common.{◌≡◌, ◌∙◌, ℕ, true, false, eqb, cond, List, [], ◌∷◌, ◌++◌, Some, None, refl, sym, ap, subst, arith, All}
+use Rattle.std.proofs.Common.{◌≡◌, ◌∙◌, ℕ, true, false, eqb, cond, List, [], ◌∷◌, ◌++◌, Some, None, refl, sym, ap, subst, All}
 use Rattle.std.specs.Prelude.{slice_get, find}
-use Rattle.std.proofs.lemmas.Bool.Decides.{nat_tests}
 use Rattle.sub_base.specs.Picture.{Picture}
 use Rattle.sub_base.specs.declared.depth.Depth.{Depth}
 use Rattle.stream_syntax.specs.FieldBlocks.{AreFieldBlocks}
@@ -14,7 +13,8 @@ use Rattle.cue_list.specs.declared.epoch.Epoch.{Epoch}
 use Rattle.cue_list.specs.declared.epoch.Region.{Region}
 use Rattle.cue_list.specs.declared.script.Script.{Script}
 use Rattle.page_epoch.specs.Live.{cue_at}
-use Rattle.page_epoch.specs.SoleCue.{IsSoleCue, FillsDisplay, first_set, last_set}
+use Rattle.page_epoch.specs.SoleCue.{IsSoleCue}
+use Rattle.page_epoch.proofs.SoleCueSets.{FillsDisplay, first_set, last_set}
 use Rattle.page_epoch.proofs.SoleCuePlan.{sole_cue_fills}
 use Rattle.set_coder.specs.SetSegments.{region_of, region_or_none, picture_of_cue, depth_of_cue, leading_segments, object_of, time_out_of, IsObjectOf, AreObjectsOf, IsSetField, data_field}
 use Rattle.decoder_model.proofs.SoleCue as shown
@@ -23,14 +23,11 @@ use Rattle.shown_stream.proofs.AuthoredCue.{sole_cue_facts}
 
 -- ---- what the numbers of the sets name
 
-same_id : (id : ℕ) → eqb id id ≡ true
-same_id id = grind (arith, nat_tests)
-
 -- the only region is found by its number
 only_region : (epoch : Epoch) (region : Region) → epoch.regions ≡ region ∷ [] → region_of epoch region.id ≡ region
 only_region epoch region is =
     ap (λ regions. region_or_none (find (λ (other : Region). eqb other.id region.id) regions)) is
-    ∙ ap (λ same. region_or_none (cond same (Some region) None)) (same_id region.id)
+    ∙ ap (λ same. region_or_none (cond same (Some region) None)) (shown.is_same_id region.id)
 
 -- the only cue is the first
 only_cue : (epoch : Epoch) (cue : Cue) → epoch.cues ≡ cue ∷ [] → cue_at epoch.cues 0 ≡ cue

@@ -1,7 +1,6 @@
 -- A PES packet that is written of a set's segments is read as that set.
 use Rattle.std.proofs.Common.{◌≡◌, ◌∙◌, ℕ, ◌+◌, ◌^◌, ◌<◌, ◌≤◌, true, false, eqb, ◌&&◌, List, [], ◌∷◌, ◌++◌, length, map, refl, sym, ap, subst, arith, length-append, Ok}
 use Rattle.std.specs.List.{flat_map, concat, AllByRecursion, sum_by, list_any}
-use Rattle.std.proofs.lemmas.Bool.Decides.{nat_tests}
 use Rattle.std.proofs.lemmas.List.Sums.{sum_by-append}
 use Rattle.stream_syntax.specs.Cutting.{IsUnit}
 use Rattle.stream_syntax.specs.Pes.{written_pes, pes_of}
@@ -9,6 +8,7 @@ use Rattle.stream_syntax.specs.Segments.{SegmentValue, of_page, of_region, of_cl
 use Rattle.stream_syntax.specs.Tests.{byte_at}
 use Rattle.decoder_model.specs.Frames.{set_kinds}
 use Rattle.decoder_model.proofs.FieldFrames.{IsHeaded}
+use Rattle.decoder_model.proofs.SoleCue.{is_same_id}
 use Rattle.decoder_model.proofs.SentSets.{TimedSet, IsBefore, IsUnitOf}
 use Rattle.pes_packets.proofs.PesLayout.{pes_is_read}
 use Rattle.pes_packets.proofs.Written.{written_is_pes, written_is_unit}
@@ -44,9 +44,6 @@ inner_no_end (of_display value) h = refl
 inner_no_end end_of_set h = absurd h
 inner_no_end passed_over h = absurd h
 
-same_id : (a : ℕ) → eqb a a ≡ true
-same_id a = grind (arith, nat_tests)
-
 headed_by : (page : ℕ) (value : SegmentValue) → IsWritable page value → list_any (λ kind. eqb (segment_kind value) kind) set_kinds ≡ true → IsHeaded page (spelled page value)
 headed_by page value writable known =
     let head = spelled_head page value writable in record {
@@ -54,7 +51,7 @@ headed_by page value writable known =
       size = sym head.size_is;
       of_page =
           ap (λ id. eqb id page && list_any (λ kind. eqb (byte_at 1 (spelled page value)) kind) set_kinds) head.page_is
-          ∙ ap (λ same. same && list_any (λ kind. eqb (byte_at 1 (spelled page value)) kind) set_kinds) (same_id page)
+          ∙ ap (λ same. same && list_any (λ kind. eqb (byte_at 1 (spelled page value)) kind) set_kinds) (is_same_id page)
           ∙ ap (λ found. list_any (λ kind. eqb found kind) set_kinds) head.kind_is
           ∙ known;
     }

@@ -1,7 +1,7 @@
-//! What a receiver shows of packets: laws over all streams.
+//! The packets that a script is compiled to, and what a receiver shows of them: definitions and laws.
 //!
-//! The proofs also have the lemmas that a law on compiled streams wants: units that are sent in slots come whole, in order
-//! and without a loss, from any packet on, and each display set whose first packet comes is received.
+//! Units that are sent in slots come whole, in order and without a loss; of a script of one cue that fills the display, the
+//! authored picture is shown at every tick.
 #![tactic(auto)]
 
 mod laws;

@@ -1,5 +1,5 @@
 use Rattle.std.proofs.Common.{◌≡◌, take}
-use Rattle.page_epoch.specs.Layouts.{listed_cues}
+use Rattle.page_epoch.specs.SentRegions.{listed_cues}
 use Rattle.page_epoch.proofs.layout.listed.Given as goal
 
 abbrev pub invariant-loop-region : goal.invariant-loop-region

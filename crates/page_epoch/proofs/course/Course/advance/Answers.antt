@@ -10,7 +10,7 @@ use Rattle.page_epoch.specs.declared.planned_set.SentRegion.{SentRegion}
 use Rattle.page_epoch.specs.declared.clut_changes.ClutChanges.{ClutChanges}
 use Rattle.page_epoch.specs.Changes.{AreChanges}
 use Rattle.page_epoch.specs.Courses.{AreOwn}
-use Rattle.page_epoch.specs.Layouts.{listed_cues}
+use Rattle.page_epoch.specs.SentRegions.{listed_cues}
 use Rattle.page_epoch.specs.Needs.{clut_nodes}
 use Rattle.page_epoch.specs.States.{is_whole}
 use Rattle.page_epoch.proofs.SweepLaws.{few_cluts, few_regions, regions_on, sent_on, spots_within, shown_on, versions_on, cluts_on, page_on, held_on}
