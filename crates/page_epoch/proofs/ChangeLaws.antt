@@ -1,7 +1,6 @@
 -- The last change of a CLUT by a tick tells what counts at that tick.
 use Rattle.std.proofs.Common.{◌≡◌, ◌≢◌, ◌∙◌, ◌⊎◌, inl, inr, ℕ, zero, suc, ◌+◌, ◌-◌, ◌==◌, ◌<◌, ◌≤◌, nat_le, Bool, true, false, ◌&&◌, ◌||◌, cond, List, [], ◌∷◌, ◌++◌, map, filter, take, length, get_or, All, eqb, refl, sym, ap, subst, arith}
-use Rattle.std.specs.List.{flat_map, list_any, range_with_len, Contains, dedup}
-use Rattle.std.specs.Option.{option_to_list}
+use Rattle.std.specs.List.{list_any, range_with_len, Contains, dedup}
 use Rattle.std.specs.List.Sorted.{IsNonDecreasingBy, IsPartitionPoint, IsStrictlyIncreasing, IsPermutation, IsSorted}
 use Rattle.std.specs.Ordering.{nat_cmp}
 use Rattle.std.proofs.lemmas.Bool.Decides.{nat_tests}
@@ -13,11 +12,10 @@ use Rattle.std.proofs.lemmas.Map.Keys.{IsStrictlyIncreasing-dedup}
 use Rattle.std.proofs.lemmas.List.Folds.{list_any-append, list_any_more, list_any_none, list_any_at}
 use Rattle.std.proofs.lemmas.List.FromFn.{map-range_with_len_more}
 use Rattle.cue_list.specs.declared.epoch.ColourRow.{ColourRow}
-use Rattle.page_epoch.specs.declared.clut_rows.Entry.{Entry}
 use Rattle.page_epoch.specs.declared.clut_changes.Change.{Change}
 use Rattle.page_epoch.specs.declared.clut_changes.ClutChanges.{ClutChanges}
-use Rattle.page_epoch.specs.SentCluts.{no_row, row_at, all_entries, rows_of_clut, by_tick, defined_rows, is_changed, clut_with, rows_from}
-use Rattle.page_epoch.specs.Changes.{AreInOrder, current_of, change_at, AreTicksOf, AreChanges}
+use Rattle.page_epoch.specs.SentCluts.{no_row, row_at, all_entries, rows_of_clut, defined_rows, is_changed, clut_with, rows_from}
+use Rattle.page_epoch.specs.Changes.{AreInOrder, change_at, AreTicksOf, AreChanges}
 use Rattle.page_epoch.proofs.MomentLaws.{contains_mapped}
 use Rattle.page_epoch.proofs.InstantLaws.{in_order}
 use Rattle.page_epoch.proofs.WalkLaws.{rows_back}
@@ -42,20 +40,20 @@ ticks_from colours places given sorted ticks is moved ordered kept =
           (Contains-dedup_nat sorted x (Contains-permutation given sorted x moved (subst (λ (xs : List ℕ). Contains xs x) (sym is) (contains_mapped tick places (get_or places k d) (Contains-get_or places k d h)))));
     }
 
-ticks_back : (colours : List ColourRow) (entries : List Entry) (rows ticks : List ℕ) → map (λ (change : Change). change.tick) (map (change_at colours entries rows) ticks) ≡ ticks
-ticks_back colours entries rows [] = refl
-ticks_back colours entries rows (tick ∷ ticks) = ap (λ xs. tick ∷ xs) (ticks_back colours entries rows ticks)
+ticks_back : (colours : List ColourRow) (rows ticks : List ℕ) → map (λ (change : Change). change.tick) (map (change_at colours all_entries rows) ticks) ≡ ticks
+ticks_back colours rows [] = refl
+ticks_back colours rows (tick ∷ ticks) = ap (λ xs. tick ∷ xs) (ticks_back colours rows ticks)
 
-pub changes_from : (colours : List ColourRow) (clut : ℕ) (own rows : List ℕ) (entries : List Entry) (ticks : List ℕ) (changes : List Change) → own ≡ rows_of_clut colours clut → entries ≡ all_entries → AreInOrder colours own rows →
-    AreTicksOf colours own ticks → changes ≡ map (change_at colours entries rows) ticks → AreChanges colours (record { clut = clut; changes = changes })
-changes_from colours clut own rows entries ticks changes o e order are c =
+pub changes_from : (colours : List ColourRow) (clut : ℕ) (own rows ticks : List ℕ) (changes : List Change) → own ≡ rows_of_clut colours clut → AreInOrder colours own rows →
+    AreTicksOf colours own ticks → changes ≡ map (change_at colours all_entries rows) ticks → AreChanges colours (record { clut = clut; changes = changes })
+changes_from colours clut own rows ticks changes o order are c =
     let Ticks : List ℕ → List ℕ → Type 0 = λ xs ys. AreTicksOf colours xs ys in
     let Rows : List Change → Type 0 = λ xs. All (λ (change : Change). change.rows ≡ defined_rows colours clut change.tick) xs in
     let Order : List ℕ → Type 0 = λ xs. AreInOrder colours xs rows in
     record {
-      ticks = subst (Ticks (rows_of_clut colours clut)) (sym (ap (map (λ (change : Change). change.tick)) c ∙ ticks_back colours entries rows ticks)) (subst (λ (xs : List ℕ). Ticks xs ticks) o are);
-      rows = subst Rows (sym c) (All-map (λ (change : Change). change.rows ≡ defined_rows colours clut change.tick) (change_at colours entries rows) ticks
-          (λ k d h. ap (λ (xs : List Entry). flat_map option_to_list (current_of colours xs (by_tick colours (get_or ticks k d) rows))) e ∙ rows_back colours clut (get_or ticks k d) rows (subst Order o order)));
+      ticks = subst (Ticks (rows_of_clut colours clut)) (sym (ap (map (λ (change : Change). change.tick)) c ∙ ticks_back colours rows ticks)) (subst (λ (xs : List ℕ). Ticks xs ticks) o are);
+      rows = subst Rows (sym c) (All-map (λ (change : Change). change.rows ≡ defined_rows colours clut change.tick) (change_at colours all_entries rows) ticks
+          (λ k d h. rows_back colours clut (get_or ticks k d) rows (subst Order o order)));
     }
 
 -- ---- changes and rows

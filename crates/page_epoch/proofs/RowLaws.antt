@@ -13,7 +13,11 @@ use Rattle.page_epoch.specs.declared.clut_rows.Entry.{Entry}
 use Rattle.page_epoch.specs.SentCluts.{row_at, entries_at, all_entries, rows_of_clut, rows_of_entry, is_of_entry, later_place, latest_place, by_tick, row_by, defined_rows}
 use Rattle.page_epoch.proofs.ListLaws.{All-none, All-one, All-pieces, one_each, kept_within, filter_agree, filter_none, flat_map_none}
 
-length-entries_at : (depth : Depth) → length (entries_at depth) ≡ code_count depth
+-- an entry of a depth
+abbrev pub entry_of : Depth → ℕ → Entry
+entry_of depth number = record { depth = depth; number = number }
+
+pub length-entries_at : (depth : Depth) → length (entries_at depth) ≡ code_count depth
 unfolding entries_at
 length-entries_at depth = length-map (range_with_len 0 (code_count depth)) _ ∙ length-range_with_len 0 (code_count depth)
 

@@ -1,21 +1,24 @@
 -- The walk over a CLUT's rows in order of their ticks finds what counts from each tick on.
-use Rattle.std.proofs.Common.{◌≡◌, ◌∙◌, ℕ, ◌+◌, ◌==◌, ◌<◌, ◌≤◌, nat_le, nat_lt, Bool, true, false, not, ◌&&◌, cond, List, [], ◌∷◌, ◌++◌, map, filter, take, drop, set, length, get_or, All, Option, None, Some, Less, Equal, Greater, refl, sym, ap, subst, arith}
+use Rattle.std.proofs.Common.{◌≡◌, ◌∙◌, ℕ, ◌+◌, ◌-◌, ◌==◌, ◌<◌, ◌≤◌, nat_le, nat_lt, Bool, true, false, not, ◌&&◌, cond, List, [], ◌∷◌, ◌++◌, map, filter, take, drop, set, length, get_or, All, Option, None, Some, Less, Equal, Greater, refl, sym, ap, subst, arith}
 use Rattle.std.specs.List.{flat_map, AllWithin}
 use Rattle.std.specs.List.Sorted.{IsNonDecreasingBy, IsPartitionPoint, IsStrictlyIncreasing, IsStableByKey, ties}
 use Rattle.std.specs.Ordering.{is_lt, nat_cmp}
 use Rattle.std.specs.Option.{option_to_list}
 use Rattle.std.proofs.lemmas.Bool.Decides.{nat_tests}
-use Rattle.std.proofs.lemmas.List.{append-nil, length-map, length-take, length-drop, get_or-map, get_or-take, get_or-drop, get_or_default, get_or-set_same, get_or-set_other, length-set, take_more, map-append, take-append-drop, ext_get_or}
+use Rattle.std.proofs.lemmas.List.FromFn.{get_or-map-range_with_len}
+use Rattle.std.proofs.lemmas.List.{get_or_append_left, get_or-append_right, append-nil, length-map, length-take, length-drop, get_or-map, get_or-take, get_or-drop, get_or_default, get_or-set_same, get_or-set_other, take_more, map-append, take-append-drop, ext_get_or}
 use Rattle.std.proofs.lemmas.List.Elements.{All-head, All-tail, All-cons, All-weaker, All-filter, filter-append, filter_more, filter_agree}
-use Rattle.sub_base.specs.declared.depth.Depth.TheVariants.{Two}
+use Rattle.sub_base.specs.declared.depth.Depth.TheVariants.{Two, Four, Eight}
+use Rattle.sub_base.specs.declared.depth.Depth.{Depth}
+use Rattle.sub_base.specs.Depth.{bits_of, code_count}
 use Rattle.cue_list.specs.declared.epoch.ColourRow.{ColourRow}
 use Rattle.page_epoch.specs.declared.clut_rows.Entry.{Entry}
 use Rattle.page_epoch.specs.declared.clut_changes.Change.{Change}
-use Rattle.page_epoch.specs.SentCluts.{row_at, all_entries, rows_of_clut, rows_of_entry, is_of_entry, later_place, latest_place, by_tick, defined_rows}
-use Rattle.page_epoch.specs.Changes.{AreInOrder, current_of, change_at}
+use Rattle.page_epoch.specs.SentCluts.{row_at, entries_at, all_entries, rows_of_clut, rows_of_entry, is_of_entry, later_place, latest_place, by_tick, defined_rows}
+use Rattle.page_epoch.specs.Changes.{AreInOrder, first_of, current_of, change_at}
 use Rattle.page_epoch.proofs.ListLaws.{All-none, equal, filter_none, flat_map_mapped}
 use Rattle.page_epoch.proofs.InstantLaws.{in_order}
-use Rattle.page_epoch.proofs.RowLaws.{latest_in}
+use Rattle.page_epoch.proofs.RowLaws.{latest_in, entry_of, length-entries_at, length-all_entries}
 
 -- the tick of the row at a place
 abbrev tick_at : List ColourRow → ℕ → ℕ
@@ -161,39 +164,88 @@ current_more colours entries rows i place row old new rise h r at is long each =
     ∙ ap (cond (is_of_entry (get_or entries k none) (row_at colours place)) (Some place)) (ap (λ (xs : List (Option ℕ)). get_or xs k None) is ∙ get_or-map before entries k none None within)
     ∙ entry_more colours rows i place (get_or entries k none) rise h r ∙ sym (get_or-map after entries k none None within))
 
--- a row is noted with the first so many entries
-pub record Noted (entries : List Entry) (row : ColourRow) (place count : ℕ) (old new : List (Option ℕ)) : Type 0 where
-  pub long : length new ≡ length old
-  pub each : (k : ℕ) (d : Entry) → k < count → get_or new k None ≡ cond (is_of_entry (get_or entries k d) row) (Some place) (get_or old k None)
-  pub rest : (k : ℕ) → count ≤ k → get_or new k None ≡ get_or old k None
+pub current_long : (colours : List ColourRow) (rows : List ℕ) (current : List (Option ℕ)) → current ≡ current_of colours all_entries rows → length current ≡ 276
+current_long colours rows current is = ap length is ∙ length-map all_entries (current_for colours rows) ∙ length-all_entries
 
-pub Noted-set : (entries : List Entry) (row : ColourRow) (place i : ℕ) (entry : Entry) (old now : List (Option ℕ)) → Noted entries row place i old now → i < length entries → i < length now → entry ≡ get_or entries i entry → is_of_entry entry row ≡ true →
-    Noted entries row place (i + 1) old (set now i (Some place))
-Noted-set entries row place i entry old now noted h in' r t = record {
-  long = length-set now i (Some place) ∙ noted.long;
-  each = λ k d low. elim (k == i) as (λ b. (k == i) ≡ b → get_or (set now i (Some place)) k None ≡ cond (is_of_entry (get_or entries k d) row) (Some place) (get_or old k None)) [
-    | true ↦ λ e.
-        let at : k ≡ i = grind (arith, nat_tests) in
-        ap (λ (n : ℕ). get_or (set now i (Some place)) n None) at ∙ get_or-set_same now i (Some place) None in'
-        ∙ sym (ap (λ b. cond b (Some place) (get_or old k None)) (ap (λ (x : Entry). is_of_entry x row) (ap (λ (n : ℕ). get_or entries n d) at ∙ sym (r ∙ get_or_default entries i entry d h)) ∙ t))
-    | false ↦ λ e. get_or-set_other now i k (Some place) None (grind (arith, nat_tests)) ∙ noted.each k d (grind (arith, nat_tests))
-  ] refl;
-  rest = λ k low. get_or-set_other now i k (Some place) None (grind arith) ∙ noted.rest k (omega arith);
-}
+-- ---- where the entry of a row stands among all entries
 
-pub Noted-pass : (entries : List Entry) (row : ColourRow) (place i : ℕ) (entry : Entry) (old now : List (Option ℕ)) → Noted entries row place i old now → i < length entries → entry ≡ get_or entries i entry → is_of_entry entry row ≡ false →
-    Noted entries row place (i + 1) old now
-Noted-pass entries row place i entry old now noted h r t = record {
-  long = noted.long;
-  each = λ k d low. elim (k == i) as (λ b. (k == i) ≡ b → get_or now k None ≡ cond (is_of_entry (get_or entries k d) row) (Some place) (get_or old k None)) [
-    | true ↦ λ e.
-        let at : k ≡ i = grind (arith, nat_tests) in
-        noted.rest k (omega arith)
-        ∙ sym (ap (λ b. cond b (Some place) (get_or old k None)) (ap (λ (x : Entry). is_of_entry x row) (ap (λ (n : ℕ). get_or entries n d) at ∙ sym (r ∙ get_or_default entries i entry d h)) ∙ t))
-    | false ↦ λ e. noted.each k d (grind (arith, nat_tests))
-  ] refl;
-  rest = λ k low. noted.rest k (omega arith);
-}
+two_at : (k : ℕ) (d : Entry) → k < 4 → get_or all_entries k d ≡ record { depth = Two; number = k }
+unfolding all_entries entries_at
+two_at k d h =
+    let long = length-entries_at Two in
+    get_or_append_left (entries_at Two) (entries_at Four ++ entries_at Eight) d k (omega arith) ∙ get_or-map-range_with_len (entry_of Two) 0 4 k k d h (omega arith)
+
+four_at : (k : ℕ) (d : Entry) → 4 ≤ k → k < 20 → get_or all_entries k d ≡ record { depth = Four; number = k - 4 }
+unfolding all_entries entries_at
+four_at k d low h =
+    let long = length-entries_at Four in
+    get_or-append_right (entries_at Two) (entries_at Four ++ entries_at Eight) 4 k d (length-entries_at Two) low
+    ∙ get_or_append_left (entries_at Four) (entries_at Eight) d (k - 4) (omega arith) ∙ get_or-map-range_with_len (entry_of Four) 0 16 (k - 4) (k - 4) d (omega arith) (omega arith)
+
+eight_at : (k : ℕ) (d : Entry) → 20 ≤ k → k < 276 → get_or all_entries k d ≡ record { depth = Eight; number = k - 20 }
+unfolding all_entries entries_at
+eight_at k d low h =
+    let less : k - 4 - 16 ≡ k - 20 = omega arith in
+    get_or-append_right (entries_at Two) (entries_at Four ++ entries_at Eight) 4 k d (length-entries_at Two) (omega arith)
+    ∙ get_or-append_right (entries_at Four) (entries_at Eight) 16 (k - 4) d (length-entries_at Four) (omega arith)
+    ∙ ap (λ (n : ℕ). get_or (entries_at Eight) n d) less ∙ get_or-map-range_with_len (entry_of Eight) 0 256 (k - 20) (k - 20) d (omega arith) (omega arith)
+
+-- a row's entry stands at one place
+abbrev is_slot : Depth → ℕ → ℕ → Bool
+is_slot depth entry k = nat_lt entry (code_count depth) && (k == first_of depth + entry)
+
+slot_two : (depth : Depth) (entry k : ℕ) → k < 4 → ((bits_of depth == 2) && (entry == k)) ≡ is_slot depth entry k
+slot_two Two entry k h = grind (arith, nat_tests)
+slot_two Four entry k h = grind (arith, nat_tests)
+slot_two Eight entry k h = grind (arith, nat_tests)
+
+slot_four : (depth : Depth) (entry k : ℕ) → 4 ≤ k → k < 20 → ((bits_of depth == 4) && (entry == k - 4)) ≡ is_slot depth entry k
+slot_four Two entry k low h = grind (arith, nat_tests)
+slot_four Four entry k low h = grind (arith, nat_tests)
+slot_four Eight entry k low h = grind (arith, nat_tests)
+
+slot_eight : (depth : Depth) (entry k : ℕ) → 20 ≤ k → k < 276 → ((bits_of depth == 8) && (entry == k - 20)) ≡ is_slot depth entry k
+slot_eight Two entry k low h = grind (arith, nat_tests)
+slot_eight Four entry k low h = grind (arith, nat_tests)
+slot_eight Eight entry k low h = grind (arith, nat_tests)
+
+slot_is : (row : ColourRow) (k : ℕ) (d : Entry) → k < 276 → is_of_entry (get_or all_entries k d) row ≡ is_slot row.depth row.entry k
+slot_is row k d h = elim (nat_lt k 4) as (λ b. nat_lt k 4 ≡ b → is_of_entry (get_or all_entries k d) row ≡ is_slot row.depth row.entry k) [
+  | true ↦ λ e. ap (λ (entry : Entry). is_of_entry entry row) (two_at k d (grind (arith, nat_tests))) ∙ slot_two row.depth row.entry k (grind (arith, nat_tests))
+  | false ↦ λ e. elim (nat_lt k 20) as (λ b. nat_lt k 20 ≡ b → is_of_entry (get_or all_entries k d) row ≡ is_slot row.depth row.entry k) [
+    | true ↦ λ f. ap (λ (entry : Entry). is_of_entry entry row) (four_at k d (grind (arith, nat_tests)) (grind (arith, nat_tests))) ∙ slot_four row.depth row.entry k (grind (arith, nat_tests)) (grind (arith, nat_tests))
+    | false ↦ λ f. ap (λ (entry : Entry). is_of_entry entry row) (eight_at k d (grind (arith, nat_tests)) h) ∙ slot_eight row.depth row.entry k (grind (arith, nat_tests)) h
+  ] refl
+] refl
+
+set_by : (now : List (Option ℕ)) (i k : ℕ) (x : Option ℕ) (b : Bool) → (k == i) ≡ b → i < length now → get_or (set now i x) k None ≡ cond b x (get_or now k None)
+set_by now i k x true e h = let at : k ≡ i = grind (arith, nat_tests) in ap (λ (n : ℕ). get_or (set now i x) n None) at ∙ get_or-set_same now i x None h
+set_by now i k x false e h = get_or-set_other now i k x None (grind (arith, nat_tests))
+
+pub slot_within : (row : ColourRow) → row.entry < code_count row.depth → first_of row.depth + row.entry < 276
+slot_within row h = within row.depth row.entry h
+  where
+    within : (depth : Depth) (entry : ℕ) → entry < code_count depth → first_of depth + entry < 276
+    within Two entry h = omega arith
+    within Four entry h = omega arith
+    within Eight entry h = omega arith
+
+-- a row is noted where its entry stands
+pub noted : (row : ColourRow) (place : ℕ) (old : List (Option ℕ)) (k : ℕ) (d : Entry) → length old ≡ 276 → row.entry < code_count row.depth → k < length all_entries →
+    get_or (set old (first_of row.depth + row.entry) (Some place)) k None ≡ cond (is_of_entry (get_or all_entries k d) row) (Some place) (get_or old k None)
+noted row place old k d long h short =
+    let all = length-all_entries in
+    let slot = first_of row.depth + row.entry in
+    let within = slot_within row h in
+    set_by old slot k (Some place) (k == slot) refl (omega arith)
+    ∙ ap (λ b. cond (b && (k == slot)) (Some place) (get_or old k None)) (sym (let t : nat_lt row.entry (code_count row.depth) ≡ true = grind (arith, nat_tests) in t))
+    ∙ ap (λ b. cond b (Some place) (get_or old k None)) (sym (slot_is row k d (omega arith)))
+
+pub not_noted : (row : ColourRow) (place : ℕ) (old : List (Option ℕ)) (k : ℕ) (d : Entry) → code_count row.depth ≤ row.entry → k < length all_entries →
+    get_or old k None ≡ cond (is_of_entry (get_or all_entries k d) row) (Some place) (get_or old k None)
+not_noted row place old k d h short =
+    let all = length-all_entries in
+    sym (ap (λ b. cond b (Some place) (get_or old k None)) (slot_is row k d (omega arith) ∙ ap (λ b. b && (k == first_of row.depth + row.entry)) (let t : nat_lt row.entry (code_count row.depth) ≡ false = grind (arith, nat_tests) in t)))
 
 -- ---- the rows that have come by a tick
 

@@ -3,6 +3,8 @@ use Rattle.std.specs.Prelude.{◌≡◌, ℕ, ◌==◌, List, map, filter, All, 
 use Rattle.std.specs.List.{flat_map, Contains}
 use Rattle.std.specs.List.Sorted.{IsPermutation, IsNonDecreasingBy, IsStrictlyIncreasing}
 use Rattle.std.specs.Option.{option_to_list}
+use Rattle.sub_base.specs.declared.depth.Depth.{Depth}
+use Rattle.sub_base.specs.declared.depth.Depth.TheVariants.{Two, Four, Eight}
 use Rattle.cue_list.specs.declared.epoch.ColourRow.{ColourRow}
 use Rattle.page_epoch.specs.declared.clut_rows.Entry.{Entry}
 use Rattle.page_epoch.specs.declared.clut_changes.Change.{Change}
@@ -14,6 +16,12 @@ pub record AreInOrder (colours : List ColourRow) (own rows : List ℕ) : Type 0 
   pub moved : IsPermutation own rows
   pub rise : IsNonDecreasingBy (λ place. (row_at colours place).tick) rows
   pub stable : (other : ℕ) → filter (λ place. (row_at colours place).tick == (row_at colours other).tick) rows ≡ filter (λ place. (row_at colours place).tick == (row_at colours other).tick) own
+
+-- how many entries come before those of a depth
+abbrev pub first_of : Depth → ℕ
+first_of Two = 0
+first_of Four = 4
+first_of Eight = 20
 
 -- of these rows the ones that count, by entry
 abbrev pub current_of : List ColourRow → List Entry → List ℕ → List (Option ℕ)

@@ -47,17 +47,18 @@ fn changes_at(
     rows: &[u32],
     ticks: &[u64],
 ) -> Result<Items<Change>, AllocError>
+    requires entries { entries.now ≡ entries_of }
     requires within { All (λ place. place < length colours.now) rows.now }
     requires rows { IsNonDecreasingBy (λ place. (row_at colours.now place).tick) rows.now }
     requires ticks { IsStrictlyIncreasing ticks.now }
-    ensures { IfOk result (λ changes. changes ≡ map (change_at colours.now entries.now rows.now) ticks.now) }
+    ensures { IfOk result (λ changes. changes ≡ map (change_at colours.now entries_of rows.now) ticks.now) }
 {
     let mut current = no_rows(alloc, entries)?;
     let mut come = 0;
     let mut changes = Vec::new(alloc);
     for tick in ticks {
         let next = rows_by(colours, rows, *tick);
-        take_in(&mut current, colours, entries, rows, come, next);
+        take_in(&mut current, colours, rows, come, next);
         changes.push(Change {
             tick: *tick,
             rows: defined_rows(alloc, &current)?,

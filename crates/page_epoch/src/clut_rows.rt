@@ -5,7 +5,7 @@ ghost use Rattle.std.specs.Option.{option_to_list};
 ghost use Rattle.cue_list.specs.declared.epoch.ColourRow.{ColourRow};
 ghost use Rattle.page_epoch.specs.declared.clut_rows.Entry.{Entry};
 ghost use Rattle.page_epoch.specs.SentCluts.{row_at, entries_at, all_entries as entries_of, rows_of_clut as clut_rows_of, is_of_entry as is_of};
-ghost use Rattle.page_epoch.specs.Changes.{current_of, AreInOrder};
+ghost use Rattle.page_epoch.specs.Changes.{first_of, current_of, AreInOrder};
 
 use cue_list::{ColourRow, Items};
 use std::alloc::{AllocError, Global};
@@ -60,13 +60,6 @@ pub fn rows_of_clut(
     Ok(Items::new(own))
 }
 
-/// Whether a row sets that entry of its CLUT.
-fn is_of_entry(entry: &Entry, row: &ColourRow) -> bool
-    ensures { result ≡ is_of entry.now row.now }
-{
-    row.depth.bits() == entry.depth.bits() && row.entry == entry.number
-}
-
 /// The tick of the row at a place.
 fn tick_of(colours: &[ColourRow], place: u32) -> u64
     ensures { result ≡ (row_at colours.now place).tick }
@@ -105,16 +98,25 @@ pub fn no_rows(alloc: Global, entries: &[Entry]) -> Result<Vec<Option<u32>>, All
     Ok(current)
 }
 
-/// Makes a row the current one of its entry.
-fn note(current: &mut Vec<Option<u32>>, entries: &[Entry], row: &ColourRow, place: u32)
-    requires { length current.old.items ≡ length entries.now }
-    ensures long { length current.new.items ≡ length current.old.items }
-    ensures each { (k : ℕ) (d : Entry) → k < length entries.now → get_or current.new.items k None ≡ (if is_of (get_or entries.now k d) row.now then Some place else get_or current.old.items k None) }
+/// How many entries come before those of a depth.
+fn first_entry(depth: Depth) -> usize
+    ensures { result ≡ first_of depth }
 {
-    for (i, entry) in entries.iter().enumerate() {
-        if is_of_entry(entry, row) {
-            current[i] = Some(place);
-        }
+    match depth {
+        Depth::Two => 0,
+        Depth::Four => 4,
+        Depth::Eight => 20,
+    }
+}
+
+/// Makes a row the current one of its entry.
+fn note(current: &mut Vec<Option<u32>>, row: &ColourRow, place: u32)
+    requires { length current.old.items ≡ 276 }
+    ensures long { length current.new.items ≡ length current.old.items }
+    ensures each { (k : ℕ) (d : Entry) → k < length entries_of → get_or current.new.items k None ≡ (if is_of (get_or entries_of k d) row.now then Some place else get_or current.old.items k None) }
+{
+    if u16::from(row.entry) < row.depth.code_count() {
+        current[first_entry(row.depth) + row.entry as usize] = Some(place);
     }
 }
 
@@ -122,7 +124,6 @@ fn note(current: &mut Vec<Option<u32>>, entries: &[Entry], row: &ColourRow, plac
 pub fn take_in(
     current: &mut Vec<Option<u32>>,
     colours: &[ColourRow],
-    entries: &[Entry],
     rows: &[u32],
     come: usize,
     next: usize,
@@ -131,11 +132,11 @@ pub fn take_in(
     requires rows { IsNonDecreasingBy (λ place. (row_at colours.now place).tick) rows.now }
     requires order { come ≤ next }
     requires few { next ≤ length rows.now }
-    requires current { current.old.items ≡ current_of colours.now entries.now (take come rows.now) }
-    ensures { current.new.items ≡ current_of colours.now entries.now (take next rows.now) }
+    requires current { current.old.items ≡ current_of colours.now entries_of (take come rows.now) }
+    ensures { current.new.items ≡ current_of colours.now entries_of (take next rows.now) }
 {
     for i in come..next {
-        note(current, entries, &colours[rows[i] as usize], rows[i]);
+        note(current, &colours[rows[i] as usize], rows[i]);
     }
 }
 
@@ -143,7 +144,8 @@ pub fn take_in(
 pub fn defined_rows(alloc: Global, current: &[Option<u32>]) -> Result<Items<u32>, AllocError>
     ensures { IfOk result (λ rows. rows ≡ flat_map option_to_list current.now) }
 {
-    let mut rows = Vec::new(alloc);
+    let count = current.iter().flatten().count();
+    let mut rows = Vec::with_capacity(alloc, count)?;
     for found in current {
         if let Some(place) = found {
             rows.push(*place)?;

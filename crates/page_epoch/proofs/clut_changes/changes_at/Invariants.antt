@@ -1,5 +1,6 @@
+use Rattle.page_epoch.specs.SentCluts.{all_entries}
 use Rattle.page_epoch.proofs.WalkLaws.{HaveWalked}
 use Rattle.page_epoch.proofs.clut_changes.changes_at.Given as goal
 
 abbrev pub invariant-loop-tick : goal.invariant-loop-tick
-invariant-loop-tick l = HaveWalked l.colours l.entries l.rows l.ticks l.tick-index l.come l.current.items l.changes.items
+invariant-loop-tick l = HaveWalked l.colours all_entries l.rows l.ticks l.tick-index l.come l.current.items l.changes.items

@@ -32,6 +32,6 @@ pub returns-clause-changes : goal.returns-clause-changes
 returns-clause-changes c =
     let colours = c.args.colours.now in
     let Order : List ℕ → List ℕ → Type 0 = λ own rows. AreInOrder colours own rows in
-    changes_from colours c.args.clut c.in_ok-own.own c.deref.result.now c.args.entries.now c.deref-2.result.now c.in_ok-changes.changes c.in_ok-own.ensures c.requires.entries
+    changes_from colours c.args.clut c.in_ok-own.own c.deref.result.now c.deref-2.result.now c.in_ok-changes.changes c.in_ok-own.ensures
     (subst (Order c.in_ok-own.own) (sym c.deref.ensures.value) (subst (λ (own : List ℕ). Order own c.in_ok-rows.rows.items) c.as_slice.ensures c.in_ok-rows.ensures))
     (subst (λ (ticks : List ℕ). AreTicksOf colours c.in_ok-own.own ticks) (sym c.deref-2.ensures.value) (subst (λ (own : List ℕ). AreTicksOf colours own c.in_ok-ticks.ticks.items) c.as_slice-2.ensures c.in_ok-ticks.ensures)) c.in_ok-changes.ensures

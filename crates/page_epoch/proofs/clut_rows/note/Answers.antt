@@ -1,23 +1,12 @@
-use Rattle.std.proofs.Common.{◌∙◌, ◌+◌, List, Option, ℕ, get_or, sym, ap, subst, arith}
-use Rattle.std.proofs.lemmas.List.{get_or_default}
-use Rattle.page_epoch.specs.declared.clut_rows.Entry.{Entry}
-use Rattle.sub_base.specs.declared.depth.Depth.TheVariants.{Two}
-use Rattle.page_epoch.proofs.WalkLaws.{Noted, Noted-set, Noted-pass}
+use Rattle.std.proofs.Common.{◌∙◌, ◌+◌, ℕ, Some, None, set, get_or, ap, arith}
+use Rattle.page_epoch.proofs.WalkLaws.{noted, not_noted}
 use Rattle.page_epoch.proofs.clut_rows.note.Goals as goal
-use Rattle.page_epoch.proofs.clut_rows.note.Goals.{then-is_of_entry, else-is_of_entry}
 
-pub loop-i-preserved : goal.loop-i-preserved
-loop-i-preserved c =
-    let Now : List (Option ℕ) → Type 0 = λ now. Noted c.args.entries.now c.args.row.now c.args.place (c.loop-i.i + 1) c.args.current.now.items now in
-    let none : Entry = record { depth = Two; number = 0 } in
-    let entry = get_or c.args.entries.now c.loop-i.i none in
-    let same = get_or_default c.args.entries.now c.loop-i.i none entry c.loop-i-test.true in
-    let long = c.loop-i.invariant.long in
-    elim c.if-is_of_entry.branch [
-      | then-is_of_entry w ↦ subst Now (sym (ap (λ own. own.items) w.current-is))
-          (Noted-set c.args.entries.now c.args.row.now c.args.place c.loop-i.i entry c.args.current.now.items c.loop-i.current.items c.loop-i.invariant c.loop-i-test.true
-          (omega (arith, long, c.requires, c.loop-i-test.true)) same (sym c.is_of_entry.ensures ∙ w.if-is_of_entry.true))
-      | else-is_of_entry w ↦ subst Now (sym (ap (λ own. own.items) w.current-is))
-          (Noted-pass c.args.entries.now c.args.row.now c.args.place c.loop-i.i entry c.args.current.now.items c.loop-i.current.items c.loop-i.invariant c.loop-i-test.true
-          same (sym c.is_of_entry.ensures ∙ w.if-is_of_entry.false))
-    ]
+pub returns-then-from-code_count-clause-each : goal.returns-then-from-code_count-clause-each
+returns-then-from-code_count-clause-each c = λ k d h.
+    ap (λ (n : ℕ). get_or (set c.args.current.now.items (n + c.args.row.now.entry) (Some c.args.place)) k None) c.first_entry.ensures
+    ∙ noted c.args.row.now c.args.place c.args.current.now.items k d c.requires (omega (arith, c.if-from-code_count.true, c.code_count.ensures, c.from.ensures)) h
+
+pub returns-else-from-code_count-clause-each : goal.returns-else-from-code_count-clause-each
+returns-else-from-code_count-clause-each c = λ k d h.
+    not_noted c.args.row.now c.args.place c.args.current.now.items k d (omega (arith, c.if-from-code_count.false, c.code_count.ensures, c.from.ensures)) h
