@@ -10,8 +10,8 @@ use Rattle.sub_base.specs.Profile.{profile_of}
 use Rattle.sub_base.specs.declared.profile.ProfileName.{ProfileName}
 use Rattle.dvbsub_cmd.specs.Headline.{ShowsScript, OnDone, IsShownBy}
 use Rattle.dvbsub_cmd.specs.Outcome.{Tells, untold}
-use Rattle.dvbsub_cmd.specs.ReadScript.{ReadsScript, IsInputCause}
-use Rattle.dvbsub_cmd.specs.Shown.{Shown, Supplied, Received}
+use Rattle.dvbsub_cmd.specs.ReadScript.{ReadsScript}
+use Rattle.dvbsub_cmd.specs.Shown.{Shown, Received}
 use Rattle.dvbsub_cmd.specs.declared.command.Command.{Command}
 use Rattle.dvbsub_cmd.specs.declared.command.Command.TheVariants as command
 use Rattle.dvbsub_cmd.specs.declared.status.Status.{Status}

@@ -1,6 +1,5 @@
 -- Which piece a slot is that of.
-use Rattle.std.proofs.Common.{◌++◌, take, drop, append_assoc, length-append, ◌-◌, subst, ◌≡◌, ◌≢◌, ℕ, zero, suc, ◌+◌, ◌<◌, ◌≤◌, ◌==◌, List, [], ◌∷◌, length, get_or, map, true, false, Option, Some, None, refl, ap, sym, ◌∙◌, ◌⊎◌, inl, inr, arith, add-one}
-use Rattle.std.proofs.lemmas.Bool.Decides.{nat_tests}
+use Rattle.std.proofs.Common.{◌++◌, take, drop, append_assoc, length-append, ◌-◌, subst, ◌≡◌, ◌≢◌, ℕ, zero, suc, ◌+◌, ◌<◌, ◌≤◌, List, [], ◌∷◌, length, get_or, map, Option, Some, None, refl, ap, sym, ◌∙◌, ◌⊎◌, inl, inr, arith, add-one}
 use Rattle.std.proofs.lemmas.List.Kept.{AllPairs-from_increasing}
 use Rattle.std.specs.List.Sorted.{IsStrictlyIncreasing}
 use Rattle.std.proofs.KnownBytes.{Appends-nil, Appends-trans}
@@ -10,18 +9,13 @@ use Rattle.std.proofs.lemmas.List.{get_or-map, append-nil, take-append-drop, len
 use Rattle.std.specs.Io.KnownBytes.{Appends}
 use Rattle.std.specs.List.{flat_map, range_with_len}
 use Rattle.sub_base.specs.Transfer.{AppendsFront}
+use Rattle.page_epoch.proofs.ListLaws.{equal, unequal}
 use Rattle.stream_syntax.specs.TransportPackets.{null_packet}
 use Rattle.dvbsub_cmd.specs.PieceView.{plain}
 use Rattle.shown_stream.proofs.LaidPackets.{range-split}
 use Rattle.shown_stream.specs.SlotStream.{place_from, slot_packet, packet_at, packet_of, no_piece}
 use Rattle.dvbsub_cmd.specs.SlotWalk.{IsNext, Sent}
 use Rattle.dvbsub_cmd.specs.declared.slot_stream.Piece.{Piece as Lent}
-
-same_test : (a b : ℕ) → a ≡ b → (a == b) ≡ true
-same_test a b e = grind (arith, nat_tests)
-
-other_test : (a b : ℕ) → a ≢ b → (a == b) ≡ false
-other_test a b e = grind (arith, nat_tests)
 
 -- a number is below another, the same, or above it
 compared : (a b : ℕ) → (a < b) ⊎ ((a ≡ b) ⊎ (b < a))
@@ -30,17 +24,17 @@ compared a b = grind arith
 -- the first slot of that number
 pub place_from-found : (slots : List ℕ) (k i slot : ℕ) → ((j : ℕ) → j < k → get_or slots j 0 ≢ slot) → k < length slots → get_or slots k 0 ≡ slot → place_from i slot slots ≡ Some (i + k)
 place_from-found [] k i slot before within is = absurd (omega arith)
-place_from-found (x ∷ slots) zero i slot before within is = rw (same_test x slot is) (ap Some (omega arith))
+place_from-found (x ∷ slots) zero i slot before within is = rw (equal x slot is) (ap Some (omega arith))
 place_from-found (x ∷ slots) (suc k) i slot before within is =
     let first : x ≢ slot = before 0 (omega arith) in
-    rw (other_test x slot first) (place_from-found slots k (i + 1) slot (λ j h. before (suc j) (omega arith)) (omega arith) is ∙ ap Some (omega arith))
+    rw (unequal x slot first) (place_from-found slots k (i + 1) slot (λ j h. before (suc j) (omega arith)) (omega arith) is ∙ ap Some (omega arith))
 
 -- no slot of that number
 pub place_from-none : (slots : List ℕ) (i slot : ℕ) → ((j : ℕ) → j < length slots → get_or slots j 0 ≢ slot) → place_from i slot slots ≡ None
 place_from-none [] i slot others = refl
 place_from-none (x ∷ slots) i slot others =
     let first : x ≢ slot = others 0 (omega arith) in
-    rw (other_test x slot first) (place_from-none slots (i + 1) slot (λ j h. others (suc j) (omega arith)))
+    rw (unequal x slot first) (place_from-none slots (i + 1) slot (λ j h. others (suc j) (omega arith)))
 
 -- later slots are greater
 pub later_slot : (slots : List ℕ) (i j : ℕ) → IsStrictlyIncreasing slots → i < j → j < length slots → get_or slots i 0 < get_or slots j 0

@@ -1,6 +1,6 @@
 -- The packets that a script is compiled to, one by one: they carry the PES packets of the script's sets, and these sets are
 -- received.
-use Rattle.std.proofs.Common.{◌≡◌, ◌∙◌, ℕ, zero, suc, ◌+◌, ◌-◌, ◌<◌, ◌≤◌, true, false, List, [], ◌∷◌, length, map, get_or, replicate, None, IsSome, inl, refl, sym, ap, arith, All, length-append}
+use Rattle.std.proofs.Common.{◌≡◌, ◌∙◌, ℕ, zero, suc, ◌+◌, ◌-◌, ◌<◌, ◌≤◌, true, false, List, [], ◌∷◌, length, map, get_or, replicate, IsSome, inl, refl, sym, ap, arith, All, length-append}
 use Rattle.std.specs.List.{AllByRecursion, concat}
 use Rattle.std.proofs.lemmas.List.{length-replicate}
 use Rattle.std.proofs.lemmas.List.Elements.{All-from_recursion}
@@ -12,7 +12,6 @@ use Rattle.sub_base.specs.declared.profile.ProfileName.{ProfileName}
 use Rattle.sub_base.specs.declared.profile.ProfileName.TheVariants.{Sd, Hd, Wide}
 use Rattle.stream_syntax.specs.Cutting.{IsUnit}
 use Rattle.stream_syntax.specs.TransportPackets.{adaptation_field, null_packet}
-use Rattle.stream_syntax.specs.Units.{last_counter}
 use Rattle.decoder_model.specs.Sets.{sets_of}
 use Rattle.decoder_model.proofs.SentSets.{TimedSet, AreUnitsOf, HaveDifferentTimes, delivered}
 use Rattle.decoder_model.proofs.SentUnits.{all-append, sets_of_sent}
@@ -24,6 +23,7 @@ use Rattle.schedule.proofs.SumLaws.{sum_below-zero, sum_below-suc}
 use Rattle.shown_stream.specs.Compiled.{AreUnits, AreSizedAs, IsCompiledTo}
 use Rattle.shown_stream.specs.SlotStream.{Piece, all_pieces, pieces_of, piece_of, piece_count, packet_of, IsPiece}
 use Rattle.shown_stream.proofs.LaidPackets.{laid, stream_is_laid}
+use Rattle.shown_stream.proofs.LateStream.{no_counter}
 use Rattle.shown_stream.proofs.RisingSlots.{slots_rise}
 use Rattle.shown_stream.proofs.SentPieces.{IsFree, all-replicate, none_refused}
 use Rattle.shown_stream.proofs.SentStream.{pieces_are, sent_units}
@@ -100,10 +100,6 @@ units_of coded page script (set ∷ sets) (unit ∷ units) (load ∷ loads) few 
 
 -- ---- the packets
 
-none_before : (pid : ℕ) → last_counter pid [] ≡ None
-unfolding last_counter
-none_before pid = refl
-
 -- the packets, one by one
 abbrev pub packets_in : (name : ProfileName) (pid page : ℕ) (script : Script) (bytes : List ℕ) → IsCompiledTo name pid page script bytes → List (List ℕ)
 packets_in name pid page script bytes compiled = laid pid 0 0 (all_pieces compiled.units) compiled.table.slots
@@ -133,5 +129,5 @@ are_packets name pid page script bytes free steps compiled =
       units = units;
       received = λ timed are apart.
           sets_of_sent coded pid page true (laid pid 0 0 (all_pieces compiled.units) slots) compiled.units timed (any_cutting pid coded) (nothing_lost pid coded)
-          (none_refused pid 0 0 (all_pieces compiled.units) slots free pieces) (sent_units pid coded 0 0 [] compiled.units slots free units same (inl (none_before pid))) are apart;
+          (none_refused pid 0 0 (all_pieces compiled.units) slots free pieces) (sent_units pid coded 0 0 [] compiled.units slots free units same (inl (no_counter pid))) are apart;
     }

@@ -1,9 +1,10 @@
 -- The packets of pieces at their slots, with null packets in the slots between, one after another.
-use Rattle.std.proofs.Common.{◌≡◌, ◌≢◌, ◌∙◌, ℕ, zero, suc, ◌+◌, ◌-◌, ◌<◌, ◌≤◌, true, false, eqb, cond, List, [], ◌∷◌, ◌++◌, length, map, get_or, replicate, Some, None, refl, sym, ap, arith}
+use Rattle.std.proofs.Common.{◌≡◌, ◌≢◌, ◌∙◌, ℕ, zero, suc, ◌+◌, ◌-◌, ◌<◌, ◌≤◌, false, eqb, cond, List, [], ◌∷◌, ◌++◌, length, map, get_or, replicate, Some, None, refl, sym, ap, arith}
 use Rattle.std.specs.List.{range_with_len, flat_map, concat}
 use Rattle.std.proofs.lemmas.Bool.Decides.{nat_tests}
 use Rattle.std.proofs.lemmas.List.{map-append}
 use Rattle.stream_syntax.specs.TransportPackets.{null_packet}
+use Rattle.decoder_model.proofs.SoleCue.{is_same_id}
 use Rattle.shown_stream.specs.SlotStream.{Piece, no_piece, packet_of, packet_at, place_from, slot_packet, slot_count, stream_of}
 
 -- the packets from a slot on, the first piece being that of this number
@@ -57,18 +58,15 @@ map-constant {Y} y from (suc count) = ap {B = List Y} (λ rest. y ∷ rest) (map
 
 -- ---- the packets at slots
 
-other_slot : (a b : ℕ) → a ≢ b → eqb a b ≡ false
-other_slot a b h = grind (arith, nat_tests)
-
-same_slot : (a : ℕ) → eqb a a ≡ true
-same_slot a = grind (arith, nat_tests)
+pub other_number : (a b : ℕ) → a ≢ b → eqb a b ≡ false
+other_number a b h = grind (arith, nat_tests)
 
 -- a slot before all of some is none of them
 none_before : (number slot from : ℕ) (slots : List ℕ) → IsAhead from slots → slot < from → place_from number slot slots ≡ None
 none_before number slot from [] h less = refl
 none_before number slot from (first ∷ slots) h less =
     let least = h.0 in
-    ap (λ same. cond same (Some number) (place_from (number + 1) slot slots)) (other_slot first slot (λ e. omega arith))
+    ap (λ same. cond same (Some number) (place_from (number + 1) slot slots)) (other_number first slot (λ e. omega arith))
     ∙ none_before (number + 1) slot (first + 1) slots h.1 (omega arith)
 
 -- the packet at a slot, where the first of these slots is that of the piece of this number
@@ -92,10 +90,10 @@ at_slots pid pieces number from (piece ∷ left) (slot ∷ slots) ahead same are
     let reached : from + g ≡ slot = omega arith in
     let first : number ≡ number + 0 = omega arith in
     let its_piece : get_or pieces number no_piece ≡ piece = ap (λ n. get_or pieces n no_piece) first ∙ are 0 (omega arith) in
-    let here : f slot ≡ packet_of pid number piece = ap (λ equal. packet_at pid pieces (cond equal (Some number) (place_from (number + 1) slot slots))) (same_slot slot)
+    let here : f slot ≡ packet_of pid number piece = ap (λ equal. packet_at pid pieces (cond equal (Some number) (place_from (number + 1) slot slots))) (is_same_id slot)
     ∙ ap (packet_of pid number) its_piece in
     let later : (i : ℕ) → i < m → f (slot + 1 + i) ≡ packet_from pid pieces (number + 1) slots (slot + 1 + i)
-    = λ i within. ap (λ equal. packet_at pid pieces (cond equal (Some number) (place_from (number + 1) (slot + 1 + i) slots))) (other_slot slot (slot + 1 + i) (λ e. omega (arith, e))) in
+    = λ i within. ap (λ equal. packet_at pid pieces (cond equal (Some number) (place_from (number + 1) (slot + 1 + i) slots))) (other_number slot (slot + 1 + i) (λ e. omega (arith, e))) in
     ap (λ n. map f (range_with_len from n)) count
     ∙ ap (map f) (range-split g from (suc m))
     ∙ map-append f (range_with_len from g) (range_with_len (from + g) (suc m))

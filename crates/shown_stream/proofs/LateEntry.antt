@@ -10,7 +10,7 @@ use Rattle.decoder_model.proofs.SentUnits.{no_loss_at}
 use Rattle.ts_packets.specs.Demuxing.{next_hand}
 use Rattle.ts_packets.proofs.UnitLemmas.{hand_push, counter_push}
 use Rattle.ts_packets.proofs.WrittenPackets.{SaysWhatWasWritten}
-use Rattle.shown_stream.proofs.LaidPackets.{laid}
+use Rattle.shown_stream.proofs.LaidPackets.{laid, other_number}
 use Rattle.shown_stream.proofs.SentPieces.{IsFree, AreFurther, FollowsOn, says, unbroken, null_is_no_payload, counter_here}
 use Rattle.shown_stream.specs.SlotStream.{Piece, packet_of}
 
@@ -20,9 +20,6 @@ pub record GivesNothing (pid size : ℕ) (before : List (List ℕ)) (packet : Li
   pub no_loss : is_loss (event_at pid size before packet) ≡ false
   pub no_hand : hand_after pid size (before ++ packet ∷ []) ≡ None
 
-other_pid : (a b : ℕ) → a ≢ b → eqb a b ≡ false
-other_pid a b h = grind (arith, nat_tests)
-
 same_pid_is : (a b : ℕ) → a ≡ b → eqb a b ≡ true
 same_pid_is a b h = grind (arith, nat_tests)
 
@@ -30,7 +27,7 @@ same_pid_is a b h = grind (arith, nat_tests)
 
 other_part : (pid : ℕ) (before : List (List ℕ)) (packet : List ℕ) → pid_of packet ≢ pid → part_of pid before packet ≡ None
 unfolding part_after
-other_part pid before packet h = rw (other_pid (pid_of packet) pid h) refl
+other_part pid before packet h = rw (other_number (pid_of packet) pid h) refl
 
 other_gives_nothing : (pid size : ℕ) (before : List (List ℕ)) (packet : List ℕ) → pid_of packet ≢ pid → hand_after pid size before ≡ None → GivesNothing pid size before packet
 other_gives_nothing pid size before packet h hand = record {

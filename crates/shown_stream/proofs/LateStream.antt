@@ -19,7 +19,7 @@ use Rattle.shown_stream.proofs.LateEntry.{further_give_nothing}
 use Rattle.shown_stream.proofs.SentPieces.{IsFree, AreFurther, FollowsOn, counter_behind, laid-append, none_refused}
 use Rattle.shown_stream.proofs.SentStream.{first_piece, further_of, its_pieces, its_further, sent_units, pieces_are, only_pieces}
 
-no_counter : (pid : ℕ) → last_counter pid [] ≡ None
+pub no_counter : (pid : ℕ) → last_counter pid [] ≡ None
 unfolding last_counter
 no_counter pid = refl
 

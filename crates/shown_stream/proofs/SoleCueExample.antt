@@ -1,6 +1,6 @@
 -- A script of one cue that fills the display: there are such scripts, and what one of them authors is computed.
 use Rattle.std.proofs.Common.{◌≡◌, ℕ, ◌<◌, ◌≤◌, false, [], ◌∷◌, inl, inr, refl, arith}
-use Rattle.std.specs.Prelude.{All, AllPairs}
+use Rattle.std.specs.Prelude.{AllPairs}
 use Rattle.std.proofs.lemmas.List.Elements.{All-nil, All-cons, All-from_recursion}
 use Rattle.std.proofs.lemmas.List.Kept.{AllPairs-cons}
 use Rattle.sub_base.specs.Colour.{clear}
@@ -12,10 +12,8 @@ use Rattle.cue_list.specs.declared.epoch.Cue.{Cue}
 use Rattle.cue_list.specs.declared.epoch.Epoch.{Epoch}
 use Rattle.cue_list.specs.declared.epoch.Region.{Region}
 use Rattle.cue_list.specs.declared.script.Script.{Script}
+use Rattle.page_epoch.proofs.ListLaws.{All-one}
 use Rattle.page_epoch.specs.SoleCue.{IsSoleCue}
-
-one : {X : Type 0} (P : X → Type 0) (x : X) → P x → All P (x ∷ [])
-one P x h = All-cons P x [] h (All-nil P)
 
 one_pair : {X : Type 0} (R : X → X → Type 0) (x : X) → AllPairs R (x ∷ [])
 one_pair R x = AllPairs-cons R x [] (All-nil (R x)) (λ i j d h l. absurd (omega arith))
@@ -46,8 +44,8 @@ tick n h = record { late = omega arith; early = omega arith }
 
 apart : AllPairs AreTicksApart (90000 ∷ 90000 ∷ 180000 ∷ [])
 apart =
-    AllPairs-cons AreTicksApart 90000 (90000 ∷ 180000 ∷ []) (All-cons (AreTicksApart 90000) 90000 (180000 ∷ []) (inl refl) (one (AreTicksApart 90000) 180000 (inr (inl (omega arith)))))
-    (AllPairs-cons AreTicksApart 90000 (180000 ∷ []) (one (AreTicksApart 90000) 180000 (inr (inl (omega arith)))) (one_pair AreTicksApart 180000))
+    AllPairs-cons AreTicksApart 90000 (90000 ∷ 180000 ∷ []) (All-cons (AreTicksApart 90000) 90000 (180000 ∷ []) (inl refl) (All-one (AreTicksApart 90000) 180000 (inr (inl (omega arith)))))
+    (AllPairs-cons AreTicksApart 90000 (180000 ∷ []) (All-one (AreTicksApart 90000) 180000 (inr (inl (omega arith)))) (one_pair AreTicksApart 180000))
 
 pub is_sound : IsSound 0 4 2 450000 (epoch ∷ []) (picture ∷ [])
 is_sound = record {
@@ -59,22 +57,22 @@ is_sound = record {
   often = (omega arith, omega arith);
   some_epoch = omega arith;
   few_epochs = omega arith;
-  each = one (IsEpoch 0 4 2 (picture ∷ [])) epoch (record {
+  each = All-one (IsEpoch 0 4 2 (picture ∷ [])) epoch (record {
     starts = tick 90000 (omega arith);
     regions = record {
       many = omega arith;
-      each = one (IsRegion 4 2) region (record { numbers = (omega arith, omega arith); wide = omega arith; high = omega arith; across = omega arith; down = omega arith });
+      each = All-one (IsRegion 4 2) region (record { numbers = (omega arith, omega arith); wide = omega arith; high = omega arith; across = omega arith; down = omega arith });
       apart = one_pair AreApart region;
     };
     colours = All-nil (IsColourRow 0 90000);
-    cues = one (IsCue 0 90000 (region ∷ []) (picture ∷ [])) cue (record { starts = tick 90000 (omega arith); ends = tick 180000 (omega arith); within = omega arith; lasts = omega arith; short = omega arith; picture = omega arith; region = region; found = refl; fits = record { across = omega arith; down = omega arith; shallow = omega arith } });
+    cues = All-one (IsCue 0 90000 (region ∷ []) (picture ∷ [])) cue (record { starts = tick 90000 (omega arith); ends = tick 180000 (omega arith); within = omega arith; lasts = omega arith; short = omega arith; picture = omega arith; region = region; found = refl; fits = record { across = omega arith; down = omega arith; shallow = omega arith } });
   });
   follow = one_pair Follows epoch;
   apart = apart;
   few_colours = omega arith;
   few_cues = omega arith;
   few_pictures = omega arith;
-  drawn = one IsPicture picture is_picture;
+  drawn = All-one IsPicture picture is_picture;
   small = omega arith;
 }
 
