@@ -1,10 +1,13 @@
-"""Draws subtitle.bdf: the printable ASCII characters as pen strokes, in a box of 8 by 14 pixels.
+"""Draws fonts of the printable ASCII characters as pen strokes, in a box of 8 by 14 pixels, or larger by two factors.
 
     python3 examples/draw_subtitle_font.py > examples/subtitle.bdf
+    python3 examples/draw_subtitle_font.py 2 3 > examples/television.bdf
 
 Each character is a list of strokes parted by ";", each stroke a list of points "column,row" that straight lines join.
-Row 0 stands on the base line. The pen is two pixels wide and one high.
+Row 0 stands on the base line. The pen is two pixels wide and one high, and grows with the letters.
 """
+
+import sys
 
 ROUND = "1,0 0,1 0,7 1,8 3,8 4,7 4,1 3,0 1,0"
 BOWL = "0,0 0,8 3,8 4,7 4,5 3,4 0,4"
@@ -42,31 +45,41 @@ STROKES = {
     "{": "3,9 2,8 2,5 1,4 2,3 2,0 3,-1", "|": "2,9 2,-2", "}": "1,9 2,8 2,5 3,4 2,3 2,0 1,-1", "~": "0,4 1,5 3,3 4,4",
 }
 
-WIDTH, HEIGHT, BOTTOM = 8, 14, -3
+ACROSS, UP = map(int, sys.argv[1:3]) if len(sys.argv) > 2 else (1, 1)
+WIDTH, HEIGHT, BOTTOM = 8 * ACROSS, 14 * UP, -3 * UP
 
 
 def ink(strokes):
     """The pixels of the strokes, as (column, row above the base line)."""
-    pixels = set()
+    points = set()
     for stroke in strokes.split(";"):
-        points = [tuple(map(int, point.split(","))) for point in stroke.split()]
-        for (x, y), (u, v) in zip(points, points[1:]):
+        corners = [tuple(int(n) for n in corner.split(",")) for corner in stroke.split()]
+        corners = [(x * ACROSS, y * UP) for x, y in corners]
+        for (x, y), (u, v) in zip(corners, corners[1:]):
             steps = max(abs(u - x), abs(v - y), 1)
             for k in range(steps + 1):
-                pixels.add((x + round((u - x) * k / steps), y + round((v - y) * k / steps)))
-    return pixels | {(x + 1, y) for x, y in pixels}
+                points.add((x + round((u - x) * k / steps), y + round((v - y) * k / steps)))
+    pen = [(x, y) for x in range(ACROSS + 1) for y in range(UP)]
+    return {(x + dx, y + dy) for x, y in points for dx, dy in pen}
+
+
+def row_of(pixels, y):
+    """The hexadecimal digits of a row of pixels, rounded up to whole bytes."""
+    size = (WIDTH + 7) // 8
+    bits = sum(1 << (8 * size - 1 - (x + ACROSS)) for x, row in pixels if row == y and 0 <= x + ACROSS < WIDTH)
+    return f"{bits:0{2 * size}X}"
 
 
 print("STARTFONT 2.1")
 print("COMMENT Drawn for Ledgeprune by draw_subtitle_font.py")
-print("SIZE 14 75 75")
+print(f"SIZE {HEIGHT} 75 75")
 print(f"FONTBOUNDINGBOX {WIDTH} {HEIGHT} 0 {BOTTOM}")
-print("STARTPROPERTIES 2\nFONT_ASCENT 11\nFONT_DESCENT 3\nENDPROPERTIES")
+print(f"STARTPROPERTIES 2\nFONT_ASCENT {HEIGHT + BOTTOM}\nFONT_DESCENT {-BOTTOM}\nENDPROPERTIES")
 print(f"CHARS {len(STROKES)}")
 for character in sorted(STROKES):
     print(f"STARTCHAR U+{ord(character):04X}\nENCODING {ord(character)}\nDWIDTH {WIDTH} 0\nBBX {WIDTH} {HEIGHT} 0 {BOTTOM}\nBITMAP")
     pixels = ink(STROKES[character])
-    for row in range(HEIGHT + BOTTOM - 1, BOTTOM - 1, -1):
-        print(f"{sum(128 >> (x + 1) for x, y in pixels if y == row and 0 <= x + 1 < WIDTH):02X}")
+    for y in range(HEIGHT + BOTTOM - 1, BOTTOM - 1, -1):
+        print(row_of(pixels, y))
     print("ENDCHAR")
 print("ENDFONT")

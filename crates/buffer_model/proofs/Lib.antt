@@ -1,1 +1,3 @@
+pub mod LevelLaws
 pub mod MeterLaws
+pub mod MovedLaws

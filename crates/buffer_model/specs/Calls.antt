@@ -1,10 +1,10 @@
 -- The bytes in the coded data buffer of a receiver, as sums over all that happened, the latest first.
-use Rattle.std.specs.Prelude.{ℕ, ◌+◌, ◌-◌, max, nat_le, nat_lt, if◌then◌else◌, List, [], ◌∷◌, Option, Some, None, unwrap_or}
+use Rattle.std.specs.Prelude.{ℕ, ◌+◌, ◌-◌, max, nat_lt, if◌then◌else◌, List, [], ◌∷◌, Option, Some, None, unwrap_or}
 use Rattle.sub_base.specs.declared.load.SetLoad.{SetLoad}
 use Rattle.buffer_model.specs.declared.breach.Breach.{Breach}
 use Rattle.buffer_model.specs.declared.breach.Breach.TheVariants.{Coded, Late}
 use Rattle.sub_base.specs.declared.pace.Pace.{Pace}
-use Rattle.sub_base.specs.Pace.{tick_of}
+use Rattle.sub_base.specs.Pace.{tick_of, done_tick, left_by}
 
 -- what happens at a receiver: a packet arrives in a slot with that many bytes, the bytes since the last set or drop are
 -- a whole set, or they are dropped
@@ -41,16 +41,15 @@ unassigned (Arrived slot bytes ∷ past) = unassigned past + bytes
 unassigned (SetWhole load ∷ past) = 0
 unassigned (Dropped ∷ past) = 0
 
--- the tick at which a set is done that is whole after this past: it is decoded byte by byte and painted once its last
--- packet is there and the set before is shown
+-- the tick at which a set is done that is whole after this past
 abbrev pub done_of : Pace → SetLoad → List Call → ℕ
-done_of pace load past = max (tick_of pace (last_slot past)) (last_shown past) + load.size + load.painted
+done_of pace load past = done_tick (tick_of pace (last_slot past)) (last_shown past) load
 
 -- the bytes that have left by a tick: those of the sets that are done by then, and of the drops
 abbrev pub left : Pace → ℕ → List Call → ℕ
 left pace tick [] = 0
 left pace tick (Arrived slot bytes ∷ past) = left pace tick past
-left pace tick (SetWhole load ∷ past) = (if nat_le (done_of pace load past) tick then unassigned past else 0) + left pace tick past
+left pace tick (SetWhole load ∷ past) = left_by tick (done_of pace load past) (unassigned past) + left pace tick past
 left pace tick (Dropped ∷ past) = unassigned past + left pace tick past
 
 -- the level at the slot of a packet that arrives after this past: all bytes that arrived, less those that have left

@@ -3,6 +3,7 @@ use Rattle.std.specs.Prelude.{◌≡◌, ℕ, ◌+◌, ◌^◌, ◌<◌, ◌≤�
 use Rattle.buffer_model.specs.declared.breach.Breach.{Breach}
 use Rattle.sub_base.specs.declared.pace.Pace.{Pace}
 use Rattle.buffer_model.specs.declared.waiting.Waiting.{Waiting}
+use Rattle.buffer_model.specs.declared.waiting.TheConstants.{MOST_WAITING}
 use Rattle.sub_base.specs.Pace.{tick_of, IsSound}
 use Rattle.buffer_model.specs.Calls.{Call, last_slot, last_shown, unassigned, arrived, left, breaching, greatest, first_breach_of}
 
@@ -34,7 +35,7 @@ pub record IsMeter (meter : Meter) : Type 0 where
   pub slots : (meter.last < 2 ^ 50) × (meter.next ≤ 2 ^ 50) × (meter.last ≤ meter.next)
   pub shown : meter.shown < 2 ^ 62
   pub some : All (λ set. 1 ≤ set.bytes) meter.waiting
-  pub bytes : sum_by (λ set. set.bytes) meter.waiting ≤ 61440
+  pub bytes : sum_by (λ set. set.bytes) meter.waiting ≤ MOST_WAITING
   pub level : (meter.full ≡ None → meter.pending + held (tick_of meter.pace meter.last) meter.waiting ≤ meter.pace.coded)
 
 -- the meter is that of this past

@@ -4,7 +4,7 @@ ghost use Rattle.buffer_model.specs.Calls.{Call, Arrived, SetWhole, Dropped, don
 ghost use Rattle.buffer_model.specs.Meters.{Stands};
 
 use crate::breach::Breach;
-use crate::waiting::{Waiting, held, hold};
+use crate::waiting::{MOST_WAITING, Waiting, held, hold};
 use std::alloc::Global;
 use std::marker::Model;
 use sub_base::{NoMemory, Pace, Profile, SetLoad};
@@ -25,21 +25,19 @@ pub struct Levels {
 
 impl Model for Levels {
     ghost use Rattle.std.specs.Prelude.{◌≤◌, vec_capacity};
+    ghost use Rattle.buffer_model.specs.declared.waiting.TheConstants.{MOST_WAITING};
     ghost use Rattle.buffer_model.specs.Meters.{Meter, IsMeter};
 
     ghost Value = { Meter };
 
     ghost view = { λ l. record { pace = l.pace; waiting = l.waiting.items; pending = l.pending; last = l.last; next = l.next; shown = l.shown; peak = l.peak; full = l.full; breach = l.breach } };
 
-    ghost invariant = { λ l. IsMeter (record { pace = l.pace; waiting = l.waiting.items; pending = l.pending; last = l.last; next = l.next; shown = l.shown; peak = l.peak; full = l.full; breach = l.breach }) × (61440 ≤ vec_capacity l.waiting) };
+    ghost invariant = { λ l. IsMeter (record { pace = l.pace; waiting = l.waiting.items; pending = l.pending; last = l.last; next = l.next; shown = l.shown; peak = l.peak; full = l.full; breach = l.breach }) × (MOST_WAITING ≤ vec_capacity l.waiting) };
 }
-
-/// More sets than can wait in the coded data buffer of any profile with a step.
-const MOST_WAITING: usize = 61_440;
 
 impl Levels {
     /// An empty buffer of a profile with a step, whose slot 0 is at the origin, a tick of 90 kHz. All memory is taken
-    /// here.
+    /// here: 4 MiB.
     pub fn make(alloc: Global, profile: &Profile, origin: u64) -> Result<Levels, NoMemory>
         requires profile { IsSending profile.now }
         requires origin { origin < 2 ^ 62 }
@@ -100,7 +98,7 @@ impl Levels {
         ensures pace { self.new.pace ≡ self.old.pace }
     {
         let now = self.pace.tick(self.last);
-        let done = now.max(self.shown) + load.size + load.painted;
+        let done = load.done(now, self.shown);
         if done > load.pts {
             self.breach = self.breach.or(Some(Breach::Late {
                 done,

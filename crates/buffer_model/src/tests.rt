@@ -51,3 +51,31 @@ fn set_done_late(rt: HostRuntime) -> Result<(), Fail> {
     );
     Ok(())
 }
+
+/// A set in three packets in the largest buffer, which then fills up to its last byte, and past it.
+#[test]
+fn largest_buffer(rt: HostRuntime) -> Result<(), Fail> {
+    let mut levels = Levels::make(rt.alloc(), &Profile::of(ProfileName::Large), 0)?;
+    assert_eq!(rt; levels.arrive(556, 60_090), 60_090);
+    assert_eq!(rt; levels.arrive(1_000, 60_031), 120_121);
+    assert_eq!(rt; levels.arrive(1_536, 60_037), 180_158);
+    let load = SetLoad {
+        pts: 500_000,
+        size: 180_158,
+        painted: 32_400,
+    };
+    assert_eq!(rt; levels.set_whole(load), 350_798);
+    assert_eq!(rt; levels.arrive(1_537, 65_536), 245_694);
+    assert_eq!(rt; levels.arrive(1_538, 16_450), 262_144);
+    assert_eq!(rt; levels.first_breach(), None);
+    assert_eq!(rt; levels.arrive(1_539, 1), 262_145);
+    assert_eq!(rt; levels.peak(), 262_145);
+    assert_eq!(rt;
+        levels.first_breach(),
+        Some(Breach::Coded {
+            slot: 1_539,
+            level: 262_145
+        })
+    );
+    Ok(())
+}

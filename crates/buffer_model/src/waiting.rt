@@ -1,5 +1,10 @@
 ghost use Rattle.std.specs.Prelude.{◌≡◌, ℕ, ◌+◌, ◌≤◌, All, sum_by, filter, nat_lt, vec_capacity};
+ghost use Rattle.buffer_model.specs.declared.waiting.TheConstants.{MOST_WAITING};
 ghost use Rattle.buffer_model.specs.Meters.{held as held_bytes, held_of};
+
+/// More sets than can wait in the coded data buffer of any profile with a step: each has at least one of its bytes, and
+/// the largest has 262,144. A meter keeps room for so many, 16 bytes for each.
+pub const MOST_WAITING: usize = 262_144;
 
 /// A set that is whole and may wait in the buffer until it is done.
 #[derive(Clone, Copy, Debug)]
@@ -10,7 +15,7 @@ pub struct Waiting {
 
 /// The bytes of the sets that are not done by that tick.
 pub fn held(waiting: &[Waiting], tick: u64) -> u64
-    requires { sum_by (λ set. set.bytes) waiting.now ≤ 61440 }
+    requires { sum_by (λ set. set.bytes) waiting.now ≤ MOST_WAITING }
     ensures { result ≡ held_bytes tick waiting.now }
 {
     let mut bytes = 0;
@@ -32,12 +37,12 @@ fn forget_done(waiting: &mut Vec<Waiting>, tick: u64)
 
 /// At that tick, with the sets that are done by it forgotten, a set of that many bytes waits until it is done.
 pub fn hold(waiting: &mut Vec<Waiting>, tick: u64, done: u64, bytes: u64)
-    requires room { 61440 ≤ vec_capacity waiting.old }
+    requires room { MOST_WAITING ≤ vec_capacity waiting.old }
     requires some { All (λ set. 1 ≤ set.bytes) waiting.old.items }
-    requires level { bytes + held_bytes tick waiting.old.items ≤ 61440 }
-    ensures room { 61440 ≤ vec_capacity waiting.new }
+    requires level { bytes + held_bytes tick waiting.old.items ≤ MOST_WAITING }
+    ensures room { MOST_WAITING ≤ vec_capacity waiting.new }
     ensures some { All (λ set. 1 ≤ set.bytes) waiting.new.items }
-    ensures bytes { sum_by (λ set. set.bytes) waiting.new.items ≤ 61440 }
+    ensures bytes { sum_by (λ set. set.bytes) waiting.new.items ≤ MOST_WAITING }
     ensures held { (later : ℕ) → tick ≤ later → held_bytes later waiting.new.items ≡ held_bytes later waiting.old.items + held_of later (record { done = done; bytes = bytes }) }
 {
     forget_done(waiting, tick);

@@ -7,6 +7,7 @@ use Rattle.std.proofs.lemmas.List.Quantifiers.{all_pairs_push}
 use Rattle.sub_base.specs.Colour.{shown_of}
 use Rattle.sub_base.specs.declared.colour.Colour.{Colour}
 use Rattle.sub_base.specs.Depth.{bits_of, code_count}
+use Rattle.cue_list.specs.declared.limits.TheConstants.{LONGEST_CUE, LONGEST_SCRIPT, MOST_REGIONS}
 use Rattle.cue_list.specs.declared.epoch.ColourRow.{ColourRow}
 use Rattle.cue_list.specs.declared.epoch.Cue.{Cue}
 use Rattle.cue_list.specs.declared.epoch.Epoch.{Epoch}
@@ -29,7 +30,7 @@ pub record IsCueOf (origin start : ℕ) (regions : List Region) (heads : List Pi
   pub ends : IsTick origin cue.end
   pub within : start ≤ cue.start
   pub lasts : cue.start < cue.end
-  pub short : cue.end ≤ cue.start + 54000000
+  pub short : cue.end ≤ cue.start + LONGEST_CUE
   pub region : Region
   pub found : region_with cue.region regions ≡ Some region
   pub head : PictureHead
@@ -41,7 +42,7 @@ pub record IsCueOf (origin start : ℕ) (regions : List Region) (heads : List Pi
 -- an epoch, by the depths and sides of the pictures
 pub record IsEpochOf (origin width height : ℕ) (heads : List PictureHead) (epoch : Epoch) : Type 0 where
   pub starts : IsTick origin epoch.start
-  pub many : length epoch.regions ≤ 64
+  pub many : length epoch.regions ≤ MOST_REGIONS
   pub regions : (region : Region) → Member region epoch.regions → IsRegion width height region
   pub apart : AllPairs AreApart epoch.regions
   pub colours : (row : ColourRow) → Member row epoch.colours → IsColourRow origin epoch.start row
@@ -156,9 +157,9 @@ below a b h = grind (arith, nat_tests)
 pub not-below : (a b : ℕ) → nat_lt a b ≡ false → b ≤ a
 not-below a b h = grind (arith, nat_tests)
 
-pub tick-range : (origin : ℕ) (cell : List ℕ) → number_fault origin (origin + 3240000000) cell ≡ None → IsTick origin (value_of cell)
+pub tick-range : (origin : ℕ) (cell : List ℕ) → number_fault origin (origin + LONGEST_SCRIPT) cell ≡ None → IsTick origin (value_of cell)
 tick-range origin cell h =
-    let range = number-range origin (origin + 3240000000) cell h in
+    let range = number-range origin (origin + LONGEST_SCRIPT) cell h in
     record { late = range.0; early = range.1 }
 
 -- a right colour
@@ -166,7 +167,7 @@ pub colour-row : (origin start number : ℕ) (cells : Row) → colour_cells orig
     → IsColourRow origin start (colour_in number cells)
 unfolding colour_cells colour_in
 colour-row origin start number cells h entry within =
-    let tick = passed (number_fault origin (origin + 3240000000) (cell_at cells 1)) _ h in
+    let tick = passed (number_fault origin (origin + LONGEST_SCRIPT) (cell_at cells 1)) _ h in
     let clut = passed (number_fault 0 255 (cell_at cells 2)) _ tick.1 in
     let deep = passed (depth_fault (cell_at cells 3)) _ clut.1 in
     let place = passed (number_fault 0 255 (cell_at cells 4)) _ deep.1 in

@@ -5,6 +5,7 @@ use Rattle.std.proofs.lemmas.Bool.Decides.{nat_tests}
 use Rattle.sub_base.specs.Depth.{bits_of, code_count}
 use Rattle.sub_base.specs.Number.{is_number}
 use Rattle.bitmap_font.specs.Font.{FontValue}
+use Rattle.cue_list.specs.declared.limits.TheConstants.{LONGEST_CUE, MOST_DIGITS}
 use Rattle.cue_list.specs.declared.epoch.ColourRow.{ColourRow}
 use Rattle.cue_list.specs.declared.epoch.Region.{Region}
 use Rattle.cue_list.specs.declared.fault.ScriptKind.{ScriptKind}
@@ -59,7 +60,7 @@ IsRightRow-from font past kind number cells h =
 pub number-range : (least most : ℕ) (cell : List ℕ) → number_fault least most cell ≡ None → (least ≤ value_of cell) × (value_of cell ≤ most)
 unfolding number_fault
 number-range least most cell h =
-    let first = right (not (is_number 10 cell)) faults.Number (fails (not (nat_le least (value_of cell) && nat_le (value_of cell) most)) faults.Range ∷ []) h in
+    let first = right (not (is_number MOST_DIGITS cell)) faults.Number (fails (not (nat_le least (value_of cell) && nat_le (value_of cell) most)) faults.Range ∷ []) h in
     let inside = not-false (nat_le least (value_of cell) && nat_le (value_of cell) most) (right (not (nat_le least (value_of cell) && nat_le (value_of cell) most)) faults.Range [] first.1).0 in
     let parts = both-true (nat_le least (value_of cell)) (nat_le (value_of cell) most) inside in
     (least-of parts.0, most-of parts.1)
@@ -102,7 +103,7 @@ colour-right past row h =
 pub record IsRightSpan (past : Past) (start end : ℕ) : Type 0 where
   pub within : is_early start past.epoch ≡ false
   pub lasts : nat_le end start ≡ false
-  pub short : nat_lt (start + 54000000) end ≡ false
+  pub short : nat_lt (start + LONGEST_CUE) end ≡ false
   pub start_far : past.is_near start ≡ false
   pub end_far : past.is_near end ≡ false
   pub apart : is_close start end ≡ false
@@ -112,7 +113,7 @@ unfolding span_fault
 span-right past start end h =
     let first = right (is_early start past.epoch) faults.OutsideEpoch _ h in
     let second = right (nat_le end start) faults.EmptySpan _ first.1 in
-    let third = right (nat_lt (start + 54000000) end) faults.TooLong _ second.1 in
+    let third = right (nat_lt (start + LONGEST_CUE) end) faults.TooLong _ second.1 in
     let fourth = right (past.is_near start || past.is_near end || is_close start end) faults.TooClose [] third.1 in
     let apart = both-false (past.is_near start || past.is_near end) (is_close start end) fourth.0 in
     let far = both-false (past.is_near start) (past.is_near end) apart.0 in

@@ -4,6 +4,7 @@ use Rattle.std.specs.Prelude.{slice_get}
 use Rattle.std.specs.List.{list_any}
 use Rattle.std.proofs.lemmas.Bool.Decides.{nat_tests}
 use Rattle.bitmap_font.specs.Font.{FontValue}
+use Rattle.cue_list.specs.declared.limits.TheConstants.{LONGEST_SCRIPT}
 use Rattle.cue_list.specs.declared.epoch.Cue.{Cue}
 use Rattle.cue_list.specs.declared.epoch.Epoch.{Epoch}
 use Rattle.cue_list.specs.declared.epoch.Region.{Region}
@@ -74,8 +75,8 @@ inside-region region x y head h = (grind (arith, nat_tests), grind (arith, nat_t
 placing-ticks : (origin : ℕ) (cells : Row) → placing_cells origin cells ≡ None → IsTick origin (placing_in cells).start × IsTick origin (placing_in cells).end
 unfolding placing_cells placing_in
 placing-ticks origin cells h =
-    let start = passed (number_fault origin (origin + 3240000000) (cell_at cells 1)) _ h in
-    let end = passed (number_fault origin (origin + 3240000000) (cell_at cells 2)) _ start.1 in
+    let start = passed (number_fault origin (origin + LONGEST_SCRIPT) (cell_at cells 1)) _ h in
+    let end = passed (number_fault origin (origin + LONGEST_SCRIPT) (cell_at cells 2)) _ start.1 in
     (tick-range origin (cell_at cells 1) start.0, tick-range origin (cell_at cells 2) end.0)
 
 placed-cue : (past : Past) (epoch : Epoch) (number k : ℕ) (cells : Row) (through : Bool) (region : Region) (head : PictureHead) (heads : List PictureHead) → past.epoch ≡ Some epoch

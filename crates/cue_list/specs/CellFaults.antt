@@ -3,6 +3,7 @@ use Rattle.std.specs.Prelude.{ℕ, ◌+◌, ◌==◌, nat_le, Bool, ◌&&◌, �
 use Rattle.std.specs.Str.{bytes_eq, is_utf8}
 use Rattle.std.specs.List.{list_all}
 use Rattle.sub_base.specs.Number.{is_number, value_from}
+use Rattle.cue_list.specs.declared.limits.TheConstants.{LATEST_ORIGIN, LONGEST_SCRIPT, MOST_DIGITS}
 use Rattle.cue_list.specs.declared.fault.ScriptKind.{ScriptKind}
 use Rattle.cue_list.specs.declared.fault.ScriptKind.TheVariants as faults
 use Rattle.cue_list.specs.declared.row_kind.RowKind.{RowKind}
@@ -32,10 +33,10 @@ value_of cell = value_from 0 cell
 abbrev pub value_at : Row → ℕ → ℕ
 value_at row place = value_of (cell_at row place)
 
--- a cell that is a number has one to ten digits, no sign and no leading zero, and lies in its range
+-- a cell that is a number has one to eleven digits, no sign and no leading zero, and lies in its range
 unfoldable pub number_fault : ℕ → ℕ → List ℕ → Option ScriptKind
 number_fault least most cell = first_of (
-    fails (not (is_number 10 cell)) faults.Number
+    fails (not (is_number MOST_DIGITS cell)) faults.Number
     ∷ fails (not (nat_le least (value_of cell) && nat_le (value_of cell) most)) faults.Range
     ∷ [])
 
@@ -45,7 +46,7 @@ is_depth number = (number == 2) || (number == 4) || (number == 8)
 
 unfoldable pub depth_fault : List ℕ → Option ScriptKind
 depth_fault cell = first_of (
-    fails (not (is_number 10 cell)) faults.Number
+    fails (not (is_number MOST_DIGITS cell)) faults.Number
     ∷ fails (not (is_depth (value_of cell))) faults.Range
     ∷ [])
 
@@ -53,20 +54,13 @@ depth_fault cell = first_of (
 unfoldable pub mode_fault : List ℕ → Option ScriptKind
 mode_fault cell = fails (not (bytes_eq cell (codes "solid") || bytes_eq cell (codes "through"))) faults.Unknown
 
--- the greatest origin, and how far after it a tick may lie
-abbrev pub latest_origin : ℕ
-latest_origin = 5000000000
-
-abbrev pub longest_script : ℕ
-longest_script = 3240000000
-
 -- a tick lies from the origin on, and not too far after it
 abbrev pub tick_fault : ℕ → List ℕ → Option ScriptKind
-tick_fault origin cell = number_fault origin (origin + longest_script) cell
+tick_fault origin cell = number_fault origin (origin + LONGEST_SCRIPT) cell
 
 -- `origin`, TICK
 unfoldable pub origin_cells : Row → Option ScriptKind
-origin_cells row = number_fault 0 latest_origin (cell_at row 1)
+origin_cells row = number_fault 0 LATEST_ORIGIN (cell_at row 1)
 
 -- `display`, W, H
 unfoldable pub display_cells : Row → Option ScriptKind

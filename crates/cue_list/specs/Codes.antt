@@ -1,7 +1,8 @@
 -- Pixel codes as hexadecimal text.
-use Rattle.std.specs.Prelude.{ℕ, ◌+◌, ◌-◌, ◌*◌, nat_le, nat_lt, ◌&&◌, if◌then◌else◌, List, [], ◌∷◌, ◌++◌, Option, Some, None}
+use Rattle.std.specs.Prelude.{ℕ, ◌+◌, ◌-◌, ◌*◌, nat_le, nat_lt, Bool, is_some, ◌&&◌, if◌then◌else◌, List, [], ◌∷◌, ◌++◌, Option, Some, None}
 use Rattle.sub_base.specs.declared.depth.Depth.{Depth}
 use Rattle.sub_base.specs.declared.depth.Depth.TheVariants.{Two, Four, Eight}
+use Rattle.std.specs.List.{list_all}
 use Rattle.cue_list.specs.Cells.{◌>>=◌}
 
 -- the value of a hexadecimal digit, in capital or small letters
@@ -44,3 +45,13 @@ codes_of Eight text = double_codes text
 -- codes that were read, and those of the text after them
 abbrev pub after_codes : List ℕ → Option (List ℕ) → Option (List ℕ)
 after_codes front more = more >>= λ others. Some (front ++ others)
+
+-- a character is a digit below the limit
+abbrev pub has_code : ℕ → ℕ → Bool
+has_code limit digit = is_some (single_code limit digit)
+
+-- each character is a digit that a code of the depth may have
+abbrev pub are_digits : Depth → List ℕ → Bool
+are_digits Two text = list_all (has_code 4) text
+are_digits Four text = list_all (has_code 16) text
+are_digits Eight text = list_all (has_code 16) text

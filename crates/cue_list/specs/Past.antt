@@ -4,6 +4,7 @@ use Rattle.std.specs.List.{list_any, flat_map}
 use Rattle.std.specs.Option.{option_map_or}
 use Rattle.std.specs.Str.{bytes_eq}
 use Rattle.bitmap_font.specs.Font.{FontValue}
+use Rattle.cue_list.specs.declared.limits.TheConstants.{CLOSE_TICKS}
 use Rattle.cue_list.specs.declared.epoch.ColourRow.{ColourRow}
 use Rattle.cue_list.specs.declared.epoch.Cue.{Cue}
 use Rattle.cue_list.specs.declared.epoch.Epoch.{Epoch}
@@ -76,7 +77,7 @@ ticks_in earlier = flat_map (λ row. ticks_by row.kind row.cells) earlier
 -- two ticks differ by 1 to 3,600
 abbrev pub is_close : ℕ → ℕ → Bool
 is_close first second =
-    (nat_lt first second && nat_le second (first + 3600)) || (nat_lt second first && nat_le first (second + 3600))
+    (nat_lt first second && nat_le second (first + CLOSE_TICKS)) || (nat_lt second first && nat_le first (second + CLOSE_TICKS))
 
 -- ---- pictures
 

@@ -6,6 +6,7 @@ use Rattle.sub_base.specs.Depth.{bits_of, code_count}
 use Rattle.sub_base.specs.declared.depth.Depth.{Depth}
 use Rattle.sub_base.specs.declared.depth.Depth.TheVariants.{Two, Four, Eight}
 use Rattle.bitmap_font.specs.Font.{FontValue}
+use Rattle.cue_list.specs.declared.limits.TheConstants.{LONGEST_CUE, LONGEST_NAME, MOST_CODES, MOST_COLOURS, MOST_CUES, MOST_EPOCHS, MOST_PICTURES, MOST_REGIONS}
 use Rattle.cue_list.specs.declared.epoch.ColourRow.{ColourRow}
 use Rattle.cue_list.specs.declared.epoch.Epoch.{Epoch}
 use Rattle.cue_list.specs.declared.epoch.Region.{Region}
@@ -56,17 +57,17 @@ epoch_count past = length past.ended + (if is_some past.epoch then 1 else 0)
 
 -- one more of that kind would be too many
 abbrev pub is_full : Past → RowKind → Bool
-is_full past kinds.Epoch = nat_le 512 (epoch_count past)
-is_full past kinds.Region = nat_le 64 (length (regions_of past.epoch))
-is_full past kinds.Colour = nat_le 8192 past.colours
-is_full past kinds.Picture = nat_le 1024 past.pictures
-is_full past kinds.Place = nat_le 4096 past.cues
-is_full past kinds.Cue = nat_le 4096 past.cues
+is_full past kinds.Epoch = nat_le MOST_EPOCHS (epoch_count past)
+is_full past kinds.Region = nat_le MOST_REGIONS (length (regions_of past.epoch))
+is_full past kinds.Colour = nat_le MOST_COLOURS past.colours
+is_full past kinds.Picture = nat_le MOST_PICTURES past.pictures
+is_full past kinds.Place = nat_le MOST_CUES past.cues
+is_full past kinds.Cue = nat_le MOST_CUES past.cues
 is_full past _ = false
 
 -- with that many codes more there would be too many
 abbrev pub are_too_many : Past → PictureHead → Bool
-are_too_many past head = nat_lt 268435456 (past.codes + area head)
+are_too_many past head = nat_lt MOST_CODES (past.codes + area head)
 
 -- ---- epochs, regions and colours
 
@@ -141,7 +142,7 @@ codes_fault head characters = first_of (
 
 -- a picture's name has 1 to 64 bytes
 abbrev pub is_name : List ℕ → Bool
-is_name name = nat_le 1 (length name) && nat_le (length name) 64
+is_name name = nat_le 1 (length name) && nat_le (length name) LONGEST_NAME
 
 unfoldable pub picture_fault : Past → PictureHead → Row → Option ScriptKind
 picture_fault past head cells = first_of (
@@ -161,7 +162,7 @@ unfoldable pub span_fault : Past → ℕ → ℕ → Option ScriptKind
 span_fault past start end = first_of (
     fails (is_early start past.epoch) faults.OutsideEpoch
     ∷ fails (nat_le end start) faults.EmptySpan
-    ∷ fails (nat_lt (start + 54000000) end) faults.TooLong
+    ∷ fails (nat_lt (start + LONGEST_CUE) end) faults.TooLong
     ∷ fails (past.is_near start || past.is_near end || is_close start end) faults.TooClose
     ∷ [])
 

@@ -4,6 +4,7 @@ use Rattle.std.specs.List.{flat_map}
 use Rattle.sub_base.specs.Colour.{shown_of}
 use Rattle.sub_base.specs.Depth.{bits_of, code_count}
 use Rattle.sub_base.specs.Picture.{Picture, IsPicture}
+use Rattle.cue_list.specs.declared.limits.TheConstants.{CLOSE_TICKS, LATEST_ORIGIN, LONGEST_CUE, LONGEST_SCRIPT, MOST_CODES, MOST_COLOURS, MOST_CUES, MOST_EPOCHS, MOST_PICTURES, MOST_REGIONS}
 use Rattle.cue_list.specs.declared.epoch.Epoch.{Epoch}
 use Rattle.cue_list.specs.declared.epoch.Region.{Region}
 use Rattle.cue_list.specs.declared.epoch.ColourRow.{ColourRow}
@@ -13,7 +14,7 @@ use Rattle.cue_list.specs.Authored.{picture_at_place}
 -- a tick lies from the origin on, at most 3,240,000,000 ticks after it
 pub record IsTick (origin tick : ℕ) : Type 0 where
   pub late : origin ≤ tick
-  pub early : tick ≤ origin + 3240000000
+  pub early : tick ≤ origin + LONGEST_SCRIPT
 
 -- a region lies on the display
 pub record IsRegion (width height : ℕ) (region : Region) : Type 0 where
@@ -30,7 +31,7 @@ pub record AreApart (first second : Region) : Type 0 where
 
 -- the regions of an epoch: at most 64 on the display, of which no two share a row of it
 pub record AreRegions (width height : ℕ) (regions : List Region) : Type 0 where
-  pub many : length regions ≤ 64
+  pub many : length regions ≤ MOST_REGIONS
   pub each : All (IsRegion width height) regions
   pub apart : AllPairs AreApart regions
 
@@ -55,7 +56,7 @@ pub record IsCue (origin start : ℕ) (regions : List Region) (pictures : List P
   pub ends : IsTick origin cue.end
   pub within : start ≤ cue.start
   pub lasts : cue.start < cue.end
-  pub short : cue.end ≤ cue.start + 54000000
+  pub short : cue.end ≤ cue.start + LONGEST_CUE
   pub picture : cue.picture < length pictures
   pub region : Region
   pub found : find (λ region. region.id == cue.region) regions ≡ Some region
@@ -77,7 +78,7 @@ ticks_of epoch = epoch.start ∷ (map (λ row. row.tick) epoch.colours ++ flat_m
 
 -- two ticks are the same, or more than 3,600 ticks apart
 abbrev pub AreTicksApart : ℕ → ℕ → Type 0
-AreTicksApart first second = (first ≡ second) ⊎ ((first + 3600 < second) ⊎ (second + 3600 < first))
+AreTicksApart first second = (first ≡ second) ⊎ ((first + CLOSE_TICKS < second) ⊎ (second + CLOSE_TICKS < first))
 
 -- an epoch starts after another one, when no cue of that one is shown and none of its colours changes any more
 pub record Follows (earlier later : Epoch) : Type 0 where
@@ -87,19 +88,19 @@ pub record Follows (earlier later : Epoch) : Type 0 where
 
 -- a script's display, refresh, epochs and pictures are right, and within the limits
 pub record IsSound (origin width height refresh : ℕ) (epochs : List Epoch) (pictures : List Picture) : Type 0 where
-  pub early : origin ≤ 5000000000
+  pub early : origin ≤ LATEST_ORIGIN
   pub wide : (1 ≤ width) × (width ≤ 1920)
   pub high : (1 ≤ height) × (height ≤ 1080)
   pub seconds : ℕ
   pub whole : refresh ≡ 90000 * seconds
   pub often : (1 ≤ seconds) × (seconds ≤ 60)
   pub some_epoch : 1 ≤ length epochs
-  pub few_epochs : length epochs ≤ 512
+  pub few_epochs : length epochs ≤ MOST_EPOCHS
   pub each : All (IsEpoch origin width height pictures) epochs
   pub follow : AllPairs Follows epochs
   pub apart : AllPairs AreTicksApart (flat_map ticks_of epochs)
-  pub few_colours : sum_by (λ epoch. length epoch.colours) epochs ≤ 8192
-  pub few_cues : sum_by (λ epoch. length epoch.cues) epochs ≤ 4096
-  pub few_pictures : length pictures ≤ 5120
+  pub few_colours : sum_by (λ epoch. length epoch.colours) epochs ≤ MOST_COLOURS
+  pub few_cues : sum_by (λ epoch. length epoch.cues) epochs ≤ MOST_CUES
+  pub few_pictures : length pictures ≤ MOST_PICTURES + MOST_CUES
   pub drawn : All IsPicture pictures
-  pub small : sum_by (λ picture. picture.width * picture.height) pictures ≤ 268435456
+  pub small : sum_by (λ picture. picture.width * picture.height) pictures ≤ MOST_CODES

@@ -3,6 +3,7 @@
 use Rattle.std.specs.Prelude.{◌≡◌, ℕ, ◌+◌, ◌≤◌, [], ◌∷◌, ◌++◌, length, map, Option, Some, None, option_map, ⊤}
 use Rattle.bitmap_font.specs.Font.{FontValue}
 use Rattle.sub_base.specs.Picture.{Picture}
+use Rattle.cue_list.specs.declared.limits.TheConstants.{LATEST_ORIGIN, MOST_CODES, MOST_COLOURS, MOST_CUES, MOST_PICTURES}
 use Rattle.cue_list.specs.declared.epoch.ColourRow.{ColourRow}
 use Rattle.cue_list.specs.declared.epoch.Cue.{Cue}
 use Rattle.cue_list.specs.declared.epoch.Epoch.{Epoch}
@@ -49,12 +50,12 @@ past_of reader = record {
 -- what is true of each reader
 pub record IsReader (reader : Reader) : Type 0 where
   pub ticks : IsTicks reader.ticks
-  pub origin : reader.origin ≤ 5000000000
-  pub few_colours : reader.colours ≤ 8192
-  pub few_named : reader.named ≤ 1024
-  pub few_cues : reader.cues ≤ 4096
+  pub origin : reader.origin ≤ LATEST_ORIGIN
+  pub few_colours : reader.colours ≤ MOST_COLOURS
+  pub few_named : reader.named ≤ MOST_PICTURES
+  pub few_cues : reader.cues ≤ MOST_CUES
   pub few_pictures : length reader.pictures.items ≤ reader.named + reader.cues
-  pub few_codes : reader.codes ≤ 268435456
+  pub few_codes : reader.codes ≤ MOST_CODES
 
 -- ---- one more record
 

@@ -2,12 +2,13 @@
 use Rattle.std.specs.Prelude.{◌≡◌, ℕ, ◌+◌, ◌-◌, ◌/◌, Bool, false, ◌||◌, Option, Some, None}
 use Rattle.std.specs.Ordering.{nat_cmp}
 use Rattle.std.specs.BTreeMap.{get}
+use Rattle.cue_list.specs.declared.limits.TheConstants.{CLOSE_TICKS}
 use Rattle.cue_list.specs.declared.ticks.Ticks.{Ticks}
 use Rattle.cue_list.specs.Past.{is_close}
 
 -- the span of a tick
 abbrev pub span_of : ℕ → ℕ
-span_of tick = tick / 3601
+span_of tick = tick / (CLOSE_TICKS + 1)
 
 -- the tick that was named in a span, where there is one, is close to another
 abbrev pub is_close_to : ℕ → Option ℕ → Bool

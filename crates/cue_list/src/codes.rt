@@ -1,70 +1,62 @@
-ghost use Rattle.std.specs.Prelude.{◌≡◌, ◌<◌, IfOk, All, IfSome, Some, ℕ, option_map};
+ghost use Rattle.std.specs.Prelude.{◌≡◌, ◌*◌, ◌<◌, ◌≤◌, ℕ, length, true, All, Some};
+ghost use Rattle.std.specs.List.{list_all};
 ghost use Rattle.sub_base.specs.Depth.{code_count};
-ghost use Rattle.cue_list.specs.Codes.{single_code as single_code_of, double_code as double_code_of, single_codes as single_codes_of, double_codes as double_codes_of, codes_of as codes_of_text};
+ghost use Rattle.cue_list.specs.Codes.{has_code, are_digits, single_codes, double_codes, codes_of};
+ghost use Rattle.cue_list.specs.RowFaults.{digits_of};
 
-use crate::hex::hex_value;
-use std::alloc::Global;
-use sub_base::{Depth, NoMemory};
+use crate::hex::digit_value;
+use sub_base::Depth;
 
-/// The codes of a text, one hexadecimal digit a code, two at 8 bits; none where the text is no such text.
-pub fn codes_of(alloc: Global, depth: Depth, text: &[u8]) -> Result<Option<Vec<u8>>, NoMemory>
-    ensures codes { IfOk result (λ codes. option_map (λ v. v.items) codes ≡ codes_of_text depth text.now) }
-    ensures range { IfOk result (λ codes. IfSome codes (λ v. All (λ code. code < code_count depth) v.items)) }
+/// Puts the codes of a text in their places, one hexadecimal digit a code, two at 8 bits, and says whether the text has
+/// no character but digits of that depth. All of it is walked either way, so that no code is waited for.
+pub(crate) fn put_codes(depth: Depth, text: &[u8], codes: &mut [u8]) -> bool
+    requires { length text.now ≡ digits_of depth * length codes.old }
+    ensures digits { result ≡ are_digits depth text.now }
+    ensures codes { result ≡ true → codes_of depth text.now ≡ Some codes.new }
+    ensures range { result ≡ true → All (λ code. code < code_count depth) codes.new }
+    ensures count { length codes.new ≡ length codes.old }
 {
     match depth {
-        Depth::Two => single_codes(alloc, 4, text),
-        Depth::Four => single_codes(alloc, 16, text),
-        Depth::Eight => double_codes(alloc, text),
+        Depth::Two => put_single_codes(4, text, codes),
+        Depth::Four => put_single_codes(16, text, codes),
+        Depth::Eight => put_double_codes(text, codes),
     }
 }
 
-fn single_codes(alloc: Global, limit: u8, text: &[u8]) -> Result<Option<Vec<u8>>, NoMemory>
-    ensures codes { IfOk result (λ codes. option_map (λ v. v.items) codes ≡ single_codes_of limit text.now) }
-    ensures range { IfOk result (λ codes. IfSome codes (λ v. All (λ code. code < limit) v.items)) }
+/// Codes of one digit each, below a limit.
+#[inline(always)]
+fn put_single_codes(limit: u8, text: &[u8], codes: &mut [u8]) -> bool
+    requires small { limit ≤ 16 }
+    requires room { length text.now ≡ length codes.old }
+    ensures digits { result ≡ list_all (has_code limit) text.now }
+    ensures codes { result ≡ true → single_codes limit text.now ≡ Some codes.new }
+    ensures range { result ≡ true → All (λ code. code < limit) codes.new }
+    ensures count { length codes.new ≡ length codes.old }
 {
-    let mut codes = Vec::new(alloc);
-    for digit in text {
-        match single_code(limit, *digit) {
-            Some(code) => codes.push(code)?,
-            None => return Ok(None),
-        }
+    let mut right = true;
+    for place in 0..codes.len() {
+        let value = digit_value(text[place]);
+        codes[place] = value;
+        right &= value < limit;
     }
-    Ok(Some(codes))
+    right
 }
 
-fn double_codes(alloc: Global, text: &[u8]) -> Result<Option<Vec<u8>>, NoMemory>
-    ensures codes { IfOk result (λ codes. option_map (λ v. v.items) codes ≡ double_codes_of text.now) }
-    ensures range { IfOk result (λ codes. IfSome codes (λ v. All (λ code. code < 256) v.items)) }
+/// Codes of two digits each.
+#[inline(always)]
+fn put_double_codes(text: &[u8], codes: &mut [u8]) -> bool
+    requires { length text.now ≡ 2 * length codes.old }
+    ensures digits { result ≡ list_all (has_code 16) text.now }
+    ensures codes { result ≡ true → double_codes text.now ≡ Some codes.new }
+    ensures count { length codes.new ≡ length codes.old }
 {
-    let mut codes = Vec::new(alloc);
-    let mut rest = text;
-    while rest.len() >= 2 {
-        match double_code(rest[0], rest[1]) {
-            Some(code) => codes.push(code)?,
-            None => return Ok(None),
-        }
-        rest = &rest[2..];
+    let mut right = true;
+    for place in 0..codes.len() {
+        let high = digit_value(text[2 * place]);
+        let low = digit_value(text[2 * place + 1]);
+        codes[place] = high % 16 * 16 + low % 16;
+        right &= high < 16;
+        right &= low < 16;
     }
-    if rest.is_empty() {
-        Ok(Some(codes))
-    } else {
-        Ok(None)
-    }
-}
-
-fn single_code(limit: u8, digit: u8) -> Option<u8>
-    ensures value { result ≡ single_code_of limit digit }
-    ensures range { IfSome result (λ code. code < limit) }
-{
-    let value = hex_value(char::from(digit))?;
-    if value < limit { Some(value) } else { None }
-}
-
-fn double_code(high: u8, low: u8) -> Option<u8>
-    ensures value { result ≡ double_code_of high low }
-    ensures range { IfSome result (λ code. code < 256) }
-{
-    let high = hex_value(char::from(high))?;
-    let low = hex_value(char::from(low))?;
-    Some(16 * high + low)
+    right
 }

@@ -1,3 +1,4 @@
+ghost use Rattle.cue_list.specs.declared.limits.TheConstants.{MOST_CODES, MOST_CUES};
 ghost use Rattle.std.specs.Prelude.{◌≡◌, ◌≤◌, ◌<◌, ◌+◌, ◌^◌, ◌∷◌, [], ◌++◌, true, false, None, Some, chars, length, map, option_map, IfNone, IfSome, OnOk, IfOk, IfErr};
 ghost use Rattle.csv.specs.Records.{fields_of};
 ghost use Rattle.cue_list.specs.CellFaults.{first_of, is_text_row, value_at, place_cells as place_cells_of, cue_cells as cue_cells_of};
@@ -71,7 +72,7 @@ impl Reader {
     pub(crate) fn take_place(&mut self, number: u64, row: &ByteRecord) -> Result<(), RowFault>
         requires reader { IsReader self.old }
         requires text { is_text_row (fields_of row.now) ≡ true }
-        requires few { self.old.cues < 4096 }
+        requires few { self.old.cues < MOST_CUES }
         ensures taken { OnOk result (IsTaken (first_of (place_cells_of self.old.origin (fields_of row.now) ∷ place_fault_of (past_of self.old) (placing_in (fields_of row.now)) (cell_at (fields_of row.now) 7) ∷ [])) (place_next (past_of self.old) number (fields_of row.now)) self.new) }
         ensures pictures { self.new.pictures ≡ self.old.pictures }
         ensures refused { IfErr result (IsRowFault (first_of (place_cells_of self.old.origin (fields_of row.now) ∷ place_fault_of (past_of self.old) (placing_in (fields_of row.now)) (cell_at (fields_of row.now) 7) ∷ []))) }
@@ -99,12 +100,12 @@ impl Reader {
         requires end { placing.end < 2 ^ 62 }
         requires wide { (1 ≤ head.width) × (head.width ≤ 1920) }
         requires high { head.height ≤ 1080 }
-        requires few { self.now.codes ≤ 268435456 }
+        requires few { self.now.codes ≤ MOST_CODES }
         ensures fault { result ≡ text_fault_of (past_of self.now) placing region head }
         ensures start { IfNone result (near_by self.now.ticks placing.start ≡ false) }
         ensures end { IfNone result (near_by self.now.ticks placing.end ≡ false) }
         ensures apart { IfNone result (is_close placing.start placing.end ≡ false) }
-        ensures room { IfNone result (self.now.codes + area_of_head head ≤ 268435456) }
+        ensures room { IfNone result (self.now.codes + area_of_head head ≤ MOST_CODES) }
     {
         if !lies_in(region, placing.x, placing.y, head) {
             return Some(ScriptKind::CueOutside);
@@ -123,14 +124,14 @@ impl Reader {
     fn cue_picture(&self, font: &Font, cue: CueCells, text: &str) -> Result<Indexed, RowFault>
         requires start { cue.placing.start < 2 ^ 62 }
         requires end { cue.placing.end < 2 ^ 62 }
-        requires few { self.now.codes ≤ 268435456 }
+        requires few { self.now.codes ≤ MOST_CODES }
         ensures right { OnOk result (cue_fault_of font.now (past_of self.now) cue.placing cue.ink cue.paper (chars text.now) ≡ None) }
         ensures set { IfOk result (IsTextPicture font.now (regions_of self.now.epoch) cue.placing.region cue.ink cue.paper (chars text.now)) }
         ensures head { IfOk result (λ picture. option_map (λ region. text_head font.now region.depth (chars text.now)) (region_with_of cue.placing.region (regions_of self.now.epoch)) ≡ Some (head_of_picture picture)) }
         ensures start { OnOk result (near_by self.now.ticks cue.placing.start ≡ false) }
         ensures end { OnOk result (near_by self.now.ticks cue.placing.end ≡ false) }
         ensures apart { OnOk result (is_close cue.placing.start cue.placing.end ≡ false) }
-        ensures room { IfOk result (λ picture. self.now.codes + area_of_head (head_of_picture picture) ≤ 268435456) }
+        ensures room { IfOk result (λ picture. self.now.codes + area_of_head (head_of_picture picture) ≤ MOST_CODES) }
         ensures refused { IfErr result (IsRowFault (cue_fault_of font.now (past_of self.now) cue.placing cue.ink cue.paper (chars text.now))) }
     {
         let Some(region) = region_with(self.regions(), cue.placing.region) else {
@@ -159,7 +160,7 @@ impl Reader {
     ) -> Result<(), RowFault>
         requires reader { IsReader self.old }
         requires text { is_text_row (fields_of row.now) ≡ true }
-        requires few { self.old.cues < 4096 }
+        requires few { self.old.cues < MOST_CUES }
         ensures taken { OnOk result (IsTaken (first_of (cue_cells_of self.old.origin (fields_of row.now) ∷ cue_fault_of font.now (past_of self.old) (placing_in (fields_of row.now)) (value_at (fields_of row.now) 6) (value_at (fields_of row.now) 7) (chars (cell_at (fields_of row.now) 8)) ∷ [])) (cue_next font.now (past_of self.old) number (fields_of row.now)) self.new) }
         ensures set { OnOk result (IsTextOf font.now (regions_of self.old.epoch) (fields_of row.now) self.old.pictures.items self.new.pictures.items) }
         ensures refused { IfErr result (IsRowFault (first_of (cue_cells_of self.old.origin (fields_of row.now) ∷ cue_fault_of font.now (past_of self.old) (placing_in (fields_of row.now)) (value_at (fields_of row.now) 6) (value_at (fields_of row.now) 7) (chars (cell_at (fields_of row.now) 8)) ∷ []))) }

@@ -1,5 +1,7 @@
-use crate::items::Items;
-use sub_base::{Colour, Depth};
+ghost use Rattle.std.specs.Prelude.{◌≡◌};
+ghost use Rattle.cue_list.specs.Authored.{is_live};
+
+use sub_base::{Colour, Depth, Items};
 
 /// A span of a programme in which the regions stay as they are: from its start to the start of the next one.
 #[derive(Drop)]
@@ -61,4 +63,13 @@ pub struct Cue {
     pub picture: u32,
     /// Whether code 1 of the picture lets what lies beneath be seen.
     pub see_through: bool,
+}
+
+impl Cue {
+    /// Whether the cue is shown at a tick.
+    pub fn is_live_at(&self, tick: u64) -> bool
+        ensures { result ≡ is_live tick self.now }
+    {
+        self.start <= tick && tick < self.end
+    }
 }

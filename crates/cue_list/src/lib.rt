@@ -10,7 +10,7 @@ mod cue_rows;
 mod epoch;
 mod fault;
 mod hex;
-mod items;
+mod limits;
 mod names;
 mod painting;
 mod picture_rows;
@@ -31,7 +31,10 @@ mod ticks;
 
 pub use epoch::{ColourRow, Cue, Epoch, Region};
 pub use fault::{ScriptFault, ScriptKind};
-pub use items::Items;
+pub use limits::{
+    CLOSE_TICKS, LATEST_ORIGIN, LONGEST_CUE, LONGEST_NAME, LONGEST_SCRIPT, MOST_CODES,
+    MOST_COLOURS, MOST_CUES, MOST_DIGITS, MOST_EPOCHS, MOST_PICTURES, MOST_REGIONS,
+};
 pub use painting::picture_at;
 pub use script::Script;
 

@@ -76,7 +76,7 @@ fn has_live_cue(cues: &[Cue], region: u8, tick: u64) -> bool
 fn is_live_in(cue: &Cue, region: u8, tick: u64) -> bool
     ensures { result ≡ ((cue.now.region == region) && is_live_at tick cue.now) }
 {
-    cue.region == region && cue.start <= tick && tick < cue.end
+    cue.region == region && cue.is_live_at(tick)
 }
 
 /// The colours of all entries of a CLUT at a depth, by a tick. Of rows that set the same entry, the one with the latest

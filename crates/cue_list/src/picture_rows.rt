@@ -1,9 +1,10 @@
-ghost use Rattle.std.specs.Prelude.{◌≡◌, ◌≤◌, ◌<◌, ◌+◌, ◌*◌, ◌∷◌, [], ◌++◌, true, None, Some, chars, length, All, IfNone, IfSome, OnOk, IfOk, IfErr};
+ghost use Rattle.cue_list.specs.declared.limits.TheConstants.{MOST_CODES, MOST_PICTURES};
+ghost use Rattle.std.specs.Prelude.{◌≡◌, ◌≤◌, ◌<◌, ◌+◌, ◌*◌, ◌∷◌, [], ◌++◌, true, None, Some, chars, length, All, OnOk, IfOk, IfErr};
 ghost use Rattle.csv.specs.Records.{fields_of};
 ghost use Rattle.sub_base.specs.Depth.{code_count};
 ghost use Rattle.cue_list.specs.CellFaults.{first_of, is_text_row, picture_cells as picture_cells_of};
 ghost use Rattle.cue_list.specs.Cells.{cell_at};
-ghost use Rattle.cue_list.specs.Codes.{codes_of as codes_of_text};
+ghost use Rattle.cue_list.specs.Codes.{codes_of};
 ghost use Rattle.cue_list.specs.Past.{area as area_of_head};
 ghost use Rattle.cue_list.specs.RowFaults.{picture_fault as picture_fault_of, codes_fault as codes_fault_of, is_name as is_name_of};
 ghost use Rattle.cue_list.specs.RowValues.{head_in};
@@ -11,54 +12,58 @@ ghost use Rattle.cue_list.specs.State.{IsReader, past_of, IsTaken, IsRowFault, p
 ghost use Rattle.cue_list.specs.Drawn.{IsPictureOf, IsPictureWith};
 
 use crate::cells::cell;
-use crate::codes::codes_of;
+use crate::codes::put_codes;
 use crate::fault::ScriptKind;
+use crate::limits::LONGEST_NAME;
 use crate::reader::Reader;
 use crate::row_cells::picture_cells;
 use crate::row_fault::RowFault;
 use crate::row_tests::area;
 use crate::row_values::PictureHead;
-use crate::texts::{codes_fault, text_cell};
+use crate::texts::{codes_fault, digits, text_cell};
 use csv::ByteRecord;
 use indexed_picture::Indexed;
 use std::alloc::Global;
 
 impl Reader {
-    /// What is wrong with a picture's name, its codes, and their number.
+    /// The picture of a record, or what is wrong with its name, its codes, or their number.
     #[tactic(auto, unfolding(crate::specs::RowFaults::picture_fault))]
-    fn picture_fault(&self, head: PictureHead, row: &ByteRecord) -> Option<ScriptKind>
+    fn picture_in(
+        &self,
+        alloc: Global,
+        head: PictureHead,
+        row: &ByteRecord,
+    ) -> Result<Indexed, RowFault>
         requires text { is_text_row (fields_of row.now) ≡ true }
-        requires few { self.now.codes ≤ 268435456 }
-        ensures fault { result ≡ picture_fault_of (past_of self.now) head (fields_of row.now) }
-        ensures codes { IfNone result (codes_fault_of head (chars (cell_at (fields_of row.now) 5)) ≡ None) }
-        ensures room { IfNone result (self.now.codes + area_of_head head ≤ 268435456) }
+        requires few { self.now.codes ≤ MOST_CODES }
+        requires wide { 1 ≤ head.width }
+        requires high { 1 ≤ head.height }
+        ensures right { OnOk result (picture_fault_of (past_of self.now) head (fields_of row.now) ≡ None) }
+        ensures drawn { IfOk result (IsPictureWith head (cell_at (fields_of row.now) 5)) }
+        ensures room { OnOk result (self.now.codes + area_of_head head ≤ MOST_CODES) }
+        ensures refused { IfErr result (IsRowFault (picture_fault_of (past_of self.now) head (fields_of row.now))) }
     {
         if !is_name(cell(row, 1)) {
-            return Some(ScriptKind::Range);
+            return Err(RowFault::Wrong(ScriptKind::Range));
         }
-        if let Some(kind) = codes_fault(head, text_cell(row, 5)) {
-            return Some(kind);
-        }
+        let picture = picture_of(alloc, head, row)?;
         if self.are_too_many(head) {
-            return Some(ScriptKind::TooMany);
+            return Err(RowFault::Wrong(ScriptKind::TooMany));
         }
-        None
+        Ok(picture)
     }
 
     /// Takes a picture with a name.
     pub(crate) fn take_picture(&mut self, alloc: Global, row: &ByteRecord) -> Result<(), RowFault>
         requires reader { IsReader self.old }
         requires text { is_text_row (fields_of row.now) ≡ true }
-        requires few { self.old.named < 1024 }
+        requires few { self.old.named < MOST_PICTURES }
         ensures taken { OnOk result (IsTaken (first_of (picture_cells_of (fields_of row.now) ∷ picture_fault_of (past_of self.old) (head_in (fields_of row.now)) (fields_of row.now) ∷ [])) (picture_next (past_of self.old) (fields_of row.now)) self.new) }
         ensures drawn { OnOk result (IsPictureOf (fields_of row.now) self.old.pictures.items self.new.pictures.items) }
         ensures refused { IfErr result (IsRowFault (first_of (picture_cells_of (fields_of row.now) ∷ picture_fault_of (past_of self.old) (head_in (fields_of row.now)) (fields_of row.now) ∷ []))) }
     {
         let head = picture_cells(row)?;
-        if let Some(kind) = self.picture_fault(head, row) {
-            return Err(RowFault::Wrong(kind));
-        }
-        let picture = picture_of(alloc, head, text_cell(row, 5))?;
+        let picture = self.picture_in(alloc, head, row)?;
         let place = self.pictures.len() as u32;
         self.names.add(alloc, text_cell(row, 1), place)?;
         self.pictures.push(picture)?;
@@ -68,32 +73,38 @@ impl Reader {
     }
 }
 
-/// The picture of these sides whose codes are a text.
-fn picture_of(alloc: Global, head: PictureHead, text: &str) -> Result<Indexed, RowFault>
+/// The picture of these sides whose codes stand in a record, or what is wrong with them.
+fn picture_of(alloc: Global, head: PictureHead, row: &ByteRecord) -> Result<Indexed, RowFault>
+    requires text { is_text_row (fields_of row.now) ≡ true }
     requires wide { 1 ≤ head.width }
     requires high { 1 ≤ head.height }
-    requires right { codes_fault_of head (chars text.now) ≡ None }
-    ensures drawn { IfOk result (IsPictureWith head text.now) }
-    ensures memory { IfErr result (IsRowFault None) }
+    ensures right { OnOk result (codes_fault_of head (chars (cell_at (fields_of row.now) 5)) ≡ None) }
+    ensures drawn { IfOk result (IsPictureWith head (cell_at (fields_of row.now) 5)) }
+    ensures refused { IfErr result (IsRowFault (codes_fault_of head (chars (cell_at (fields_of row.now) 5)))) }
 {
-    let codes = read_codes(alloc, head, text)?;
-    match Indexed::from_codes(alloc, head.width, head.height, head.depth, codes) {
-        Ok(picture) => Ok(picture),
-        Err(_) => unreachable!(),
-    }
+    let codes = read_codes(alloc, head, row)?;
+    Ok(Indexed::of_codes(head.width, head.height, head.depth, codes))
 }
 
-/// The codes of a text, one for each pixel.
-fn read_codes(alloc: Global, head: PictureHead, text: &str) -> Result<Vec<u8>, RowFault>
-    requires { codes_fault_of head (chars text.now) ≡ None }
-    ensures read { IfOk result (λ codes. codes_of_text head.depth text.now ≡ Some codes.items) }
+/// The codes that stand in a record, one for each pixel. A text of as many digits as are wanted is walked once; only
+/// one that is refused is walked again, for its fault.
+fn read_codes(alloc: Global, head: PictureHead, row: &ByteRecord) -> Result<Vec<u8>, RowFault>
+    requires { is_text_row (fields_of row.now) ≡ true }
+    ensures right { OnOk result (codes_fault_of head (chars (cell_at (fields_of row.now) 5)) ≡ None) }
+    ensures read { IfOk result (λ codes. codes_of head.depth (cell_at (fields_of row.now) 5) ≡ Some codes.items) }
     ensures count { IfOk result (λ codes. length codes.items ≡ head.width * head.height) }
     ensures range { IfOk result (λ codes. All (λ code. code < code_count head.depth) codes.items) }
-    ensures memory { IfErr result (IsRowFault None) }
+    ensures refused { IfErr result (IsRowFault (codes_fault_of head (chars (cell_at (fields_of row.now) 5)))) }
 {
-    let found = codes_of(alloc, head.depth, text.as_bytes())?;
-    match found {
-        Some(codes) => Ok(codes),
+    let text = cell(row, 5);
+    if text.len() as u64 == digits(head.depth) * area(head) {
+        let mut codes = vec![in alloc; 0; area(head) as usize]?;
+        if put_codes(head.depth, text, codes.as_mut_slice()) {
+            return Ok(codes);
+        }
+    }
+    match codes_fault(head, text_cell(row, 5)) {
+        Some(kind) => Err(RowFault::Wrong(kind)),
         None => unreachable!(),
     }
 }
@@ -102,5 +113,5 @@ fn read_codes(alloc: Global, head: PictureHead, text: &str) -> Result<Vec<u8>, R
 fn is_name(cell: &[u8]) -> bool
     ensures { result ≡ is_name_of cell.now }
 {
-    1 <= cell.len() && cell.len() <= 64
+    1 <= cell.len() && cell.len() <= LONGEST_NAME
 }

@@ -11,7 +11,6 @@ ghost use Rattle.cue_list.specs.Sound.{IsSound};
 
 use crate::epoch::Epoch;
 use crate::fault::{ScriptFault, ScriptKind};
-use crate::items::Items;
 use crate::reader::Reader;
 use crate::row_fault::RowFault;
 use crate::rows::{next_row, reader_of};
@@ -19,7 +18,7 @@ use crate::script::Script;
 use bitmap_font::Font;
 use csv::ByteRecord;
 use std::alloc::Global;
-use sub_base::NoMemory;
+use sub_base::{Items, NoMemory};
 
 /// The ticks of a second.
 const SECOND: u64 = 90_000;
@@ -41,8 +40,8 @@ impl Script {
             width: reader.width,
             height: reader.height,
             refresh,
-            epochs: Items::new(epochs),
-            pictures: Items::new(reader.pictures),
+            epochs: Items::new(alloc, epochs),
+            pictures: Items::new(alloc, reader.pictures),
         })
     }
 }

@@ -12,7 +12,7 @@ const FONT: &[u8] =
 const HEAD: &str = "origin,0\ndisplay,40,30\nrefresh,5\n";
 
 /// Each script, and its first wrong record with the first test that fails.
-const WRONG: [(&str, &str, u64, ScriptKind); 64] = [
+const WRONG: [(&str, &str, u64, ScriptKind); 65] = [
     ("", "", 1, ScriptKind::Order),
     (HEAD, "", 4, ScriptKind::Order),
     ("", "display,40,30\n", 1, ScriptKind::Order),
@@ -23,8 +23,9 @@ const WRONG: [(&str, &str, u64, ScriptKind); 64] = [
     ("origin,\n", "", 1, ScriptKind::Number),
     ("origin,01\n", "", 1, ScriptKind::Number),
     ("origin,+1\n", "", 1, ScriptKind::Number),
-    ("origin,12345678901\n", "", 1, ScriptKind::Number),
-    ("origin,5000000001\n", "", 1, ScriptKind::Range),
+    ("origin,123456789012\n", "", 1, ScriptKind::Number),
+    ("origin,12345678901\n", "", 1, ScriptKind::Range),
+    ("origin,8589934592\n", "", 1, ScriptKind::Range),
     ("origin,0\ndisplay,0,1\n", "", 2, ScriptKind::Range),
     ("origin,0\ndisplay,1920,1081\n", "", 2, ScriptKind::Range),
     ("origin,0\ndisplay,1921,x\n", "", 2, ScriptKind::Range),

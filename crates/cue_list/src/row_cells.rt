@@ -9,15 +9,10 @@ ghost use Rattle.std.specs.Prelude.{codes};
 use crate::cells::{cell, is_text};
 use crate::epoch::{ColourRow, Region};
 use crate::fault::ScriptKind;
+use crate::limits::{LATEST_ORIGIN, LONGEST_SCRIPT, MOST_DIGITS};
 use crate::row_values::{DisplayRow, PictureHead, PlaceRow};
 use csv::ByteRecord;
 use sub_base::{Colour, Depth, decimal_number};
-
-/// The greatest origin, in ticks.
-const LATEST_ORIGIN: u64 = 5_000_000_000;
-
-/// How many ticks after the origin a tick may lie.
-const LONGEST_SCRIPT: u64 = 3_240_000_000;
 
 /// A picture with its mode and where and when it is placed.
 #[derive(Clone, Copy, Debug)]
@@ -34,7 +29,7 @@ pub struct CueCells {
     pub paper: u8,
 }
 
-/// The number in a cell, of one to ten digits and in its range.
+/// The number in a cell, of one to eleven digits and in its range.
 #[tactic(auto, unfolding(crate::specs::CellFaults::number_fault))]
 pub fn number_cell(cell: &[u8], least: u64, most: u64) -> Result<u64, ScriptKind>
     ensures fault { fault_in result ≡ number_fault least most cell.now }
@@ -42,7 +37,7 @@ pub fn number_cell(cell: &[u8], least: u64, most: u64) -> Result<u64, ScriptKind
     ensures least { IfOk result (λ number. least ≤ number) }
     ensures most { IfOk result (λ number. number ≤ most) }
 {
-    let Some(number) = decimal_number(cell, 10) else {
+    let Some(number) = decimal_number(cell, MOST_DIGITS) else {
         return Err(ScriptKind::Number);
     };
     if least <= number && number <= most {
@@ -74,11 +69,11 @@ fn short_cell(cell: &[u8], least: u16, most: u16) -> Result<u16, ScriptKind>
 
 /// The tick in a cell.
 fn tick_cell(cell: &[u8], origin: u64) -> Result<u64, ScriptKind>
-    requires { origin ≤ 5000000000 }
-    ensures fault { fault_in result ≡ number_fault origin (origin + 3240000000) cell.now }
+    requires { origin ≤ LATEST_ORIGIN }
+    ensures fault { fault_in result ≡ number_fault origin (origin + LONGEST_SCRIPT) cell.now }
     ensures value { IfOk result (λ number. number ≡ value_of cell.now) }
     ensures least { IfOk result (λ number. origin ≤ number) }
-    ensures most { IfOk result (λ number. number ≤ origin + 3240000000) }
+    ensures most { IfOk result (λ number. number ≤ origin + LONGEST_SCRIPT) }
 {
     number_cell(cell, origin, origin + LONGEST_SCRIPT)
 }
@@ -89,7 +84,7 @@ fn depth_cell(cell: &[u8]) -> Result<Depth, ScriptKind>
     ensures fault { fault_in result ≡ depth_fault cell.now }
     ensures value { IfOk result (λ depth. depth ≡ depth_with (value_of cell.now)) }
 {
-    let Some(bits) = decimal_number(cell, 10) else {
+    let Some(bits) = decimal_number(cell, MOST_DIGITS) else {
         return Err(ScriptKind::Number);
     };
     if bits == 2 {
@@ -123,7 +118,7 @@ fn mode_cell(cell: &[u8]) -> Result<bool, ScriptKind>
 pub fn origin_cells(row: &ByteRecord) -> Result<u64, ScriptKind>
     ensures fault { fault_in result ≡ origin_cells_of (fields_of row.now) }
     ensures value { IfOk result (λ origin. origin ≡ value_at (fields_of row.now) 1) }
-    ensures early { IfOk result (λ origin. origin ≤ 5000000000) }
+    ensures early { IfOk result (λ origin. origin ≤ LATEST_ORIGIN) }
 {
     number_cell(cell(row, 1), 0, LATEST_ORIGIN)
 }
@@ -155,11 +150,11 @@ pub fn refresh_cells(row: &ByteRecord) -> Result<u64, ScriptKind>
 /// The tick at which an epoch starts.
 #[tactic(auto, unfolding(crate::specs::CellFaults::epoch_cells))]
 pub fn epoch_cells(row: &ByteRecord, origin: u64) -> Result<u64, ScriptKind>
-    requires { origin ≤ 5000000000 }
+    requires { origin ≤ LATEST_ORIGIN }
     ensures fault { fault_in result ≡ epoch_cells_of origin (fields_of row.now) }
     ensures value { IfOk result (λ start. start ≡ value_at (fields_of row.now) 1) }
     ensures least { IfOk result (λ start. origin ≤ start) }
-    ensures most { IfOk result (λ start. start ≤ origin + 3240000000) }
+    ensures most { IfOk result (λ start. start ≤ origin + LONGEST_SCRIPT) }
 {
     tick_cell(cell(row, 1), origin)
 }
@@ -193,11 +188,11 @@ pub fn region_cells(row: &ByteRecord) -> Result<Region, ScriptKind>
 /// A colour of a CLUT's entry, as it is shown.
 #[tactic(auto, unfolding(crate::specs::CellFaults::colour_cells, crate::specs::RowValues::colour_in))]
 pub fn colour_cells(row: &ByteRecord, origin: u64, number: u64) -> Result<ColourRow, ScriptKind>
-    requires { origin ≤ 5000000000 }
+    requires { origin ≤ LATEST_ORIGIN }
     ensures fault { fault_in result ≡ colour_cells_of origin (fields_of row.now) }
     ensures value { IfOk result (λ colour. colour ≡ colour_in number (fields_of row.now)) }
     ensures least { IfOk result (λ colour. origin ≤ colour.tick) }
-    ensures most { IfOk result (λ colour. colour.tick ≤ origin + 3240000000) }
+    ensures most { IfOk result (λ colour. colour.tick ≤ origin + LONGEST_SCRIPT) }
 {
     let tick = tick_cell(cell(row, 1), origin)?;
     let clut = byte_cell(cell(row, 2))?;
@@ -239,11 +234,11 @@ pub fn picture_cells(row: &ByteRecord) -> Result<PictureHead, ScriptKind>
 /// Where and when a picture or a text is placed.
 #[tactic(auto, unfolding(crate::specs::CellFaults::placing_cells, crate::specs::RowValues::placing_in))]
 fn placing_cells(row: &ByteRecord, origin: u64) -> Result<PlaceRow, ScriptKind>
-    requires { origin ≤ 5000000000 }
+    requires { origin ≤ LATEST_ORIGIN }
     ensures fault { fault_in result ≡ placing_cells_of origin (fields_of row.now) }
     ensures value { IfOk result (λ placing. placing ≡ placing_in (fields_of row.now)) }
-    ensures start { IfOk result (λ placing. (origin ≤ placing.start) × (placing.start ≤ origin + 3240000000)) }
-    ensures end { IfOk result (λ placing. (origin ≤ placing.end) × (placing.end ≤ origin + 3240000000)) }
+    ensures start { IfOk result (λ placing. (origin ≤ placing.start) × (placing.start ≤ origin + LONGEST_SCRIPT)) }
+    ensures end { IfOk result (λ placing. (origin ≤ placing.end) × (placing.end ≤ origin + LONGEST_SCRIPT)) }
     ensures corner { IfOk result (λ placing. (placing.x ≤ 1919) × (placing.y ≤ 1079)) }
 {
     let start = tick_cell(cell(row, 1), origin)?;
@@ -263,12 +258,12 @@ fn placing_cells(row: &ByteRecord, origin: u64) -> Result<PlaceRow, ScriptKind>
 /// A place, but for its picture's name.
 #[tactic(auto, unfolding(crate::specs::CellFaults::place_cells))]
 pub fn place_cells(row: &ByteRecord, origin: u64) -> Result<PlaceCells, ScriptKind>
-    requires { origin ≤ 5000000000 }
+    requires { origin ≤ LATEST_ORIGIN }
     ensures fault { fault_in result ≡ place_cells_of origin (fields_of row.now) }
     ensures placing { IfOk result (λ place. place.placing ≡ placing_in (fields_of row.now)) }
     ensures mode { IfOk result (λ place. place.see_through ≡ is_through (fields_of row.now)) }
-    ensures start { IfOk result (λ place. (origin ≤ place.placing.start) × (place.placing.start ≤ origin + 3240000000)) }
-    ensures end { IfOk result (λ place. (origin ≤ place.placing.end) × (place.placing.end ≤ origin + 3240000000)) }
+    ensures start { IfOk result (λ place. (origin ≤ place.placing.start) × (place.placing.start ≤ origin + LONGEST_SCRIPT)) }
+    ensures end { IfOk result (λ place. (origin ≤ place.placing.end) × (place.placing.end ≤ origin + LONGEST_SCRIPT)) }
     ensures corner { IfOk result (λ place. (place.placing.x ≤ 1919) × (place.placing.y ≤ 1079)) }
 {
     let placing = placing_cells(row, origin)?;
@@ -282,13 +277,13 @@ pub fn place_cells(row: &ByteRecord, origin: u64) -> Result<PlaceCells, ScriptKi
 /// A cue, but for its text.
 #[tactic(auto, unfolding(crate::specs::CellFaults::cue_cells))]
 pub fn cue_cells(row: &ByteRecord, origin: u64) -> Result<CueCells, ScriptKind>
-    requires { origin ≤ 5000000000 }
+    requires { origin ≤ LATEST_ORIGIN }
     ensures fault { fault_in result ≡ cue_cells_of origin (fields_of row.now) }
     ensures placing { IfOk result (λ cue. cue.placing ≡ placing_in (fields_of row.now)) }
     ensures ink { IfOk result (λ cue. cue.ink ≡ value_at (fields_of row.now) 6) }
     ensures paper { IfOk result (λ cue. cue.paper ≡ value_at (fields_of row.now) 7) }
-    ensures start { IfOk result (λ cue. (origin ≤ cue.placing.start) × (cue.placing.start ≤ origin + 3240000000)) }
-    ensures end { IfOk result (λ cue. (origin ≤ cue.placing.end) × (cue.placing.end ≤ origin + 3240000000)) }
+    ensures start { IfOk result (λ cue. (origin ≤ cue.placing.start) × (cue.placing.start ≤ origin + LONGEST_SCRIPT)) }
+    ensures end { IfOk result (λ cue. (origin ≤ cue.placing.end) × (cue.placing.end ≤ origin + LONGEST_SCRIPT)) }
     ensures corner { IfOk result (λ cue. (cue.placing.x ≤ 1919) × (cue.placing.y ≤ 1079)) }
 {
     let placing = placing_cells(row, origin)?;

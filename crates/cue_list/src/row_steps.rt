@@ -1,3 +1,4 @@
+ghost use Rattle.cue_list.specs.declared.limits.TheConstants.{MOST_COLOURS};
 ghost use Rattle.std.specs.Prelude.{◌≡◌, ◌∷◌, [], ◌<◌, ◌^◌, None, OnOk, IfErr, option_map};
 ghost use Rattle.csv.specs.Records.{fields_of};
 ghost use Rattle.cue_list.specs.CellFaults.{first_of, value_at, origin_cells as origin_cells_of, display_cells as display_cells_of, refresh_cells as refresh_cells_of, epoch_cells as epoch_cells_of, region_cells as region_cells_of, colour_cells as colour_cells_of};
@@ -7,7 +8,6 @@ ghost use Rattle.cue_list.specs.State.{IsReader, past_of, IsTaken, IsRowFault, o
 ghost use Rattle.std.specs.Prelude.{Some};
 
 use crate::epoch::{ColourRow, Cue, Epoch, Region};
-use crate::items::Items;
 use crate::reader::Reader;
 use crate::row_cells::{
     colour_cells, display_cells, epoch_cells, origin_cells, refresh_cells, region_cells,
@@ -15,6 +15,7 @@ use crate::row_cells::{
 use crate::row_fault::RowFault;
 use csv::ByteRecord;
 use std::alloc::Global;
+use sub_base::Items;
 
 impl Reader {
     /// Takes the tick from which packets are sent.
@@ -75,9 +76,9 @@ impl Reader {
         self.epoch = Some(Epoch {
             start,
             row: number,
-            regions: Items::new(Vec::new(alloc)),
-            colours: Items::new(Vec::new(alloc)),
-            cues: Items::new(Vec::new(alloc)),
+            regions: Items::new(alloc, Vec::new(alloc)),
+            colours: Items::new(alloc, Vec::new(alloc)),
+            cues: Items::new(alloc, Vec::new(alloc)),
         });
         Ok(())
     }
@@ -100,7 +101,7 @@ impl Reader {
     #[tactic(auto, unfolding(crate::specs::RowValues::colour_in))]
     pub(crate) fn take_colour(&mut self, number: u64, row: &ByteRecord) -> Result<(), RowFault>
         requires reader { IsReader self.old }
-        requires few { self.old.colours < 8192 }
+        requires few { self.old.colours < MOST_COLOURS }
         ensures taken { OnOk result (IsTaken (first_of (colour_cells_of self.old.origin (fields_of row.now) ∷ colour_fault_of (past_of self.old) (colour_in number (fields_of row.now)) ∷ [])) (colour_next (past_of self.old) number (fields_of row.now)) self.new) }
         ensures pictures { self.new.pictures ≡ self.old.pictures }
         ensures refused { IfErr result (IsRowFault (first_of (colour_cells_of self.old.origin (fields_of row.now) ∷ colour_fault_of (past_of self.old) (colour_in number (fields_of row.now)) ∷ []))) }

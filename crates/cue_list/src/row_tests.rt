@@ -8,29 +8,13 @@ ghost use Rattle.std.specs.Prelude.{nat_lt, nat_le};
 
 use crate::epoch::{ColourRow, Cue, Region};
 use crate::fault::ScriptKind;
+use crate::limits::{
+    LONGEST_CUE, MOST_CODES, MOST_COLOURS, MOST_CUES, MOST_EPOCHS, MOST_PICTURES, MOST_REGIONS,
+};
 use crate::reader::Reader;
 use crate::row_kind::RowKind;
 use crate::row_values::{PictureHead, PlaceRow};
 use crate::ticks::is_close;
-
-/// How many epochs a script has at the most.
-const MOST_EPOCHS: usize = 512;
-
-/// How many regions an epoch has at the most.
-const MOST_REGIONS: usize = 64;
-
-/// How many colours, pictures with a name, and places and cues a script has at the most.
-const MOST_COLOURS: u32 = 8_192;
-
-const MOST_NAMED: u32 = 1_024;
-
-const MOST_CUES: u32 = 4_096;
-
-/// How many codes the pictures of a script have at the most.
-const MOST_CODES: u64 = 268_435_456;
-
-/// How many ticks a place or a cue lasts at the most.
-const LONGEST_CUE: u64 = 54_000_000;
 
 impl Reader {
     /// Whether a record of that kind may not stand here.
@@ -66,7 +50,7 @@ impl Reader {
             RowKind::Epoch => self.epoch_count() >= MOST_EPOCHS,
             RowKind::Region => self.regions().len() >= MOST_REGIONS,
             RowKind::Colour => self.colours >= MOST_COLOURS,
-            RowKind::Picture => self.named >= MOST_NAMED,
+            RowKind::Picture => self.named >= MOST_PICTURES,
             RowKind::Place | RowKind::Cue => self.cues >= MOST_CUES,
             RowKind::Origin | RowKind::Display | RowKind::Refresh | RowKind::Other => false,
         }
@@ -180,7 +164,7 @@ impl Reader {
 
     /// Whether the pictures would have too many codes with one more of these sides.
     pub(crate) fn are_too_many(&self, head: PictureHead) -> bool
-        requires { self.now.codes ≤ 268435456 }
+        requires { self.now.codes ≤ MOST_CODES }
         ensures { result ≡ are_too_many_of (past_of self.now) head }
     {
         self.codes + area(head) > MOST_CODES

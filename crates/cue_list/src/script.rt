@@ -1,8 +1,8 @@
 ghost use Rattle.cue_list.specs.Sound.{IsSound};
 
 use crate::epoch::Epoch;
-use crate::items::Items;
 use indexed_picture::Indexed;
+use sub_base::Items;
 
 /// A cue script: the subtitles of a programme. Its values pass every test of a script's records, so whoever has one
 /// tests nothing again.

@@ -82,7 +82,7 @@ fn has_large(depth: Depth, text: &str) -> bool
 }
 
 /// How many digits a code has.
-fn digits(depth: Depth) -> u64
+pub(crate) fn digits(depth: Depth) -> u64
     ensures value { result ≡ digits_of depth }
     ensures few { result ≤ 2 }
 {

@@ -10,4 +10,10 @@ pub mod SoleCueView
 pub mod FieldFrames
 pub mod SentSets
 pub mod SentUnits
+pub mod Lifts
 pub mod AfterLoss
+mod OpenSet
+mod Examples
+pub mod Later
+pub mod Growth
+pub mod OnePacket

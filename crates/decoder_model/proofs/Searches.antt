@@ -1,7 +1,7 @@
 -- Searches for the first and the last thing that a list gives.
 use Rattle.std.proofs.Common.{◌≡◌, ◌∙◌, List, [], ◌∷◌, ◌++◌, Option, Some, None, refl, sym, ap}
 use Rattle.std.specs.Option.{option_or}
-use Rattle.decoder_model.specs.Contents.{first_given, last_given}
+use Rattle.sub_base.specs.Lists.{first_given, last_given}
 
 -- nothing after something changes it, and nothing before it
 pub option_or-none : {X : Type 0} (found : Option X) → option_or found None ≡ found

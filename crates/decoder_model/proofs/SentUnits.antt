@@ -9,7 +9,8 @@ use Rattle.stream_syntax.specs.Cutting.{IsUnit, IsCut, IsGapless, AnyCutting, No
 use Rattle.stream_syntax.specs.TransportPackets.{pid_of, packet_fault}
 use Rattle.stream_syntax.specs.Units.{last_counter, part_after, parts_of, each_after, hand_after, unit_at, event_after, event_at, is_loss}
 use Rattle.stream_syntax.specs.declared.transport.Event.{Event}
-use Rattle.decoder_model.specs.Sets.{packets_taken, sets_of}
+use Rattle.decoder_model.specs.Arrivals.{packets_taken}
+use Rattle.decoder_model.specs.Sets.{sets_of}
 use Rattle.decoder_model.proofs.SentSets.{TimedSet, AreUnitsOf, HaveDifferentTimes, delivered, sets_come_whole}
 
 -- behind packets, these packets carry these units, one after another, each in pieces; other packets stand anywhere between and

@@ -1,6 +1,6 @@
 -- What is shown of the two sets: nothing before the first, the picture in the default colours of its region's depth from then
 -- on, and nothing again from the last on.
-use Rattle.std.proofs.Common.{◌≡◌, ◌∙◌, ℕ, ◌+◌, ◌-◌, ◌*◌, ◌<◌, ◌≤◌, Bool, true, false, List, [], ◌∷◌, map, Some, None, refl, sym, ap, subst, arith}
+use Rattle.std.proofs.Common.{◌≡◌, ◌∙◌, ℕ, ◌+◌, ◌-◌, ◌*◌, ◌%◌, ◌<◌, ◌≤◌, Bool, true, false, eqb, List, [], ◌∷◌, map, Some, None, refl, sym, ap, subst, arith}
 use Rattle.std.specs.Bool.{if◌then◌else◌}
 use Rattle.std.specs.List.{range_with_len}
 use Rattle.std.specs.Option.{option_or, unwrap_or}
@@ -9,22 +9,20 @@ use Rattle.sub_base.specs.Colour.{clear, default_of}
 use Rattle.sub_base.specs.Picture.{IsPicture, code_at}
 use Rattle.sub_base.specs.declared.depth.Depth.{Depth}
 use Rattle.sub_base.specs.declared.profile.Profile.{Profile}
-use Rattle.stream_syntax.specs.Segments.{Page}
 use Rattle.stream_syntax.specs.declared.region.Listing.{Listing}
 use Rattle.decoder_model.specs.Faults.{display_in_force}
 use Rattle.decoder_model.specs.Ink.{ink_of}
 use Rattle.decoder_model.specs.Pixels.{pixel_of, fill_code, painted_listings}
 use Rattle.decoder_model.specs.Readings.{Reading}
-use Rattle.decoder_model.specs.Shown.{view_by_set, is_due, Plane, nothing, plane, IsClear, Scene, scene_in, is_timed_out, view_until, view_at, colour_in, colour_through, colour_by_entry, colour_at, plane_of, is_in_window, is_inside, window_of}
-use Rattle.decoder_model.specs.Sets.{Delivery, whole}
-use Rattle.decoder_model.specs.Verdict.{verdict_of, sets_since}
-use Rattle.decoder_model.specs.declared.set_end.SetEnd.TheVariants.{Waiting}
-use Rattle.decoder_model.specs.Taken.{segments_of, taken_of}
+use Rattle.decoder_model.specs.Shown.{Plane, nothing, plane, IsClear, Scene, scene_in, Standing, until_of, is_over_at, view_of, view_at, colour_in, colour_through, colour_by_entry, colour_at, plane_of, is_in_window, is_inside, window_of}
+use Rattle.decoder_model.specs.Sets.{Delivery}
+use Rattle.decoder_model.specs.Verdict.{sets_since}
+use Rattle.decoder_model.specs.Taken.{segments_of, taken_among, taken_of}
 use Rattle.decoder_model.proofs.DrawnPictures.{FieldsDraw, in_picture}
-use Rattle.decoder_model.proofs.Views.{view_without, view_of_shown}
-use Rattle.decoder_model.specs.Kept.{epoch_of}
+use Rattle.decoder_model.proofs.Views.{view_before, view_of_shown}
+use Rattle.decoder_model.specs.Kept.{time_round, epoch_of}
 use Rattle.decoder_model.proofs.Planes.{picture_colours, all_clear}
-use Rattle.decoder_model.proofs.SoleCue.{Cue, Fits, first_readings, last_readings, first_is_shown, last_is_shown, sets_before, begins_epoch, goes_on, head_of, display_for, first_contents, last_contents, first_page, last_page, region_for, its_region, is_same_id}
+use Rattle.decoder_model.proofs.SoleCue.{Cue, Fits, AreLiftable, first_set, last_set, first_lifted, last_lifted, first_readings, last_readings, first_is_shown, last_is_shown, sets_before, begins_epoch, goes_on, head_of, display_for, first_contents, last_contents, first_page, last_page, region_for, its_region, is_same_id}
 
 -- the picture of a cue is one, and its fields draw it
 pub record IsDrawn (cue : Cue) : Type 0 where
@@ -44,7 +42,7 @@ corner = record { object = 0; x = 0; y = 0 }
 
 -- the pixels of the region are those of the picture
 its_pixels : (cue : Cue) → IsDrawn cue → (x y : ℕ) → x < cue.picture.width → y < cue.picture.height → pixel_of (taken_of (segments_of (first_contents cue ∷ []))) cue.region x y ≡ code_at cue.picture x y
-unfolding pixel_of taken_of segments_of painted_listings
+unfolding pixel_of taken_among segments_of painted_listings
 its_pixels cue h x y narrow low =
     rw (is_same_id cue.region)
     (ap (λ found. unwrap_or (option_or found (Some (fill_code cue.depth (head_of cue)))) 0)
@@ -52,7 +50,7 @@ its_pixels cue h x y narrow low =
 
 -- no segment sets a colour
 no_clut : (cue : Cue) (depth : Depth) (number : ℕ) → ink_of (taken_of (segments_of (first_contents cue ∷ []))) cue.clut depth number ≡ default_of depth number
-unfolding ink_of taken_of segments_of
+unfolding ink_of taken_among segments_of
 no_clut cue depth number = refl
 
 -- their colours are the default ones
@@ -115,68 +113,60 @@ last_plane cue = all_clear (colour_at (last_scene cue)) (last_colour cue) (range
 
 -- the two sets, the latest first
 abbrev pub both_sets : Cue → ℕ → ℕ → List (Delivery Reading)
-both_sets cue start end = whole end (last_readings cue) ∷ whole start (first_readings cue) ∷ []
+both_sets cue start end = last_set cue end ∷ first_set cue start ∷ []
 
 -- the view by the first set alone
-by_first : (profile : Profile) (cue : Cue) (start tick : ℕ) → Fits profile cue → start ≤ tick → view_at profile tick (whole start (first_readings cue) ∷ []) ≡ view_until (first_page cue) start tick (first_scene cue)
+by_first : (profile : Profile) (cue : Cue) (anchor start end tick : ℕ) → Fits profile cue → AreLiftable anchor start end → start ≤ tick
+    → view_at profile anchor tick (first_set cue start ∷ []) ≡ view_of tick (Some (record { time = start; page = first_page cue; scene = first_scene cue }))
 unfolding sets_since
-by_first profile cue start tick h come =
-    view_of_shown profile tick [] start (first_readings cue) (first_page cue) (first_contents cue ∷ []) (grind (arith, nat_tests)) (first_is_shown profile cue start h) refl (begins_epoch cue)
+by_first profile cue anchor start end tick h times come =
+    view_of_shown profile anchor tick start [] (start % time_round) cue.first_size (first_readings cue) (first_page cue) (first_contents cue ∷ []) (first_lifted anchor start end cue times) come (first_is_shown profile cue anchor start end h times) refl (begins_epoch cue)
 
-before_first : (profile : Profile) (cue : Cue) (start tick : ℕ) → tick < start → view_at profile tick (whole start (first_readings cue) ∷ []) ≡ nothing
+before_first : (profile : Profile) (cue : Cue) (anchor start end tick : ℕ) → AreLiftable anchor start end → tick < start → view_at profile anchor tick (first_set cue start ∷ []) ≡ nothing
 unfolding view_at
-before_first profile cue start tick early = view_without profile tick [] (whole start (first_readings cue)) (grind (arith, nat_tests))
+before_first profile cue anchor start end tick times early = view_before profile anchor tick start [] (first_set cue start) (first_lifted anchor start end cue times) early
 
 -- before the last set's time the view is that by the first set
-before_last : (profile : Profile) (cue : Cue) (start end tick : ℕ) → tick < end → view_at profile tick (both_sets cue start end) ≡ view_at profile tick (whole start (first_readings cue) ∷ [])
-before_last profile cue start end tick early = view_without profile tick (whole start (first_readings cue) ∷ []) (whole end (last_readings cue)) (grind (arith, nat_tests))
+before_last : (profile : Profile) (cue : Cue) (anchor start end tick : ℕ) → AreLiftable anchor start end → tick < end → view_at profile anchor tick (both_sets cue start end) ≡ view_at profile anchor tick (first_set cue start ∷ [])
+before_last profile cue anchor start end tick times early = view_before profile anchor tick end (first_set cue start ∷ []) (last_set cue end) (last_lifted anchor start end cue times) early
 
 -- from the last set's time on the view is by it
-by_last : (profile : Profile) (cue : Cue) (start end tick : ℕ) → Fits profile cue → start < end → end ≤ tick → view_at profile tick (both_sets cue start end) ≡ view_until (last_page cue) end tick (last_scene cue)
-by_last profile cue start end tick h rising come =
-    view_of_shown profile tick (whole start (first_readings cue) ∷ []) end (last_readings cue) (last_page cue) (last_contents cue ∷ first_contents cue ∷ [])
-    (grind (arith, nat_tests)) (last_is_shown profile cue start end h rising) refl
-    (ap (λ sets. epoch_of (last_contents cue ∷ sets)) (sets_before profile cue start h) ∙ goes_on cue)
+by_last : (profile : Profile) (cue : Cue) (anchor start end tick : ℕ) → Fits profile cue → AreLiftable anchor start end → end ≤ tick → view_at profile anchor tick (both_sets cue start end) ≡ view_of tick (Some (record { time = end; page = last_page cue; scene = last_scene cue }))
+by_last profile cue anchor start end tick h times come =
+    view_of_shown profile anchor tick end (first_set cue start ∷ []) (end % time_round) cue.last_size (last_readings cue) (last_page cue) (last_contents cue ∷ first_contents cue ∷ [])
+    (last_lifted anchor start end cue times) come (last_is_shown profile cue anchor start end h times) refl
+    (ap (λ sets. epoch_of (last_contents cue ∷ sets)) (sets_before profile cue anchor start end h times) ∙ goes_on cue)
 
-clear_until : (page : Page) (time tick : ℕ) (scene : Scene) → IsClear (plane (plane_of scene)) → IsClear (view_until page time tick scene)
-clear_until page time tick scene h = by (is_timed_out page time tick)
+clear_until : (tick : ℕ) (standing : Standing) → IsClear (plane (plane_of standing.scene)) → IsClear (view_of tick (Some standing))
+clear_until tick standing h = by (is_over_at tick (until_of standing))
   where
-    by : (out : Bool) → IsClear (if out then nothing else plane (plane_of scene))
+    by : (over : Bool) → IsClear (if over then nothing else plane (plane_of standing.scene))
     by true = tt
     by false = h
 
-not_timed_out : (page : Page) (time tick end : ℕ) → tick < end → end ≤ time + 90000 * page.time_out → is_timed_out page time tick ≡ false
-not_timed_out page time tick end early within = grind (arith, nat_tests)
+not_timed_out : (standing : Standing) (tick end : ℕ) → tick < end → end ≤ standing.time + 90000 * standing.page.time_out → is_over_at tick (until_of standing) ≡ false
+not_timed_out standing tick end early within = by (eqb standing.page.time_out 0) refl
+  where
+    by : (never : Bool) → eqb standing.page.time_out 0 ≡ never → is_over_at tick (until_of standing) ≡ false
+    by true e = rw e refl
+    by false e = rw e (grind (arith, nat_tests))
 
 -- before the first set's time nothing is shown
-pub nothing_before : (profile : Profile) (cue : Cue) (start end tick : ℕ) → start < end → tick < start → view_at profile tick (both_sets cue start end) ≡ nothing
-nothing_before profile cue start end tick rising early = before_last profile cue start end tick (omega arith) ∙ before_first profile cue start tick early
+pub nothing_before : (profile : Profile) (cue : Cue) (anchor start end tick : ℕ) → AreLiftable anchor start end → tick < start → view_at profile anchor tick (both_sets cue start end) ≡ nothing
+nothing_before profile cue anchor start end tick times early =
+    let rising = times.rising in
+    before_last profile cue anchor start end tick times (omega arith) ∙ before_first profile cue anchor start end tick times early
 
 -- from then on the cue's picture is shown, until the last set's time
-pub picture_while : (profile : Profile) (cue : Cue) (start end tick : ℕ) → Fits profile cue → IsDrawn cue → start ≤ tick → tick < end → end ≤ start + 90000 * cue.time_out
-    → view_at profile tick (both_sets cue start end) ≡ plane (coloured cue)
-picture_while profile cue start end tick h drawn come early within =
-    before_last profile cue start end tick early
-    ∙ by_first profile cue start tick h come
-    ∙ ap (λ out. if out then nothing else plane (plane_of (first_scene cue))) (not_timed_out (first_page cue) start tick end early within)
+pub picture_while : (profile : Profile) (cue : Cue) (anchor start end tick : ℕ) → Fits profile cue → IsDrawn cue → AreLiftable anchor start end → start ≤ tick → tick < end → end ≤ start + 90000 * cue.time_out
+    → view_at profile anchor tick (both_sets cue start end) ≡ plane (coloured cue)
+picture_while profile cue anchor start end tick h drawn times come early within =
+    before_last profile cue anchor start end tick times early
+    ∙ by_first profile cue anchor start end tick h times come
+    ∙ ap (λ over. if over then nothing else plane (plane_of (first_scene cue))) (not_timed_out (record { time = start; page = first_page cue; scene = first_scene cue }) tick end early within)
     ∙ ap plane (first_plane cue drawn)
 
 -- and from then on nothing is shown
-pub clear_after : (profile : Profile) (cue : Cue) (start end tick : ℕ) → Fits profile cue → start < end → end ≤ tick → IsClear (view_at profile tick (both_sets cue start end))
-clear_after profile cue start end tick h rising come =
-    subst IsClear (sym (by_last profile cue start end tick h rising come)) (clear_until (last_page cue) end tick (last_scene cue) (last_plane cue))
-
--- ---- the last set alone
-
-waits : (profile : Profile) (cue : Cue) (end : ℕ) → verdict_of profile [] (whole end (last_readings cue)) ≡ Some Waiting
-unfolding sets_since epoch_of
-waits profile cue end = refl
-
-nothing_of_waiting : (profile : Profile) (cue : Cue) (end tick : ℕ) (due : Bool) → (if due then view_by_set (sets_since profile []) tick (whole end (last_readings cue)) (verdict_of profile [] (whole end (last_readings cue))) else nothing) ≡ nothing
-nothing_of_waiting profile cue end tick true = ap (view_by_set (sets_since profile []) tick (whole end (last_readings cue))) (waits profile cue end)
-nothing_of_waiting profile cue end tick false = refl
-
--- where the first set was missed, nothing is shown
-pub nothing_of_last : (profile : Profile) (cue : Cue) (end tick : ℕ) → view_at profile tick (whole end (last_readings cue) ∷ []) ≡ nothing
-unfolding view_at
-nothing_of_last profile cue end tick = nothing_of_waiting profile cue end tick (is_due [] tick (whole end (last_readings cue)))
+pub clear_after : (profile : Profile) (cue : Cue) (anchor start end tick : ℕ) → Fits profile cue → AreLiftable anchor start end → end ≤ tick → IsClear (view_at profile anchor tick (both_sets cue start end))
+clear_after profile cue anchor start end tick h times come =
+    subst IsClear (sym (by_last profile cue anchor start end tick h times come)) (clear_until tick (record { time = end; page = last_page cue; scene = last_scene cue }) (last_plane cue))

@@ -10,14 +10,15 @@ use Rattle.stream_syntax.specs.PixelCodes.{pixel}
 use Rattle.stream_syntax.specs.Segments.{of_page, of_region, of_object, end_of_set}
 use Rattle.stream_syntax.specs.Units.{last_counter, part_after, parts_of, fate_of, stays_in_hand, hand_after, event_after}
 use Rattle.stream_syntax.specs.declared.page.State.TheVariants.{ModeChange}
-use Rattle.decoder_model.specs.Frames.{frames_of}
+use Rattle.decoder_model.specs.Arrivals.{arrivals_of}
+use Rattle.stream_syntax.specs.DataField.{frames_of}
 use Rattle.decoder_model.specs.Ink.{ink_of}
-use Rattle.decoder_model.specs.Kept.{epoch_of}
+use Rattle.decoder_model.specs.Kept.{last_time, epoch_of}
 use Rattle.decoder_model.specs.Pixels.{painted_listings, pixel_of}
 use Rattle.decoder_model.specs.Readings.{Content, Reading, read}
-use Rattle.decoder_model.specs.Sets.{Delivery, whole, arrivals_of, sets_of}
+use Rattle.decoder_model.specs.Sets.{Delivery, whole, has_ended, sets_of}
 use Rattle.decoder_model.specs.Shown.{Scene, scene_in, colour_at}
-use Rattle.decoder_model.specs.Taken.{segments_of, taken_of}
+use Rattle.decoder_model.specs.Taken.{segments_of, taken_among}
 use Rattle.decoder_model.specs.Verdict.{sets_since, verdict_of}
 use Rattle.decoder_model.specs.Nodes.{region_ids, clut_ids, table_entries}
 use Rattle.decoder_model.specs.Faults.{all_region_ids, epoch_fault}
@@ -38,8 +39,8 @@ usual_segments =
     ∷ []
 
 -- the set is whole at 90000
-usual_set : sets_of 24576 256 1 true (usual_packet ∷ []) ≡ whole 90000 usual_segments ∷ []
-unfolding usual_packet usual_segments sets_of arrivals_of frames_of last_counter part_after parts_of fate_of stays_in_hand hand_after event_after
+usual_set : sets_of 24576 256 1 true (usual_packet ∷ []) ≡ whole 90000 84 usual_segments ∷ []
+unfolding usual_packet usual_segments sets_of has_ended arrivals_of frames_of last_counter part_after parts_of fate_of stays_in_hand hand_after event_after
 usual_set = refl
 
 -- what they stand for
@@ -74,11 +75,11 @@ usual_contents : List Content
 usual_contents = usual_page ∷ usual_region ∷ usual_object ∷ usual_end ∷ []
 
 usual_delivery : Delivery Reading
-usual_delivery = whole 90000 (read usual_page ∷ read usual_region ∷ read usual_object ∷ read usual_end ∷ [])
+usual_delivery = whole 90000 84 (read usual_page ∷ read usual_region ∷ read usual_object ∷ read usual_end ∷ [])
 
 -- the set is shown
-usual_verdict : verdict_of (profile_of Sd) [] usual_delivery ≡ Some Shown
-unfolding usual_delivery usual_page usual_region usual_object usual_end sets_since epoch_of epoch_fault all_region_ids segments_of taken_of region_ids clut_ids table_entries painted_listings
+usual_verdict : verdict_of (profile_of Sd) 0 [] usual_delivery ≡ Some Shown
+unfolding usual_delivery usual_page usual_region usual_object usual_end sets_since last_time epoch_of epoch_fault all_region_ids segments_of taken_among region_ids clut_ids table_entries painted_listings
 usual_verdict = refl
 
 -- the page that it shows
@@ -87,7 +88,7 @@ usual_scene = scene_in (usual_contents ∷ []) (record { time_out = 10; version 
 
 -- white, grey and clear: Y, Cr, Cb and T of the first three places, and of a place in the last row
 usual_colours : (colour_at usual_scene 0 0 ≡ record { y = 0xEB; cr = 0x80; cb = 0x80; t = 0 }) × (colour_at usual_scene 1 0 ≡ record { y = 0x7E; cr = 0x80; cb = 0x80; t = 0 }) × (colour_at usual_scene 2 0 ≡ clear) × (colour_at usual_scene 719 575 ≡ clear)
-unfolding usual_scene usual_contents usual_page usual_region usual_object usual_end colour_at ink_of pixel_of segments_of taken_of painted_listings
+unfolding usual_scene usual_contents usual_page usual_region usual_object usual_end colour_at ink_of pixel_of segments_of taken_among painted_listings
 usual_colours = (refl, refl, refl, refl)
 
 -- the display has the size that the standard gives where none is defined

@@ -1,9 +1,10 @@
--- The contents of the segments of a display set, by kind (EN 300 743, clause 7.2), and searches in lists of them.
-use Rattle.std.specs.Prelude.{ℕ, ◌==◌, Bool, if◌then◌else◌, List, [], ◌∷◌, ◌++◌, filter, filter_map, Option, Some, None, option_and_then}
+-- The contents of the segments of a display set, by kind (EN 300 743, clause 7.2).
+use Rattle.std.specs.Prelude.{ℕ, ◌==◌, Bool, if◌then◌else◌, List, ◌++◌, filter, filter_map, Option, Some, None, option_and_then}
 use Rattle.std.specs.List.{list_any}
-use Rattle.std.specs.Option.{is_some, option_or}
+use Rattle.std.specs.Option.{is_some}
 use Rattle.stream_syntax.specs.Segments.{SegmentValue, of_page, of_region, of_clut, of_object, of_display, end_of_set, passed_over, Page, Region, Clut, Object, Display, state_number}
 use Rattle.stream_syntax.specs.declared.page.State.{State}
+use Rattle.sub_base.specs.Lists.{first_given}
 use Rattle.decoder_model.specs.Readings.{Content}
 
 -- ---- the kinds
@@ -83,33 +84,14 @@ clut_named id content = where_passes (λ clut. clut.clut == id) (clut_of content
 abbrev pub object_named : ℕ → Content → Option Object
 object_named id content = where_passes (λ object. object.object == id) (object_of content)
 
--- ---- searches
+-- ---- a set
 
--- what f gives first in a list
-abbrev pub first_given : {X Y : Type 0} → (X → Option Y) → List X → Option Y
-first_given f [] = None
-first_given f (x ∷ xs) = option_or (f x) (first_given f xs)
-
--- what f gives last in a list
-abbrev pub last_given : {X Y : Type 0} → (X → Option Y) → List X → Option Y
-last_given f [] = None
-last_given f (x ∷ xs) = option_or (last_given f xs) (f x)
-
--- the items of a list that differ from all later ones: how many there are is how many different ones the list has
-abbrev pub different : {X : Type 0} → (X → X → Bool) → List X → List X
-different same [] = []
-different same (x ∷ xs) = if list_any (same x) xs then different same xs else x ∷ different same xs
-
--- each item of a list, with those before it, the latest first, and then older ones
-abbrev pub with_earlier : {X : Type 0} → List X → List X → List (X × List X)
-with_earlier older [] = []
-with_earlier older (x ∷ xs) = (x, older) ∷ with_earlier (x ∷ older) xs
-
--- ---- the page of a set
-
--- the page of a set
+-- the page of a set, and its display definition
 abbrev pub page_in_set : List Content → Option Page
 page_in_set set = first_given page_of set
+
+abbrev pub display_in_set : List Content → Option Display
+display_in_set set = first_given display_of set
 
 -- the set has a page of this state (7.2.2, page_state)
 abbrev pub has_state : State → List Content → Bool

@@ -12,11 +12,12 @@ use Rattle.stream_syntax.specs.declared.code_fault.CodeKind.TheVariants.{TooDeep
 use Rattle.stream_syntax.specs.declared.page.PageEntry.{PageEntry}
 use Rattle.stream_syntax.specs.declared.region.RegionHead.{RegionHead}
 use Rattle.stream_syntax.specs.declared.segment_fault.SegmentKind.TheVariants.{Code}
-use Rattle.decoder_model.specs.Contents.{page_of, region_of, object_of, display_of, region_named, in_order, first_given, with_earlier}
+use Rattle.decoder_model.specs.Contents.{page_of, region_of, object_of, display_of, display_in_set, region_named, in_order}
+use Rattle.sub_base.specs.Lists.{first_given, with_earlier}
 use Rattle.decoder_model.specs.Nodes.{nodes_of, pixel_bytes, pixels_used}
 use Rattle.decoder_model.specs.Pixels.{depth_of, painted_listings}
 use Rattle.decoder_model.specs.Readings.{Content, Reading, read, faulty}
-use Rattle.decoder_model.specs.Taken.{segments_of, taken_of, is_taken, last_region, last_display}
+use Rattle.decoder_model.specs.Taken.{Taken, segments_of, taken_of, taken_region, is_taken, last_region, last_display}
 use Rattle.decoder_model.specs.declared.set_fault.SetFault.{SetFault}
 use Rattle.decoder_model.specs.declared.set_fault.SetFault.TheVariants as fault
 
@@ -86,17 +87,17 @@ changed_from region (Some last) = if has_same_shape region.head last.head then N
 abbrev pub changed_region : List Content → SegmentValue → Option Region → Option SetFault
 changed_region earlier value None = None
 changed_region earlier value (Some region) =
-    if is_taken earlier value then changed_from region (last_region region.head.region (taken_of earlier)) else None
+    if is_taken earlier value then changed_from region (taken_region region.head.region (taken_of earlier)) else None
 
 -- a region that is new in the epoch, behind earlier taken segments, and needs more bytes than these leave free
-abbrev pub region_too_large : Profile → List Content → Region → Option SetFault
+abbrev pub region_too_large : Profile → Taken → Region → Option SetFault
 region_too_large profile taken region =
-    if is_none (last_region region.head.region taken) && nat_lt (profile.pixels - pixels_used taken) (pixel_bytes region.head)
+    if is_none (taken_region region.head.region taken) && nat_lt (profile.pixels - pixels_used taken) (pixel_bytes region.head)
     then Some (fault.PixelFull (pixel_bytes region.head) (profile.pixels - pixels_used taken)) else None
 
 -- ---- nodes
 
-abbrev pub composition_fault : Profile → List Content → Page → Option SetFault
+abbrev pub composition_fault : Profile → Taken → Page → Option SetFault
 composition_fault profile taken page = if nat_lt profile.nodes (nodes_of taken page) then Some (fault.CompositionFull (nodes_of taken page)) else None
 
 -- ---- the depth of objects
@@ -130,16 +131,16 @@ depth_fault region content object =
     (option_map (too_deep_fault (13 + length object.top)) (too_deep_at region content.bottom))
 
 -- the fault of an object, behind earlier taken segments, in a region in which it paints a listing
-abbrev pub fault_in_region : List Content → Content → Object → ℕ → Option SetFault
+abbrev pub fault_in_region : Taken → Content → Object → ℕ → Option SetFault
 fault_in_region earlier content object id =
-    if length (painted_listings earlier id object) == 0 then None else depth_fault (depth_of (last_region id earlier)) content object
+    if length (painted_listings earlier id object) == 0 then None else depth_fault (depth_of (taken_region id earlier)) content object
 
 -- the ids that a region can have, rising; an id is a byte
 unfoldable pub all_region_ids : List ℕ
 all_region_ids = range_with_len 0 256
 
 -- the fault of an object in the region of the least id in which it has one
-abbrev pub fault_in_regions : List Content → Content → Object → Option SetFault
+abbrev pub fault_in_regions : Taken → Content → Object → Option SetFault
 fault_in_regions earlier content object = first_given (fault_in_region earlier content object) all_region_ids
 
 -- ---- all of a set
@@ -162,7 +163,7 @@ object_too_deep earlier content = option_and_then (fault_in_regions (taken_of ea
 unfoldable pub epoch_fault : Profile → List (List Content) → List Content → Page → Option SetFault
 epoch_fault profile before set page =
     first_given (λ (found : Option SetFault). found)
-    (display_fault profile (display_in_force (segments_of (set ∷ before)))
+    (option_and_then (display_fault profile) (display_in_set set)
     ∷ page_fault (segments_of (set ∷ before)) page
     ∷ first_fault_by region_changed (segments_of before) set
     ∷ first_fault_by (pixels_full profile) (segments_of before) set

@@ -7,7 +7,7 @@ use Rattle.decoder_model.specs.Contents.{page_in_set}
 use Rattle.decoder_model.specs.Nodes.{nodes_of, pixels_used}
 use Rattle.decoder_model.specs.Readings.{Content, Reading}
 use Rattle.decoder_model.specs.Sets.{Delivery}
-use Rattle.decoder_model.specs.Taken.{segments_of, taken_of}
+use Rattle.decoder_model.specs.Taken.{Taken, segments_of, taken_of}
 use Rattle.decoder_model.specs.Verdict.{known_epoch}
 
 -- the bytes of pixels that the sets of an epoch hold, and the nodes, with the page of the last of them
@@ -15,7 +15,7 @@ abbrev pub pixels_held : Option (List (List Content)) → ℕ
 pixels_held None = 0
 pixels_held (Some sets) = pixels_used (taken_of (segments_of sets))
 
-abbrev pub nodes_with_page : List Content → Option Page → ℕ
+abbrev pub nodes_with_page : Taken → Option Page → ℕ
 nodes_with_page taken None = 0
 nodes_with_page taken (Some page) = nodes_of taken page
 
@@ -25,8 +25,8 @@ nodes_held (Some []) = 0
 nodes_held (Some (set ∷ before)) = nodes_with_page (taken_of (segments_of (set ∷ before))) (page_in_set set)
 
 -- what is free after a past
-abbrev pub free_pixels_after : Profile → List (Delivery Reading) → ℕ
-free_pixels_after profile past = profile.pixels - pixels_held (known_epoch profile past)
+abbrev pub free_pixels_after : Profile → ℕ → List (Delivery Reading) → ℕ
+free_pixels_after profile anchor past = profile.pixels - pixels_held (known_epoch profile anchor past)
 
-abbrev pub free_nodes_after : Profile → List (Delivery Reading) → ℕ
-free_nodes_after profile past = profile.nodes - nodes_held (known_epoch profile past)
+abbrev pub free_nodes_after : Profile → ℕ → List (Delivery Reading) → ℕ
+free_nodes_after profile anchor past = profile.nodes - nodes_held (known_epoch profile anchor past)

@@ -1,6 +1,9 @@
 pub mod Frames
+pub mod Arrivals
 pub mod Sets
+pub mod PacketArrivals
 pub mod Readings
+pub mod Received
 pub mod Contents
 pub mod Taken
 pub mod Pixels
@@ -10,5 +13,8 @@ pub mod Kept
 pub mod Faults
 pub mod Verdict
 pub mod Free
+pub mod Painting
 pub mod Shown
+pub mod PackedRows
+pub mod BehindLoss
 pub mod Streams

@@ -1,5 +1,4 @@
 -- What the regions of an epoch need: bytes in the pixel buffer and nodes in the composition memory (EN 300 743, clause 5.2).
--- Taken segments stand in a list, the latest first.
 use Rattle.std.specs.Prelude.{ℕ, ◌+◌, ◌*◌, ◌/◌, ◌==◌, ◌&&◌, Bool, nat_lt, if◌then◌else◌, List, [], ◌∷◌, length, map, flat_map, filter_map, sum_by, Option, Some, None}
 use Rattle.sub_base.specs.Depth as depths
 use Rattle.sub_base.specs.declared.depth.Depth.{Depth}
@@ -7,10 +6,10 @@ use Rattle.sub_base.specs.declared.depth.Depth.TheVariants.{Two, Four, Eight}
 use Rattle.stream_syntax.specs.Segments.{Page, Region, Clut}
 use Rattle.stream_syntax.specs.declared.clut.ClutEntry.{ClutEntry}
 use Rattle.stream_syntax.specs.declared.region.RegionHead.{RegionHead}
-use Rattle.decoder_model.specs.Contents.{region_of, clut_of, different}
+use Rattle.decoder_model.specs.Contents.{region_of, clut_of}
 use Rattle.decoder_model.specs.Ink.{is_in_table}
-use Rattle.decoder_model.specs.Readings.{Content}
-use Rattle.decoder_model.specs.Taken.{last_region}
+use Rattle.sub_base.specs.Lists.{different}
+use Rattle.decoder_model.specs.Taken.{Taken, taken_region}
 
 abbrev pub is_same : ℕ → ℕ → Bool
 is_same a b = a == b
@@ -21,8 +20,8 @@ abbrev pub region_id : Region → ℕ
 region_id region = region.head.region
 
 -- the ids of the regions that segments define, each once
-unfoldable pub region_ids : List Content → List ℕ
-region_ids segments = different is_same (map region_id (filter_map region_of segments))
+unfoldable pub region_ids : Taken → List ℕ
+region_ids taken = different is_same (map region_id (filter_map region_of taken.segments))
 
 -- the bytes of a region's pixels: each row in started bytes
 abbrev pub pixel_bytes : RegionHead → ℕ
@@ -33,8 +32,8 @@ bytes_of_region None = 0
 bytes_of_region (Some region) = pixel_bytes region.head
 
 -- the bytes of all regions, each by its last segment
-abbrev pub pixels_used : List Content → ℕ
-pixels_used taken = sum_by (λ id. bytes_of_region (last_region id taken)) (region_ids taken)
+abbrev pub pixels_used : Taken → ℕ
+pixels_used taken = sum_by (λ id. bytes_of_region (taken_region id taken)) (region_ids taken)
 
 -- ---- nodes
 
@@ -42,8 +41,8 @@ abbrev pub clut_id : Clut → ℕ
 clut_id clut = clut.clut
 
 -- the ids of the CLUTs that segments define, each once
-unfoldable pub clut_ids : List Content → List ℕ
-clut_ids segments = different is_same (map clut_id (filter_map clut_of segments))
+unfoldable pub clut_ids : Taken → List ℕ
+clut_ids taken = different is_same (map clut_id (filter_map clut_of taken.segments))
 
 -- an entry of a table of a CLUT
 pub record TableEntry : Type 0 where
@@ -66,18 +65,18 @@ abbrev pub entries_of_clut : Clut → List TableEntry
 entries_of_clut clut = flat_map (in_tables clut.clut) clut.entries
 
 -- the entries of tables that segments set, each once
-unfoldable pub table_entries : List Content → List TableEntry
-table_entries segments = different is_same_entry (flat_map entries_of_clut (filter_map clut_of segments))
+unfoldable pub table_entries : Taken → List TableEntry
+table_entries taken = different is_same_entry (flat_map entries_of_clut (filter_map clut_of taken.segments))
 
 abbrev pub listing_count : Option Region → ℕ
 listing_count None = 0
 listing_count (Some region) = length region.listings
 
 -- how many listings the regions have, each by its last segment
-abbrev pub listings_held : List Content → ℕ
-listings_held taken = sum_by (λ id. listing_count (last_region id taken)) (region_ids taken)
+abbrev pub listings_held : Taken → ℕ
+listings_held taken = sum_by (λ id. listing_count (taken_region id taken)) (region_ids taken)
 
 -- the nodes of a composition: one for each entry of the page, region, listing, CLUT, and entry that is set in a table
-abbrev pub nodes_of : List Content → Page → ℕ
+abbrev pub nodes_of : Taken → Page → ℕ
 nodes_of taken page =
     length page.entries + length (region_ids taken) + listings_held taken + length (clut_ids taken) + length (table_entries taken)

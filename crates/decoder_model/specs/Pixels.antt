@@ -1,5 +1,4 @@
--- The pixel codes in a region (EN 300 743, clauses 7.2.3 and 7.2.5): the last write to each pixel. Taken segments stand in a
--- list, the latest first.
+-- The pixel codes in a region (EN 300 743, clauses 7.2.3 and 7.2.5): the last write to each pixel.
 use Rattle.std.specs.Prelude.{ℕ, ◌+◌, ◌*◌, ◌==◌, ◌&&◌, Bool, true, false, not, nat_le, nat_lt, if◌then◌else◌, List, [], ◌∷◌, filter, take_while, Option, Some, None, unwrap_or}
 use Rattle.std.specs.Option.{is_none, option_or}
 use Rattle.sub_base.specs.declared.depth.Depth.{Depth}
@@ -9,9 +8,10 @@ use Rattle.stream_syntax.specs.Segments.{SegmentValue, of_page, of_region, of_cl
 use Rattle.stream_syntax.specs.declared.pixel_run.Run.{Run}
 use Rattle.stream_syntax.specs.declared.region.Listing.{Listing}
 use Rattle.stream_syntax.specs.declared.region.RegionHead.{RegionHead}
-use Rattle.decoder_model.specs.Contents.{region_named, object_named, first_given, last_given}
+use Rattle.decoder_model.specs.Contents.{region_named, object_named}
+use Rattle.sub_base.specs.Lists.{first_given, last_given}
 use Rattle.decoder_model.specs.Readings.{Content}
-use Rattle.decoder_model.specs.Taken.{last_region, has_new_version}
+use Rattle.decoder_model.specs.Taken.{Taken, taken_region, has_new_version}
 
 -- ---- which listings an object paints
 
@@ -20,12 +20,12 @@ object_version None = None
 object_version (Some object) = Some object.version
 
 -- the segments after the last region segment of that id
-abbrev pub since_region : ℕ → List Content → List Content
-since_region id taken = take_while (λ segment. is_none (region_named id segment)) taken
+abbrev pub since_region : ℕ → Taken → List Content
+since_region id taken = take_while (λ segment. is_none (region_named id segment)) taken.segments
 
 -- behind earlier segments the object paints the listings of a region that name it: since the region's last segment it was
 -- not there, or the last time with another version
-abbrev pub is_painting : List Content → ℕ → Object → Bool
+abbrev pub is_painting : Taken → ℕ → Object → Bool
 is_painting earlier id object = has_new_version object.version (object_version (first_given (object_named object.object) (since_region id earlier)))
 
 -- the listings among some that name an object
@@ -38,8 +38,8 @@ listings_by false object region = []
 listings_by true object None = []
 listings_by true object (Some region) = listings_naming object.object region.listings
 
-unfoldable pub painted_listings : List Content → ℕ → Object → List Listing
-painted_listings earlier id object = listings_by (is_painting earlier id object) object (last_region id earlier)
+unfoldable pub painted_listings : Taken → ℕ → Object → List Listing
+painted_listings earlier id object = listings_by (is_painting earlier id object) object (taken_region id earlier)
 
 -- ---- what an object writes
 
@@ -96,22 +96,22 @@ abbrev pub code_by_fill : ℕ → RegionHead → Option ℕ
 code_by_fill id head = if (head.region == id) && head.fill then Some (fill_code head.depth head) else None
 
 -- the code that a segment behind earlier ones puts in a pixel of a region
-abbrev pub code_by_segment : List Content → SegmentValue → List Part → List Part → ℕ → ℕ → ℕ → Option ℕ
+abbrev pub code_by_segment : Taken → SegmentValue → List Part → List Part → ℕ → ℕ → ℕ → Option ℕ
 code_by_segment earlier (of_region value) top bottom id x y = code_by_fill id value.head
 code_by_segment earlier (of_object value) top bottom id x y =
-    code_by_listings (depth_of (last_region id earlier)) value.see_through top bottom x y (painted_listings earlier id value)
+    code_by_listings (depth_of (taken_region id earlier)) value.see_through top bottom x y (painted_listings earlier id value)
 code_by_segment earlier (of_page value) top bottom id x y = None
 code_by_segment earlier (of_clut value) top bottom id x y = None
 code_by_segment earlier (of_display value) top bottom id x y = None
 code_by_segment earlier end_of_set top bottom id x y = None
 code_by_segment earlier passed_over top bottom id x y = None
 
--- the code that the last write to a pixel put there
+-- the code that the last write to a pixel put there, of taken segments, the latest first
 abbrev pub last_code : List Content → ℕ → ℕ → ℕ → Option ℕ
 last_code [] id x y = None
 last_code (segment ∷ earlier) id x y =
-    option_or (code_by_segment earlier segment.value segment.top segment.bottom id x y) (last_code earlier id x y)
+    option_or (code_by_segment (record { segments = earlier }) segment.value segment.top segment.bottom id x y) (last_code earlier id x y)
 
 -- the code in a column and a row of a region, and 0 where nothing was written
-unfoldable pub pixel_of : List Content → ℕ → ℕ → ℕ → ℕ
-pixel_of taken id x y = unwrap_or (last_code taken id x y) 0
+unfoldable pub pixel_of : Taken → ℕ → ℕ → ℕ → ℕ
+pixel_of taken id x y = unwrap_or (last_code taken.segments id x y) 0

@@ -1,6 +1,6 @@
 -- The picture that a receiver shows at a tick (EN 300 743, clauses 5.1, 7.2.1 and 7.2.2): that of the last kept display set
 -- whose presentation time has come, until its time-out.
-use Rattle.std.specs.Prelude.{◌≡◌, ℕ, ◌+◌, ◌-◌, ◌*◌, ◌==◌, ◌&&◌, ◌⊎◌, Bool, true, false, not, nat_le, nat_lt, if◌then◌else◌, List, [], ◌∷◌, map, flat_map, reverse, All, Option, Some, None, unwrap_or}
+use Rattle.std.specs.Prelude.{false, ◌≡◌, ℕ, ◌+◌, ◌-◌, ◌*◌, ◌==◌, ◌&&◌, ◌⊎◌, Bool, nat_le, nat_lt, if◌then◌else◌, List, [], ◌∷◌, map, flat_map, All, Option, Some, None, unwrap_or}
 use Rattle.std.specs.List.{range_with_len}
 use Rattle.sub_base.specs.Colour.{clear}
 use Rattle.sub_base.specs.declared.colour.Colour.{Colour}
@@ -8,17 +8,19 @@ use Rattle.sub_base.specs.declared.profile.Profile.{Profile}
 use Rattle.stream_syntax.specs.Segments.{Page, Region, Display}
 use Rattle.stream_syntax.specs.declared.display.Window.{Window}
 use Rattle.stream_syntax.specs.declared.page.PageEntry.{PageEntry}
-use Rattle.decoder_model.specs.Contents.{page_in_set, last_given}
+use Rattle.decoder_model.specs.Contents.{page_in_set}
 use Rattle.decoder_model.specs.Faults.{contents_in, display_in_force}
 use Rattle.decoder_model.specs.Ink.{ink_of}
-use Rattle.decoder_model.specs.Kept.{times_of, is_later, epoch_of}
+use Rattle.decoder_model.specs.Kept.{lifted_time, epoch_of}
+use Rattle.sub_base.specs.Lists.{last_given}
 use Rattle.decoder_model.specs.Pixels.{pixel_of}
-use Rattle.decoder_model.specs.Readings.{Content, Reading, AreDeliveriesRead}
-use Rattle.decoder_model.specs.Sets.{Delivery, lost, whole, refused, sets_of}
-use Rattle.decoder_model.specs.Taken.{segments_of, taken_of, last_region}
+use Rattle.decoder_model.specs.Readings.{Content, Reading}
+use Rattle.decoder_model.specs.Received.{HasReceived}
+use Rattle.decoder_model.specs.Sets.{Delivery, whole}
+use Rattle.decoder_model.specs.Taken.{Taken, segments_of, taken_of, taken_region}
 use Rattle.decoder_model.specs.Verdict.{verdict_of, sets_since}
 use Rattle.decoder_model.specs.declared.set_end.SetEnd.{SetEnd}
-use Rattle.decoder_model.specs.declared.set_end.SetEnd.TheVariants.{Shown}
+use Rattle.decoder_model.specs.declared.set_end.SetEnd.TheVariants.{Shown, NotLater}
 
 -- ---- pictures in colours
 
@@ -44,11 +46,11 @@ Agrees a b = (a ≡ b) ⊎ (IsClear a × IsClear b)
 
 -- ---- the picture of a page
 
--- the page that is shown: its display, the regions that it lists, and the taken segments of its epoch, the latest first
+-- the page that is shown: its display, the regions that it lists, and the taken segments of its epoch
 pub record Scene : Type 0 where
   pub display : Display
   pub entries : List PageEntry
-  pub taken : List Content
+  pub taken : Taken
 
 -- the part of the display in which regions stand: its window, and else all of it (7.2.1)
 abbrev pub window_or_all : Display → Option Window → Window
@@ -67,18 +69,18 @@ abbrev pub is_inside : ℕ → ℕ → ℕ → ℕ → ℕ → ℕ → Bool
 is_inside left top width height x y = nat_le left x && (nat_lt x (left + width) && (nat_le top y && nat_lt y (top + height)))
 
 -- the colour in a column and a row of a region, through its CLUT
-abbrev pub colour_in : List Content → Region → ℕ → ℕ → Colour
+abbrev pub colour_in : Taken → Region → ℕ → ℕ → Colour
 colour_in taken region x y = ink_of taken region.head.clut region.head.depth (pixel_of taken region.head.region x y)
 
 -- the colour that a region whose corner is there gives a place, where it covers the place
-abbrev pub colour_through : List Content → ℕ → ℕ → ℕ → ℕ → Option Region → Option Colour
+abbrev pub colour_through : Taken → ℕ → ℕ → ℕ → ℕ → Option Region → Option Colour
 colour_through taken left top x y None = None
 colour_through taken left top x y (Some region) =
     if is_inside left top region.head.width region.head.height x y then Some (colour_in taken region (x - left) (y - top)) else None
 
 -- the colour that an entry of the page gives a place: the region stands from the window's corner on (7.2.2)
-abbrev pub colour_by_entry : List Content → Window → ℕ → ℕ → PageEntry → Option Colour
-colour_by_entry taken window x y entry = colour_through taken (window.left + entry.x) (window.top + entry.y) x y (last_region entry.region taken)
+abbrev pub colour_by_entry : Taken → Window → ℕ → ℕ → PageEntry → Option Colour
+colour_by_entry taken window x y entry = colour_through taken (window.left + entry.x) (window.top + entry.y) x y (taken_region entry.region taken)
 
 -- the colour at a place of the display: that of the last listed region that covers it, within the window, and else clear
 unfoldable pub colour_at : Scene → ℕ → ℕ → Colour
@@ -105,42 +107,63 @@ scene_in epoch page = record {
   taken = taken_of (segments_of epoch);
 }
 
+-- ---- what stands
+
+-- the page that stands in a receiver, with the lifted time of its set and its scene
+pub record Standing : Type 0 where
+  pub time : ℕ
+  pub page : Page
+  pub scene : Scene
+
+abbrev pub standing_in : ℕ → Option Page → Option (List (List Content)) → Option Standing
+standing_in lifted (Some page) (Some epoch) = Some (record { time = lifted; page = page; scene = scene_in epoch page })
+standing_in lifted page epoch = None
+
+-- what stands with a set of that lifted time, behind the kept sets since the last loss or broken set, by the verdict on it, and
+-- what stood before: a set that is not kept changes nothing, and without a set that is shown nothing stands
+abbrev pub standing_with : List (List Content) → Option ℕ → Delivery Reading → Option SetEnd → Option Standing → Option Standing
+standing_with sets (Some lifted) (whole time size readings) (Some Shown) before = standing_in lifted (page_in_set (contents_in readings)) (epoch_of (contents_in readings ∷ sets))
+standing_with sets lifted delivery (Some (NotLater last)) before = before
+standing_with sets lifted delivery verdict before = None
+
+-- the page that stands after a past
+unfoldable pub standing_after : Profile → ℕ → List (Delivery Reading) → Option Standing
+standing_after profile anchor [] = None
+standing_after profile anchor (delivery ∷ past) =
+    standing_with (sets_since profile anchor past) (lifted_time anchor past delivery) delivery (verdict_of profile anchor past delivery) (standing_after profile anchor past)
+
+-- the tick at which the page is timed out; a time-out of 0 is never over
+abbrev pub until_of : Standing → Option ℕ
+until_of standing = if standing.page.time_out == 0 then None else Some (standing.time + 90000 * standing.page.time_out)
+
 -- ---- the view at a tick
 
--- the time-out of a page with that time has come; with a time-out of 0 it never comes
-abbrev pub is_timed_out : Page → ℕ → ℕ → Bool
-is_timed_out page time tick = not (page.time_out == 0) && nat_le (time + 90000 * page.time_out) tick
+abbrev pub is_over_at : ℕ → Option ℕ → Bool
+is_over_at tick None = false
+is_over_at tick (Some until) = nat_le until tick
 
-abbrev pub view_until : Page → ℕ → ℕ → Scene → View
-view_until page time tick scene = if is_timed_out page time tick then nothing else plane (plane_of scene)
+-- what is seen of it at a tick from its lifted time on: its picture, until it is timed out
+abbrev pub view_of : ℕ → Option Standing → View
+view_of tick None = nothing
+view_of tick (Some standing) = if is_over_at tick (until_of standing) then nothing else plane (plane_of standing.scene)
 
-abbrev pub view_of_page : Option Page → Option (List (List Content)) → ℕ → ℕ → View
-view_of_page None epoch time tick = nothing
-view_of_page (Some page) None time tick = nothing
-view_of_page (Some page) (Some epoch) time tick = view_until page time tick (scene_in epoch page)
+-- from the lifted time of a set on the one view, and before it, or where the set is not kept, the other
+abbrev pub from_time_on : Option ℕ → ℕ → View → View → View
+from_time_on None tick by_set before = before
+from_time_on (Some lifted) tick by_set before = if nat_le lifted tick then by_set else before
 
--- the view at a tick by the last kept set, behind the kept sets since the last loss or broken set, and the verdict on it
-abbrev pub view_by_set : List (List Content) → ℕ → Delivery Reading → Option SetEnd → View
-view_by_set sets tick (whole time readings) (Some Shown) = view_of_page (page_in_set (contents_in readings)) (epoch_of (contents_in readings ∷ sets)) time tick
-view_by_set sets tick delivery verdict = nothing
-
--- behind a past, a set is kept, and its time has come
-abbrev pub is_due : List ℕ → ℕ → Delivery Reading → Bool
-is_due times tick lost = false
-is_due times tick (whole time readings) = is_later times time && nat_le time tick
-is_due times tick (refused time fault) = is_later times time && nat_le time tick
-
--- the view at a tick after a past: by the last kept set whose time has come, and nothing where there is none
-unfoldable pub view_at : Profile → ℕ → List (Delivery Reading) → View
-view_at profile tick [] = nothing
-view_at profile tick (delivery ∷ past) =
-    if is_due (times_of past) tick delivery
-    then view_by_set (sets_since profile past) tick delivery (verdict_of profile past delivery) else view_at profile tick past
+-- the view at a tick after a past, in a receiver with that anchor: of what stands after the last kept set whose time has come,
+-- and nothing where there is none
+unfoldable pub view_at : Profile → ℕ → ℕ → List (Delivery Reading) → View
+view_at profile anchor tick [] = nothing
+view_at profile anchor tick (delivery ∷ past) =
+    from_time_on (lifted_time anchor past delivery) tick (view_of tick (standing_after profile anchor (delivery ∷ past))) (view_at profile anchor tick past)
 
 -- ---- the view of a stream
 
--- what is shown of packets at a tick, for a profile, a PID and a page: the view after all of their sets and losses
-pub record IsShown (profile : Profile) (pid page : ℕ) (packets : List (List ℕ)) (tick : ℕ) (shown : View) : Type 0 where
+-- what is shown of packets at a tick, in a receiver of a profile for a PID and a page, with that anchor: the view after all of
+-- their sets and losses. The stream ends with these packets or not
+pub record IsShown (profile : Profile) (pid page anchor : ℕ) (ended : Bool) (packets : List (List ℕ)) (tick : ℕ) (shown : View) : Type 0 where
   pub past : List (Delivery Reading)
-  pub are_read : AreDeliveriesRead (reverse (sets_of profile.coded pid page true packets)) past
-  pub is_view : shown ≡ view_at profile tick past
+  pub received : HasReceived profile pid page ended packets past
+  pub is_view : shown ≡ view_at profile anchor tick past

@@ -2,7 +2,8 @@
 -- of an epoch stand in a list, the latest first.
 use Rattle.std.specs.Prelude.{ℕ, ◌==◌, Bool, true, not, if◌then◌else◌, List, [], ◌∷◌, flat_map, reverse, Option, Some, None}
 use Rattle.stream_syntax.specs.Segments.{SegmentValue, of_page, of_region, of_clut, of_object, of_display, end_of_set, passed_over, Region, Clut, Display}
-use Rattle.decoder_model.specs.Contents.{region_named, clut_named, display_of, first_given, in_order}
+use Rattle.decoder_model.specs.Contents.{region_named, clut_named, display_of, in_order}
+use Rattle.sub_base.specs.Lists.{first_given}
 use Rattle.decoder_model.specs.Readings.{Content}
 
 -- the segments of sets, the latest set first and in each the latest segment first
@@ -45,7 +46,18 @@ is_taken earlier (of_display value) = true
 is_taken earlier end_of_set = true
 is_taken earlier passed_over = true
 
--- the taken segments among those of an epoch, the latest first
-unfoldable pub taken_of : List Content → List Content
-taken_of [] = []
-taken_of (segment ∷ earlier) = if is_taken earlier segment.value then segment ∷ taken_of earlier else taken_of earlier
+-- the taken segments of an epoch, the latest first
+pub record Taken : Type 0 where
+  pub segments : List Content
+
+-- of the segments of an epoch those that are taken
+unfoldable pub taken_among : List Content → List Content
+taken_among [] = []
+taken_among (segment ∷ earlier) = if is_taken earlier segment.value then segment ∷ taken_among earlier else taken_among earlier
+
+abbrev pub taken_of : List Content → Taken
+taken_of segments = record { segments = taken_among segments }
+
+-- a region by its last taken segment
+abbrev pub taken_region : ℕ → Taken → Option Region
+taken_region id taken = last_region id taken.segments

@@ -1,11 +1,11 @@
 -- What becomes of the display sets that a receiver is handed (EN 300 743, clause 5.1). What it was handed stands in a list,
 -- the latest first.
-use Rattle.std.specs.Prelude.{ℕ, if◌then◌else◌, List, [], ◌∷◌, Option, Some, None}
+use Rattle.std.specs.Prelude.{ℕ, List, [], ◌∷◌, Option, Some, None, unwrap_or}
 use Rattle.sub_base.specs.declared.profile.Profile.{Profile}
 use Rattle.stream_syntax.specs.Segments.{Page}
 use Rattle.decoder_model.specs.Contents.{page_in_set}
 use Rattle.decoder_model.specs.Faults.{contents_in, segment_fault, epoch_fault}
-use Rattle.decoder_model.specs.Kept.{times_of, is_later, greatest, epoch_of}
+use Rattle.decoder_model.specs.Kept.{lifted_behind, last_time, epoch_of}
 use Rattle.decoder_model.specs.Readings.{Content, Reading}
 use Rattle.decoder_model.specs.Sets.{Delivery, lost, whole, refused}
 use Rattle.decoder_model.specs.declared.set_end.SetEnd.{SetEnd}
@@ -35,33 +35,36 @@ verdict_on_segments profile sets set None = verdict_with_page profile sets set (
 abbrev pub verdict_on_kept : Profile → List (List Content) → List Reading → SetEnd
 verdict_on_kept profile sets readings = verdict_on_segments profile sets (contents_in readings) (segment_fault readings)
 
-abbrev pub if_later : List ℕ → ℕ → SetEnd → SetEnd
-if_later times time verdict = if is_later times time then verdict else NotLater (greatest times)
+-- the verdict on a set with that lifted time, or on one that is not kept, by the greatest lifted time before it
+abbrev pub if_kept : Option ℕ → Option ℕ → SetEnd → SetEnd
+if_kept (Some time) last verdict = verdict
+if_kept None last verdict = NotLater (unwrap_or last 0)
 
--- the verdict on what is handed after a past: on a set, by the times of the sets before and the kept sets since the last
--- loss or broken set; a loss has none
-abbrev pub verdict_after : Profile → List ℕ → List (List Content) → Delivery Reading → Option SetEnd
-verdict_after profile times sets lost = None
-verdict_after profile times sets (whole time readings) = Some (if_later times time (verdict_on_kept profile sets readings))
-verdict_after profile times sets (refused time fault) = Some (if_later times time (Broken fault))
+-- the verdict on what is handed behind sets of which that is the greatest lifted time, with the kept sets since the last loss
+-- or broken set; a loss has none
+abbrev pub verdict_after : Profile → ℕ → Option ℕ → List (List Content) → Delivery Reading → Option SetEnd
+verdict_after profile anchor last sets lost = None
+verdict_after profile anchor last sets (whole time size readings) = Some (if_kept (lifted_behind anchor last time) last (verdict_on_kept profile sets readings))
+verdict_after profile anchor last sets (refused time size fault) = Some (if_kept (lifted_behind anchor last time) last (Broken fault))
 
 -- the kept sets since the last loss or broken set, with what is handed after them: a set that is not kept changes nothing
 abbrev pub sets_with : List (List Content) → Delivery Reading → Option SetEnd → List (List Content)
-sets_with sets (whole time readings) (Some Shown) = contents_in readings ∷ sets
-sets_with sets (whole time readings) (Some Waiting) = contents_in readings ∷ sets
+sets_with sets (whole time size readings) (Some Shown) = contents_in readings ∷ sets
+sets_with sets (whole time size readings) (Some Waiting) = contents_in readings ∷ sets
 sets_with sets delivery (Some (NotLater last)) = sets
 sets_with sets delivery (Some (Broken fault)) = []
 sets_with sets delivery other = []
 
--- the kept sets since the last loss or broken set, the latest first
-unfoldable pub sets_since : Profile → List (Delivery Reading) → List (List Content)
-sets_since profile [] = []
-sets_since profile (delivery ∷ past) = sets_with (sets_since profile past) delivery (verdict_after profile (times_of past) (sets_since profile past) delivery)
+-- the kept sets since the last loss or broken set, the latest first, in a receiver with that anchor
+unfoldable pub sets_since : Profile → ℕ → List (Delivery Reading) → List (List Content)
+sets_since profile anchor [] = []
+sets_since profile anchor (delivery ∷ past) =
+    sets_with (sets_since profile anchor past) delivery (verdict_after profile anchor (last_time anchor past) (sets_since profile anchor past) delivery)
 
 -- the verdict on a set behind a past
-abbrev pub verdict_of : Profile → List (Delivery Reading) → Delivery Reading → Option SetEnd
-verdict_of profile past delivery = verdict_after profile (times_of past) (sets_since profile past) delivery
+abbrev pub verdict_of : Profile → ℕ → List (Delivery Reading) → Delivery Reading → Option SetEnd
+verdict_of profile anchor past delivery = verdict_after profile anchor (last_time anchor past) (sets_since profile anchor past) delivery
 
 -- the sets of the epoch that is known after a past
-abbrev pub known_epoch : Profile → List (Delivery Reading) → Option (List (List Content))
-known_epoch profile past = epoch_of (sets_since profile past)
+abbrev pub known_epoch : Profile → ℕ → List (Delivery Reading) → Option (List (List Content))
+known_epoch profile anchor past = epoch_of (sets_since profile anchor past)

@@ -9,6 +9,7 @@ pub enum SetEnd {
     Waiting,
     /// The set cannot be shown, and the page memory is given up.
     Broken(SetFault),
-    /// The set's time is not above the greatest time before it, which is here; nothing changes.
+    /// The set is not kept, since its time is not later than that of the sets before it: the greatest lifted time before
+    /// it is here. Nothing changes.
     NotLater { last: u64 },
 }

@@ -4,7 +4,7 @@
 
 mod output;
 
-use dvbsub_cmd::{Status, inputs, top};
+use dvbsub_cmd::{Status, inputs, tell, top};
 use output::Output;
 use std::fs::File;
 use std::process::ExitCode;
@@ -39,15 +39,12 @@ impl From<io::Error> for WordsFault {
 }
 
 fn main(rt: HostRuntime) -> ExitCode {
-    match words_of(&rt) {
-        Ok(words) => ExitCode::from(carry_out(&rt, &rt, &words)),
-        Err(WordsFault::Memory) => ExitCode::from(Status::Memory.code()),
-        Err(WordsFault::NotText) => {
-            let _ = println!(rt; "usage");
-            tell_commands(&rt);
-            ExitCode::from(Status::Usage.code())
-        }
-    }
+    let code = match words_of(&rt) {
+        Ok(words) => carry_out(&rt, &rt, &words),
+        Err(WordsFault::Memory) => told(&rt, Status::Memory),
+        Err(WordsFault::NotText) => told(&rt, Status::Usage),
+    };
+    ExitCode::from(code)
 }
 
 /// The words of the command line, without the program's name.
@@ -60,33 +57,56 @@ fn words_of(rt: &HostRuntime) -> Result<Words, WordsFault> {
 }
 
 /// Carries out the command that the words are, and answers the code of its status.
+///
+/// The line of the status waits until the output's file is there, so `done` is told only where it is.
 fn carry_out<T: Threads + Sync>(rt: &HostRuntime, threads: &T, words: &Words) -> u8 {
     let places = inputs(words);
-    let mut first = FileSource::make(opened(rt, word_at(words, places.first)));
-    let mut second = FileSource::make(opened(rt, word_at(words, places.second)));
-    let mut notes = FileSink::make(Some(io::writer(rt)));
-    let mut output = Output::new(rt, word_at(words, places.out));
+    let first_name = word_at(words, places.first);
+    let second_name = word_at(words, places.second);
+    let out_name = word_at(words, places.out);
+    let mut output = Output::new(rt, output_name(out_name, first_name, second_name));
     let mut out = FileSink::make(Some(&mut output));
     let status = top(
         threads,
         rt.alloc(),
         words,
-        &mut first,
-        &mut second,
+        &mut FileSource::make(opened(rt, first_name)),
+        &mut FileSource::make(opened(rt, second_name)),
         &mut out,
-        &mut notes,
+        &mut FileSink::make(Some(io::sink())),
         &NoGate,
     );
-    match status {
-        Status::Usage => tell_commands(rt),
-        Status::Done { .. } => {
-            if output.finish().is_err() {
-                return 6;
-            }
-        }
-        _ => {}
+    told(rt, finished(&mut output, status))
+}
+
+/// The name of the output's file. There is none where an input has it, so that no input is overwritten.
+fn output_name<'a>(
+    name: Option<&'a str>,
+    first: Option<&str>,
+    second: Option<&str>,
+) -> Option<&'a str> {
+    if name == first || name == second {
+        None
+    } else {
+        name
     }
-    status.code()
+}
+
+/// The status once the file of the output is there, where the command was done.
+fn finished(output: &mut Output<'_>, status: Status) -> Status {
+    match status {
+        Status::Done { .. } if output.finish().is_err() => status.unfinished(),
+        _ => status,
+    }
+}
+
+/// Writes the line of a status to standard output, and the table of commands to standard error where the command line was
+/// wrong. Answers the code.
+fn told(rt: &HostRuntime, status: Status) -> u8 {
+    if let Status::Usage = status {
+        let _ = eprintln!(rt; "{COMMANDS}");
+    }
+    tell(status, &mut FileSink::make(Some(io::writer(rt)))).code()
 }
 
 fn word_at(words: &Words, place: Option<usize>) -> Option<&str> {
@@ -103,7 +123,5 @@ fn opened(rt: &HostRuntime, name: Option<&str>) -> Option<File> {
     File::open(rt, name?).ok()
 }
 
-/// Writes the table of commands to standard error.
-fn tell_commands(rt: &HostRuntime) {
-    let _ = eprintln!(rt; "{COMMANDS}");
-}
+#[cfg(test)]
+mod tests;

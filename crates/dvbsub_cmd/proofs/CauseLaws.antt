@@ -9,7 +9,8 @@ use Rattle.dvbsub_cmd.specs.Completeness.{IsComplete, IsUntroubled}
 use Rattle.dvbsub_cmd.specs.ExpectOutcome.{IsExpectCause, IsExpectable}
 use Rattle.dvbsub_cmd.specs.Outcome.{HasCause, IsCausedBy, Tells}
 use Rattle.dvbsub_cmd.specs.ReadScript.{HasRightScript, IsInputCause}
-use Rattle.dvbsub_cmd.specs.Shown.{Shown, Supplied, Received}
+use Rattle.sub_base.specs.Endpoints.{Supplied, Received}
+use Rattle.dvbsub_cmd.specs.Seen.{Seen}
 use Rattle.dvbsub_cmd.specs.declared.command.Command.{Command}
 use Rattle.dvbsub_cmd.specs.declared.command.Command.TheVariants as command
 use Rattle.dvbsub_cmd.specs.declared.status.Status.{Status}
@@ -40,7 +41,7 @@ calm_input has_font a b c d P (status.InputTooLong which.Second) cause calm = ab
 calm_input has_font a b c d P (status.InputTooLong which.Out) cause calm = absurd cause
 calm_input has_font a b c d P (status.InputTooLong which.Notes) cause calm = absurd cause
 
-compile_whole : (profile : ProfileName) (pid page : ℕ) (has_font : Bool) (before now : Shown) (run : Status) → IsCompileCause profile pid page has_font before now run →
+compile_whole : (profile : ProfileName) (pid page : ℕ) (has_font : Bool) (before now : Seen) (run : Status) → IsCompileCause profile pid page has_font before now run →
     (HasRisen before.out.faults now.out.faults → ⊥) → IsCompilable profile has_font before now → IsWhole run
 compile_whole profile pid page has_font before now (status.Done cut) cause written calm = inl (cut, refl)
 compile_whole profile pid page has_font before now status.Usage cause written calm = absurd cause
@@ -57,7 +58,7 @@ compile_whole profile pid page has_font before now (status.WriteFault which.Note
 compile_whole profile pid page has_font before now status.Memory cause written calm = inr refl
 compile_whole profile pid page has_font before now (status.InputTooLong which) cause written calm = calm_input has_font _ _ _ _ _ (status.InputTooLong which) cause.0 calm
 
-expect_whole : (has_font : Bool) (ticks : List ℕ) (before now : Shown) (run : Status) → IsExpectCause has_font ticks before now run →
+expect_whole : (has_font : Bool) (ticks : List ℕ) (before now : Seen) (run : Status) → IsExpectCause has_font ticks before now run →
     (HasRisen before.out.faults now.out.faults → ⊥) → IsExpectable has_font before now → IsWhole run
 expect_whole has_font ticks before now (status.Done cut) cause written calm = inl (cut, refl)
 expect_whole has_font ticks before now status.Usage cause written calm = absurd cause
@@ -74,7 +75,7 @@ expect_whole has_font ticks before now (status.WriteFault which.Notes) cause wri
 expect_whole has_font ticks before now status.Memory cause written calm = inr refl
 expect_whole has_font ticks before now (status.InputTooLong which) cause written calm = calm_input has_font _ _ _ _ _ (status.InputTooLong which) cause.0 calm
 
-list_whole : (words : List (List ℕ)) (pid : ℕ) (before now : Shown) (notes_before notes_now : Received) (run : Status)
+list_whole : (words : List (List ℕ)) (pid : ℕ) (before now : Seen) (notes_before notes_now : Received) (run : Status)
     → IsCausedBy words (Some (command.List pid)) before now run → IsUntroubled (Some (command.List pid)) before now notes_before notes_now → IsWhole run
 list_whole words pid before now notes_before notes_now (status.Done cut) cause calm = inl (cut, refl)
 list_whole words pid before now notes_before notes_now status.Usage cause calm = absurd cause
@@ -98,7 +99,7 @@ list_whole words pid before now notes_before notes_now (status.InputTooLong whic
 list_whole words pid before now notes_before notes_now (status.InputTooLong which.Notes) cause calm = absurd cause
 
 -- each command
-run_whole : (words : List (List ℕ)) (command : Option Command) (before now : Shown) (notes_before notes_now : Received) (run : Status) → IsCausedBy words command before now run →
+run_whole : (words : List (List ℕ)) (command : Option Command) (before now : Seen) (notes_before notes_now : Received) (run : Status) → IsCausedBy words command before now run →
     IsUntroubled command before now notes_before notes_now → IsWhole run
 run_whole words None before now notes_before notes_now run cause calm = absurd calm.right
 run_whole words (Some (command.Compile profile pid page has_font)) before now notes_before notes_now run cause calm = compile_whole profile pid page has_font before now run cause calm.written calm.right
@@ -111,6 +112,6 @@ told before now run answer (inl line) calm whole = subst IsWhole (sym line.1) wh
 told before now run answer (inr front) calm whole = absurd (calm front.1)
 
 -- a command that nothing troubles
-pub complete : (words : List (List ℕ)) (before now : Shown) (notes_before notes_now : Received) (answer : Status) → HasCause words before now notes_before notes_now answer → IsComplete words before now notes_before notes_now answer
+pub complete : (words : List (List ℕ)) (before now : Seen) (notes_before notes_now : Received) (answer : Status) → HasCause words before now notes_before notes_now answer → IsComplete words before now notes_before notes_now answer
 complete words before now notes_before notes_now answer cause = λ calm.
     told notes_before notes_now cause.0 answer cause.2 calm.told (run_whole words (command_of words) before now notes_before notes_now cause.0 cause.1 calm)

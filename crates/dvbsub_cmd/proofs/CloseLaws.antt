@@ -1,13 +1,17 @@
 -- The end of a walk over a stream, with the text that waits.
-use Rattle.std.proofs.Common.{◌≡◌, ℕ, ◌+◌, ◌*◌, ◌≤◌, ◌⊎◌, inl, inr, Bool, true, false, List, [], ◌++◌, length, take, Option, append-nil, length-append, refl, sym, ap, subst, ◌∙◌, arith}
+use Rattle.std.proofs.Common.{◌≡◌, ℕ, ◌≤◌, ◌⊎◌, inl, inr, Bool, true, false, List, [], ◌++◌, length, take, Option, append-nil, length-append, refl, sym, ap, subst, ◌∙◌, arith}
 use Rattle.std.specs.Io.KnownBytes.{Appends}
 use Rattle.std.proofs.Math.Seq.{take-append_seam}
 use Rattle.sub_base.specs.Counts.{HasRisen, counted}
-use Rattle.sub_base.specs.Transfer.{AppendsFront}
-use Rattle.stream_syntax.specs.declared.transport.PacketFault.{PacketFault}
-use Rattle.dvbsub_cmd.specs.ListOutcome.{IsListCause, IsFront, AreWithin, stream_limit}
+use Rattle.sub_base.specs.Endpoints.{AppendsPrefix}
+use Rattle.packet_source.specs.Packets.{Gave, IsWithin, stream_length}
+use Rattle.packet_source.specs.declared.limits.TheConstants.{STREAM_LIMIT}
+use Rattle.packet_source.specs.declared.stream_end.StreamEnd.{StreamEnd}
+use Rattle.packet_source.specs.declared.stream_end.StreamEnd.TheVariants as stream
+use Rattle.dvbsub_cmd.specs.ListOutcome.{IsListCause, IsFront}
+use Rattle.dvbsub_cmd.specs.declared.list_packets.Refused.{Refused}
 use Rattle.dvbsub_cmd.specs.Putting.{Buffered, IsPutOut, PutsOut}
-use Rattle.dvbsub_cmd.specs.Shown.{Supplied, Received}
+use Rattle.sub_base.specs.Endpoints.{Supplied, Received}
 use Rattle.dvbsub_cmd.specs.SlotWalk.{Sent}
 use Rattle.dvbsub_cmd.specs.Walking.{IsTold, IsEnd, Closes}
 use Rattle.dvbsub_cmd.specs.declared.list.End.{End}
@@ -17,13 +21,13 @@ use Rattle.dvbsub_cmd.specs.declared.status.Status.TheVariants as status
 use Rattle.dvbsub_cmd.specs.declared.status.Which.TheVariants as which
 
 -- what was written of a text that is put out is a front of it
-sent_front : (start now : Option (List ℕ)) (waits text : List ℕ) → Sent start now waits text → AppendsFront start now text
+sent_front : (start now : Option (List ℕ)) (waits text : List ℕ) → Sent start now waits text → AppendsPrefix start now text
 sent_front start now waits text sent =
     let count : length sent.written ≤ length text = omega (arith, ap (λ (l : List ℕ). length l) sent.whole, length-append sent.written waits) in
     let front : take (length sent.written) text ≡ sent.written = ap (λ (l : List ℕ). take (length sent.written) l) (sym sent.whole) ∙ take-append_seam sent.written waits in
     (length sent.written, count, subst (λ (l : List ℕ). Appends start now l) (sym front) sent.appended)
 
-put_front : (start now : Received) (buffer : Buffered) (text : List ℕ) (failed : Bool) → failed ≡ buffer.failed → IsPutOut start now buffer text → AppendsFront start.written now.written text
+put_front : (start now : Received) (buffer : Buffered) (text : List ℕ) (failed : Bool) → failed ≡ buffer.failed → IsPutOut start now buffer text → AppendsPrefix start.written now.written text
 put_front start now buffer text true is out = (out.front (sym is)).0
 put_front start now buffer text false is out = sent_front start.written now.written buffer.waits text (out.sent (sym is))
 
@@ -36,30 +40,30 @@ told_front pid before now start out buffer packets rest told =
 at_most : (start had now limit : ℕ) → had ≤ limit → now ≡ counted start had → now ≤ counted start limit
 at_most start had now limit within given = grind arith
 
-given_at_most : (before now : Supplied) (packets : List (List ℕ)) (rest : List ℕ) → AreWithin before now packets rest → now.given ≤ counted before.given stream_limit
-given_at_most before now packets rest within = at_most before.given (188 * length packets + length rest) now.given stream_limit within.short within.count
+given_at_most : (before now : Supplied) (packets : List (List ℕ)) (rest : List ℕ) → Gave before now packets rest → IsWithin packets rest → now.given ≤ counted before.given STREAM_LIMIT
+given_at_most before now packets rest gave within = at_most before.given (stream_length packets rest) now.given STREAM_LIMIT within gave.count
 
 -- the sink failed
 pub closed_failed : (before now : Received) (old new : Buffered) (run : Status) → PutsOut before now old new [] → new.failed ≡ true → Closes before now old run (status.WriteFault which.Out)
 closed_failed before now old new run puts failed = λ start text. λ out.
     let ended : IsPutOut start now new (text ++ []) = puts.extends start text out in
     let front = ended.front failed in
-    inr (refl, subst (λ (l : List ℕ). AppendsFront start.written now.written l) (append-nil text) front.0, front.1)
+    inr (refl, subst (λ (l : List ℕ). AppendsPrefix start.written now.written l) (append-nil text) front.0, front.1)
 
 -- a write fault where the text was told
-write_fault : (pid : ℕ) (before now : Supplied) (start out next : Received) (buffer : Buffered) (packets : List (List ℕ)) (rest : List ℕ) (told : IsTold pid before now start out buffer packets rest) → AreWithin before now packets rest
-    → AppendsFront start.written next.written told.text → HasRisen start.faults next.faults → IsListCause pid before now start next (status.WriteFault which.Out)
+write_fault : (pid : ℕ) (before now : Supplied) (start out next : Received) (buffer : Buffered) (packets : List (List ℕ)) (rest : List ℕ) (told : IsTold pid before now start out buffer packets rest) → IsWithin packets rest
+    → AppendsPrefix start.written next.written told.text → HasRisen start.faults next.faults → IsListCause pid before now start next (status.WriteFault which.Out)
 write_fault pid before now start out next buffer packets rest told within front risen = (
   risen,
   record { packets = packets; rest = rest; taken = told.taken; text = told.text; told = told.told; written = front },
-  given_at_most before now packets rest within,
+  given_at_most before now packets rest told.taken.gave within,
 )
 
-pub ended_whole : (pid : ℕ) (before now : Supplied) (start out next : Received) (buffer : Buffered) (cut : ℕ) (answer : Status) → IsEnd pid before now start out buffer (end.Whole cut) → Closes out next buffer (status.Done cut) answer
+pub ended_whole : (pid : ℕ) (before now : Supplied) (start out next : Received) (buffer : Buffered) (cut : ℕ) (answer : Status) → IsEnd pid before now start out buffer (end.Stream (stream.Whole cut)) → Closes out next buffer (status.Done cut) answer
     → IsListCause pid before now start next answer
 ended_whole pid before now start out next buffer cut answer ended closes = by_close (closes start ended.2.text ended.2.put_out)
   where
-    by_close : ((answer ≡ status.Done cut) × Appends start.written next.written ended.2.text) ⊎ ((answer ≡ status.WriteFault which.Out) × AppendsFront start.written next.written ended.2.text × HasRisen start.faults next.faults)
+    by_close : ((answer ≡ status.Done cut) × Appends start.written next.written ended.2.text) ⊎ ((answer ≡ status.WriteFault which.Out) × AppendsPrefix start.written next.written ended.2.text × HasRisen start.faults next.faults)
         → IsListCause pid before now start next answer
     by_close (inl whole) = subst (λ (s : Status). IsListCause pid before now start next s) (sym whole.0) (record {
       packets = ended.0;
@@ -75,11 +79,14 @@ ended_whole pid before now start out next buffer cut answer ended closes = by_cl
     })
     by_close (inr front) = subst (λ (s : Status). IsListCause pid before now start next s) (sym front.0) (write_fault pid before now start out next buffer ended.0 ended.1 ended.2 ended.3 front.1 front.2)
 
-pub ended_refused : (pid : ℕ) (before now : Supplied) (start out next : Received) (buffer : Buffered) (place : ℕ) (fault : PacketFault) (answer : Status) → IsEnd pid before now start out buffer (end.Refused place fault) → Closes out next buffer (status.StreamRefused place fault) answer
+pub ended_refused : (pid : ℕ) (before now : Supplied) (start out next : Received) (buffer : Buffered) (refused : Refused) (run answer : Status) → IsEnd pid before now start out buffer (end.Refused refused) → run ≡ status.StreamRefused refused.packet refused.fault → Closes out next buffer run answer
     → IsListCause pid before now start next answer
-ended_refused pid before now start out next buffer place fault answer ended closes = by_close (closes start ended.3.text ended.3.put_out)
+ended_refused pid before now start out next buffer refused run answer ended run_is closes = by_close (same start ended.3.text ended.3.put_out)
   where
-    by_close : ((answer ≡ status.StreamRefused place fault) × Appends start.written next.written ended.3.text) ⊎ ((answer ≡ status.WriteFault which.Out) × AppendsFront start.written next.written ended.3.text × HasRisen start.faults next.faults)
+    same : Closes out next buffer (status.StreamRefused refused.packet refused.fault) answer
+    same = subst (λ (s : Status). Closes out next buffer s answer) run_is closes
+
+    by_close : ((answer ≡ status.StreamRefused refused.packet refused.fault) × Appends start.written next.written ended.3.text) ⊎ ((answer ≡ status.WriteFault which.Out) × AppendsPrefix start.written next.written ended.3.text × HasRisen start.faults next.faults)
         → IsListCause pid before now start next answer
     by_close (inl whole) = subst (λ (s : Status). IsListCause pid before now start next s) (sym whole.0) (record {
       packets = ended.0;
@@ -96,11 +103,11 @@ ended_refused pid before now start out next buffer place fault answer ended clos
     })
     by_close (inr front) = subst (λ (s : Status). IsListCause pid before now start next s) (sym front.0) (write_fault pid before now start out next buffer ended.0 (ended.1 ++ ended.2) ended.3 ended.4 front.1 front.2)
 
-pub ended_unread : (pid : ℕ) (before now : Supplied) (start out next : Received) (buffer : Buffered) (answer : Status) → IsEnd pid before now start out buffer end.Unread → Closes out next buffer (status.ReadFault which.First) answer
+pub ended_unread : (pid : ℕ) (before now : Supplied) (start out next : Received) (buffer : Buffered) (answer : Status) → IsEnd pid before now start out buffer (end.Stream stream.Unread) → Closes out next buffer (status.ReadFault which.First) answer
     → IsListCause pid before now start next answer
 ended_unread pid before now start out next buffer answer ended closes = by_close (closes start ended.2.text ended.2.put_out)
   where
-    by_close : ((answer ≡ status.ReadFault which.First) × Appends start.written next.written ended.2.text) ⊎ ((answer ≡ status.WriteFault which.Out) × AppendsFront start.written next.written ended.2.text × HasRisen start.faults next.faults)
+    by_close : ((answer ≡ status.ReadFault which.First) × Appends start.written next.written ended.2.text) ⊎ ((answer ≡ status.WriteFault which.Out) × AppendsPrefix start.written next.written ended.2.text × HasRisen start.faults next.faults)
         → IsListCause pid before now start next answer
     by_close (inl whole) = subst (λ (s : Status). IsListCause pid before now start next s) (sym whole.0) (
       ended.5,
@@ -122,9 +129,14 @@ ended_unwritten pid before now start out buffer ended =
     let front = ended.2.put_out.front ended.4 in
     write_fault pid before now start out out buffer ended.0 ended.1 ended.2 ended.3 front.0 front.1
 
-pub ended_too_long : (pid : ℕ) (before now : Supplied) (start out : Received) (buffer : Buffered) → IsEnd pid before now start out buffer end.TooLong → IsListCause pid before now start out (status.InputTooLong which.First)
+pub ended_too_long : (pid : ℕ) (before now : Supplied) (start out : Received) (buffer : Buffered) → IsEnd pid before now start out buffer (end.Stream stream.TooLong) → IsListCause pid before now start out (status.InputTooLong which.First)
 ended_too_long pid before now start out buffer ended = (ended.3, told_front pid before now start out buffer ended.0 ended.1 ended.2)
 
 -- how a walk has ended, by another name
 pub as_end : (pid : ℕ) (before now : Supplied) (start out : Received) (buffer : Buffered) (one other : End) → one ≡ other → IsEnd pid before now start out buffer one → IsEnd pid before now start out buffer other
 as_end pid before now start out buffer one other same ended = subst (λ (e : End). IsEnd pid before now start out buffer e) same ended
+
+-- how a stream has ended, by another name
+pub as_stream_end : (pid : ℕ) (before now : Supplied) (start out : Received) (buffer : Buffered) (one other : StreamEnd) → one ≡ other → IsEnd pid before now start out buffer (end.Stream one)
+    → IsEnd pid before now start out buffer (end.Stream other)
+as_stream_end pid before now start out buffer one other same ended = subst (λ (e : StreamEnd). IsEnd pid before now start out buffer (end.Stream e)) same ended

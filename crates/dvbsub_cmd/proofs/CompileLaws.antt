@@ -1,5 +1,6 @@
 -- The packets of a plan's sets, and the refusals of a schedule.
-use Rattle.std.proofs.Common.{◌≡◌, ◌∙◌, sym, ap, subst, ℕ, ◌<◌, ◌≤◌, ◌^◌, Option, IsSome, List, [], ◌∷◌, length, get_or, map, All, arith}
+use Rattle.std.proofs.Common.{◌≡◌, ◌∙◌, sym, ap, subst, ℕ, ◌<◌, ◌≤◌, ◌^◌, Option, List, [], ◌∷◌, length, get_or, map, All, arith}
+use Rattle.std.specs.List.{AllByRecursion}
 use Rattle.std.specs.Io.KnownBytes.{Keeps}
 use Rattle.std.proofs.lemmas.List.{length-map, get_or_default}
 use Rattle.cue_list.specs.declared.script.Script.{Script}
@@ -8,21 +9,22 @@ use Rattle.page_epoch.specs.Refusals.{IsCause as IsPlanCause}
 use Rattle.page_epoch.specs.declared.fault.PlanFault.{PlanFault}
 use Rattle.page_epoch.specs.declared.fault.PlanFault.TheVariants as plan
 use Rattle.page_epoch.specs.declared.planned_set.PlannedSet.{PlannedSet}
-use Rattle.schedule.specs.Packets.{first_packet, load_of, no_load}
+use Rattle.schedule.specs.Packets.{first_packet, size_of}
 use Rattle.schedule.specs.Refusals.{IsCause}
 use Rattle.sub_base.specs.Pace.{pace_of}
-use Rattle.schedule.specs.Slots.{Timetable, IsSchedule, IsOnTime}
+use Rattle.schedule.specs.Slots.{Timetable, IsSchedule, IsOnTime, IsLoad}
+use Rattle.schedule.proofs.PacketLaws.{bytes_at}
 use Rattle.schedule.specs.declared.fault.ScheduleFault.{ScheduleFault}
 use Rattle.schedule.specs.declared.fault.ScheduleFault.TheVariants as schedule
 use Rattle.sub_base.specs.declared.pace.Pace.{Pace}
-use Rattle.set_coder.specs.SetSizes.{FitsPacket, IsSetLoad}
+use Rattle.set_coder.specs.SetSizes.{FitsPacket}
 use Rattle.sub_base.specs.Counts.{HasRisen}
-use Rattle.sub_base.specs.Transfer.{AppendsFront}
+use Rattle.sub_base.specs.Endpoints.{AppendsPrefix}
 use Rattle.sub_base.specs.Profile.{profile_of}
-use Rattle.sub_base.specs.declared.load.SetLoad.{SetLoad}
+use Rattle.sub_base.specs.declared.load.WriteLoad.{WriteLoad}
 use Rattle.sub_base.specs.declared.profile.Profile.{Profile}
 use Rattle.sub_base.specs.declared.profile.ProfileName.{ProfileName}
-use Rattle.shown_stream.specs.Compiled.{AreLoads, AreUnits, IsCompiledTo, IsPlanned}
+use Rattle.shown_stream.specs.Compiled.{IsCompiledFor, IsLoadOf, AreLoads, AreUnits, IsCompiledTo, IsPlanned}
 use Rattle.dvbsub_cmd.specs.CompileRefused.{IsPlanRefused, IsScheduleRefused}
 use Rattle.dvbsub_cmd.specs.PieceView.{plain}
 use Rattle.dvbsub_cmd.specs.Sending.{IsAmong, IsRefusal, IsScheduleRefusal, plan_refusal}
@@ -31,47 +33,54 @@ use Rattle.dvbsub_cmd.specs.UnitSizes.{AreSized}
 use Rattle.dvbsub_cmd.specs.declared.compile.SendFault.{SendFault}
 use Rattle.dvbsub_cmd.specs.declared.compile.SendFault.TheVariants as fault
 use Rattle.dvbsub_cmd.specs.declared.slot_stream.Piece.{Piece as Lent}
-use Rattle.shown_stream.proofs.CompiledPackets.{coded_few, count_pieces}
+use Rattle.shown_stream.proofs.CompiledPackets.{IsSingle, count_pieces, singles}
 use Rattle.dvbsub_cmd.proofs.UnitLaws.{AllZip-length, AreShort, all_fit, sized_as}
 
 -- there are fewer than 2 ^ 64 slots up to the last one
-pub slot_count-small : (slots all : List ℕ) → all ≡ slots → All (λ slot. slot < 2 ^ 54) slots → slot_count all < 2 ^ 64
+pub slot_count-small : (slots all : List ℕ) → all ≡ slots → All (λ slot. slot < 2 ^ 56) slots → slot_count all < 2 ^ 64
 slot_count-small slots all same small = subst (λ (s : List ℕ). slot_count s < 2 ^ 64) (sym same) (below slots small)
   where
-    below : (slots : List ℕ) → All (λ slot. slot < 2 ^ 54) slots → slot_count slots < 2 ^ 64
+    below : (slots : List ℕ) → All (λ slot. slot < 2 ^ 56) slots → slot_count slots < 2 ^ 64
     below [] small = omega arith
-    below (slot ∷ slots) small = let last : get_or (slot ∷ slots) (length slots) 0 < 2 ^ 54 = small (length slots) 0 (omega arith) in omega arith
+    below (slot ∷ slots) small = let last : get_or (slot ∷ slots) (length slots) 0 < 2 ^ 56 = small (length slots) 0 (omega arith) in omega arith
 
 -- loads that are on time are short enough for a packet whose length is told
-are_short : (name : ProfileName) (receiver : Profile) (origin : ℕ) (loads given : List SetLoad) (table : Timetable) → receiver ≡ profile_of name → IsSome (profile_of name).step → given ≡ loads →
+are_short : (name : ProfileName) (receiver : Profile) (origin : ℕ) (loads given : List WriteLoad) (table : Timetable) → receiver ≡ profile_of name → IsCompiledFor name → given ≡ loads → All IsLoad given →
     IsOnTime given (length given) (pace_of origin receiver) table → AreShort given
-are_short name receiver origin loads given table is_profile steps same on_time k d below =
-    let fits : (load_of given k).size ≤ receiver.coded = on_time.fits k below in
-    let few : receiver.coded ≤ 65541 = subst (λ (p : Profile). p.coded ≤ 65541) (sym is_profile) (coded_few name steps) in
-    let at : get_or given k d ≡ load_of given k = get_or_default given k d no_load below in
-    subst (λ (load : SetLoad). load.size ≤ 65541) (sym at) (omega arith)
+are_short name receiver origin loads given table is_profile made same each on_time k d below =
+    let fits : size_of given k ≤ receiver.coded = on_time.fits k below in
+    let few : receiver.coded ≤ 65541 = subst (λ (p : Profile). p.coded ≤ 65541) (sym is_profile) made.few in
+    let bytes = bytes_at given k d each below in
+    omega arith
 
 -- sets that are on time fit packets whose length is told
-pub sets_fit : (name : ProfileName) (script : Script) (sets : List PlannedSet) (receiver : Profile) (origin : ℕ) (loads given : List SetLoad) (table : Timetable) → receiver ≡ profile_of name → IsSome (profile_of name).step →
-    AreLoads script sets loads → given ≡ loads → IsOnTime given (length given) (pace_of origin receiver) table → All (FitsPacket script) sets
-sets_fit name script sets receiver origin loads given table is_profile steps asked same on_time =
-    all_fit script sets given (subst (AreLoads script sets) (sym same) asked) (are_short name receiver origin loads given table is_profile steps same on_time)
+pub sets_fit : (name : ProfileName) (script : Script) (sets : List PlannedSet) (receiver : Profile) (origin : ℕ) (loads given : List WriteLoad) (table : Timetable) → receiver ≡ profile_of name → IsCompiledFor name →
+    AreLoads script sets loads → given ≡ loads → All IsLoad loads → IsOnTime given (length given) (pace_of origin receiver) table → All (FitsPacket script) sets
+sets_fit name script sets receiver origin loads given table is_profile made asked same each on_time =
+    all_fit script sets given (subst (AreLoads script sets) (sym same) asked) (are_short name receiver origin loads given table is_profile made same (subst (All IsLoad) (sym same) each) on_time)
+
+-- sets that are on time are sent in one PES packet each
+pub sent_singly : (name : ProfileName) (script : Script) (sets : List PlannedSet) (receiver : Profile) (origin : ℕ) (loads given : List WriteLoad) (table : Timetable) → receiver ≡ profile_of name → IsCompiledFor name →
+    AreLoads script sets loads → given ≡ loads → IsOnTime given (length given) (pace_of origin receiver) table → AllByRecursion IsSingle given
+sent_singly name script sets receiver origin loads given table is_profile made asked same on_time =
+    singles receiver.coded script sets given (subst (λ (p : Profile). p.coded ≤ 65541) (sym is_profile) made.few) (subst (AreLoads script sets) (sym same) asked) on_time.fits
 
 -- one slot a piece
-pub slots_pair : (script : Script) (sets : List PlannedSet) (loads given : List SetLoad) (units : List (List ℕ)) (slots all : List ℕ) (pieces lent : List Lent) → AreLoads script sets loads → given ≡ loads → all ≡ slots → lent ≡ pieces →
-    length slots ≡ first_packet given (length given) → AreSized script sets units → map plain pieces ≡ all_pieces units → length all ≡ length lent
-slots_pair script sets loads given units slots all pieces lent asked same all_is lent_is packets sized are =
-    let counted : first_packet given (length given) ≡ length (all_pieces units) = count_pieces given units (sized_as script sets given units (subst (AreLoads script sets) (sym same) asked) sized) in
+pub slots_pair : (script : Script) (sets : List PlannedSet) (loads given : List WriteLoad) (units : List (List ℕ)) (slots all : List ℕ) (pieces lent : List Lent) → AreLoads script sets loads → given ≡ loads → all ≡ slots → lent ≡ pieces →
+    length slots ≡ first_packet given (length given) → AreSized script sets units → AllByRecursion IsSingle given → map plain pieces ≡ all_pieces units → length all ≡ length lent
+slots_pair script sets loads given units slots all pieces lent asked same all_is lent_is packets sized single are =
+    let counted : first_packet given (length given) ≡ length (all_pieces units) = count_pieces given units (sized_as script sets given units (subst (AreLoads script sets) (sym same) asked) sized) single in
     ap length all_is ∙ packets ∙ counted ∙ ap length (sym are) ∙ length-map pieces plain ∙ ap length (sym lent_is)
 
 -- the set of a schedule's fault is one of the plan
-pub among : (script : Script) (sets : List PlannedSet) (loads given : List SetLoad) (pace : Pace) (refused : ScheduleFault) → AreLoads script sets loads → given ≡ loads → IsCause given pace refused → IsAmong sets refused
+pub among : (script : Script) (sets : List PlannedSet) (loads given : List WriteLoad) (pace : Pace) (refused : ScheduleFault) → AreLoads script sets loads → given ≡ loads → IsCause given pace refused → IsAmong sets refused
 among script sets loads given pace schedule.Memory asked same cause = tt
-among script sets loads given pace (schedule.CodedFull set size) asked same cause = omega (arith, AllZip-length (IsSetLoad script) sets loads asked, ap length same, cause.among)
-among script sets loads given pace (schedule.Late set done pts) asked same cause = omega (arith, AllZip-length (IsSetLoad script) sets loads asked, ap length same, cause.among)
+among script sets loads given pace (schedule.CodedFull set size) asked same cause = omega (arith, AllZip-length (IsLoadOf script) sets loads asked, ap length same, cause.among)
+among script sets loads given pace (schedule.Late set done pts) asked same cause = omega (arith, AllZip-length (IsLoadOf script) sets loads asked, ap length same, cause.among)
+among script sets loads given pace (schedule.SegmentFull set longest) asked same cause = omega (arith, AllZip-length (IsLoadOf script) sets loads asked, ap length same, cause.among)
 
 -- the sets of a plan, and what they ask
-planned_by : (name : ProfileName) (script : Script) (sets own : List PlannedSet) (loads given : List SetLoad) (receiver : Profile) → receiver ≡ profile_of name → IsPlan script receiver own → sets ≡ own →
+planned_by : (name : ProfileName) (script : Script) (sets own : List PlannedSet) (loads given : List WriteLoad) (receiver : Profile) → receiver ≡ profile_of name → IsPlan script receiver own → sets ≡ own →
     AreLoads script sets loads → given ≡ loads → IsPlanned name script sets given
 planned_by name script sets own loads given receiver is_profile plan same_sets asked same_loads = record {
   plan = subst (λ (p : Profile). IsPlan script p sets) is_profile (subst (IsPlan script receiver) (sym same_sets) plan);
@@ -79,7 +88,7 @@ planned_by name script sets own loads given receiver is_profile plan same_sets a
 }
 
 -- the packets of the plan's sets in the slots of their schedule are those that the script is compiled to
-pub compiled : (name : ProfileName) (pid page : ℕ) (script : Script) (sets own : List PlannedSet) (loads given : List SetLoad) (receiver : Profile) (table : Timetable) (units : List (List ℕ)) (pieces lent : List Lent) (all : List ℕ) →
+pub compiled : (name : ProfileName) (pid page : ℕ) (script : Script) (sets own : List PlannedSet) (loads given : List WriteLoad) (receiver : Profile) (table : Timetable) (units : List (List ℕ)) (pieces lent : List Lent) (all : List ℕ) →
     receiver ≡ profile_of name → IsPlan script receiver own → sets ≡ own → AreLoads script sets loads → given ≡ loads → AreUnits script page sets units → AreSized script sets units →
     IsSchedule given (length given) (pace_of script.origin receiver) table → IsOnTime given (length given) (pace_of script.origin receiver) table →
     map plain pieces ≡ all_pieces units → lent ≡ pieces → all ≡ table.slots → IsCompiledTo name pid page script (stream_of pid (map plain lent) all)
@@ -110,7 +119,7 @@ plan_refused name pid page script receiver before now faults_before faults_now r
     by_fault (plan.CompositionFull row need) cause = (cause, keeps)
 
 -- a refusal of the schedule is one of the script, at the set's record
-pub schedule_refused : (name : ProfileName) (pid page : ℕ) (script : Script) (sets own : List PlannedSet) (loads given : List SetLoad) (receiver : Profile) (before now : Option (List ℕ)) (faults_before faults_now : ℕ)
+pub schedule_refused : (name : ProfileName) (pid page : ℕ) (script : Script) (sets own : List PlannedSet) (loads given : List WriteLoad) (receiver : Profile) (before now : Option (List ℕ)) (faults_before faults_now : ℕ)
     (refused : ScheduleFault) (answer : SendFault) → receiver ≡ profile_of name → IsPlan script receiver own → sets ≡ own → AreLoads script sets loads → given ≡ loads →
     IsCause given (pace_of script.origin receiver) refused → IsScheduleRefusal sets refused answer → Keeps before now → IsRefusal name pid page script before now faults_before faults_now answer
 schedule_refused name pid page script sets own loads given receiver before now faults_before faults_now refused answer is_profile plan same_sets asked same_loads cause refusal keeps =
@@ -124,6 +133,9 @@ schedule_refused name pid page script sets own loads given receiver before now f
         subst (λ (one : SendFault). IsRefusal name pid page script before now faults_before faults_now one) (sym refusal.2)
         (record { sets = sets; loads = given; planned = planned; cause = cause; row_is = refusal.1 }, keeps)
     by_fault (schedule.Late set done pts) cause refusal planned =
+        subst (λ (one : SendFault). IsRefusal name pid page script before now faults_before faults_now one) (sym refusal.2)
+        (record { sets = sets; loads = given; planned = planned; cause = cause; row_is = refusal.1 }, keeps)
+    by_fault (schedule.SegmentFull set longest) cause refusal planned =
         subst (λ (one : SendFault). IsRefusal name pid page script before now faults_before faults_now one) (sym refusal.2)
         (record { sets = sets; loads = given; planned = planned; cause = cause; row_is = refusal.1 }, keeps)
 
@@ -140,6 +152,6 @@ of_schedule name pid page script before now faults_before faults_now row refused
 
 pub of_write : (name : ProfileName) (pid page : ℕ) (script : Script) (before now : Option (List ℕ)) (faults_before faults_now : ℕ) (answer : SendFault) →
     answer ≡ fault.Write → IsRefusal name pid page script before now faults_before faults_now answer →
-    (packets : List ℕ) × IsCompiledTo name pid page script packets × AppendsFront before now packets × HasRisen faults_before faults_now
+    (packets : List ℕ) × IsCompiledTo name pid page script packets × AppendsPrefix before now packets × HasRisen faults_before faults_now
 of_write name pid page script before now faults_before faults_now answer is refusal =
     subst (λ (one : SendFault). IsRefusal name pid page script before now faults_before faults_now one) is refusal

@@ -3,9 +3,9 @@ use Rattle.std.proofs.Common.{◌≡◌, ◌∙◌, refl, sym, ap, subst, ℕ, t
 use Rattle.std.specs.Io.KnownBytes.{Appends}
 use Rattle.std.proofs.KnownBytes.{Appends-nil}
 use Rattle.sub_base.specs.Counts.{HasRisen}
-use Rattle.sub_base.specs.Transfer.{AppendsFront}
+use Rattle.sub_base.specs.Endpoints.{AppendsPrefix}
 use Rattle.dvbsub_cmd.specs.Putting.{Buffered, IsPutOut, PutsOut}
-use Rattle.dvbsub_cmd.specs.Shown.{Received}
+use Rattle.sub_base.specs.Endpoints.{Received}
 
 -- a buffer without text, at the start
 abbrev pub fresh : Buffered
@@ -36,5 +36,5 @@ written_whole start mid now made put ended text is_fresh puts flushes well empty
 
 -- the sink failed: it has a front of the text, and its count rose
 pub written_front : (start mid now : Received) (made put ended : Buffered) (text : List ℕ) → made ≡ fresh → PutsOut start mid made put text → PutsOut mid now put ended [] →
-    ended.failed ≡ true → AppendsFront start.written now.written text × HasRisen start.faults now.faults
+    ended.failed ≡ true → AppendsPrefix start.written now.written text × HasRisen start.faults now.faults
 written_front start mid now made put ended text is_fresh puts flushes failed = (put_all start mid now made put ended text is_fresh puts flushes).front failed

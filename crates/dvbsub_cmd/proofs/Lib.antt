@@ -2,6 +2,7 @@ pub mod CauseLaws
 pub mod CloseLaws
 pub mod HeadlineLaws
 pub mod ListLaws
+pub mod LoadLaws
 pub mod ListingLaws
 pub mod PieceLaws
 pub mod PutLaws

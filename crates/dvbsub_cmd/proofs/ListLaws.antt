@@ -1,22 +1,33 @@
 -- The lines of the segments of a field.
-use Rattle.std.proofs.Common.{◌≡◌, ℕ, ◌+◌, ◌-◌, true, false, List, [], ◌++◌, length, take, drop, Some, None, append-nil, append_assoc, refl, sym, ap, subst, ◌∙◌, arith}
+use Rattle.std.proofs.lemmas.List.{get_or-take, length-take-le}
+use Rattle.std.proofs.Math.Seq.{take-length}
+use Rattle.std.proofs.Common.{◌≡◌, ℕ, ◌+◌, ◌-◌, true, false, List, [], ◌∷◌, ◌++◌, length, take, drop, Some, None, append-nil, append_assoc, refl, sym, ap, subst, ◌∙◌, ◌≤◌, ◌<◌, ◌*◌, arith}
 use Rattle.stream_syntax.specs.Pes.{IsPes}
 use Rattle.stream_syntax.specs.Segments.{IsSegment, SegmentValue}
 use Rattle.stream_syntax.specs.SegmentTests.{frame_tests}
 use Rattle.stream_syntax.specs.Tests.{byte_at, word_at, first_fault}
 use Rattle.stream_syntax.specs.declared.segment_fault.SegmentFault.{SegmentFault}
 use Rattle.dvbsub_cmd.specs.ListLines.{segment_line, fault_line, unit_line}
-use Rattle.dvbsub_cmd.specs.ListText.{IsSegmentLine, right, AreSegmentLines, none_left, unframed, one_more, whole_segment, ends_segments, AreUnitLines, of_subtitles}
+use Rattle.stream_syntax.specs.DataField.{segment, broken, ends_segments, segment_size, AreFrames, no_more, cut_off, one_more}
+use Rattle.dvbsub_cmd.specs.ListText.{IsSegmentLine, right, AreFrameLines, AreSegmentLines, none_left, cut_line, line_first, AreUnitLines, of_subtitles}
 use Rattle.dvbsub_cmd.specs.Putting.{Buffered, PutsOut}
-use Rattle.dvbsub_cmd.specs.Shown.{Received}
+use Rattle.sub_base.specs.Endpoints.{Received}
 use Rattle.dvbsub_cmd.proofs.PutLaws.{PutsOut-nothing, PutsOut-both}
 
+-- the front of bytes has their bytes
+pub front_byte : (n place : ℕ) (bytes : List ℕ) → place < n → byte_at place (take n bytes) ≡ byte_at place bytes
+front_byte n place bytes within = get_or-take n bytes place 0 within
+
+pub front_word : (n place : ℕ) (bytes : List ℕ) → place + 1 < n → word_at place (take n bytes) ≡ word_at place bytes
+front_word n place bytes within =
+    ap (λ high. high * 256 + byte_at (place + 1) (take n bytes)) (front_byte n place bytes (omega arith)) ∙ ap (λ low. byte_at place bytes * 256 + low) (front_byte n (place + 1) bytes within)
+
 -- a segment that was read has the line of its head
-pub right_line : (place kind page size whole : ℕ) (bytes line : List ℕ) (value : SegmentValue) (read : ℕ) → IsSegment (take read bytes) value → read ≡ 6 + word_at 4 bytes
+pub right_line : (place kind page size whole : ℕ) (bytes line : List ℕ) (value : SegmentValue) (read : ℕ) → IsSegment (take read bytes) value → read ≡ 6 + word_at 4 bytes → length bytes ≡ 6 + word_at 4 bytes
     → kind ≡ byte_at 1 bytes → page ≡ word_at 2 bytes → whole ≡ 6 + word_at 4 bytes → size ≡ whole - 6 → line ≡ segment_line place kind page size → IsSegmentLine place bytes line
-right_line place kind page size whole bytes line value read is read_is kind_is page_is whole_is size_is line_is =
+right_line place kind page size whole bytes line value read is read_is exact kind_is page_is whole_is size_is line_is =
     let size_of : size ≡ word_at 4 bytes = omega arith in
-    right value (subst (λ (n : ℕ). IsSegment (take n bytes) value) read_is is)
+    right value (subst (λ (front : List ℕ). IsSegment front value) (ap (λ n. take n bytes) (read_is ∙ sym exact) ∙ take-length bytes) is)
     (line_is ∙ (ap (λ (k : ℕ). segment_line place k page size) kind_is ∙ (ap (λ (p : ℕ). segment_line place (byte_at 1 bytes) p size) page_is
     ∙ ap (λ (n : ℕ). segment_line place (byte_at 1 bytes) (word_at 2 bytes) n) size_of)))
 
@@ -35,15 +46,20 @@ no_lines shown buffer segments = record {
 
 -- one line more
 pub line_more : (before now next : Received) (old mid new : Buffered) (place : ℕ) (rest segments line behind : List ℕ) (whole : ℕ) → AreLinesSoFar before now old mid place rest segments
-    → ends_segments rest ≡ false → None ≡ first_fault (frame_tests rest) → IsSegmentLine place rest line → PutsOut now next mid new line → whole ≡ whole_segment rest → behind ≡ drop whole rest
+    → ends_segments rest ≡ false → None ≡ first_fault (frame_tests rest) → (front : List ℕ) → front ≡ take whole rest → whole ≤ length rest → IsSegmentLine place front line → PutsOut now next mid new line → whole ≡ segment_size rest → behind ≡ drop whole rest
     → AreLinesSoFar before next old new (place + whole) behind segments
-line_more before now next old mid new place rest segments line behind whole told goes_on framed is puts whole_is tail = record {
+line_more before now next old mid new place rest segments line behind whole told goes_on framed front front_is within is puts whole_is tail = record {
   lines = told.lines ++ line;
   puts = PutsOut-both before now next old mid new told.lines line told.puts puts;
   leads = λ others. λ are.
       let at_tail : AreSegmentLines (place + whole) (drop whole rest) others = subst (λ (t : List ℕ). AreSegmentLines (place + whole) t others) tail are in
-      let next_lines : AreSegmentLines (place + whole_segment rest) (drop (whole_segment rest) rest) others = subst (λ (n : ℕ). AreSegmentLines (place + n) (drop n rest) others) whole_is at_tail in
-      let here : AreSegmentLines place rest (line ++ others) = one_more line others goes_on (sym framed) is next_lines refl in
+      let first : IsSegmentLine place (take (segment_size rest) rest) line = subst (λ (n : ℕ). IsSegmentLine place (take n rest) line) whole_is (subst (λ (bytes : List ℕ). IsSegmentLine place bytes line) front_is is) in
+      let size : length (take (segment_size rest) rest) ≡ whole = length-take-le (segment_size rest) rest (omega arith) ∙ sym whole_is in
+      let here : AreSegmentLines place rest (line ++ others) = record {
+        frames = segment (take (segment_size rest) rest) ∷ at_tail.frames;
+        stand = one_more at_tail.frames goes_on (sym framed) (subst (λ (n : ℕ). AreFrames (drop n rest) at_tail.frames) whole_is at_tail.stand) refl;
+        told = line_first line others first (subst (λ (n : ℕ). AreFrameLines (place + n) at_tail.frames others) (sym size) at_tail.told) refl;
+      } in
       subst (λ (all : List ℕ). AreSegmentLines 2 segments all) (sym (append_assoc told.lines line others)) (told.leads (line ++ others) here);
 }
 
@@ -52,7 +68,7 @@ pub lines_ended : (before now : Received) (old new : Buffered) (place : ℕ) (re
     → (lines : List ℕ) × AreSegmentLines 2 segments lines × PutsOut before now old new lines
 lines_ended before now old new place rest segments told ended = (
   told.lines,
-  subst (λ (all : List ℕ). AreSegmentLines 2 segments all) (append-nil told.lines) (told.leads [] (none_left ended refl)),
+  subst (λ (all : List ℕ). AreSegmentLines 2 segments all) (append-nil told.lines) (told.leads [] (record { frames = []; stand = no_more ended refl; told = none_left refl })),
   told.puts,
 )
 
@@ -60,9 +76,9 @@ lines_ended before now old new place rest segments told ended = (
 pub lines_broken : (before now next : Received) (old mid new : Buffered) (place : ℕ) (rest segments line : List ℕ) (fault : SegmentFault) → AreLinesSoFar before now old mid place rest segments
     → ends_segments rest ≡ false → Some fault ≡ first_fault (frame_tests rest) → line ≡ fault_line place fault → PutsOut now next mid new line
     → (lines : List ℕ) × AreSegmentLines 2 segments lines × PutsOut before next old new lines
-lines_broken before now next old mid new place rest segments line fault told goes_on broken line_is puts = (
+lines_broken before now next old mid new place rest segments line fault told goes_on unframed line_is puts = (
   told.lines ++ line,
-  told.leads line (unframed fault goes_on (sym broken) line_is),
+  told.leads line (record { frames = broken fault ∷ []; stand = cut_off fault goes_on (sym unframed) refl; told = cut_line line_is }),
   PutsOut-both before now next old mid new told.lines line told.puts puts,
 )
 

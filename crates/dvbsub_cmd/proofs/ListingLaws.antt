@@ -15,7 +15,7 @@ use Rattle.dvbsub_cmd.specs.Listing.{AreListed, Lists}
 use Rattle.dvbsub_cmd.specs.ListLines.{loss_line}
 use Rattle.dvbsub_cmd.specs.ListText.{ArePacketLines, AreEndLines, IsListText, unit_limit}
 use Rattle.dvbsub_cmd.specs.Putting.{Buffered, PutsOut}
-use Rattle.dvbsub_cmd.specs.Shown.{Received}
+use Rattle.sub_base.specs.Endpoints.{Received}
 use Rattle.dvbsub_cmd.proofs.PutLaws.{PutsOut-both}
 
 -- a number below the next one is below it, or it

@@ -9,7 +9,7 @@ use Rattle.sub_base.specs.declared.colour.Colour.{Colour}
 use Rattle.dvbsub_cmd.specs.ListLines.{line_end}
 use Rattle.dvbsub_cmd.specs.PictureText.{ColourRun, is_clear, is_same_colour, picture_text, sides_line, with_place, runs_of, run_text, run_piece, plane_row, row_line, rest_line, PutsRow}
 use Rattle.dvbsub_cmd.specs.Putting.{Buffered, PutsOut}
-use Rattle.dvbsub_cmd.specs.Shown.{Received}
+use Rattle.sub_base.specs.Endpoints.{Received}
 use Rattle.dvbsub_cmd.proofs.PutLaws.{PutsOut-both, PutsOut-nothing}
 
 -- two colours that are the same in all parts

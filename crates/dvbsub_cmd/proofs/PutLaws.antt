@@ -1,10 +1,10 @@
 -- Text that is put out, one piece after the other.
 use Rattle.std.proofs.Common.{◌≡◌, ℕ, ◌≤◌, Bool, true, false, List, [], ◌++◌, append-nil, append_assoc, refl, sym, subst, arith}
 use Rattle.sub_base.specs.Counts.{HasRisen}
-use Rattle.sub_base.specs.Transfer.{AppendsFront}
+use Rattle.sub_base.specs.Endpoints.{AppendsPrefix}
 use Rattle.sub_base.proofs.TransferSteps.{HasRisen-since}
 use Rattle.dvbsub_cmd.specs.Putting.{Buffered, IsPutOut, PutsOut}
-use Rattle.dvbsub_cmd.specs.Shown.{Received}
+use Rattle.sub_base.specs.Endpoints.{Received}
 use Rattle.dvbsub_cmd.proofs.SlotLaws.{Sent-front}
 
 -- nothing was put out
@@ -21,13 +21,13 @@ PutsOut-both a b c old mid new first second one other = record {
 }
 
 -- the sink failed while the waiting text was written
-pub PutsOut-failed : (before now : Received) (old new : Buffered) (bytes : List ℕ) → old.failed ≡ false → bytes ≡ old.waits → AppendsFront before.written now.written bytes → HasRisen before.faults now.faults → before.faults ≤ now.faults → new.failed ≡ true
+pub PutsOut-failed : (before now : Received) (old new : Buffered) (bytes : List ℕ) → old.failed ≡ false → bytes ≡ old.waits → AppendsPrefix before.written now.written bytes → HasRisen before.faults now.faults → before.faults ≤ now.faults → new.failed ≡ true
     → PutsOut before now old new []
 PutsOut-failed before now old new bytes good same front risen kept failed = record {
   extends = λ start told. λ out. record {
     sent = λ well. absurd (clash new.failed failed well);
     front = λ _. (
-      Sent-front start.written before.written now.written old.waits told [] (told ++ []) (out.sent good) (subst (λ (b : List ℕ). AppendsFront before.written now.written b) same front) refl,
+      Sent-front start.written before.written now.written old.waits told [] (told ++ []) (out.sent good) (subst (λ (b : List ℕ). AppendsPrefix before.written now.written b) same front) refl,
       HasRisen-since start.faults before.faults now.faults out.kept risen,
     );
     kept = omega (arith, out.kept);

@@ -8,7 +8,7 @@ use Rattle.std.proofs.lemmas.Grind.{flat_map-append}
 use Rattle.std.proofs.lemmas.List.{get_or-map, append-nil, take-append-drop, length-take-le}
 use Rattle.std.specs.Io.KnownBytes.{Appends}
 use Rattle.std.specs.List.{flat_map, range_with_len}
-use Rattle.sub_base.specs.Transfer.{AppendsFront}
+use Rattle.sub_base.specs.Endpoints.{AppendsPrefix}
 use Rattle.page_epoch.proofs.ListLaws.{equal, unequal}
 use Rattle.stream_syntax.specs.TransportPackets.{null_packet}
 use Rattle.dvbsub_cmd.specs.PieceView.{plain}
@@ -123,7 +123,7 @@ Sent-more start now pending bytes packet sent =
     record { written = sent.written; appended = sent.appended; whole = sym (append_assoc sent.written pending packet) ∙ ap (λ k. k ++ packet) sent.whole }
 
 -- a front of what was to be written next was written: then a front of all bytes was, whatever follows
-pub Sent-front : (start now next : Option (List ℕ)) (pending bytes rest all : List ℕ) → Sent start now pending bytes → AppendsFront now next pending → bytes ++ rest ≡ all → AppendsFront start next all
+pub Sent-front : (start now next : Option (List ℕ)) (pending bytes rest all : List ℕ) → Sent start now pending bytes → AppendsPrefix now next pending → bytes ++ rest ≡ all → AppendsPrefix start next all
 Sent-front start now next pending bytes rest all sent front joined =
     let n = front.0 in
     let here : Appends start next (sent.written ++ take n pending) = Appends-trans start now next sent.written (take n pending) sent.appended front.2 in

@@ -3,10 +3,11 @@ use Rattle.std.proofs.Common.{◌≡◌, ◌∙◌, refl, sym, ap, subst, zero, 
 use Rattle.std.proofs.lemmas.List.{take_more, get_or-drop, map-append}
 use Rattle.std.proofs.lemmas.List.Concat.{flat_map-append}
 use Rattle.sub_base.specs.Number.{number_in}
+use Rattle.dvbsub_cmd.specs.declared.command.TheConstants.{LATEST_TICK}
 use Rattle.dvbsub_cmd.specs.Command.{are_rising, rises_from, is_above, tick_or_zero}
 use Rattle.dvbsub_cmd.specs.ExpectOutcome.{authored_text, expect_text}
 use Rattle.dvbsub_cmd.specs.Putting.{Buffered, PutsOut}
-use Rattle.dvbsub_cmd.specs.Shown.{Received}
+use Rattle.sub_base.specs.Endpoints.{Received}
 use Rattle.dvbsub_cmd.proofs.PutLaws.{PutsOut-both}
 use Rattle.cue_list.specs.declared.script.Script.{Script}
 
@@ -19,23 +20,23 @@ words_from (first ∷ words) (suc place) word there =
     words_from words place word there ∙ ap (λ (n : ℕ). word ∷ drop n (first ∷ words)) (sym more)
 
 module _ (before : Option ℕ) (words : List (List ℕ)) (place : ℕ) (word text : List ℕ) (number : Option ℕ) where
-  first_word : place < length words → slice_get words place ≡ Some word → text ≡ word → number ≡ number_in 0 8589934591 text →
+  first_word : place < length words → slice_get words place ≡ Some word → text ≡ word → number ≡ number_in 0 LATEST_TICK text →
       are_rising before (drop place words) ≡ rises_from before number (λ tick. are_rising tick (drop (place + 1) words))
   first_word inside there is_word is_number =
       ap (are_rising before) (words_from words place word there)
-      ∙ ap (λ (tick : Option ℕ). rises_from before tick (λ tick. are_rising tick (drop (place + 1) words))) (sym (is_number ∙ ap (number_in 0 8589934591) is_word))
+      ∙ ap (λ (tick : Option ℕ). rises_from before tick (λ tick. are_rising tick (drop (place + 1) words))) (sym (is_number ∙ ap (number_in 0 LATEST_TICK) is_word))
 
-  pub rising_not : place < length words → slice_get words place ≡ Some word → text ≡ word → number ≡ number_in 0 8589934591 text → number ≡ None →
+  pub rising_not : place < length words → slice_get words place ≡ Some word → text ≡ word → number ≡ number_in 0 LATEST_TICK text → number ≡ None →
       are_rising before (drop place words) ≡ false
   rising_not inside there is_word is_number none =
       first_word inside there is_word is_number ∙ ap (λ (tick : Option ℕ). rises_from before tick (λ tick. are_rising tick (drop (place + 1) words))) none
 
-  pub rising_below : (tick : ℕ) → place < length words → slice_get words place ≡ Some word → text ≡ word → number ≡ number_in 0 8589934591 text → number ≡ Some tick →
+  pub rising_below : (tick : ℕ) → place < length words → slice_get words place ≡ Some word → text ≡ word → number ≡ number_in 0 LATEST_TICK text → number ≡ Some tick →
       is_above before tick ≡ false → are_rising before (drop place words) ≡ false
   rising_below tick inside there is_word is_number some below =
       first_word inside there is_word is_number ∙ ap (λ (t : Option ℕ). rises_from before t (λ t. are_rising t (drop (place + 1) words))) some ∙ rw below refl
 
-  pub rising_more : (tick : ℕ) → place < length words → slice_get words place ≡ Some word → text ≡ word → number ≡ number_in 0 8589934591 text → number ≡ Some tick →
+  pub rising_more : (tick : ℕ) → place < length words → slice_get words place ≡ Some word → text ≡ word → number ≡ number_in 0 LATEST_TICK text → number ≡ Some tick →
       is_above before tick ≡ true → are_rising before (drop place words) ≡ are_rising (Some tick) (drop (place + 1) words)
   rising_more tick inside there is_word is_number some above =
       first_word inside there is_word is_number ∙ ap (λ (t : Option ℕ). rises_from before t (λ t. are_rising t (drop (place + 1) words))) some ∙ rw above refl

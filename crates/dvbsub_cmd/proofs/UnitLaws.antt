@@ -7,16 +7,16 @@ use Rattle.std.proofs.lemmas.List.Elements.{All-push}
 use Rattle.schedule.specs.Packets.{no_load}
 use Rattle.cue_list.specs.declared.script.Script.{Script}
 use Rattle.page_epoch.specs.declared.planned_set.PlannedSet.{PlannedSet}
-use Rattle.set_coder.specs.SetSizes.{FitsPacket, IsSetLoad, IsSetSize}
+use Rattle.set_coder.specs.SetSizes.{FitsPacket, IsSetSize}
 use Rattle.set_coder.proofs.SetSizeLaws.{one_set_size}
-use Rattle.sub_base.specs.declared.load.SetLoad.{SetLoad}
-use Rattle.shown_stream.specs.Compiled.{AreSizedAs}
+use Rattle.sub_base.specs.declared.load.WriteLoad.{WriteLoad}
+use Rattle.shown_stream.specs.Compiled.{AreSizedAs, IsLoadOf}
 use Rattle.shown_stream.specs.SlotStream.{all_pieces, pieces_of}
 use Rattle.dvbsub_cmd.specs.UnitSizes.{AreSized}
 
 -- each fits a PES packet whose length is told
-abbrev pub AreShort : List SetLoad → Type 0
-AreShort loads = All (λ load. load.size ≤ 65541) loads
+abbrev pub AreShort : List WriteLoad → Type 0
+AreShort loads = All (λ (load : WriteLoad). load.load.size ≤ 65541) loads
 
 module _ {A B : Type 0} (R : A → B → Type 0) where
   -- one more at the end of both
@@ -64,21 +64,21 @@ unit_size script set unit written before bytes is_unit appended none sized =
     subst (λ (all : List ℕ). IsSetSize script set (length all)) (sym same) sized
 
 -- the packets have the sizes that the loads of their sets say
-pub sized_as : (script : Script) (sets : List PlannedSet) (loads : List SetLoad) (units : List (List ℕ)) → AllZip (IsSetLoad script) sets loads → AreSized script sets units → AreSizedAs loads units
+pub sized_as : (script : Script) (sets : List PlannedSet) (loads : List WriteLoad) (units : List (List ℕ)) → AllZip (IsLoadOf script) sets loads → AreSized script sets units → AreSizedAs loads units
 sized_as script [] [] [] asked sized = tt
 sized_as script [] [] (unit ∷ units) asked sized = absurd sized
 sized_as script [] (load ∷ loads) units asked sized = absurd asked
 sized_as script (set ∷ sets) [] units asked sized = absurd asked
 sized_as script (set ∷ sets) (load ∷ loads) [] asked sized = absurd sized
 sized_as script (set ∷ sets) (load ∷ loads) (unit ∷ units) asked sized =
-    (one_set_size script set (length unit) load.size sized.0 asked.0.size, sized_as script sets loads units asked.1 sized.1)
+    (one_set_size script set (length unit) load.load.size sized.0 asked.0.asked.size, sized_as script sets loads units asked.1 sized.1)
 
 -- sets whose loads are short fit packets whose length is told
-pub all_fit : (script : Script) (sets : List PlannedSet) (loads : List SetLoad) → AllZip (IsSetLoad script) sets loads → AreShort loads → All (FitsPacket script) sets
+pub all_fit : (script : Script) (sets : List PlannedSet) (loads : List WriteLoad) → AllZip (IsLoadOf script) sets loads → AreShort loads → All (FitsPacket script) sets
 all_fit script sets loads asked short k d below =
-    let within : k < length loads = omega (arith, AllZip-length (IsSetLoad script) sets loads asked) in
-    let load : IsSetLoad script (get_or sets k d) (get_or loads k no_load) = AllZip-at (IsSetLoad script) sets loads k d no_load below asked in
-    record { size = (get_or loads k no_load).size; sized = load.size; few = short k no_load within }
+    let within : k < length loads = omega (arith, AllZip-length (IsLoadOf script) sets loads asked) in
+    let load : IsLoadOf script (get_or sets k d) (get_or loads k no_load) = AllZip-at (IsLoadOf script) sets loads k d no_load below asked in
+    record { size = (get_or loads k no_load).load.size; sized = load.asked.size; few = short k no_load within }
 
 -- one more that P holds of
 pub All-step : {X : Type 0} (P : X → Type 0) (xs new : List X) (x : X) → All P xs → new ≡ xs ++ x ∷ [] → P x → All P new

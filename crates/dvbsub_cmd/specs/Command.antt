@@ -1,13 +1,14 @@
 -- The commands of the program.
-use Rattle.std.specs.Prelude.{ℕ, ◌==◌, not, Bool, true, false, ◌&&◌, nat_lt, nat_le, if◌then◌else◌, List, [], ◌∷◌, length, drop, map, unwrap_or, slice_index, slice_index_or, Option, Some, None, IsSome, ◌<◌, codes}
+use Rattle.std.specs.Prelude.{ℕ, ◌==◌, not, Bool, true, false, ◌&&◌, nat_lt, nat_le, if◌then◌else◌, List, [], ◌∷◌, length, drop, map, unwrap_or, slice_index, slice_index_or, Option, Some, None, ◌<◌, codes}
 use Rattle.std.specs.List.{list_all}
 use Rattle.std.specs.Option.{option_or}
 use Rattle.std.specs.Str.{bytes_eq}
 use Rattle.cue_list.specs.Cells.{◌>>=◌}
 use Rattle.sub_base.specs.Number.{number_in}
-use Rattle.sub_base.specs.Profile.{profile_of}
 use Rattle.sub_base.specs.declared.profile.ProfileName.{ProfileName}
 use Rattle.sub_base.specs.declared.profile.ProfileName.TheVariants.{Sd, Hd}
+use Rattle.shown_stream.specs.Compiled.{IsCompiledFor}
+use Rattle.dvbsub_cmd.specs.declared.command.TheConstants.{GREATEST_PAGE, GREATEST_PID, LATEST_TICK, LEAST_PID}
 use Rattle.dvbsub_cmd.specs.declared.command.Command.{Command}
 use Rattle.dvbsub_cmd.specs.declared.command.Command.TheVariants as command
 use Rattle.dvbsub_cmd.specs.declared.command.InputPlaces.{InputPlaces}
@@ -36,19 +37,19 @@ names_font word = not (bytes_eq word (codes "none"))
 abbrev pub compile_of : List (List ℕ) → Option Command
 compile_of words = if (length words == 7) && has_word words 0 (codes "compile") then (do
   profile ← sending_profile (word_at words 1)
-  pid ← number_in 32 8190 (word_at words 2)
-  page ← number_in 1 65535 (word_at words 3)
+  pid ← number_in LEAST_PID GREATEST_PID (word_at words 2)
+  page ← number_in 1 GREATEST_PAGE (word_at words 3)
   Some (command.Compile profile pid page (names_font (word_at words 5)))) else None
 
 -- `list PID STREAM OUT`
 abbrev pub list_of : List (List ℕ) → Option Command
 list_of words = if (length words == 4) && has_word words 0 (codes "list") then (do
-  pid ← number_in 32 8190 (word_at words 1)
+  pid ← number_in LEAST_PID GREATEST_PID (word_at words 1)
   Some (command.List pid)) else None
 
 -- a tick on the command line
 abbrev pub tick_of : List ℕ → Option ℕ
-tick_of word = number_in 0 8589934591 word
+tick_of word = number_in 0 LATEST_TICK word
 
 -- a tick lies above the one before it, where there is one
 abbrev pub is_above : Option ℕ → ℕ → Bool
@@ -100,9 +101,8 @@ places_of (Some (command.Compile profile pid page has_font)) = record { first = 
 places_of (Some (command.List pid)) = record { first = Some 2; second = None; out = Some 3 }
 places_of (Some (command.Expect has_font)) = record { first = Some 1; second = font_place has_font 2; out = Some 3 }
 
--- a command that sends packets has a PID of 13 bits that null packets do not have, and a profile with a step from packet to
--- packet
+-- a command that sends packets has a PID of 13 bits that null packets do not have, and a profile that scripts are compiled for
 abbrev pub IsSending : Command → Type 0
-IsSending (command.Compile profile pid page has_font) = (pid < 8191) × IsSome (profile_of profile).step
+IsSending (command.Compile profile pid page has_font) = (pid < 8191) × IsCompiledFor profile
 IsSending (command.List pid) = Unit {0}
 IsSending (command.Expect has_font) = Unit {0}

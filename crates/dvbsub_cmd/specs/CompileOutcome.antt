@@ -5,33 +5,34 @@ use Rattle.cue_list.specs.declared.script.Script.{Script}
 use Rattle.page_epoch.specs.declared.fault.PlanFault.{PlanFault}
 use Rattle.schedule.specs.declared.fault.ScheduleFault.{ScheduleFault}
 use Rattle.sub_base.specs.Counts.{HasRisen}
-use Rattle.sub_base.specs.Transfer.{AppendsFront}
+use Rattle.sub_base.specs.Endpoints.{AppendsPrefix}
 use Rattle.sub_base.specs.declared.profile.ProfileName.{ProfileName}
 use Rattle.shown_stream.specs.Compiled.{IsCompiledTo}
 use Rattle.dvbsub_cmd.specs.CompileRefused.{IsPlanRefused, IsScheduleRefused}
 use Rattle.dvbsub_cmd.specs.ReadScript.{ReadsScript, IsInputCause, HasRightScript}
-use Rattle.dvbsub_cmd.specs.Shown.{Shown, WroteNothing}
+use Rattle.sub_base.specs.Endpoints.{WroteNothing}
+use Rattle.dvbsub_cmd.specs.Seen.{Seen}
 use Rattle.dvbsub_cmd.specs.declared.status.Status.{Status}
 use Rattle.dvbsub_cmd.specs.declared.status.Status.TheVariants as status
 use Rattle.dvbsub_cmd.specs.declared.status.Which.{Which}
 use Rattle.dvbsub_cmd.specs.declared.status.Which.TheVariants as which
 
 -- the script that was read, and the packets that it is compiled to
-pub record Compiles (profile : ProfileName) (pid page : ℕ) (has_font : Bool) (before now : Shown) (packets : List ℕ) : Type 0 where
+pub record Compiles (profile : ProfileName) (pid page : ℕ) (has_font : Bool) (before now : Seen) (packets : List ℕ) : Type 0 where
   pub script : Script
   pub reads : ReadsScript has_font before.first now.first before.second now.second script
   pub compiled : IsCompiledTo profile pid page script packets
 
 -- the output could not be written: it received a front of the packets, and its count of faults rose
-abbrev pub IsCutOff : ProfileName → ℕ → ℕ → Bool → Shown → Shown → Which → Type 0
+abbrev pub IsCutOff : ProfileName → ℕ → ℕ → Bool → Seen → Seen → Which → Type 0
 IsCutOff profile pid page has_font before now which.Out =
-    (packets : List ℕ) × Compiles profile pid page has_font before now packets × AppendsFront before.out.written now.out.written packets × HasRisen before.out.faults now.out.faults
+    (packets : List ℕ) × Compiles profile pid page has_font before now packets × AppendsPrefix before.out.written now.out.written packets × HasRisen before.out.faults now.out.faults
 IsCutOff profile pid page has_font before now which.First = ⊥
 IsCutOff profile pid page has_font before now which.Second = ⊥
 IsCutOff profile pid page has_font before now which.Notes = ⊥
 
 -- the cause of each status, and what the output has received then
-abbrev pub IsCompileCause : ProfileName → ℕ → ℕ → Bool → Shown → Shown → Status → Type 0
+abbrev pub IsCompileCause : ProfileName → ℕ → ℕ → Bool → Seen → Seen → Status → Type 0
 IsCompileCause profile pid page has_font before now (status.Done cut) =
     (packets : List ℕ) × Compiles profile pid page has_font before now packets × Appends before.out.written now.out.written packets × (cut ≡ 0)
 IsCompileCause profile pid page has_font before now status.Usage = ⊥
@@ -57,5 +58,5 @@ pub record IsSchedulable (profile : ProfileName) (script : Script) : Type 0 wher
   pub has_schedule : (row : ℕ) (fault : ScheduleFault) → IsScheduleRefused profile script row fault → ⊥
 
 -- nothing stops the command: its inputs are right, and neither plan nor schedule refuses the script
-abbrev pub IsCompilable : ProfileName → Bool → Shown → Shown → Type 0
+abbrev pub IsCompilable : ProfileName → Bool → Seen → Seen → Type 0
 IsCompilable profile has_font before now = HasRightScript has_font before.first now.first before.second now.second (IsSchedulable profile)

@@ -11,7 +11,7 @@ use Rattle.schedule.specs.declared.fault.ScheduleFault.{ScheduleFault}
 use Rattle.schedule.specs.declared.fault.ScheduleFault.TheVariants as fault
 use Rattle.sub_base.specs.Profile.{profile_of}
 use Rattle.sub_base.specs.declared.profile.ProfileName.{ProfileName}
-use Rattle.sub_base.specs.declared.load.SetLoad.{SetLoad}
+use Rattle.sub_base.specs.declared.load.WriteLoad.{WriteLoad}
 use Rattle.shown_stream.specs.Compiled.{IsPlanned}
 
 -- the plan is refused for this reason
@@ -32,11 +32,12 @@ abbrev pub IsRowOf : List PlannedSet → ScheduleFault → ℕ → Type 0
 IsRowOf sets fault.Memory row = ⊥
 IsRowOf sets (fault.CodedFull set size) row = IsRowAt sets set row
 IsRowOf sets (fault.Late set done pts) row = IsRowAt sets set row
+IsRowOf sets (fault.SegmentFull set longest) row = IsRowAt sets set row
 
 -- the script has a plan, and the schedule of its sets is refused for this reason, at the set that the record brings
 pub record IsScheduleRefused (profile : ProfileName) (script : Script) (row : ℕ) (fault : ScheduleFault) : Type 0 where
   pub sets : List PlannedSet
-  pub loads : List SetLoad
+  pub loads : List WriteLoad
   pub planned : IsPlanned profile script sets loads
   pub cause : IsCause loads (pace_of script.origin (profile_of profile)) fault
   pub row_is : IsRowOf sets fault row

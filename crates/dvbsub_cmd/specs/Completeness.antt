@@ -5,7 +5,8 @@ use Rattle.dvbsub_cmd.specs.Command.{command_of}
 use Rattle.dvbsub_cmd.specs.CompileOutcome.{IsCompilable}
 use Rattle.dvbsub_cmd.specs.ExpectOutcome.{IsExpectable}
 use Rattle.dvbsub_cmd.specs.ListOutcome.{IsRightStream}
-use Rattle.dvbsub_cmd.specs.Shown.{Shown, Supplied, Received}
+use Rattle.sub_base.specs.Endpoints.{Supplied, Received}
+use Rattle.dvbsub_cmd.specs.Seen.{Seen}
 use Rattle.dvbsub_cmd.specs.declared.command.Command.{Command}
 use Rattle.dvbsub_cmd.specs.declared.command.Command.TheVariants as command
 use Rattle.dvbsub_cmd.specs.declared.status.Status.{Status}
@@ -17,19 +18,19 @@ pub record IsListable (pid : ℕ) (before now : Supplied) : Type 0 where
   pub right : IsRightStream pid before now
 
 -- the words are a command, and what it reads is whole, within its limits and right
-abbrev pub IsRightInput : Option Command → Shown → Shown → Type 0
+abbrev pub IsRightInput : Option Command → Seen → Seen → Type 0
 IsRightInput None before now = ⊥
 IsRightInput (Some (command.Compile profile pid page has_font)) before now = IsCompilable profile has_font before now
 IsRightInput (Some (command.List pid)) before now = IsListable pid before.first now.first
 IsRightInput (Some (command.Expect has_font)) before now = IsExpectable has_font before now
 
 -- no count of faults rose, and what the command reads is right
-pub record IsUntroubled (command : Option Command) (before now : Shown) (notes_before notes_now : Received) : Type 0 where
+pub record IsUntroubled (command : Option Command) (before now : Seen) (notes_before notes_now : Received) : Type 0 where
   pub written : HasRisen before.out.faults now.out.faults → ⊥
   pub told : HasRisen notes_before.faults notes_now.faults → ⊥
   pub right : IsRightInput command before now
 
 -- where nothing gives a cause of refusal, the command is done whole, or memory is wanting
-abbrev pub IsComplete : List (List ℕ) → Shown → Shown → Received → Received → Status → Type 0
+abbrev pub IsComplete : List (List ℕ) → Seen → Seen → Received → Received → Status → Type 0
 IsComplete words before now notes_before notes_now answer =
     IsUntroubled (command_of words) before now notes_before notes_now → ((cut : ℕ) × (answer ≡ status.Done cut)) ⊎ (answer ≡ status.Memory)

@@ -5,10 +5,11 @@ use Rattle.std.specs.List.{flat_map}
 use Rattle.cue_list.specs.Authored.{authored_picture}
 use Rattle.cue_list.specs.declared.script.Script.{Script}
 use Rattle.sub_base.specs.Counts.{HasRisen}
-use Rattle.sub_base.specs.Transfer.{AppendsFront}
+use Rattle.sub_base.specs.Endpoints.{AppendsPrefix}
 use Rattle.dvbsub_cmd.specs.PictureText.{picture_text}
 use Rattle.dvbsub_cmd.specs.ReadScript.{ReadsScript, IsInputCause, HasRightScript}
-use Rattle.dvbsub_cmd.specs.Shown.{Shown, WroteNothing}
+use Rattle.sub_base.specs.Endpoints.{WroteNothing}
+use Rattle.dvbsub_cmd.specs.Seen.{Seen}
 use Rattle.dvbsub_cmd.specs.declared.status.Status.{Status}
 use Rattle.dvbsub_cmd.specs.declared.status.Status.TheVariants as status
 use Rattle.dvbsub_cmd.specs.declared.status.Which.{Which}
@@ -24,21 +25,21 @@ abbrev pub expect_text : Script → List ℕ → List ℕ
 expect_text script ticks = flat_map (authored_text script) ticks
 
 -- the script that was read, and the texts of its pictures
-pub record Expects (has_font : Bool) (ticks : List ℕ) (before now : Shown) (text : List ℕ) : Type 0 where
+pub record Expects (has_font : Bool) (ticks : List ℕ) (before now : Seen) (text : List ℕ) : Type 0 where
   pub script : Script
   pub reads : ReadsScript has_font before.first now.first before.second now.second script
   pub whole : text ≡ expect_text script ticks
 
 -- the output could not be written: it received a front of the texts, and its count of faults rose
-abbrev pub IsCutOff : Bool → List ℕ → Shown → Shown → Which → Type 0
+abbrev pub IsCutOff : Bool → List ℕ → Seen → Seen → Which → Type 0
 IsCutOff has_font ticks before now which.Out =
-    (text : List ℕ) × Expects has_font ticks before now text × AppendsFront before.out.written now.out.written text × HasRisen before.out.faults now.out.faults
+    (text : List ℕ) × Expects has_font ticks before now text × AppendsPrefix before.out.written now.out.written text × HasRisen before.out.faults now.out.faults
 IsCutOff has_font ticks before now which.First = ⊥
 IsCutOff has_font ticks before now which.Second = ⊥
 IsCutOff has_font ticks before now which.Notes = ⊥
 
 -- the cause of each status, and what the output has received then
-abbrev pub IsExpectCause : Bool → List ℕ → Shown → Shown → Status → Type 0
+abbrev pub IsExpectCause : Bool → List ℕ → Seen → Seen → Status → Type 0
 IsExpectCause has_font ticks before now (status.Done cut) =
     (text : List ℕ) × Expects has_font ticks before now text × Appends before.out.written now.out.written text × (cut ≡ 0)
 IsExpectCause has_font ticks before now status.Usage = ⊥
@@ -57,5 +58,5 @@ IsExpectCause has_font ticks before now (status.InputTooLong which) =
     IsInputCause has_font before.first now.first before.second now.second (status.InputTooLong which) × WroteNothing before.out now.out
 
 -- nothing stops the command: its inputs are right
-abbrev pub IsExpectable : Bool → Shown → Shown → Type 0
+abbrev pub IsExpectable : Bool → Seen → Seen → Type 0
 IsExpectable has_font before now = HasRightScript has_font before.first now.first before.second now.second (λ script. Unit {0})

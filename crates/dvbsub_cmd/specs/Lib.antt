@@ -13,7 +13,7 @@ pub mod PictureText
 pub mod PieceView
 pub mod Putting
 pub mod Sending
-pub mod Shown
+pub mod Seen
 pub mod SlotWalk
 pub mod StatusText
 pub mod Walking

@@ -1,40 +1,32 @@
 -- Why `list` ended as it did, and what its output has received then.
-use Rattle.std.specs.Prelude.{◌≡◌, ℕ, ◌+◌, ◌*◌, ◌^◌, ◌<◌, ◌≤◌, List, ◌++◌, length, All, Some, None}
-use Rattle.std.specs.List.{flat_map}
-use Rattle.std.specs.Io.KnownBytes.{Appends, Consumes, IsAtEnd}
+use Rattle.std.specs.Prelude.{◌≡◌, ℕ, ◌<◌, ◌≤◌, List, ◌++◌, length, All, Some, None}
+use Rattle.std.specs.Io.KnownBytes.{Appends, IsAtEnd}
+use Rattle.packet_source.specs.Packets.{Gave, IsWithin}
+use Rattle.packet_source.specs.declared.limits.TheConstants.{STREAM_LIMIT}
+use Rattle.stream_syntax.specs.declared.wire.TheConstants.{PACKET_LENGTH}
 use Rattle.sub_base.specs.Counts.{HasRisen, HasRisenPast, counted}
-use Rattle.sub_base.specs.Transfer.{AppendsFront}
+use Rattle.sub_base.specs.Endpoints.{AppendsPrefix}
 use Rattle.stream_syntax.specs.TransportPackets.{packet_fault}
 use Rattle.stream_syntax.specs.declared.transport.PacketFault.{PacketFault}
 use Rattle.dvbsub_cmd.specs.ListText.{IsListText}
-use Rattle.dvbsub_cmd.specs.Shown.{Supplied, Received, WroteNothing}
+use Rattle.sub_base.specs.Endpoints.{Supplied, Received, WroteNothing}
 use Rattle.dvbsub_cmd.specs.declared.status.Status.{Status}
 use Rattle.dvbsub_cmd.specs.declared.status.Status.TheVariants as status
 use Rattle.dvbsub_cmd.specs.declared.status.Which.TheVariants as which
 
--- the most bytes of a stream
-abbrev pub stream_limit : ℕ
-stream_limit = 2 ^ 40
-
 -- the source gave these packets, none of which is refused, and the rest behind them
 pub record AreTaken (pid : ℕ) (before now : Supplied) (packets : List (List ℕ)) (rest : List ℕ) : Type 0 where
-  pub each : All (λ packet. length packet ≡ 188) packets
+  pub gave : Gave before now packets rest
   pub passed : All (λ packet. packet_fault pid packet ≡ None) packets
-  pub given : Consumes before.left now.left (flat_map (λ packet. packet) packets ++ rest)
-
--- the count of what the source gave, which is within the limit
-pub record AreWithin (before now : Supplied) (packets : List (List ℕ)) (rest : List ℕ) : Type 0 where
-  pub count : now.given ≡ counted before.given (188 * length packets + length rest)
-  pub short : 188 * length packets + length rest ≤ stream_limit
 
 -- the stream was read to its end, and the output has received the text of its packets; the rest is shorter than a packet
 pub record IsWhole (pid : ℕ) (before now : Supplied) (out_before out_now : Received) (cut : ℕ) : Type 0 where
   pub packets : List (List ℕ)
   pub rest : List ℕ
   pub taken : AreTaken pid before now packets rest
-  pub within : AreWithin before now packets rest
+  pub within : IsWithin packets rest
   pub end : IsAtEnd now.left
-  pub short : length rest < 188
+  pub short : length rest < PACKET_LENGTH
   pub cut_is : cut ≡ length rest
   pub text : List ℕ
   pub told : IsListText pid packets text
@@ -46,8 +38,8 @@ pub record IsUpToFault (pid : ℕ) (before now : Supplied) (out_before out_now :
   pub refused : List ℕ
   pub rest : List ℕ
   pub taken : AreTaken pid before now packets (refused ++ rest)
-  pub within : AreWithin before now packets (refused ++ rest)
-  pub whole : length refused ≡ 188
+  pub within : IsWithin packets (refused ++ rest)
+  pub whole : length refused ≡ PACKET_LENGTH
   pub place_is : place ≡ length packets
   pub fault_is : packet_fault pid refused ≡ Some fault
   pub text : List ℕ
@@ -59,8 +51,8 @@ pub record IsUpToFailure (pid : ℕ) (before now : Supplied) (out_before out_now
   pub packets : List (List ℕ)
   pub rest : List ℕ
   pub taken : AreTaken pid before now packets rest
-  pub within : AreWithin before now packets rest
-  pub short : length rest < 188
+  pub within : IsWithin packets rest
+  pub short : length rest < PACKET_LENGTH
   pub text : List ℕ
   pub told : IsListText pid packets text
   pub written : Appends out_before.written out_now.written text
@@ -72,7 +64,7 @@ pub record IsFront (pid : ℕ) (before now : Supplied) (out_before out_now : Rec
   pub taken : AreTaken pid before now packets rest
   pub text : List ℕ
   pub told : IsListText pid packets text
-  pub written : AppendsFront out_before.written out_now.written text
+  pub written : AppendsPrefix out_before.written out_now.written text
 
 -- the cause of each status, by the stream's source and the output before and now, and what the output has received then
 abbrev pub IsListCause : ℕ → Supplied → Supplied → Received → Received → Status → Type 0
@@ -88,17 +80,17 @@ IsListCause pid before now out_before out_now (status.ReadFault which.Second) = 
 IsListCause pid before now out_before out_now (status.ReadFault which.Out) = ⊥
 IsListCause pid before now out_before out_now (status.ReadFault which.Notes) = ⊥
 IsListCause pid before now out_before out_now (status.WriteFault which.Out) =
-    HasRisen out_before.faults out_now.faults × IsFront pid before now out_before out_now × (now.given ≤ counted before.given stream_limit)
+    HasRisen out_before.faults out_now.faults × IsFront pid before now out_before out_now × (now.given ≤ counted before.given STREAM_LIMIT)
 IsListCause pid before now out_before out_now (status.WriteFault which.First) = ⊥
 IsListCause pid before now out_before out_now (status.WriteFault which.Second) = ⊥
 IsListCause pid before now out_before out_now (status.WriteFault which.Notes) = ⊥
 IsListCause pid before now out_before out_now status.Memory = (now ≡ before) × WroteNothing out_before out_now
-IsListCause pid before now out_before out_now (status.InputTooLong which.First) = HasRisenPast stream_limit before.given now.given × IsFront pid before now out_before out_now
+IsListCause pid before now out_before out_now (status.InputTooLong which.First) = HasRisenPast STREAM_LIMIT before.given now.given × IsFront pid before now out_before out_now
 IsListCause pid before now out_before out_now (status.InputTooLong which.Second) = ⊥
 IsListCause pid before now out_before out_now (status.InputTooLong which.Out) = ⊥
 IsListCause pid before now out_before out_now (status.InputTooLong which.Notes) = ⊥
 
 -- the stream is within its limit, and no packet of it is refused
 pub record IsRightStream (pid : ℕ) (before now : Supplied) : Type 0 where
-  pub within : HasRisenPast stream_limit before.given now.given → ⊥
-  pub right : (packets : List (List ℕ)) (packet rest : List ℕ) (fault : PacketFault) → AreTaken pid before now packets (packet ++ rest) → length packet ≡ 188 → packet_fault pid packet ≡ Some fault → ⊥
+  pub within : HasRisenPast STREAM_LIMIT before.given now.given → ⊥
+  pub right : (packets : List (List ℕ)) (packet rest : List ℕ) (fault : PacketFault) → AreTaken pid before now packets (packet ++ rest) → length packet ≡ PACKET_LENGTH → packet_fault pid packet ≡ Some fault → ⊥

@@ -1,43 +1,38 @@
 -- What `list` tells of the packets of a stream: the losses, the units of the PID, and their segments.
-use Rattle.std.specs.Prelude.{◌≡◌, ℕ, ◌+◌, ◌<◌, ◌==◌, Bool, true, false, List, [], ◌∷◌, ◌++◌, length, take, drop, slice_index_or, Option, Some, None}
+use Rattle.std.specs.Prelude.{◌≡◌, ℕ, ◌+◌, ◌<◌, List, [], ◌∷◌, ◌++◌, length, take, slice_index_or, Option, Some, None}
 use Rattle.std.specs.List.{flat_map}
 use Rattle.stream_syntax.specs.Pes.{IsPes, pes_fault}
 use Rattle.stream_syntax.specs.Segments.{IsSegment, SegmentValue}
-use Rattle.stream_syntax.specs.SegmentTests.{IsSegmentFault, frame_tests}
-use Rattle.stream_syntax.specs.Tests.{byte_at, word_at, first_fault}
+use Rattle.stream_syntax.specs.SegmentTests.{IsSegmentFault}
+use Rattle.stream_syntax.specs.Tests.{byte_at, word_at}
 use Rattle.stream_syntax.specs.Units.{event_at, unit_at}
 use Rattle.stream_syntax.specs.declared.pes.PesFault.{PesFault}
 use Rattle.stream_syntax.specs.declared.segment_fault.SegmentFault.{SegmentFault}
+use Rattle.stream_syntax.specs.DataField.{Frame, segment, broken, AreFrames}
 use Rattle.dvbsub_cmd.specs.ListLines.{loss_line, unit_line, pes_line, segment_line, fault_line}
 
 -- units that need more bytes are dropped: the coded data buffer of the widest profile
 abbrev pub unit_limit : ℕ
 unit_limit = 262144
 
--- no segment begins here: the field has ended, or its end marker FF stands in a segment's place
-abbrev pub ends_segments : List ℕ → Bool
-ends_segments [] = true
-ends_segments (byte ∷ bytes) = byte == 0xFF
-
--- the bytes of the segment that begins these bytes, its head included
-abbrev pub whole_segment : List ℕ → ℕ
-whole_segment bytes = 6 + word_at 4 bytes
-
--- the line of the segment that begins these bytes, at that place of its field: of what its head says, or of its first fault
+-- the line of a segment at that place of its field: of what its head says, or of its first fault
 pub data IsSegmentLine : ℕ → List ℕ → List ℕ → Type 0 where
-  right : {place : ℕ} {bytes line : List ℕ} (value : SegmentValue) → IsSegment (take (whole_segment bytes) bytes) value
-      → line ≡ segment_line place (byte_at 1 bytes) (word_at 2 bytes) (word_at 4 bytes) → IsSegmentLine place bytes line
+  right : {place : ℕ} {bytes line : List ℕ} (value : SegmentValue) → IsSegment bytes value → line ≡ segment_line place (byte_at 1 bytes) (word_at 2 bytes) (word_at 4 bytes)
+      → IsSegmentLine place bytes line
   refused : {place : ℕ} {bytes line : List ℕ} (fault : SegmentFault) → IsSegmentFault bytes fault → line ≡ fault_line place fault → IsSegmentLine place bytes line
 
--- the lines of the segments that stand one after the other in these bytes, the first at that place of the field. A segment
--- that has no sync byte, or is cut, has the last line.
-pub data AreSegmentLines : ℕ → List ℕ → List ℕ → Type 0 where
-  none_left : {place : ℕ} {bytes lines : List ℕ} → ends_segments bytes ≡ true → lines ≡ [] → AreSegmentLines place bytes lines
-  unframed : {place : ℕ} {bytes lines : List ℕ} (fault : SegmentFault) → ends_segments bytes ≡ false → first_fault (frame_tests bytes) ≡ Some fault
-      → lines ≡ fault_line place fault → AreSegmentLines place bytes lines
-  one_more : {place : ℕ} {bytes lines : List ℕ} (line rest : List ℕ) → ends_segments bytes ≡ false → first_fault (frame_tests bytes) ≡ None
-      → IsSegmentLine place bytes line → AreSegmentLines (place + whole_segment bytes) (drop (whole_segment bytes) bytes) rest
-      → lines ≡ line ++ rest → AreSegmentLines place bytes lines
+-- the lines of the frames of a field, the first of which stands at that place
+pub data AreFrameLines : ℕ → List Frame → List ℕ → Type 0 where
+  none_left : {place : ℕ} {lines : List ℕ} → lines ≡ [] → AreFrameLines place [] lines
+  cut_line : {place : ℕ} {fault : SegmentFault} {frames : List Frame} {lines : List ℕ} → lines ≡ fault_line place fault → AreFrameLines place (broken fault ∷ frames) lines
+  line_first : {place : ℕ} {bytes lines : List ℕ} {frames : List Frame} (line rest : List ℕ) → IsSegmentLine place bytes line → AreFrameLines (place + length bytes) frames rest
+      → lines ≡ line ++ rest → AreFrameLines place (segment bytes ∷ frames) lines
+
+-- the lines of the segments that stand in these bytes of a field, the first at that place
+pub record AreSegmentLines (place : ℕ) (bytes lines : List ℕ) : Type 0 where
+  pub frames : List Frame
+  pub stand : AreFrames bytes frames
+  pub told : AreFrameLines place frames lines
 
 -- the lines of a unit that ends with the packet of that place. The segments begin at place 2 of the field.
 pub data AreUnitLines : ℕ → List ℕ → List ℕ → Type 0 where

@@ -4,7 +4,7 @@ use Rattle.stream_syntax.specs.TransportPackets.{packet_fault}
 use Rattle.ts_packets.specs.Demuxing.{Demuxing, Stands}
 use Rattle.dvbsub_cmd.specs.ListText.{IsListText, unit_limit}
 use Rattle.dvbsub_cmd.specs.Putting.{Buffered, IsPutOut}
-use Rattle.dvbsub_cmd.specs.Shown.{Received}
+use Rattle.sub_base.specs.Endpoints.{Received}
 
 -- the packets were taken, none of them is refused, and their text was put out
 pub record AreListed (pid : ℕ) (start now : Received) (demux : Demuxing) (buffer : Buffered) (packets : List (List ℕ)) : Type 0 where

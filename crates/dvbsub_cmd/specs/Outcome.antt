@@ -2,12 +2,13 @@
 use Rattle.std.specs.Prelude.{◌≡◌, ℕ, List, Option, Some, None, false, ◌⊎◌}
 use Rattle.std.specs.Io.KnownBytes.{Appends}
 use Rattle.sub_base.specs.Counts.{HasRisen}
-use Rattle.sub_base.specs.Transfer.{AppendsFront}
+use Rattle.sub_base.specs.Endpoints.{AppendsPrefix}
 use Rattle.dvbsub_cmd.specs.Command.{command_of, asked_ticks}
 use Rattle.dvbsub_cmd.specs.CompileOutcome.{IsCompileCause}
 use Rattle.dvbsub_cmd.specs.ExpectOutcome.{IsExpectCause}
 use Rattle.dvbsub_cmd.specs.ListOutcome.{IsListCause}
-use Rattle.dvbsub_cmd.specs.Shown.{Shown, Received, WroteNothing}
+use Rattle.sub_base.specs.Endpoints.{Received, WroteNothing}
+use Rattle.dvbsub_cmd.specs.Seen.{Seen}
 use Rattle.dvbsub_cmd.specs.StatusText.{status_line}
 use Rattle.dvbsub_cmd.specs.declared.command.Command.{Command}
 use Rattle.dvbsub_cmd.specs.declared.command.Command.TheVariants as command
@@ -15,16 +16,16 @@ use Rattle.dvbsub_cmd.specs.declared.status.Status.{Status}
 use Rattle.dvbsub_cmd.specs.declared.status.Status.TheVariants as status
 use Rattle.dvbsub_cmd.specs.declared.status.Which.TheVariants as which
 
--- the cause of a status by the command, and what the output has received then: words that are no command end with
--- the usage, and no command does
-abbrev pub IsCausedBy : List (List ℕ) → Option Command → Shown → Shown → Status → Type 0
-IsCausedBy words None before now answer = (answer ≡ status.Usage) × WroteNothing before.out now.out
+-- the cause of a status by the command, and what the output has received then: a wrong command line ends with the usage,
+-- and nothing else does; it calls no source
+abbrev pub IsCausedBy : List (List ℕ) → Option Command → Seen → Seen → Status → Type 0
+IsCausedBy words None before now answer = (answer ≡ status.Usage) × (now.first ≡ before.first) × WroteNothing before.out now.out
 IsCausedBy words (Some (command.Compile profile pid page has_font)) before now answer = IsCompileCause profile pid page has_font before now answer
 IsCausedBy words (Some (command.List pid)) before now answer = IsListCause pid before.first now.first before.out now.out answer
 IsCausedBy words (Some (command.Expect has_font)) before now answer = IsExpectCause has_font (asked_ticks words) before now answer
 
 -- the cause of a status by the words
-abbrev pub IsCaused : List (List ℕ) → Shown → Shown → Status → Type 0
+abbrev pub IsCaused : List (List ℕ) → Seen → Seen → Status → Type 0
 IsCaused words before now answer = IsCausedBy words (command_of words) before now answer
 
 -- a command that names no font does not call the second source: these are its values before and now
@@ -39,12 +40,17 @@ abbrev pub untold : Status → Status
 untold (status.Done cut) = status.WriteFault which.Notes
 untold other = other
 
--- the notes have received the line of the run's status; or a front of it, and their count of faults rose
+-- the answer where the file of the output could not be made: what was done whole is a write fault of the output
+abbrev pub unfinished : Status → Status
+unfinished (status.Done cut) = status.WriteFault which.Out
+unfinished other = other
+
+-- the notes have received the line of the run's status; or a prefix of it, and their count of faults rose
 abbrev pub Tells : Received → Received → Status → Status → Type 0
 Tells before now run answer =
     (Appends before.written now.written (status_line run) × (answer ≡ run))
-    ⊎ (AppendsFront before.written now.written (status_line run) × HasRisen before.faults now.faults × (answer ≡ untold run))
+    ⊎ (AppendsPrefix before.written now.written (status_line run) × HasRisen before.faults now.faults × (answer ≡ untold run))
 
 -- the cause of the status that a command answers, and its line in the notes
-abbrev pub HasCause : List (List ℕ) → Shown → Shown → Received → Received → Status → Type 0
+abbrev pub HasCause : List (List ℕ) → Seen → Seen → Received → Received → Status → Type 0
 HasCause words before now notes_before notes_now answer = (run : Status) × IsCaused words before now run × Tells notes_before notes_now run answer

@@ -6,7 +6,7 @@ use Rattle.sub_base.specs.Colour.{clear}
 use Rattle.sub_base.specs.declared.colour.Colour.{Colour}
 use Rattle.dvbsub_cmd.specs.ListLines.{line_end, two_hex}
 use Rattle.dvbsub_cmd.specs.Putting.{Buffered, PutsOut}
-use Rattle.dvbsub_cmd.specs.Shown.{Received}
+use Rattle.sub_base.specs.Endpoints.{Received}
 use Rattle.dvbsub_cmd.specs.StatusText.{then_number}
 
 -- equal neighbouring places of a row: how many, and their colour

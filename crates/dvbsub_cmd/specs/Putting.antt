@@ -1,8 +1,8 @@
 -- Text that is put out line by line, and written to a sink in large pieces.
 use Rattle.std.specs.Prelude.{◌≡◌, ℕ, ◌≤◌, Bool, true, false, List, ◌++◌}
 use Rattle.sub_base.specs.Counts.{HasRisen}
-use Rattle.sub_base.specs.Transfer.{AppendsFront}
-use Rattle.dvbsub_cmd.specs.Shown.{Received}
+use Rattle.sub_base.specs.Endpoints.{AppendsPrefix}
+use Rattle.sub_base.specs.Endpoints.{Received}
 use Rattle.dvbsub_cmd.specs.SlotWalk.{Sent}
 
 -- the text that waits to be written, and whether the sink failed
@@ -14,7 +14,7 @@ pub record Buffered : Type 0 where
 -- front of the text, and its count of faults rose
 pub record IsPutOut (start now : Received) (buffer : Buffered) (text : List ℕ) : Type 0 where
   pub sent : buffer.failed ≡ false → Sent start.written now.written buffer.waits text
-  pub front : buffer.failed ≡ true → AppendsFront start.written now.written text × HasRisen start.faults now.faults
+  pub front : buffer.failed ≡ true → AppendsPrefix start.written now.written text × HasRisen start.faults now.faults
   pub kept : start.faults ≤ now.faults
 
 -- this text was put out behind all that was put out before

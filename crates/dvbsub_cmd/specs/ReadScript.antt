@@ -10,7 +10,7 @@ use Rattle.cue_list.specs.declared.fault.ScriptFault.{ScriptFault}
 use Rattle.cue_list.specs.declared.fault.ScriptFault.TheVariants as script
 use Rattle.cue_list.specs.declared.script.Script.{Script}
 use Rattle.sub_base.specs.Counts.{HasRisen, HasRisenPast}
-use Rattle.dvbsub_cmd.specs.Shown.{Supplied, WasRead}
+use Rattle.sub_base.specs.Endpoints.{Supplied, WasRead}
 use Rattle.dvbsub_cmd.specs.declared.status.Status.{Status}
 use Rattle.dvbsub_cmd.specs.declared.status.Status.TheVariants as status
 use Rattle.dvbsub_cmd.specs.declared.status.Which.TheVariants as which

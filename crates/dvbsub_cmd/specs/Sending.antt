@@ -8,7 +8,7 @@ use Rattle.page_epoch.specs.declared.planned_set.PlannedSet.{PlannedSet}
 use Rattle.schedule.specs.declared.fault.ScheduleFault.{ScheduleFault}
 use Rattle.schedule.specs.declared.fault.ScheduleFault.TheVariants as schedule
 use Rattle.sub_base.specs.Counts.{HasRisen}
-use Rattle.sub_base.specs.Transfer.{AppendsFront}
+use Rattle.sub_base.specs.Endpoints.{AppendsPrefix}
 use Rattle.sub_base.specs.declared.profile.ProfileName.{ProfileName}
 use Rattle.shown_stream.specs.Compiled.{IsCompiledTo}
 use Rattle.dvbsub_cmd.specs.CompileRefused.{IsPlanRefused, IsRowAt, IsScheduleRefused}
@@ -25,7 +25,7 @@ IsRefusal profile pid page script before now faults_before faults_now fault.Memo
 IsRefusal profile pid page script before now faults_before faults_now (fault.Plan refused) = IsPlanRefused profile script refused × Keeps before now
 IsRefusal profile pid page script before now faults_before faults_now (fault.Schedule row refused) = IsScheduleRefused profile script row refused × Keeps before now
 IsRefusal profile pid page script before now faults_before faults_now fault.Write =
-    (packets : List ℕ) × IsCompiledTo profile pid page script packets × AppendsFront before now packets × HasRisen faults_before faults_now
+    (packets : List ℕ) × IsCompiledTo profile pid page script packets × AppendsPrefix before now packets × HasRisen faults_before faults_now
 
 -- a refusal of the plan as one of sending
 abbrev pub plan_refusal : PlanFault → SendFault
@@ -39,9 +39,11 @@ abbrev pub IsAmong : List PlannedSet → ScheduleFault → Type 0
 IsAmong sets schedule.Memory = Unit {0}
 IsAmong sets (schedule.CodedFull set size) = set < length sets
 IsAmong sets (schedule.Late set done pts) = set < length sets
+IsAmong sets (schedule.SegmentFull set longest) = set < length sets
 
 -- a refusal of the schedule as one of sending, with the record that brings the set
 abbrev pub IsScheduleRefusal : List PlannedSet → ScheduleFault → SendFault → Type 0
 IsScheduleRefusal sets schedule.Memory answer = answer ≡ fault.Memory
 IsScheduleRefusal sets (schedule.CodedFull set size) answer = (row : ℕ) × IsRowAt sets set row × (answer ≡ fault.Schedule row (schedule.CodedFull set size))
 IsScheduleRefusal sets (schedule.Late set done pts) answer = (row : ℕ) × IsRowAt sets set row × (answer ≡ fault.Schedule row (schedule.Late set done pts))
+IsScheduleRefusal sets (schedule.SegmentFull set longest) answer = (row : ℕ) × IsRowAt sets set row × (answer ≡ fault.Schedule row (schedule.SegmentFull set longest))

@@ -5,6 +5,17 @@ ghost use Rattle.dvbsub_cmd.specs.Command.{command_of as command_of_words, compi
 
 use sub_base::{ProfileName, Words, number_in};
 
+/// The PIDs that a command takes: those of no table, and not that of null packets (ISO/IEC 13818-1, table 2-3).
+pub const LEAST_PID: u64 = 32;
+
+pub const GREATEST_PID: u64 = 8_190;
+
+/// The greatest page id.
+pub const GREATEST_PAGE: u64 = 65_535;
+
+/// The latest tick that is asked for: twice round the 33 bits of a presentation time.
+pub const LATEST_TICK: u64 = 17_179_869_183;
+
 /// A command with its words read.
 #[derive(Clone, Copy, Debug)]
 pub enum Command {
@@ -97,8 +108,8 @@ fn compile_of(words: &Words) -> Option<Command>
         return None;
     }
     let profile = sending_profile(words.word(1))?;
-    let pid = number_in(words.word(2).as_bytes(), 32, 8_190)? as u16;
-    let page = number_in(words.word(3).as_bytes(), 1, 65_535)? as u16;
+    let pid = number_in(words.word(2).as_bytes(), LEAST_PID, GREATEST_PID)? as u16;
+    let page = number_in(words.word(3).as_bytes(), 1, GREATEST_PAGE)? as u16;
     Some(Command::Compile {
         profile,
         pid,
@@ -125,7 +136,7 @@ fn list_of(words: &Words) -> Option<Command>
     if words.count() != 4 || !has_word(words, 0, "list") {
         return None;
     }
-    let pid = number_in(words.word(1).as_bytes(), 32, 8_190)? as u16;
+    let pid = number_in(words.word(1).as_bytes(), LEAST_PID, GREATEST_PID)? as u16;
     Some(Command::List { pid })
 }
 
@@ -179,7 +190,7 @@ fn are_rising(words: &Words, place: usize) -> bool
 {
     let mut before = None;
     for place in place..words.count() {
-        let Some(tick) = number_in(words.word(place).as_bytes(), 0, 8_589_934_591) else {
+        let Some(tick) = number_in(words.word(place).as_bytes(), 0, LATEST_TICK) else {
             return false;
         };
         if !is_above(before, tick) {

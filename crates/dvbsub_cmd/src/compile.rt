@@ -1,17 +1,20 @@
-ghost use Rattle.std.specs.Prelude.{◌≡◌, ◌<◌, false, IfErr, IsSome, OnOk, length};
-ghost use Rattle.sub_base.specs.Profile.{profile_of};
+ghost use Rattle.std.specs.Prelude.{◌≡◌, ◌<◌, false, IfErr, OnOk, length};
+ghost use Rattle.shown_stream.specs.Compiled.{IsCompiledFor};
 ghost use Rattle.dvbsub_cmd.specs.CompileRefused.{IsRowAt};
 ghost use Rattle.dvbsub_cmd.specs.CompileOutcome.{IsCompileCause};
 ghost use Rattle.dvbsub_cmd.specs.Headline.{OnDone, ShowsScript};
 ghost use Rattle.dvbsub_cmd.specs.Sending.{Sends, IsRefusal, IsAmong, IsScheduleRefusal, plan_refusal};
+ghost use Rattle.dvbsub_cmd.specs.Seen.{seen};
 
+use crate::loads::loads_of;
 use crate::read_script::read_script;
 use crate::slot_stream::{StreamFault, write_stream};
 use crate::status::{Status, Which};
-use crate::units::{loads_of, pieces_of, units_of};
+use crate::units::{pieces_of, units_of};
 use cue_list::Script;
 use page_epoch::{Plan, PlanFault, PlannedSet};
 use schedule::{Schedule, ScheduleFault};
+use set_coder::KeptBlocks;
 use std::alloc::Global;
 use sub_base::{NoMemory, Profile, ProfileName, Sink, Source};
 
@@ -27,30 +30,14 @@ pub fn compile<A: Source, B: Source, K: Sink>(
     out: &mut K,
 ) -> Status
     requires pid { pid < 8191 }
-    requires profile { IsSome (profile_of profile).step }
+    requires profile { IsCompiledFor profile }
     ensures cause { IsCompileCause profile pid page has_font
-        (record {
-          first = record { left = A.left first.old; given = A.given first.old; faults = A.faults first.old };
-          second = record { left = B.left second.old; given = B.given second.old; faults = B.faults second.old };
-          out = record { written = K.written out.old; faults = K.faults out.old };
-        })
-        (record {
-          first = record { left = A.left first.new; given = A.given first.new; faults = A.faults first.new };
-          second = record { left = B.left second.new; given = B.given second.new; faults = B.faults second.new };
-          out = record { written = K.written out.new; faults = K.faults out.new };
-        })
+        (seen (A.supplied first.old) (B.supplied second.old) (K.received out.old))
+        (seen (A.supplied first.new) (B.supplied second.new) (K.received out.new))
         result }
     ensures shown { OnDone result (ShowsScript profile pid page has_font
-        (record {
-          first = record { left = A.left first.old; given = A.given first.old; faults = A.faults first.old };
-          second = record { left = B.left second.old; given = B.given second.old; faults = B.faults second.old };
-          out = record { written = K.written out.old; faults = K.faults out.old };
-        })
-        (record {
-          first = record { left = A.left first.new; given = A.given first.new; faults = A.faults first.new };
-          second = record { left = B.left second.new; given = B.given second.new; faults = B.faults second.new };
-          out = record { written = K.written out.new; faults = K.faults out.new };
-        })) }
+        (seen (A.supplied first.old) (B.supplied second.old) (K.received out.old))
+        (seen (A.supplied first.new) (B.supplied second.new) (K.received out.new))) }
     ensures second { has_font ≡ false → second.new ≡ second.old }
 {
     let script = match read_script(alloc, has_font, first, second) {
@@ -85,9 +72,9 @@ fn send<K: Sink>(
     out: &mut K,
 ) -> Result<(), SendFault>
     requires pid { pid < 8191 }
-    requires profile { IsSome (profile_of profile).step }
-    ensures sent { OnOk result (Sends profile pid page script.now (K.written out.old) (K.written out.new)) }
-    ensures refused { IfErr result (IsRefusal profile pid page script.now (K.written out.old) (K.written out.new) (K.faults out.old) (K.faults out.new)) }
+    requires profile { IsCompiledFor profile }
+    ensures sent { OnOk result (Sends profile pid page script.now (K.received out.old).written (K.received out.new).written) }
+    ensures refused { IfErr result (IsRefusal profile pid page script.now (K.received out.old).written (K.received out.new).written (K.received out.old).faults (K.received out.new).faults) }
 {
     let receiver = Profile::of(profile);
     let plan = match Plan::make(alloc, script, &receiver) {
@@ -95,7 +82,10 @@ fn send<K: Sink>(
         Err(fault) => return Err(plan_refused(fault)),
     };
     let sets = plan.sets.as_slice();
-    let Ok(loads) = loads_of(alloc, script, sets) else {
+    let Ok(kept) = KeptBlocks::of_script(alloc, script) else {
+        return Err(SendFault::Memory);
+    };
+    let Ok(loads) = loads_of(alloc, script, &kept, sets) else {
         return Err(SendFault::Memory);
     };
     let asked = loads.as_slice();
@@ -103,7 +93,7 @@ fn send<K: Sink>(
         Ok(schedule) => schedule,
         Err(fault) => return Err(schedule_refused(sets, fault)),
     };
-    let Ok(units) = units_of(alloc, script, sets, page) else {
+    let Ok(units) = units_of(alloc, script, &kept, sets, page) else {
         return Err(SendFault::Memory);
     };
     let Ok(pieces) = pieces_of(alloc, units.as_slice()) else {
@@ -144,6 +134,10 @@ fn schedule_refused(sets: &[PlannedSet], fault: ScheduleFault) -> SendFault
         ScheduleFault::Late { set, done, pts } => SendFault::Schedule {
             row: row_at(sets, set),
             fault: ScheduleFault::Late { set, done, pts },
+        },
+        ScheduleFault::SegmentFull { set, longest } => SendFault::Schedule {
+            row: row_at(sets, set),
+            fault: ScheduleFault::SegmentFull { set, longest },
         },
     }
 }

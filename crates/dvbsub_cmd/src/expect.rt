@@ -2,7 +2,9 @@ ghost use Rattle.std.specs.Prelude.{◌≡◌, ◌*◌, ◌<◌, false, length, 
 ghost use Rattle.dvbsub_cmd.specs.Command.{asked_ticks, tick_or_zero, word_at};
 ghost use Rattle.dvbsub_cmd.specs.ExpectOutcome.{IsExpectCause, authored_text, expect_text};
 ghost use Rattle.dvbsub_cmd.specs.Putting.{PutsOut};
+ghost use Rattle.dvbsub_cmd.specs.Seen.{seen};
 
+use crate::command::LATEST_TICK;
 use crate::picture_text::put_picture;
 use crate::read_script::read_script;
 use crate::status::{Status, Which};
@@ -24,16 +26,8 @@ pub fn expect<A: Source, B: Source, K: Sink>(
     out: &mut K,
 ) -> Status
     ensures cause { IsExpectCause has_font (asked_ticks words.now)
-        (record {
-          first = record { left = A.left first.old; given = A.given first.old; faults = A.faults first.old };
-          second = record { left = B.left second.old; given = B.given second.old; faults = B.faults second.old };
-          out = record { written = K.written out.old; faults = K.faults out.old };
-        })
-        (record {
-          first = record { left = A.left first.new; given = A.given first.new; faults = A.faults first.new };
-          second = record { left = B.left second.new; given = B.given second.new; faults = B.faults second.new };
-          out = record { written = K.written out.new; faults = K.faults out.new };
-        })
+        (seen (A.supplied first.old) (B.supplied second.old) (K.received out.old))
+        (seen (A.supplied first.new) (B.supplied second.new) (K.received out.new))
         result }
     ensures second { has_font ≡ false → second.new ≡ second.old }
 {
@@ -73,8 +67,8 @@ fn put_pictures<K: Sink>(
 )
     requires { length plane.old ≡ script.now.width * script.now.height }
     ensures { PutsOut
-        (record { written = K.written out.old; faults = K.faults out.old })
-        (record { written = K.written out.new; faults = K.faults out.new })
+        (K.received out.old)
+        (K.received out.new)
         buffer.old buffer.new (expect_text script.now (asked_ticks words.now)) }
 {
     for place in FIRST_TICK..words.count() {
@@ -87,7 +81,7 @@ fn tick_at(words: &Words, place: usize) -> u64
     requires { place < length words.now }
     ensures { result ≡ tick_or_zero (word_at words.now place) }
 {
-    number_in(words.word(place).as_bytes(), 0, 8_589_934_591).unwrap_or(0)
+    number_in(words.word(place).as_bytes(), 0, LATEST_TICK).unwrap_or(0)
 }
 
 /// Puts out the text of the authored picture at a tick.
@@ -100,8 +94,8 @@ fn put_authored<K: Sink>(
 )
     requires { length plane.old ≡ script.now.width * script.now.height }
     ensures { PutsOut
-        (record { written = K.written out.old; faults = K.faults out.old })
-        (record { written = K.written out.new; faults = K.faults out.new })
+        (K.received out.old)
+        (K.received out.new)
         buffer.old buffer.new (authored_text script.now tick) }
 {
     picture_at(script, tick, plane);

@@ -5,9 +5,11 @@ ghost use Rattle.dvbsub_cmd.specs.ListLines.{loss_line as loss_line_of};
 ghost use Rattle.dvbsub_cmd.specs.Listing.{Lists};
 ghost use Rattle.dvbsub_cmd.specs.ListText.{AreEndLines};
 ghost use Rattle.dvbsub_cmd.specs.Putting.{PutsOut};
+ghost use Rattle.dvbsub_cmd.specs.declared.status.Status.TheVariants.{StreamRefused};
 
 use crate::list_lines::loss_line;
 use crate::list_units::list_unit;
+use crate::status::Status;
 use crate::text_buffer::{TextBuffer, put};
 use stream_syntax::{Event, PacketFault};
 use sub_base::Sink;
@@ -20,6 +22,18 @@ pub struct Refused {
     pub fault: PacketFault,
 }
 
+impl Refused {
+    /// How a command ends that cannot take the packet.
+    pub fn status(self) -> Status
+        ensures { result ≡ StreamRefused self.packet self.fault }
+    {
+        Status::StreamRefused {
+            packet: self.packet,
+            fault: self.fault,
+        }
+    }
+}
+
 /// Takes packets, the first of that place, and puts out their lines, up to a packet that cannot be taken.
 pub fn list_packets<K: Sink>(
     sink: &mut K,
@@ -30,13 +44,13 @@ pub fn list_packets<K: Sink>(
 ) -> Result<(), Refused>
     requires { first + length packets.now < 2 ^ 64 }
     ensures lists { OnOk result (Lists
-        (record { written = K.written sink.old; faults = K.faults sink.old })
-        (record { written = K.written sink.new; faults = K.faults sink.new })
+        (K.received sink.old)
+        (K.received sink.new)
         demux.old demux.new buffer.old buffer.new first packets.now) }
     ensures refused { IfErr result (λ refused. (k : ℕ) × (k < length packets.now) × (refused.packet ≡ first + k)
         × (packet_fault demux.old.pid (slice_index_or packets.now k []) ≡ Some refused.fault) × Lists
-        (record { written = K.written sink.old; faults = K.faults sink.old })
-        (record { written = K.written sink.new; faults = K.faults sink.new })
+        (K.received sink.old)
+        (K.received sink.new)
         demux.old demux.new buffer.old buffer.new first (take k packets.now)) }
 {
     let mut place = first;
@@ -62,12 +76,12 @@ fn list_packet<K: Sink>(
 ) -> Result<(), PacketFault>
     ensures fault { MatchResult result (λ _. packet_fault demux.old.pid packet.now ≡ None) (λ fault. packet_fault demux.old.pid packet.now ≡ Some fault) }
     ensures lists { OnOk result (Lists
-        (record { written = K.written sink.old; faults = K.faults sink.old })
-        (record { written = K.written sink.new; faults = K.faults sink.new })
+        (K.received sink.old)
+        (K.received sink.new)
         demux.old demux.new buffer.old buffer.new place (packet.now ∷ [])) }
     ensures kept { OnErr result (Lists
-        (record { written = K.written sink.old; faults = K.faults sink.old })
-        (record { written = K.written sink.new; faults = K.faults sink.new })
+        (K.received sink.old)
+        (K.received sink.new)
         demux.old demux.new buffer.old buffer.new place []) }
 {
     let fed = demux.feed(packet)?;
@@ -79,8 +93,8 @@ fn list_packet<K: Sink>(
 /// Puts out the line of the event, where it is a loss.
 fn list_loss<K: Sink>(sink: &mut K, buffer: &mut TextBuffer, place: u64, event: Event)
     ensures { PutsOut
-        (record { written = K.written sink.old; faults = K.faults sink.old })
-        (record { written = K.written sink.new; faults = K.faults sink.new })
+        (K.received sink.old)
+        (K.received sink.new)
         buffer.old buffer.new (loss_line_of place event) }
 {
     match event {
@@ -95,8 +109,8 @@ fn list_loss<K: Sink>(sink: &mut K, buffer: &mut TextBuffer, place: u64, event: 
 /// Puts out the lines of the unit that ends with the packet of that place, where one does.
 fn list_end<K: Sink>(sink: &mut K, buffer: &mut TextBuffer, place: u64, unit: Option<&[u8]>)
     ensures { (lines : List ℕ) × AreEndLines place (option_copied unit.entry) lines × PutsOut
-        (record { written = K.written sink.old; faults = K.faults sink.old })
-        (record { written = K.written sink.new; faults = K.faults sink.new })
+        (K.received sink.old)
+        (K.received sink.new)
         buffer.old buffer.new lines }
 {
     if let Some(unit) = unit {

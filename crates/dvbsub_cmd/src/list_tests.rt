@@ -118,8 +118,8 @@ fn run<R: Threads + Sync>(
     let bytes = Vec::from_slice(alloc, stream)?;
     let mut first = MemSource::make(alloc, bytes, most, vec![in alloc; bad_read]?);
     let mut second = MemSource::make(alloc, Vec::new(alloc), 1, vec![in alloc; 1u64]?);
-    let mut out = MemSink::make(alloc, vec![in alloc; bad_write]?);
-    let mut notes = MemSink::make(alloc, vec![in alloc; bad_note]?);
+    let mut out = MemSink::make(alloc, 1_000_000, vec![in alloc; bad_write]?);
+    let mut notes = MemSink::make(alloc, 1_000_000, vec![in alloc; bad_note]?);
     let status = top(
         rt,
         alloc,

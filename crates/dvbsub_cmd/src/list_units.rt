@@ -1,6 +1,7 @@
 ghost use Rattle.std.specs.Prelude.{◌≡◌, ◌+◌, ◌<◌, ◌≤◌, ◌^◌, List, ℕ, length};
 ghost use Rattle.stream_syntax.specs.Tests.{byte_at, word_at};
-ghost use Rattle.dvbsub_cmd.specs.ListText.{AreSegmentLines, AreUnitLines, IsSegmentLine, ends_segments as ends_segments_of};
+ghost use Rattle.stream_syntax.specs.DataField.{ends_segments as ends_segments_of};
+ghost use Rattle.dvbsub_cmd.specs.ListText.{AreSegmentLines, AreUnitLines, IsSegmentLine};
 ghost use Rattle.dvbsub_cmd.specs.Putting.{PutsOut};
 
 use crate::line::Line;
@@ -19,8 +20,8 @@ const END_MARKER: u8 = 0xFF;
 /// Puts out the lines of a unit that ends with the packet of that place.
 pub fn list_unit<K: Sink>(sink: &mut K, buffer: &mut TextBuffer, place: u64, unit: &[u8])
     ensures { (lines : List ℕ) × AreUnitLines place unit.now lines × PutsOut
-        (record { written = K.written sink.old; faults = K.faults sink.old })
-        (record { written = K.written sink.new; faults = K.faults sink.new })
+        (K.received sink.old)
+        (K.received sink.new)
         buffer.old buffer.new lines }
 {
     match read_pes(unit) {
@@ -39,8 +40,8 @@ pub fn list_unit<K: Sink>(sink: &mut K, buffer: &mut TextBuffer, place: u64, uni
 /// Puts out the lines of the segments of a field, the first of which begins at place 2.
 fn list_segments<K: Sink>(sink: &mut K, buffer: &mut TextBuffer, segments: &[u8])
     ensures { (lines : List ℕ) × AreSegmentLines 2 segments.now lines × PutsOut
-        (record { written = K.written sink.old; faults = K.faults sink.old })
-        (record { written = K.written sink.new; faults = K.faults sink.new })
+        (K.received sink.old)
+        (K.received sink.new)
         buffer.old buffer.new lines }
 {
     let mut rest = segments;
@@ -54,19 +55,21 @@ fn list_segments<K: Sink>(sink: &mut K, buffer: &mut TextBuffer, segments: &[u8]
                 return;
             }
         };
-        let line = framed_line(place, rest, &frame);
+        let (front, behind) = rest.split_at(frame.whole);
+        let line = framed_line(place, front, &frame);
         put(sink, buffer, line.as_bytes());
         place += frame.whole as u64;
-        rest = rest.split_at(frame.whole).1;
+        rest = behind;
     }
 }
 
-/// The line of the segment that begins these bytes, which has this frame.
+/// The line of the segment that these bytes are, which has this frame.
 fn framed_line(place: u64, bytes: &[u8], frame: &Frame<'_>) -> Line
     requires place { place < 2 ^ 63 + 2 }
     requires kind { frame.now.kind ≡ byte_at 1 bytes.now }
     requires page { frame.now.page ≡ word_at 2 bytes.now }
     requires whole { frame.now.whole ≡ 6 + word_at 4 bytes.now }
+    requires exact { length bytes.now ≡ frame.now.whole }
     ensures line { IsSegmentLine place bytes.now result }
     ensures short { length result ≤ 128 }
 {

@@ -22,8 +22,8 @@ pub fn put_picture<K: Sink>(
     requires wide { 1 ≤ width }
     requires plane { length plane.now ≡ width * height }
     ensures { PutsOut
-        (record { written = K.written sink.old; faults = K.faults sink.old })
-        (record { written = K.written sink.new; faults = K.faults sink.new })
+        (K.received sink.old)
+        (K.received sink.new)
         buffer.old buffer.new (picture_text tick width height plane.now) }
 {
     if is_clear(plane) {
@@ -46,8 +46,8 @@ fn put_rows<K: Sink>(
     requires narrow { width ≤ 65535 }
     requires plane { length plane.now ≡ width * height }
     ensures { PutsOut
-        (record { written = K.written sink.old; faults = K.faults sink.old })
-        (record { written = K.written sink.new; faults = K.faults sink.new })
+        (K.received sink.old)
+        (K.received sink.new)
         buffer.old buffer.new (flat_map (λ y. row_line (plane_row width plane.now y)) (range_with_len 0 height)) }
 {
     for y in 0..height {
@@ -60,8 +60,8 @@ fn put_row<K: Sink>(sink: &mut K, buffer: &mut TextBuffer, row: &[Colour])
     requires wide { 1 ≤ length row.now }
     requires short { length row.now ≤ 65535 }
     ensures { PutsOut
-        (record { written = K.written sink.old; faults = K.faults sink.old })
-        (record { written = K.written sink.new; faults = K.faults sink.new })
+        (K.received sink.old)
+        (K.received sink.new)
         buffer.old buffer.new (row_line row.now) }
 {
     let mut rest = row;

@@ -1,6 +1,6 @@
 ghost use Rattle.std.specs.Prelude.{◌≡◌, false, IfOk, IfErr};
 ghost use Rattle.dvbsub_cmd.specs.ReadScript.{HasFont, ReadsScript, IsInputCause};
-ghost use Rattle.dvbsub_cmd.specs.Shown.{Supplied};
+ghost use Rattle.sub_base.specs.Endpoints.{Supplied};
 
 use crate::status::{Status, Which};
 use bitmap_font::{Font, FontFault};
@@ -20,15 +20,15 @@ pub fn read_script<A: Source, B: Source>(
     second: &mut B,
 ) -> Result<Script, Status>
     ensures reads { IfOk result (ReadsScript has_font
-        (record { left = A.left first.old; given = A.given first.old; faults = A.faults first.old })
-        (record { left = A.left first.new; given = A.given first.new; faults = A.faults first.new })
-        (record { left = B.left second.old; given = B.given second.old; faults = B.faults second.old })
-        (record { left = B.left second.new; given = B.given second.new; faults = B.faults second.new })) }
+        (A.supplied first.old)
+        (A.supplied first.new)
+        (B.supplied second.old)
+        (B.supplied second.new)) }
     ensures cause { IfErr result (IsInputCause has_font
-        (record { left = A.left first.old; given = A.given first.old; faults = A.faults first.old })
-        (record { left = A.left first.new; given = A.given first.new; faults = A.faults first.new })
-        (record { left = B.left second.old; given = B.given second.old; faults = B.faults second.old })
-        (record { left = B.left second.new; given = B.given second.new; faults = B.faults second.new })) }
+        (A.supplied first.old)
+        (A.supplied first.new)
+        (B.supplied second.old)
+        (B.supplied second.new)) }
     ensures second { has_font ≡ false → second.new ≡ second.old }
 {
     let font = match font_of(alloc, has_font, second) {
@@ -53,11 +53,11 @@ pub fn read_script<A: Source, B: Source>(
 /// The font of a command.
 fn font_of<B: Source>(alloc: Global, has_font: bool, second: &mut B) -> Result<Font, Status>
     ensures font { IfOk result (HasFont has_font
-        (record { left = B.left second.old; given = B.given second.old; faults = B.faults second.old })
-        (record { left = B.left second.new; given = B.given second.new; faults = B.faults second.new })) }
+        (B.supplied second.old)
+        (B.supplied second.new)) }
     ensures cause { IfErr result (λ status. (first : Supplied) → IsInputCause has_font first first
-        (record { left = B.left second.old; given = B.given second.old; faults = B.faults second.old })
-        (record { left = B.left second.new; given = B.given second.new; faults = B.faults second.new }) status) }
+        (B.supplied second.old)
+        (B.supplied second.new) status) }
     ensures second { has_font ≡ false → second.new ≡ second.old }
 {
     if !has_font {

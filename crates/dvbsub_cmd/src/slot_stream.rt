@@ -2,7 +2,7 @@ ghost use Rattle.std.specs.Prelude.{◌≡◌, ◌+◌, ◌%◌, ◌<◌, ◌≤
 ghost use Rattle.std.specs.List.Sorted.{IsStrictlyIncreasing};
 ghost use Rattle.std.specs.Io.KnownBytes.{Appends, Keeps};
 ghost use Rattle.sub_base.specs.Counts.{HasRisen};
-ghost use Rattle.sub_base.specs.Transfer.{AppendsFront};
+ghost use Rattle.sub_base.specs.Endpoints.{AppendsPrefix};
 ghost use Rattle.shown_stream.specs.SlotStream.{IsPiece, packet_of, slot_packet, slot_count as slot_count_of, stream_of};
 ghost use Rattle.dvbsub_cmd.specs.SlotWalk.{IsNext, Sent};
 ghost use Rattle.dvbsub_cmd.specs.PieceView.{plain};
@@ -132,10 +132,10 @@ fn pass_on<K: Sink>(
     outgoing: &mut Outgoing,
     packet: &[u8; 188],
 ) -> Result<(), WriteFailed>
-    ensures sent { OnOk result ((start : Option (List ℕ)) (bytes : List ℕ) → Sent start (K.written sink.old) outgoing.old bytes → Sent start (K.written sink.new) outgoing.new (bytes ++ packet.now)) }
-    ensures front { OnErr result (AppendsFront (K.written sink.old) (K.written sink.new) outgoing.old) }
-    ensures kept { K.faults sink.old ≤ K.faults sink.new }
-    ensures cause { OnErr result (HasRisen (K.faults sink.old) (K.faults sink.new)) }
+    ensures sent { OnOk result ((start : Option (List ℕ)) (bytes : List ℕ) → Sent start (K.received sink.old).written outgoing.old bytes → Sent start (K.received sink.new).written outgoing.new (bytes ++ packet.now)) }
+    ensures front { OnErr result (AppendsPrefix (K.received sink.old).written (K.received sink.new).written outgoing.old) }
+    ensures kept { (K.received sink.old).faults ≤ (K.received sink.new).faults }
+    ensures cause { OnErr result (HasRisen (K.received sink.old).faults (K.received sink.new).faults) }
 {
     if outgoing.is_full() {
         write_whole(sink, outgoing.as_bytes())?;
@@ -166,11 +166,11 @@ pub fn write_stream<K: Sink>(
     requires pairs { length slots.now ≡ length pieces.now }
     requires rising { IsStrictlyIncreasing slots.now }
     requires short { slot_count_of slots.now < 2 ^ 64 }
-    ensures all { OnOk result (Appends (K.written sink.old) (K.written sink.new) (stream_of pid (map plain pieces.now) slots.now)) }
-    ensures front { IfErr result (λ fault. fault ≡ StreamFault.Write → AppendsFront (K.written sink.old) (K.written sink.new) (stream_of pid (map plain pieces.now) slots.now)) }
-    ensures nothing { IfErr result (λ fault. fault ≡ StreamFault.Memory → Keeps (K.written sink.old) (K.written sink.new)) }
-    ensures kept { K.faults sink.old ≤ K.faults sink.new }
-    ensures cause { IfErr result (λ fault. fault ≡ StreamFault.Write → HasRisen (K.faults sink.old) (K.faults sink.new)) }
+    ensures all { OnOk result (Appends (K.received sink.old).written (K.received sink.new).written (stream_of pid (map plain pieces.now) slots.now)) }
+    ensures front { IfErr result (λ fault. fault ≡ StreamFault.Write → AppendsPrefix (K.received sink.old).written (K.received sink.new).written (stream_of pid (map plain pieces.now) slots.now)) }
+    ensures nothing { IfErr result (λ fault. fault ≡ StreamFault.Memory → Keeps (K.received sink.old).written (K.received sink.new).written) }
+    ensures kept { (K.received sink.old).faults ≤ (K.received sink.new).faults }
+    ensures cause { IfErr result (λ fault. fault ≡ StreamFault.Write → HasRisen (K.received sink.old).faults (K.received sink.new).faults) }
 {
     let Ok(mut outgoing) = Outgoing::make(alloc) else {
         return Err(StreamFault::Memory);

@@ -1,4 +1,5 @@
 ghost use Rattle.std.specs.Prelude.{◌≡◌, ◌≤◌, ◌+◌, ◌++◌, length};
+ghost use Rattle.dvbsub_cmd.specs.Outcome.{unfinished as unfinished_of};
 ghost use Rattle.dvbsub_cmd.specs.StatusText.{which_name as which_name_of, then_number, kind_text, done_text as done_text_of, font_text as font_text_of, plan_text as plan_text_of, schedule_text as schedule_text_of, script_text as script_text_of, stream_text as stream_text_of, status_text, status_line as line_of_status, code_of};
 
 use crate::kind_names::{font_kind_name, packet_fault_name};
@@ -47,6 +48,16 @@ pub enum Status {
 }
 
 impl Status {
+    /// What becomes of the status where the file of the output could not be made: what was done whole is a write fault.
+    pub fn unfinished(self) -> Status
+        ensures { result ≡ unfinished_of self }
+    {
+        match self {
+            Status::Done { .. } => Status::WriteFault(Which::Out),
+            other => other,
+        }
+    }
+
     /// The code with which the program ends.
     pub fn code(&self) -> u8
         ensures { result ≡ code_of self.now }
@@ -229,6 +240,12 @@ fn schedule_text(row: u64, fault: ScheduleFault) -> Line
             push_then_number(&mut line, row);
             push_then_number(&mut line, done);
             push_then_number(&mut line, pts);
+            line
+        }
+        ScheduleFault::SegmentFull { longest, .. } => {
+            let mut line = line_of("schedule SegmentFull");
+            push_then_number(&mut line, row);
+            push_then_number(&mut line, longest);
             line
         }
     }

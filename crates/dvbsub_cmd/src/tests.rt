@@ -73,8 +73,8 @@ fn run_failing<R: Threads + Sync>(
     let mut first = MemSource::make(alloc, text, 7, vec![in alloc; bad_read]?);
     let letters = Vec::from_slice(alloc, font.as_bytes())?;
     let mut second = MemSource::make(alloc, letters, 1, vec![in alloc; 0u64]?);
-    let mut out = MemSink::make(alloc, vec![in alloc; bad_write]?);
-    let mut notes = MemSink::make(alloc, vec![in alloc; bad_note]?);
+    let mut out = MemSink::make(alloc, 1_000_000, vec![in alloc; bad_write]?);
+    let mut notes = MemSink::make(alloc, 1_000_000, vec![in alloc; bad_note]?);
     let status = top(
         rt,
         alloc,
@@ -163,7 +163,7 @@ fn other_words_are_answered_with_the_usage(rt: HostRuntime) -> Result<(), Fail> 
         "list 256 in.ts out.txt more",
         "expect script.csv none out.txt",
         "expect script.csv none out.txt 90000 90000",
-        "expect script.csv none out.txt 8589934592",
+        "expect script.csv none out.txt 17179869184",
     ];
     for line in lines {
         let refused = run(&rt, rt.alloc(), line, FIRST_SCRIPT)?;

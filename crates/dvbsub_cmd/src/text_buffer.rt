@@ -93,8 +93,8 @@ impl TextBuffer {
 pub fn put<K: Sink>(sink: &mut K, buffer: &mut TextBuffer, text: &[u8])
     requires { length text.now ≤ 128 }
     ensures { PutsOut
-        (record { written = K.written sink.old; faults = K.faults sink.old })
-        (record { written = K.written sink.new; faults = K.faults sink.new })
+        (K.received sink.old)
+        (K.received sink.new)
         buffer.old buffer.new text.now }
 {
     if buffer.is_full() {
@@ -117,8 +117,8 @@ fn append(buffer: &mut TextBuffer, text: &[u8])
 /// Writes the text that waits, where the sink has not failed.
 pub fn flush<K: Sink>(sink: &mut K, buffer: &mut TextBuffer)
     ensures puts { PutsOut
-        (record { written = K.written sink.old; faults = K.faults sink.old })
-        (record { written = K.written sink.new; faults = K.faults sink.new })
+        (K.received sink.old)
+        (K.received sink.new)
         buffer.old buffer.new [] }
     ensures empty { buffer.new.failed ≡ false → buffer.new.waits ≡ [] }
 {

@@ -60,6 +60,21 @@ impl Indexed {
         })
     }
 
+    /// The picture of codes that are known to be right: as many as its sides have places, and of its depth. They are
+    /// not looked at.
+    pub fn of_codes(width: u16, height: u16, depth: Depth, codes: Vec<u8>) -> Indexed
+        requires { IsPicture (picture_of width height depth codes.items) }
+        ensures made { result ≡ picture_of width height depth codes.items }
+        ensures picture { IsPicture result }
+    {
+        Indexed {
+            width,
+            height,
+            depth,
+            codes,
+        }
+    }
+
     /// A picture whose codes are all 0.
     pub fn blank(alloc: Global, width: u16, height: u16, depth: Depth) -> Result<Indexed, NoMemory>
         requires wide { 1 ≤ width }

@@ -39,6 +39,13 @@ fn refuses_what_is_no_picture(rt: HostRuntime) -> Result<(), Fail> {
 }
 
 #[test]
+fn takes_codes_that_are_right(rt: HostRuntime) -> Result<(), Fail> {
+    let known = Indexed::of_codes(1, 1, Depth::Two, [3].to_vec(rt.alloc())?);
+    assert_eq!(rt; known.codes(), [3].as_slice());
+    Ok(())
+}
+
+#[test]
 fn gives_the_rows_of_both_fields(rt: HostRuntime) -> Result<(), Fail> {
     let three = picture(rt.alloc(), 2, 3, &[0, 1, 2, 3, 1, 1])?;
     let top = top_codes(rt.alloc(), &three)?;

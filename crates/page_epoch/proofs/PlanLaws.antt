@@ -65,10 +65,10 @@ not_early epochs refresh start tick begin (inr r) =
     let after = r.after in
     omega arith
 
-pub below_33 : (epochs : List Epoch) (refresh tick : ℕ) → All (λ (t : ℕ). t < 2 ^ 33) (named_ticks epochs) → IsInstant epochs refresh tick → tick < 2 ^ 33
-below_33 epochs refresh tick early (inl named) = All-contains (λ (t : ℕ). t < 2 ^ 33) (named_ticks epochs) tick early named
-below_33 epochs refresh tick early (inr r) =
-    let next = All-contains (λ (t : ℕ). t < 2 ^ 33) (named_ticks epochs) r.next early r.neighbours.has_second in
+pub below_34 : (epochs : List Epoch) (refresh tick : ℕ) → All (λ (t : ℕ). t < 2 ^ 34) (named_ticks epochs) → IsInstant epochs refresh tick → tick < 2 ^ 34
+below_34 epochs refresh tick early (inl named) = All-contains (λ (t : ℕ). t < 2 ^ 34) (named_ticks epochs) tick early named
+below_34 epochs refresh tick early (inr r) =
+    let next = All-contains (λ (t : ℕ). t < 2 ^ 34) (named_ticks epochs) r.next early r.neighbours.has_second in
     let room = r.room in
     omega arith
 
@@ -476,7 +476,7 @@ HavePlanned-more epochs refresh profile instants count sets instant old sweep wh
     let long = length-map instants (λ (x : Instant). x.tick) in
     let here : get_or (instant_ticks instants) count 0 ≡ instant.tick = get_or-map (λ (x : Instant). x.tick) instants count instant 0 h ∙ ap (λ (x : Instant). x.tick) (sym r) in
     let is_instant = subst (λ (t : ℕ). IsInstant epochs refresh t) here (steps.ticks.each count 0 (omega arith)) in
-    let low = below_33 epochs refresh instant.tick plain.early is_instant in
+    let low = below_34 epochs refresh instant.tick plain.early is_instant in
     let started = ready.at.started in
     let t : nat_le epoch.start set.pts ≡ true = let p = made.set_of.pts in grind (arith, nat_tests) in
     record {

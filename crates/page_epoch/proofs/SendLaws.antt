@@ -25,7 +25,7 @@ use Rattle.page_epoch.specs.SentCluts.{row_at, clut_count, defined_rows, clut_ve
 use Rattle.page_epoch.specs.SentRegions.{listed_cues}
 use Rattle.sub_base.specs.declared.profile.Profile.{Profile}
 use Rattle.page_epoch.specs.Plan.{IsCarried, ArePlanned}
-use Rattle.page_epoch.proofs.PlanLaws.{below_33}
+use Rattle.page_epoch.proofs.PlanLaws.{below_34}
 use Rattle.page_epoch.specs.States.{is_whole}
 use Rattle.page_epoch.specs.Sendable.{HasRegion, HasCue, HasColour, IsSendableRegion, IsSendableClut, IsSendableIn, IsSendable}
 use Rattle.page_epoch.specs.Sweeps.{IsPlain, IsSmallEpoch, IsNumbered}
@@ -241,7 +241,7 @@ known_regions : (epoch : Epoch) → IsNumbered epoch → (ordered : List Region)
 known_regions epoch numbered ordered same =
     All-permutation (λ (region : Region). HasRegion epoch region.id × (region.id ≤ 255)) epoch.regions ordered same (λ k d h. (has_own epoch.regions k d h, numbered.bytes k d h))
 
-sendable_in : (epoch : Epoch) (whole : Bool) (tick : ℕ) (earlier : List ℕ) (set : PlannedSet) → IsSmallEpoch epoch → IsNumbered epoch → IsCarried epoch whole (tick ∷ earlier) set → set.pts < 2 ^ 33 → set.page_version < 16 → IsSendableIn epoch set
+sendable_in : (epoch : Epoch) (whole : Bool) (tick : ℕ) (earlier : List ℕ) (set : PlannedSet) → IsSmallEpoch epoch → IsNumbered epoch → IsCarried epoch whole (tick ∷ earlier) set → set.pts < 2 ^ 34 → set.page_version < 16 → IsSendableIn epoch set
 sendable_in epoch whole tick earlier set small numbered carried time page =
     let regions = carried.regions in
     let shown = carried.shown in
@@ -291,7 +291,7 @@ sendable_all script profile sets plain planned = λ k d h.
     let there = get_or_from_slice_get epochs set.epoch epoch epoch next.place.found in
     let all = planned.all in
     let time = sym (get_or-map (λ (x : PlannedSet). x.pts) sets k d 0 h) ∙ ap (λ (xs : List ℕ). get_or xs k 0) planned.first.times ∙ get_or-take (length sets) planned.instants k 0 h in
-    let early = below_33 epochs script.refresh (get_or planned.instants k 0) plain.early (planned.are_instants.each k 0 (omega arith)) in
+    let early = below_34 epochs script.refresh (get_or planned.instants k 0) plain.early (planned.are_instants.each k 0 (omega arith)) in
     let version = next.version in
     record {
       epoch = epoch;

@@ -8,6 +8,7 @@ use Rattle.std.proofs.lemmas.List.Elements.{All-cons, All-head, All-tail, All-ap
 use Rattle.std.proofs.lemmas.List.Sums.{get_or-le-sum_by}
 use Rattle.std.proofs.lemmas.Option.{get_or_from_slice_get}
 use Rattle.sub_base.specs.Picture.{Picture}
+use Rattle.cue_list.specs.declared.limits.TheConstants.{LATEST_ORIGIN}
 use Rattle.cue_list.specs.declared.epoch.Epoch.{Epoch}
 use Rattle.cue_list.specs.declared.epoch.Region.{Region}
 use Rattle.cue_list.specs.declared.epoch.ColourRow.{ColourRow}
@@ -32,12 +33,12 @@ all_ticks P [] all = λ k d h. absurd (omega arith)
 all_ticks P (epoch ∷ epochs) all =
     All-append P (ticks_of epoch) (named_ticks epochs) (All-head (λ (epoch : Epoch). All P (ticks_of epoch)) epoch epochs all) (all_ticks P epochs (All-tail (λ (epoch : Epoch). All P (ticks_of epoch)) epoch epochs all))
 
-early_epoch : (origin width height : ℕ) (pictures : List Picture) (epoch : Epoch) → origin ≤ 5000000000 → IsEpoch origin width height pictures epoch → All (λ (t : ℕ). t < 2 ^ 33) (ticks_of epoch)
+early_epoch : (origin width height : ℕ) (pictures : List Picture) (epoch : Epoch) → origin ≤ LATEST_ORIGIN → IsEpoch origin width height pictures epoch → All (λ (t : ℕ). t < 2 ^ 34) (ticks_of epoch)
 early_epoch origin width height pictures epoch low is =
     let start = is.starts.early in
-    epoch_ticks (λ (t : ℕ). t < 2 ^ 33) epoch (omega arith)
-    (All-weaker (IsColourRow origin epoch.start) (λ (row : ColourRow). row.tick < 2 ^ 33) (λ row good. let early = good.tick.early in omega arith) epoch.colours is.colours)
-    (All-weaker (IsCue origin epoch.start epoch.regions pictures) (λ (cue : Cue). (cue.start < 2 ^ 33) × (cue.end < 2 ^ 33)) (λ cue good. let first = good.starts.early in let last = good.ends.early in (omega arith, omega arith)) epoch.cues is.cues)
+    epoch_ticks (λ (t : ℕ). t < 2 ^ 34) epoch (omega arith)
+    (All-weaker (IsColourRow origin epoch.start) (λ (row : ColourRow). row.tick < 2 ^ 34) (λ row good. let early = good.tick.early in omega arith) epoch.colours is.colours)
+    (All-weaker (IsCue origin epoch.start epoch.regions pictures) (λ (cue : Cue). (cue.start < 2 ^ 34) × (cue.end < 2 ^ 34)) (λ cue good. let first = good.starts.early in let last = good.ends.early in (omega arith, omega arith)) epoch.cues is.cues)
 
 late_epoch : (origin width height : ℕ) (pictures : List Picture) (epoch : Epoch) (start : ℕ) → start ≤ epoch.start → IsEpoch origin width height pictures epoch → All (λ (t : ℕ). start ≤ t) (ticks_of epoch)
 late_epoch origin width height pictures epoch start low is =
@@ -76,7 +77,7 @@ plain_from origin width height refresh epochs pictures sound =
         apart = λ i j e inside short. ((sound.each k d h).regions.apart i j e inside short).ids;
       };
       rise = rise;
-      early = all_ticks (λ (t : ℕ). t < 2 ^ 33) epochs (λ k d h. early_epoch origin width height pictures (get_or epochs k d) sound.early (sound.each k d h));
+      early = all_ticks (λ (t : ℕ). t < 2 ^ 34) epochs (λ k d h. early_epoch origin width height pictures (get_or epochs k d) sound.early (sound.each k d h));
       lasting = λ k d h.
           All-weaker (IsCue origin (get_or epochs k d).start (get_or epochs k d).regions pictures) (λ (cue : Cue). cue.start < cue.end) (λ cue good. good.lasts) (get_or epochs k d).cues (sound.each k d h).cues;
       begin = λ first found. all_ticks (λ (t : ℕ). first.start ≤ t) epochs (λ k d h. late_epoch origin width height pictures (get_or epochs k d) first.start (start_from epochs first k d found rise h (grind arith)) (sound.each k d h));

@@ -3,6 +3,7 @@
 use Rattle.std.specs.Prelude.{◌≡◌, ℕ, ◌+◌, ◌*◌, ◌==◌, ◌<◌, ◌≤◌, ◌⊎◌, Bool, true, List, All}
 use Rattle.std.specs.List.{flat_map, list_any, Contains}
 use Rattle.std.specs.List.Sorted.{IsStrictlyIncreasing}
+use Rattle.page_epoch.specs.declared.instants.TheConstants.{REFRESH_ROOM}
 use Rattle.cue_list.specs.declared.epoch.Epoch.{Epoch}
 use Rattle.cue_list.specs.Authored.{is_live}
 use Rattle.cue_list.specs.Sound.{ticks_of}
@@ -36,7 +37,7 @@ pub record IsRefresh (epochs : List Epoch) (refresh tick : ℕ) : Type 0 where
   pub shown : shows_cue epochs last ≡ true
   pub some : 1 ≤ times
   pub after : tick ≡ last + times * refresh
-  pub room : tick + 3600 < next
+  pub room : tick + REFRESH_ROOM < next
 
 -- a display set is shown at that tick
 abbrev pub IsInstant : List Epoch → ℕ → ℕ → Type 0

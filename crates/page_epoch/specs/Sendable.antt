@@ -36,7 +36,7 @@ pub record IsSendableClut (epoch : Epoch) (sent : SentClut) : Type 0 where
 
 -- what a set carries is of this epoch
 pub record IsSendableIn (epoch : Epoch) (set : PlannedSet) : Type 0 where
-  pub time : set.pts < 2 ^ 33
+  pub time : set.pts < 2 ^ 34
   pub page_version : set.page_version < 16
   pub few_shown : length set.shown ≤ 64
   pub shown : All (HasRegion epoch) set.shown

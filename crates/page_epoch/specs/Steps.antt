@@ -2,6 +2,7 @@
 use Rattle.std.specs.Prelude.{◌≡◌, ℕ, ◌+◌, ◌*◌, ◌<◌, ◌≤◌, true, false, List, [], ◌∷◌, ◌++◌, map, length, All, ⊤}
 use Rattle.std.specs.List.{range_with_len, flat_map, AllAdjacentBelow}
 use Rattle.cue_list.specs.declared.epoch.Epoch.{Epoch}
+use Rattle.page_epoch.specs.declared.instants.TheConstants.{REFRESH_ROOM}
 use Rattle.page_epoch.specs.declared.instants.Instant.{Instant}
 use Rattle.page_epoch.specs.Instants.{AreInstants, is_named}
 use Rattle.page_epoch.specs.Rows.{events_of, IsLeastRow}
@@ -18,8 +19,8 @@ refresh_at tick row refresh times = record { tick = tick + times * refresh; row 
 pub record HasRefreshes (old new : List Instant) (tick row next refresh : ℕ) : Type 0 where
   pub count : ℕ
   pub is : new ≡ old ++ map (refresh_at tick row refresh) (range_with_len 1 count)
-  pub last : 1 ≤ count → tick + count * refresh + 3600 < next
-  pub all : next ≤ tick + (count + 1) * refresh + 3600
+  pub last : 1 ≤ count → tick + count * refresh + REFRESH_ROOM < next
+  pub all : next ≤ tick + (count + 1) * refresh + REFRESH_ROOM
 
 -- an instant has the record that brings it, and says whether a record names it
 pub record IsStep (epochs : List Epoch) (instant : Instant) : Type 0 where

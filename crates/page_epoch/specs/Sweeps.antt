@@ -87,7 +87,7 @@ pub record IsPlain (epochs : List Epoch) (refresh : ℕ) : Type 0 where
   pub small : All IsSmallEpoch epochs
   pub numbered : All IsNumbered epochs
   pub rise : AllPairs (λ (earlier later : Epoch). earlier.start < later.start) epochs
-  pub early : All (λ tick. tick < 2 ^ 33) (named_ticks epochs)
+  pub early : All (λ tick. tick < 2 ^ 34) (named_ticks epochs)
   pub lasting : AreLasting epochs
   pub begin : (first : Epoch) → slice_get epochs 0 ≡ Some first → All (λ tick. first.start ≤ tick) (named_ticks epochs)
 

@@ -7,8 +7,9 @@ ghost use Rattle.page_epoch.specs.Changes.{change_at, AreTicksOf, AreChanges};
 use crate::clut_rows::{
     Entry, all_entries, defined_rows, in_order, no_rows, rows_by, rows_of_clut, take_in,
 };
-use cue_list::{ColourRow, Items};
+use cue_list::ColourRow;
 use std::alloc::{AllocError, Global};
+use sub_base::Items;
 
 /// A tick at which colours of a CLUT change.
 #[derive(Drop)]
@@ -65,7 +66,7 @@ fn changes_at(
         })?;
         come = next;
     }
-    Ok(Items::new(changes))
+    Ok(Items::new(alloc, changes))
 }
 
 /// A CLUT and its changes.
@@ -110,7 +111,7 @@ pub fn all_changes(alloc: Global, colours: &[ColourRow]) -> Result<Items<ClutCha
             cluts.push(changes_of(alloc, colours, entries.as_slice(), clut as u8)?)?;
         }
     }
-    Ok(Items::new(cluts))
+    Ok(Items::new(alloc, cluts))
 }
 
 /// How many of these changes, which are in order, have come by a tick.

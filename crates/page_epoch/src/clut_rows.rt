@@ -7,9 +7,9 @@ ghost use Rattle.page_epoch.specs.declared.clut_rows.Entry.{Entry};
 ghost use Rattle.page_epoch.specs.SentCluts.{row_at, entries_at, all_entries as entries_of, rows_of_clut as clut_rows_of, is_of_entry as is_of};
 ghost use Rattle.page_epoch.specs.Changes.{first_of, current_of, AreInOrder};
 
-use cue_list::{ColourRow, Items};
+use cue_list::ColourRow;
 use std::alloc::{AllocError, Global};
-use sub_base::Depth;
+use sub_base::{Depth, Items};
 
 /// An entry of a CLUT: the depth of its pixel codes, and its number.
 #[derive(Clone, Copy, Debug, PartialEq, Eq)]
@@ -39,7 +39,7 @@ pub fn all_entries(alloc: Global) -> Result<Items<Entry>, AllocError>
     push_entries(&mut entries, Depth::Two)?;
     push_entries(&mut entries, Depth::Four)?;
     push_entries(&mut entries, Depth::Eight)?;
-    Ok(Items::new(entries))
+    Ok(Items::new(alloc, entries))
 }
 
 /// The places of the rows of a CLUT.
@@ -57,7 +57,7 @@ pub fn rows_of_clut(
             own.push(place as u32)?;
         }
     }
-    Ok(Items::new(own))
+    Ok(Items::new(alloc, own))
 }
 
 /// The tick of the row at a place.
@@ -151,7 +151,7 @@ pub fn defined_rows(alloc: Global, current: &[Option<u32>]) -> Result<Items<u32>
             rows.push(*place)?;
         }
     }
-    Ok(Items::new(rows))
+    Ok(Items::new(alloc, rows))
 }
 
 /// The rows of these that have that tick.
@@ -170,5 +170,5 @@ pub fn rows_of_tick(
             found.push(*place)?;
         }
     }
-    Ok(Items::new(found))
+    Ok(Items::new(alloc, found))
 }

@@ -9,8 +9,9 @@ use crate::clut_changes::{Change, ClutChanges, changes_by};
 use crate::clut_rows::rows_of_tick;
 use crate::planned_set::SentClut;
 use crate::region_course::push_some;
-use cue_list::{ColourRow, Items};
+use cue_list::ColourRow;
 use std::alloc::{AllocError, Global};
+use sub_base::Items;
 
 /// A CLUT at the next instant, as its set sends it, and its nodes.
 #[derive(Drop)]
@@ -68,10 +69,10 @@ fn sent_rows(
     ensures { IfOk result (λ sent. sent ≡ rows_from colours.now whole tick change.now.rows) }
 {
     if whole {
-        return Ok(Items::new(Vec::from_slice(alloc, change.rows.as_slice())?));
+        return Ok(Items::new(alloc, Vec::from_slice(alloc, change.rows.as_slice())?));
     }
     if change.tick != tick {
-        return Ok(Items::new(Vec::new(alloc)));
+        return Ok(Items::new(alloc, Vec::new(alloc)));
     }
     rows_of_tick(alloc, colours, change.rows.as_slice(), tick)
 }
@@ -154,8 +155,8 @@ pub fn step_cluts(
         nodes += step.nodes;
     }
     Ok(ClutSteps {
-        versions: Items::new(next),
-        sent: Items::new(sent),
+        versions: Items::new(alloc, next),
+        sent: Items::new(alloc, sent),
         nodes,
     })
 }

@@ -11,9 +11,10 @@ use crate::instants::Instant;
 use crate::layout::{Layout, held, listed, shown};
 use crate::planned_set::PlannedSet;
 use crate::region_course::{RegionCourse, RegionCues, step_regions};
-use cue_list::{Epoch, Items};
+use cue_list::Epoch;
 use std::alloc::{AllocError, Global};
 use stream_syntax::State;
+use sub_base::Items;
 
 /// What changes in an epoch from instant to instant.
 #[derive(Drop)]
@@ -59,13 +60,13 @@ fn first_courses(alloc: Global, regions: &[RegionCues]) -> Result<Items<RegionCo
     let mut courses = Vec::new(alloc);
     for _region in regions {
         courses.push(RegionCourse {
-            live: Items::new(Vec::new(alloc)),
+            live: Items::new(alloc, Vec::new(alloc)),
             begun: 0,
             version: 0,
             held: 0,
         })?;
     }
-    Ok(Items::new(courses))
+    Ok(Items::new(alloc, courses))
 }
 
 /// The versions of CLUTs before the first instant: there are none.
@@ -76,7 +77,7 @@ fn first_versions(alloc: Global, cluts: &[ClutChanges]) -> Result<Items<Option<u
     for _clut in cluts {
         versions.push(None)?;
     }
-    Ok(Items::new(versions))
+    Ok(Items::new(alloc, versions))
 }
 
 /// The version of the page one instant on.

@@ -5,8 +5,9 @@ ghost use Rattle.cue_list.specs.declared.epoch.Epoch.{Epoch as EpochValue};
 ghost use Rattle.page_epoch.specs.Instants.{shows_cue as shows_cue_at};
 ghost use Rattle.page_epoch.specs.Showing.{AreCueTicks, AreLasting};
 
-use cue_list::{Cue, Epoch, Items};
+use cue_list::{Cue, Epoch};
 use std::alloc::{AllocError, Global};
+use sub_base::Items;
 
 /// The ticks at which the cues of a script start, and those at which they end, each list in order.
 #[derive(Drop)]
@@ -47,8 +48,8 @@ impl CueTicks {
         starts.sort()?;
         ends.sort()?;
         Ok(CueTicks {
-            starts: Items::new(starts),
-            ends: Items::new(ends),
+            starts: Items::new(alloc, starts),
+            ends: Items::new(alloc, ends),
         })
     }
 

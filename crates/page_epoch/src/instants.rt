@@ -8,6 +8,9 @@ use crate::moments::{Event, moments_of};
 use cue_list::Epoch;
 use std::alloc::{AllocError, Global};
 
+/// How many ticks a refresh keeps from the next named tick: a set that comes so soon refreshes the page itself.
+pub const REFRESH_ROOM: u64 = 3_600;
+
 /// An instant at which a display set is shown.
 #[derive(Clone, Copy, Debug)]
 pub struct Instant {
@@ -32,7 +35,7 @@ fn push_refreshes(
     ensures { OnOk result (HasRefreshes instants.old.items instants.new.items moment.tick moment.row next refresh) }
 {
     let mut tick = moment.tick + refresh;
-    while tick + 3600 < next {
+    while tick + REFRESH_ROOM < next {
         instants.push(Instant {
             tick,
             row: moment.row,

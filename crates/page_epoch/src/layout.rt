@@ -9,8 +9,9 @@ use crate::clut_changes::{ClutChanges, all_changes};
 use crate::live::begins_of;
 use crate::planned_set::SentRegion;
 use crate::region_course::{RegionCourse, RegionCues};
-use cue_list::{Cue, Epoch, Items, Region};
+use cue_list::{Cue, Epoch, Region};
 use std::alloc::{AllocError, Global};
+use sub_base::Items;
 
 /// What stays in an epoch: its regions with their cues, by their numbers and from the top of the display, its CLUTs, and
 /// the bytes of its regions' pixels.
@@ -54,7 +55,7 @@ fn from_top(alloc: Global, regions: &[Region]) -> Result<Items<Spot>, AllocError
         })?;
     }
     spots.sort_by_key(|spot| spot.y)?;
-    Ok(Items::new(spots))
+    Ok(Items::new(alloc, spots))
 }
 
 /// Regions with their cues.
@@ -75,7 +76,7 @@ fn with_cues(
             begins,
         })?;
     }
-    Ok(Items::new(found))
+    Ok(Items::new(alloc, found))
 }
 
 impl Layout {
@@ -115,7 +116,7 @@ pub fn shown(
             shown.push(spot.id)?;
         }
     }
-    Ok(Items::new(shown))
+    Ok(Items::new(alloc, shown))
 }
 
 /// The cues that regions list, in the script's order.
@@ -128,7 +129,7 @@ pub fn listed(alloc: Global, regions: &[SentRegion]) -> Result<Items<u32>, Alloc
         cues.extend_from_slice(region.cues.as_slice())?;
     }
     cues.sort()?;
-    Ok(Items::new(cues))
+    Ok(Items::new(alloc, cues))
 }
 
 /// The cues that the regions of an epoch were last drawn with.

@@ -4,8 +4,9 @@ ghost use Rattle.std.specs.List.Sorted.{IsNonDecreasing, IsNonDecreasingBy, IsPa
 ghost use Rattle.page_epoch.specs.Live.{cue_at, times, AreBegins};
 ghost use Rattle.cue_list.specs.Authored.{is_live as is_live_by};
 
-use cue_list::{Cue, Items};
+use cue_list::Cue;
 use std::alloc::{AllocError, Global};
+use sub_base::Items;
 
 /// A cue of a region: the tick at which it starts, and its place.
 #[derive(Clone, Copy, Debug)]
@@ -19,7 +20,7 @@ fn is_live_at(cues: &[Cue], place: u32, tick: u64) -> bool
     ensures { result ≡ is_live_by tick (cue_at cues.now place) }
 {
     match cues.get(place as usize) {
-        Some(cue) => cue.start <= tick && tick < cue.end,
+        Some(cue) => cue.is_live_at(tick),
         None => false,
     }
 }
@@ -39,7 +40,7 @@ pub fn begins_of(alloc: Global, cues: &[Cue], region: u8) -> Result<Items<Begin>
         }
     }
     begins.sort_by_key(|begin| begin.tick)?;
-    Ok(Items::new(begins))
+    Ok(Items::new(alloc, begins))
 }
 
 /// How many of these cues, which are in order of their starts, have started by a tick.
@@ -101,5 +102,5 @@ pub fn live_after(
         push_live(&mut live, cues, &begins[before..begun], tick)?;
         live.sort()?;
     }
-    Ok(Items::new(live))
+    Ok(Items::new(alloc, live))
 }

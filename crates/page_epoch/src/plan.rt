@@ -9,10 +9,10 @@ use crate::course::{Sweep, is_whole};
 use crate::fault::PlanFault;
 use crate::instants::instants_of;
 use crate::planned_set::PlannedSet;
-use cue_list::{Epoch, Items, Script};
+use cue_list::{Epoch, Script};
 use std::alloc::Global;
 use stream_syntax::State;
-use sub_base::Profile;
+use sub_base::{Items, Profile};
 
 /// The display sets that a script is sent as, in order of their presentation times.
 #[derive(Drop)]
@@ -33,7 +33,7 @@ impl Plan {
         }
         let sets = plan_sets(alloc, script.epochs.as_slice(), script.refresh, profile)?;
         Ok(Plan {
-            sets: Items::new(sets),
+            sets: Items::new(alloc, sets),
         })
     }
 }

@@ -1,5 +1,5 @@
-use cue_list::Items;
 use stream_syntax::State;
+use sub_base::Items;
 
 /// A display set: when it is shown, how it stands to the sets before it, and what it carries. Cues and rows are places
 /// in the lists of its epoch, from 0.

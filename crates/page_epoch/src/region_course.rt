@@ -7,8 +7,9 @@ ghost use Rattle.page_epoch.specs.SentRegions.{is_risen as is_risen_of, is_exten
 
 use crate::live::{Begin, count_begun, live_after};
 use crate::planned_set::SentRegion;
-use cue_list::{Cue, Items};
+use cue_list::Cue;
 use std::alloc::{AllocError, Global};
+use sub_base::Items;
 
 /// A region and the cues that it shows, in order of their starts.
 #[derive(Drop)]
@@ -102,8 +103,8 @@ pub fn step_regions(
         stepped.push(next)?;
     }
     Ok(RegionSteps {
-        courses: Items::new(stepped),
-        sent: Items::new(sent),
+        courses: Items::new(alloc, stepped),
+        sent: Items::new(alloc, sent),
     })
 }
 
@@ -175,6 +176,6 @@ pub fn send_region(
         id,
         version,
         fill: !keeps,
-        cues: Items::new(Vec::from_slice(alloc, cues)?),
+        cues: Items::new(alloc, Vec::from_slice(alloc, cues)?),
     }))
 }

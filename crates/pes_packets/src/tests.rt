@@ -59,3 +59,23 @@ fn one_wrong_byte_is_the_first_fault(rt: HostRuntime) -> Result<(), Fail> {
     }
     Ok(())
 }
+
+/// A unit takes segments up to 65,524 bytes, one more begins the next unit, and a longer segment stands alone.
+#[test]
+fn segments_are_shared_out_to_units(rt: HostRuntime) -> Result<(), Fail> {
+    let mut out = Vec::new(rt.alloc());
+    unit_lengths(&[], &mut out)?;
+    assert_eq!(rt; out.len(), 0);
+    unit_lengths(&[11, 8, 6], &mut out)?;
+    assert_eq!(rt; out.as_slice(), [42].as_slice());
+    unit_lengths(&[65_507, 11, 6], &mut out)?;
+    assert_eq!(rt; out.as_slice(), [42, 65_541].as_slice());
+    unit_lengths(&[65_507, 12, 6], &mut out)?;
+    assert_eq!(rt; out.as_slice(), [42, 65_541, 65_536, 23].as_slice());
+    unit_lengths(&[47, 65_614, 6], &mut out)?;
+    assert_eq!(rt;
+        out.as_slice(),
+        [42, 65_541, 65_536, 23, 64, 65_631, 23].as_slice()
+    );
+    Ok(())
+}

@@ -7,7 +7,8 @@ use Rattle.std.proofs.lemmas.List.{take_at, drop_at, take-append-drop, length-ap
 use Rattle.std.proofs.lemmas.Nat.{pow_pos, shr-shr, mod-pow-add, shr_high, mod_low, mod_below, field_of}
 use Rattle.std.proofs.Math.Nat.{mod-eq_of_lt}
 use Rattle.stream_syntax.specs.PixelCodes.{bits, bits_of}
-use Rattle.pixel_codes.specs.Reading.{number, field_at}
+use Rattle.stream_syntax.specs.Fields.{number_of}
+use Rattle.pixel_codes.specs.Reading.{field_at}
 
 -- ---- bits
 
@@ -63,22 +64,23 @@ bits-join a b x y lt =
 
 -- ---- the number of bits
 
-number-push : (xs : List ℕ) (y : ℕ) → number (xs ++ y ∷ []) ≡ number xs * 2 + y
-number-push [] y = omega arith
-number-push (x ∷ xs) y =
-    let n = number-push xs y in
+number_of-push : (xs : List ℕ) (y : ℕ) → number_of (xs ++ y ∷ []) ≡ number_of xs * 2 + y
+unfolding number_of
+number_of-push [] y = omega arith
+number_of-push (x ∷ xs) y =
+    let n = number_of-push xs y in
     let l : length (xs ++ y ∷ []) ≡ suc (length xs) = length-append xs (y ∷ []) ∙ omega arith in
     let p : 2 ^ suc (length xs) ≡ 2 * 2 ^ length xs = omega arith in
     rw (l, p, n) (omega arith)
 
-pub number-bits : (count v : ℕ) → number (bits count v) ≡ v % 2 ^ count
-unfolding bits
-number-bits zero v = omega arith
-number-bits (suc count) v =
+pub number_of-bits : (count v : ℕ) → number_of (bits count v) ≡ v % 2 ^ count
+unfolding bits number_of
+number_of-bits zero v = omega arith
+number_of-bits (suc count) v =
     let f = mod-pow-add v count 1 in
     let g : count + 1 ≡ suc count = omega arith in
     let h = rw g at f in
-    number-push (bits count (v / 2)) (v % 2) ∙ omega (arith, number-bits count (v / 2), h)
+    number_of-push (bits count (v / 2)) (v % 2) ∙ omega (arith, number_of-bits count (v / 2), h)
 
 unfoldable pub IsBits : List ℕ → Type 0
 IsBits xs = AllByRecursion (λ bit. bit < 2) xs
@@ -118,24 +120,24 @@ two_halves (suc (suc x)) p n h k = absurd (omega arith)
 pow-more : (k : ℕ) → 2 ^ suc k ≡ 2 * 2 ^ k
 pow-more k = omega arith
 
-number-below : (xs : List ℕ) → IsBits xs → number xs < 2 ^ length xs
-unfolding IsBits
-number-below [] h = omega arith
-number-below (x ∷ xs) h = rw (pow-more (length xs)) (two_halves x (2 ^ length xs) (number xs) h.0 (number-below xs h.1))
+number_of-below : (xs : List ℕ) → IsBits xs → number_of xs < 2 ^ length xs
+unfolding IsBits number_of
+number_of-below [] h = omega arith
+number_of-below (x ∷ xs) h = rw (pow-more (length xs)) (two_halves x (2 ^ length xs) (number_of xs) h.0 (number_of-below xs h.1))
 
 one_bit : (x : ℕ) → x < 2 → bits 1 x ≡ x ∷ []
 unfolding bits
 one_bit x h = let e : x % 2 ≡ x = omega arith in rw e refl
 
-pub bits-number : (xs : List ℕ) → IsBits xs → bits (length xs) (number xs) ≡ xs
-unfolding IsBits bits
-bits-number [] h = refl
-bits-number (x ∷ xs) h =
+pub bits-number_of : (xs : List ℕ) → IsBits xs → bits (length xs) (number_of xs) ≡ xs
+unfolding IsBits bits number_of
+bits-number_of [] h = refl
+bits-number_of (x ∷ xs) h =
     let e : suc (length xs) ≡ 1 + length xs = omega arith in
-    ap (λ (n : ℕ). bits n (x * 2 ^ length xs + number xs)) e
-    ∙ bits-join 1 (length xs) x (number xs) (number-below xs h.1)
-    ∙ ap (λ (t : List ℕ). t ++ bits (length xs) (number xs)) (one_bit x h.0)
-    ∙ ap (λ (t : List ℕ). x ∷ t) (bits-number xs h.1)
+    ap (λ (n : ℕ). bits n (x * 2 ^ length xs + number_of xs)) e
+    ∙ bits-join 1 (length xs) x (number_of xs) (number_of-below xs h.1)
+    ∙ ap (λ (t : List ℕ). t ++ bits (length xs) (number_of xs)) (one_bit x h.0)
+    ∙ ap (λ (t : List ℕ). x ∷ t) (bits-number_of xs h.1)
 
 -- ---- fields
 
@@ -151,7 +153,7 @@ field_spelled xs rest place width v wide fits e =
     let enough : ltb (length xs) (place + width) ≡ false = le-ltb _ _ (omega arith) in
     let t : take width (drop place xs) ≡ bits width v = ap (take width) e ∙ take_at (bits width v) rest width (length-bits width v) in
     let m : v % 2 ^ width ≡ v = mod-eq_of_lt fits in
-    rw (enough, t) (ap Some (number-bits width v ∙ m))
+    rw (enough, t) (ap Some (number_of-bits width v ∙ m))
 
 -- there is none past the end
 pub field_past : (xs : List ℕ) (place width : ℕ) → length xs < place + width → field_at xs place width ≡ None
@@ -177,10 +179,10 @@ field_reads xs place width v h e = by_test (ltb (length xs) (place + width)) ref
         let within : place + width ≤ length xs = ltb-false _ _ t in
         let l : length (take width (drop place xs)) ≡ width = omega (arith, length-take width (drop place xs), length-drop place xs) in
         let f = rw t at e in
-        let n : number (take width (drop place xs)) ≡ v = cc in
+        let n : number_of (take width (drop place xs)) ≡ v = cc in
         let ok : IsBits (take width (drop place xs)) = IsBits-take width _ (IsBits-drop place xs h) in
-        let below : number (take width (drop place xs)) < 2 ^ length (take width (drop place xs)) = number-below _ ok in
-        let spelled : bits width v ≡ take width (drop place xs) = ap (λ (k : ℕ). bits k v) (sym l) ∙ ap (bits (length (take width (drop place xs)))) (sym n) ∙ bits-number _ ok in
+        let below : number_of (take width (drop place xs)) < 2 ^ length (take width (drop place xs)) = number_of-below _ ok in
+        let spelled : bits width v ≡ take width (drop place xs) = ap (λ (k : ℕ). bits k v) (sym l) ∙ ap (bits (length (take width (drop place xs)))) (sym n) ∙ bits-number_of _ ok in
         record {
           fits = subst (λ (k : ℕ). v < 2 ^ k) l (subst (λ (u : ℕ). u < 2 ^ length (take width (drop place xs))) n below);
           within = within;

@@ -12,3 +12,5 @@ pub mod Walk
 pub mod Blocks
 pub mod Steps
 pub mod Sizes
+mod RowSizes
+mod LaneRuns

@@ -90,29 +90,6 @@ bits-value Eight (short_run field code) h =
 bits-value Eight (middle_run field code) h = absurd h
 bits-value Eight (long_run field code) h = absurd h
 
-pub value_below : (depth : Depth) (code : Code) → IsCode depth code → (width_of depth code ≤ 24) × (value_of depth code < 2 ^ width_of depth code)
-value_below Two (pixel code) h = (omega arith, omega (arith, h.1))
-value_below Two one_zero h = (omega arith, omega arith)
-value_below Two two_zeros h = (omega arith, omega arith)
-value_below Two (zeros field) h = absurd h
-value_below Two (short_run field code) h = (omega arith, omega (arith, h.0, h.1))
-value_below Two (middle_run field code) h = (omega arith, omega (arith, h.0, h.1))
-value_below Two (long_run field code) h = (omega arith, omega (arith, h.0, h.1))
-value_below Four (pixel code) h = (omega arith, omega (arith, h.1))
-value_below Four one_zero h = (omega arith, omega arith)
-value_below Four two_zeros h = (omega arith, omega arith)
-value_below Four (zeros field) h = (omega arith, omega (arith, h.1))
-value_below Four (short_run field code) h = (omega arith, omega (arith, h.0, h.1))
-value_below Four (middle_run field code) h = (omega arith, omega (arith, h.0, h.1))
-value_below Four (long_run field code) h = (omega arith, omega (arith, h.0, h.1))
-value_below Eight (pixel code) h = (omega arith, omega (arith, h.1))
-value_below Eight one_zero h = absurd h
-value_below Eight two_zeros h = absurd h
-value_below Eight (zeros field) h = (omega arith, omega (arith, h.1))
-value_below Eight (short_run field code) h = (omega arith, omega (arith, h.0, h.1))
-value_below Eight (middle_run field code) h = absurd h
-value_below Eight (long_run field code) h = absurd h
-
 pub two_ending : bits 6 0 ≡ ending Two
 unfolding ending
 two_ending = bits-join 2 4 0 0 (omega arith) ∙ ap (λ (t : List ℕ). bits 2 0 ++ t) (bits-join 2 2 0 0 (omega arith))

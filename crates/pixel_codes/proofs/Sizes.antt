@@ -1,10 +1,10 @@
 -- A row has one list of maximal runs, a run has one number of least bits, and so the string of a row has one size.
-use Rattle.std.proofs.Common.{◌≡◌, ℕ, zero, suc, ◌+◌, ◌<◌, ◌≤◌, List, [], ◌∷◌, ◌++◌, length, refl, sym, ap, subst, ◌∙◌, arith}
+use Rattle.std.proofs.Common.{◌≡◌, ℕ, zero, suc, ◌+◌, ◌<◌, List, [], ◌∷◌, ◌++◌, refl, sym, ap, subst, ◌∙◌, arith}
 use Rattle.std.specs.Prelude.{flat_map, replicate, All}
 use Rattle.std.proofs.lemmas.Bool.{ne_eqb}
 use Rattle.std.proofs.lemmas.List.Elements.{All-head, All-tail}
 use Rattle.sub_base.specs.declared.depth.Depth.{Depth}
-use Rattle.stream_syntax.specs.PixelCodes.{Span, AreApart, AreMaximalRuns, IsLeast, IsLeastSum, IsRowSize, bits_in}
+use Rattle.stream_syntax.specs.PixelCodes.{Span, AreApart, AreMaximalRuns, IsLeast, IsLeastSum, IsRowSize}
 use Rattle.pixel_codes.specs.Rows.{span_of, runs_of}
 use Rattle.pixel_codes.proofs.RowStrings.{joined, runs_of-more, apart_rest}
 

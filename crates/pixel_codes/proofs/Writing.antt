@@ -1,8 +1,10 @@
 -- Bits put behind one another.
-use Rattle.std.proofs.Common.{◌≡◌, ℕ, zero, suc, ◌+◌, ◌-◌, ◌*◌, ◌/◌, ◌%◌, ◌^◌, ◌<◌, ◌≤◌, List, [], ◌∷◌, ◌++◌, length, take, refl, sym, ap, subst, ◌∙◌, append_assoc, arith}
+use Rattle.std.proofs.Common.{◌≡◌, ℕ, zero, suc, ◌+◌, ◌-◌, ◌*◌, ◌/◌, ◌%◌, ◌^◌, ◌<◌, ◌≤◌, List, [], ◌∷◌, ◌++◌, refl, sym, ap, subst, ◌∙◌, append_assoc, arith}
 use Rattle.std.specs.Prelude.{replicate}
-use Rattle.std.proofs.lemmas.List.{append-nil, take_at}
+use Rattle.std.proofs.lemmas.List.{append-nil}
 use Rattle.std.proofs.lemmas.Nat.{pow_pos, pow-add, mul-le, shl_whole, shr_below}
+use Rattle.std.proofs.Math.Pow.{pow_mono}
+use Rattle.std.specs.Int.{w32, to_be_bytes}
 use Rattle.stream_syntax.specs.PixelCodes.{bits, bits_of}
 use Rattle.pixel_codes.specs.Lists.{Extends}
 use Rattle.pixel_codes.proofs.Bits.{bits-add, bits-mod, bits-join, bits_of-append}
@@ -16,13 +18,9 @@ extends_trans a b c p q = (p.0 ++ q.0, q.1 ∙ ap (λ (t : List ℕ). t ++ q.0) 
 pub extends_push : (a b c : List ℕ) (x : ℕ) → Extends a b → c ≡ b ++ x ∷ [] → Extends a c
 extends_push a b c x p e = extends_trans a b c p (x ∷ [], e)
 
--- what was there is what stands first
-pub extends_take : (a b : List ℕ) → Extends a b → take (length a) b ≡ a
-extends_take a b p = ap (take (length a)) p.1 ∙ take_at a p.0 (length a) refl
-
 -- a number moved up makes room for another
-pub shifted : (v count width : ℕ) → v < 2 ^ count → count + width ≤ 32 → v * 2 ^ width % 4294967296 ≡ v * 2 ^ width
-shifted v count width h k = shl_whole v count width 32 h k
+pub shifted : (v count width : ℕ) → v < 2 ^ count → count + width ≤ 64 → v * 2 ^ width % 18446744073709551616 ≡ v * 2 ^ width
+shifted v count width h k = shl_whole v count width 64 h k
 
 pub joined_below : (v x count width : ℕ) → v < 2 ^ count → x < 2 ^ width → v * 2 ^ width + x < 2 ^ (count + width)
 joined_below v x count width h k =
@@ -30,14 +28,9 @@ joined_below v x count width h k =
     let one : (v + 1) * 2 ^ width ≡ v * 2 ^ width + 2 ^ width = omega arith in
     omega (arith, product, one, pow-add 2 count width)
 
-pow_of : (n : ℕ) → n ≤ 31 → 2 ^ n ≤ 2147483648
-pow_of n h = pow_grows n 31 h
-  where
-    pow_grows : (a b : ℕ) → a ≤ b → 2 ^ a ≤ 2 ^ b
-    pow_grows a b l = let e : a + (b - a) ≡ b = omega arith in let p = pow-add 2 a (b - a) in let q = mul-le (2 ^ a) 1 (2 ^ a) (2 ^ (b - a)) (omega arith) (omega (arith, pow_pos (b - a))) in let r : 2 ^ a ≤ 2 ^ (a + (b - a)) = omega (arith, p, q) in rw e at r
-
-pub fits_word : (v x count width : ℕ) → v < 2 ^ count → x < 2 ^ width → count + width ≤ 31 → v * 2 ^ width + x < 4294967296
-fits_word v x count width h k l = omega (arith, joined_below v x count width h k, pow_of (count + width) l)
+-- both fit a word
+pub fits_word : (v x count width : ℕ) → v < 2 ^ count → x < 2 ^ width → count + width ≤ 63 → v * 2 ^ width + x < 18446744073709551616
+fits_word v x count width h k l = let p : 2 ^ (count + width) ≤ 2 ^ 63 = pow_mono {i = count + width} {j = 63} l in omega (arith, joined_below v x count width h k, p)
 
 pub begun : (text : List ℕ) (v x count width : ℕ) → x < 2 ^ width → text ++ bits (count + width) (v * 2 ^ width + x) ≡ (text ++ bits count v) ++ bits width x
 begun text v x count width h = ap (λ (t : List ℕ). text ++ t) (bits-join count width v x h) ∙ sym (append_assoc text (bits count v) (bits width x))
@@ -92,3 +85,28 @@ fits_byte value count h k = let e : count + (8 - count) ≡ 8 = omega arith in l
 pub no_bits : (out : List ℕ) (value count : ℕ) → count ≡ 0 → bits_of out ++ bits count value ≡ bits_of out
 unfolding bits
 no_bits out value count e = let z : bits count value ≡ [] = ap (λ (n : ℕ). bits n value) e in ap (λ (t : List ℕ). bits_of out ++ t) z ∙ append-nil (bits_of out)
+
+-- the bits of four bytes, the highest first
+word_bits : (w : ℕ) → bits_of (to_be_bytes w32 w) ≡ bits 32 w
+unfolding bits_of
+word_bits w =
+    let b3 = bits-mod 8 (w / 2 ^ 24) in
+    let b2 = bits-mod 8 (w / 2 ^ 16) in
+    let b1 = bits-mod 8 (w / 2 ^ 8) in
+    let b0 = bits-mod 8 w in
+    ap (λ (t : List ℕ). t ++ (bits 8 (w / 2 ^ 16 % 2 ^ 8) ++ (bits 8 (w / 2 ^ 8 % 2 ^ 8) ++ (bits 8 (w % 2 ^ 8) ++ [])))) b3
+    ∙ ap (λ (t : List ℕ). bits 8 (w / 2 ^ 24) ++ (t ++ (bits 8 (w / 2 ^ 8 % 2 ^ 8) ++ (bits 8 (w % 2 ^ 8) ++ [])))) b2
+    ∙ ap (λ (t : List ℕ). bits 8 (w / 2 ^ 24) ++ (bits 8 (w / 2 ^ 16) ++ (t ++ (bits 8 (w % 2 ^ 8) ++ [])))) b1
+    ∙ ap (λ (t : List ℕ). bits 8 (w / 2 ^ 24) ++ (bits 8 (w / 2 ^ 16) ++ (bits 8 (w / 2 ^ 8) ++ t))) (append-nil (bits 8 (w % 2 ^ 8)) ∙ b0)
+    ∙ ap (λ (t : List ℕ). bits 8 (w / 2 ^ 24) ++ (bits 8 (w / 2 ^ 16) ++ t)) (sym (bits-add 8 8 w))
+    ∙ ap (λ (t : List ℕ). bits 8 (w / 2 ^ 24) ++ t) (sym (bits-add 8 16 w))
+    ∙ sym (bits-add 8 24 w)
+
+-- four bytes of a number in more bits
+pub word_out : (out after : List ℕ) (all count rest : ℕ) → 32 + rest ≡ count → after ≡ out ++ to_be_bytes w32 (all / 2 ^ rest) → bits_of after ++ bits rest (all % 2 ^ rest) ≡ bits_of out ++ bits count all
+word_out out after all count rest c e =
+    ap (λ (t : List ℕ). bits_of t ++ bits rest (all % 2 ^ rest)) e
+    ∙ ap (λ (t : List ℕ). t ++ bits rest (all % 2 ^ rest)) (bits_of-append out (to_be_bytes w32 (all / 2 ^ rest)) ∙ ap (λ (t : List ℕ). bits_of out ++ t) (word_bits (all / 2 ^ rest)))
+    ∙ ap (λ (t : List ℕ). (bits_of out ++ bits 32 (all / 2 ^ rest)) ++ t) (bits-mod rest all)
+    ∙ append_assoc (bits_of out) (bits 32 (all / 2 ^ rest)) (bits rest all)
+    ∙ ap (λ (t : List ℕ). bits_of out ++ t) (sym (bits-add 32 rest all) ∙ ap (λ (n : ℕ). bits n all) c)

@@ -10,3 +10,4 @@ pub mod Lists
 pub mod Stream
 pub mod Spelling
 pub mod Rows
+pub mod Maximal

@@ -1,7 +1,8 @@
 -- What the readers of a string give: a field of bits, and the code at a place, with the place after it.
-use Rattle.std.specs.Prelude.{ℕ, ◌+◌, ◌-◌, ◌*◌, ◌^◌, ◌==◌, if◌then◌else◌, nat_lt, List, [], ◌∷◌, length, take, drop, Option, Some, None}
+use Rattle.std.specs.Prelude.{ℕ, ◌+◌, ◌-◌, ◌*◌, ◌==◌, if◌then◌else◌, nat_lt, List, length, take, drop, Option, Some, None}
 use Rattle.sub_base.specs.declared.depth.Depth.{Depth}
 use Rattle.sub_base.specs.declared.depth.Depth.TheVariants.{Two, Four, Eight}
+use Rattle.stream_syntax.specs.Fields.{number_of}
 use Rattle.pixel_codes.specs.declared.token.Token.{Token}
 use Rattle.pixel_codes.specs.declared.token.Token.TheVariants.{Pixels, End}
 
@@ -10,14 +11,9 @@ abbrev pub ◌>>=◌ : {A B : Type 0} → Option A → (A → Option B) → Opti
 None >>= f = None
 (Some x) >>= f = f x
 
--- the number that bits spell, the highest first
-abbrev pub number : List ℕ → ℕ
-number [] = 0
-number (bit ∷ rest) = bit * 2 ^ length rest + number rest
-
 -- the number in so many bits from a place on
 unfoldable pub field_at : List ℕ → ℕ → ℕ → Option ℕ
-field_at xs place width = if nat_lt (length xs) (place + width) then None else Some (number (take width (drop place xs)))
+field_at xs place width = if nat_lt (length xs) (place + width) then None else Some (number_of (take width (drop place xs)))
 
 -- a 2 bit code behind four bits 0
 unfoldable pub two_long_at : List ℕ → ℕ → Option (Token × ℕ)

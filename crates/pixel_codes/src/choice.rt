@@ -16,6 +16,7 @@ pub(crate) struct Spelling {
 
 /// The first code of the string of a run: of the strings with the least bits, the one with the greatest lengths
 /// begins with it.
+#[inline(always)]
 pub(crate) fn first_spelling(depth: Depth, code: u8, count: usize) -> Spelling
     requires some { 1 ≤ count }
     requires code { code < code_count depth }
@@ -28,6 +29,7 @@ pub(crate) fn first_spelling(depth: Depth, code: u8, count: usize) -> Spelling
     }
 }
 
+#[inline(always)]
 fn two_bit_spelling(code: u8, count: usize) -> Spelling
     requires { 1 ≤ count }
     ensures { Spells Two (least.first_code Two code count) result }
@@ -43,6 +45,7 @@ fn two_bit_spelling(code: u8, count: usize) -> Spelling
     two_bit_few(code, count)
 }
 
+#[inline(always)]
 fn two_bit_few(code: u8, count: usize) -> Spelling
     requires { 1 ≤ count }
     ensures { Spells Two (least.two_few code count) result }
@@ -58,6 +61,7 @@ fn two_bit_few(code: u8, count: usize) -> Spelling
     }
 }
 
+#[inline(always)]
 fn four_bit_spelling(code: u8, count: usize) -> Spelling
     requires { 1 ≤ count }
     ensures { Spells Four (least.first_code Four code count) result }
@@ -69,6 +73,7 @@ fn four_bit_spelling(code: u8, count: usize) -> Spelling
     four_bit_few(code, count)
 }
 
+#[inline(always)]
 fn four_bit_few(code: u8, count: usize) -> Spelling
     requires some { 1 ≤ count }
     requires few { count ≤ 24 }
@@ -87,6 +92,7 @@ fn four_bit_few(code: u8, count: usize) -> Spelling
     }
 }
 
+#[inline(always)]
 fn eight_bit_spelling(code: u8, count: usize) -> Spelling
     requires { 1 ≤ count }
     ensures { Spells Eight (least.first_code Eight code count) result }
@@ -100,6 +106,7 @@ fn eight_bit_spelling(code: u8, count: usize) -> Spelling
 }
 
 /// A code without a field for a length and a pixel code.
+#[inline(always)]
 fn single(bits: u8, width: u32, pixels: usize) -> Spelling
     ensures { result ≡ record { bits = bits; width = width; pixels = pixels } }
 {
@@ -111,6 +118,7 @@ fn single(bits: u8, width: u32, pixels: usize) -> Spelling
 }
 
 /// A code with a field for its length above a pixel code, for which there are `codes` values.
+#[inline(always)]
 fn run(form: u32, codes: u32, field: usize, code: u8, width: u32, pixels: usize) -> Spelling
     requires form { form ≤ 61440 }
     requires codes { codes ≤ 256 }

@@ -58,6 +58,7 @@ impl<'a> Cursor<'a> {
     }
 
     /// The next run; none at the end of the block.
+    #[inline(always)]
     pub(crate) fn next_run(&mut self) -> Option<Run>
         ensures { MatchOption result ((left_of self.old ≡ []) × (left_of self.new ≡ [])) (λ run. left_of self.old ≡ run ∷ left_of self.new) }
     {
@@ -70,6 +71,7 @@ impl<'a> Cursor<'a> {
         }
     }
 
+    #[inline(always)]
     fn step(&mut self) -> Step
         ensures { Says result self.old self.new }
     {
@@ -80,6 +82,7 @@ impl<'a> Cursor<'a> {
     }
 
     /// Reads one code of the string.
+    #[inline(always)]
     fn step_in_string(&mut self, depth: Depth) -> Step
         requires { self.old.string ≡ Some depth }
         ensures { Says result self.old self.new }
@@ -99,6 +102,7 @@ impl<'a> Cursor<'a> {
     }
 
     /// Draws the pixels of one code, which ends at a place.
+    #[inline(always)]
     fn draw(&mut self, depth: Depth, length: u32, code: u8, next: usize) -> Step
         requires string { self.old.string ≡ Some depth }
         requires read { token_at depth (bits_of self.old.rest.now) self.old.place ≡ Some (Pixels length code, next) }
@@ -120,6 +124,7 @@ impl<'a> Cursor<'a> {
     }
 
     /// Reads the head of the next sub-block, and a table or an end of line whole.
+    #[inline(never)]
     fn step_at_part(&mut self) -> Step
         requires { self.old.string ≡ None }
         ensures { Says result self.old self.new }

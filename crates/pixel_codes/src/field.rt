@@ -3,6 +3,7 @@ ghost use Rattle.stream_syntax.specs.PixelCodes.{bits_of};
 ghost use Rattle.pixel_codes.specs.Reading.{field_at};
 
 /// The number in `width` bits from bit `place` on, the highest first; none where the bytes end before.
+#[inline(always)]
 pub(crate) fn field(bytes: &[u8], place: usize, width: usize) -> Option<u8>
     requires bytes { length bytes.now ≤ 65535 }
     requires place { place ≤ 8 * length bytes.now }

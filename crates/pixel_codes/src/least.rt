@@ -8,6 +8,7 @@ use sub_base::Depth;
 
 /// The least number of bits of any sequence of codes of a depth that gives `length` pixels of `code` (EN 300 743,
 /// pixel code strings). The end of a string is not counted.
+#[inline(always)]
 pub fn run_bits(depth: Depth, code: u8, length: u32) -> u64
     requires long { 1 ≤ length }
     requires code { code < code_count depth }
@@ -18,6 +19,7 @@ pub fn run_bits(depth: Depth, code: u8, length: u32) -> u64
 }
 
 /// The pixels of the longest code of a depth.
+#[inline(always)]
 fn longest(depth: Depth) -> u32
     ensures { result ≡ least.longest depth }
 {
@@ -29,6 +31,7 @@ fn longest(depth: Depth) -> u32
 }
 
 /// The bits of the longest code of a depth that gives a pixel code.
+#[inline(always)]
 fn longest_bits(depth: Depth, code: u8) -> u64
     ensures { result ≡ least.longest_bits depth code }
 {
@@ -40,6 +43,7 @@ fn longest_bits(depth: Depth, code: u8) -> u64
 }
 
 /// The least bits of fewer pixels than the longest code gives.
+#[inline(always)]
 fn rest_bits(depth: Depth, code: u8, rest: u32) -> u64
     ensures { result ≡ least.rest_bits depth code rest }
 {
@@ -50,6 +54,7 @@ fn rest_bits(depth: Depth, code: u8, rest: u32) -> u64
     }
 }
 
+#[inline(always)]
 #[tactic(auto, unfolding(crate::specs::Least::two_some, crate::specs::Least::two_none))]
 fn two_bit_rest(code: u8, rest: u32) -> u64
     ensures { result ≡ least.rest_bits Two code rest }
@@ -71,6 +76,7 @@ fn two_bit_rest(code: u8, rest: u32) -> u64
     }
 }
 
+#[inline(always)]
 #[tactic(auto, unfolding(crate::specs::Least::four_some, crate::specs::Least::four_none))]
 fn four_bit_rest(code: u8, rest: u32) -> u64
     ensures { result ≡ least.rest_bits Four code rest }
@@ -86,6 +92,7 @@ fn four_bit_rest(code: u8, rest: u32) -> u64
     }
 }
 
+#[inline(always)]
 #[tactic(auto, unfolding(crate::specs::Least::eight_some, crate::specs::Least::eight_none))]
 fn eight_bit_rest(code: u8, rest: u32) -> u64
     ensures { result ≡ least.rest_bits Eight code rest }

@@ -42,7 +42,8 @@ pub(crate) fn size_of_table(table: MapTable) -> usize
     }
 }
 
-fn is_no_deeper(depth: Depth, region: Depth) -> bool
+/// Whether a string of that depth may stand in the pixel data of a region of that depth.
+pub fn is_no_deeper(depth: Depth, region: Depth) -> bool
     ensures { IsTrue result ↔ IsNoDeeper depth region }
 {
     match depth {
@@ -54,6 +55,20 @@ fn is_no_deeper(depth: Depth, region: Depth) -> bool
 
 /// The bytes of the string that begins these, with its end and the fill; none where no end comes.
 fn string_size(body: &[u8], depth: Depth) -> Option<usize>
+    requires { length body.now ≤ 65535 }
+    ensures found { IfSome result (λ size. (size ≤ length body.now) × (codes : List Code) × IsString depth codes (take size body.now)) }
+    ensures none { IfNone result ((codes : List Code) (front : List ℕ) (rest : List ℕ) → body.now ≡ front ++ rest → IsString depth codes front → ⊥) }
+{
+    match depth {
+        Depth::Two => string_size_of(body, Depth::Two),
+        Depth::Four => string_size_of(body, Depth::Four),
+        Depth::Eight => string_size_of(body, Depth::Eight),
+    }
+}
+
+/// The same, inlined at each depth.
+#[inline(always)]
+fn string_size_of(body: &[u8], depth: Depth) -> Option<usize>
     requires { length body.now ≤ 65535 }
     ensures found { IfSome result (λ size. (size ≤ length body.now) × (codes : List Code) × IsString depth codes (take size body.now)) }
     ensures none { IfNone result ((codes : List Code) (front : List ℕ) (rest : List ℕ) → body.now ≡ front ++ rest → IsString depth codes front → ⊥) }

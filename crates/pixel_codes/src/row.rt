@@ -1,4 +1,4 @@
-ghost use Rattle.std.specs.Prelude.{◌≡◌, ℕ, ◌==◌, ◌+◌, ◌*◌, ◌<◌, ◌≤◌, List, ◌++◌, length, replicate, flat_map, slice_index, take_while, All, OnOk, OnErr};
+ghost use Rattle.std.specs.Prelude.{◌≡◌, ℕ, ◌==◌, ◌+◌, ◌*◌, ◌<◌, ◌≤◌, List, ◌++◌, length, replicate, flat_map, All, OnOk, OnErr};
 ghost use Rattle.sub_base.specs.Depth.{code_count};
 ghost use Rattle.stream_syntax.specs.PixelCodes.{bits, bits_of, spelled, ending, string_of, IsRowString, IsRowSize, IsReadAs};
 ghost use Rattle.pixel_codes.specs.Least.{chosen};
@@ -7,6 +7,7 @@ ghost use Rattle.pixel_codes.specs.Rows.{runs_of, codes_of};
 ghost use Rattle.pixel_codes.specs.Stream.{stream};
 
 use crate::choice::first_spelling;
+use crate::maximal::run_length;
 use crate::pending::Pending;
 use sub_base::{Depth, NoMemory};
 
@@ -39,6 +40,21 @@ fn append_row(depth: Depth, codes: &[u8], out: &mut Vec<u8>) -> Result<(), NoMem
         × (bits_of out.new.items ≡ bits_of out.old.items ++ (string_of depth (codes_of depth (runs_of codes.now)) ++ replicate fill 0))) }
     ensures extends { Extends out.old.items out.new.items }
 {
+    match depth {
+        Depth::Two => append_row_of(Depth::Two, codes, out),
+        Depth::Four => append_row_of(Depth::Four, codes, out),
+        Depth::Eight => append_row_of(Depth::Eight, codes, out),
+    }
+}
+
+/// The same, inlined at each depth: the depth is not looked at again for each run.
+#[inline(always)]
+fn append_row_of(depth: Depth, codes: &[u8], out: &mut Vec<u8>) -> Result<(), NoMemory>
+    requires { All (λ code. code < code_count depth) codes.now }
+    ensures text { OnOk result ((fill : ℕ) × (fill < 8)
+        × (bits_of out.new.items ≡ bits_of out.old.items ++ (string_of depth (codes_of depth (runs_of codes.now)) ++ replicate fill 0))) }
+    ensures extends { Extends out.old.items out.new.items }
+{
     let mut pending = Pending::none();
     let mut place = 0;
     while place < codes.len() {
@@ -50,16 +66,8 @@ fn append_row(depth: Depth, codes: &[u8], out: &mut Vec<u8>) -> Result<(), NoMem
     pending.finish(out)
 }
 
-/// How many codes at the front are equal.
-fn run_length(codes: &[u8]) -> usize
-    requires { 0 < length codes.now }
-    ensures { result ≡ length (take_while (λ code. code == slice_index codes.now 0) codes.now) }
-{
-    let first = codes[0];
-    codes.iter().take_while(|code| **code == first).count()
-}
-
 /// Appends the codes of a run.
+#[inline(always)]
 fn append_run(
     depth: Depth,
     code: u8,
@@ -91,7 +99,7 @@ fn append_end(depth: Depth, pending: &mut Pending, out: &mut Vec<u8>) -> Result<
 
 /// How many bits, all 0, the end of a string has.
 #[tactic(auto, using(crate::proofs::Rows::two_ending, crate::proofs::Rows::four_ending, crate::proofs::Rows::eight_ending))]
-fn end_width(depth: Depth) -> u32
+pub(crate) fn end_width(depth: Depth) -> u32
     ensures spelled { bits result 0 ≡ ending depth }
     ensures narrow { result ≤ 24 }
 {

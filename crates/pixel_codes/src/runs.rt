@@ -37,6 +37,7 @@ impl<'a> Runs<'a> {
     }
 
     /// The next run; none exactly after the last one.
+    #[inline(always)]
     pub fn next_run(&mut self) -> Option<Run>
         ensures { MatchOption result ((self.old ≡ []) × (self.new ≡ [])) (λ run. self.old ≡ run ∷ self.new) }
     {

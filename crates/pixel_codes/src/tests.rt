@@ -46,6 +46,18 @@ fn least_bits_of_three_depths(rt: HostRuntime) {
 }
 
 #[test]
+fn lengths_of_runs(rt: HostRuntime) {
+    let mut codes = [7; 50];
+    for length in [1_usize, 2, 3, 15, 16, 17, 31, 32, 33, 47, 48, 49] {
+        codes[length] = 9;
+        assert_eq!(rt; run_length(&codes), length);
+        assert_eq!(rt; run_length(&codes[..length]), length);
+        codes[length] = 7;
+    }
+    assert_eq!(rt; run_length(&codes), 50);
+}
+
+#[test]
 fn rows_of_three_depths(rt: HostRuntime) -> Result<(), Fail> {
     let mut two = Vec::new(rt.alloc());
     write_row(
@@ -54,6 +66,7 @@ fn rows_of_three_depths(rt: HostRuntime) -> Result<(), Fail> {
         &mut two,
     )?;
     assert_eq!(rt; two.as_slice(), b"\x51\x08\x30\x00".as_slice());
+    assert_eq!(rt; row_size(Depth::Two, &[1, 1, 0, 3, 3, 3]), 3);
     let mut four = Vec::new(rt.alloc());
     write_row(
         Depth::Four,

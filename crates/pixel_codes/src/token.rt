@@ -13,6 +13,7 @@ pub(crate) enum Token {
 }
 
 /// The code at bit `place` of a string of a depth, and the place after it; none where the bytes end before.
+#[inline(always)]
 pub(crate) fn read_token(bytes: &[u8], place: usize, depth: Depth) -> Option<(Token, usize)>
     requires bytes { length bytes.now ≤ 65535 }
     requires place { place ≤ 8 * length bytes.now }
@@ -25,6 +26,7 @@ pub(crate) fn read_token(bytes: &[u8], place: usize, depth: Depth) -> Option<(To
     }
 }
 
+#[inline(always)]
 #[tactic(auto, unfolding(crate::specs::Reading::two_at))]
 fn two_bit_token(bytes: &[u8], place: usize) -> Option<(Token, usize)>
     requires bytes { length bytes.now ≤ 65535 }
@@ -49,6 +51,7 @@ fn two_bit_token(bytes: &[u8], place: usize) -> Option<(Token, usize)>
 }
 
 /// The rest of a 2 bit code behind four bits 0.
+#[inline(always)]
 #[tactic(auto, unfolding(crate::specs::Reading::two_long_at))]
 fn two_bit_long_token(bytes: &[u8], place: usize) -> Option<(Token, usize)>
     requires bytes { length bytes.now ≤ 65535 }
@@ -72,6 +75,7 @@ fn two_bit_long_token(bytes: &[u8], place: usize) -> Option<(Token, usize)>
     Some((pixels(u32::from(length) + 29, code), place + 12))
 }
 
+#[inline(always)]
 #[tactic(auto, unfolding(crate::specs::Reading::four_at))]
 fn four_bit_token(bytes: &[u8], place: usize) -> Option<(Token, usize)>
     requires bytes { length bytes.now ≤ 65535 }
@@ -93,6 +97,7 @@ fn four_bit_token(bytes: &[u8], place: usize) -> Option<(Token, usize)>
 }
 
 /// The rest of a 4 bit code behind four bits 0 and a bit 1, whose next three bits are `form`.
+#[inline(always)]
 #[tactic(auto, unfolding(crate::specs::Reading::four_run_at))]
 fn four_bit_run_token(bytes: &[u8], place: usize, form: u8) -> Option<(Token, usize)>
     requires bytes { length bytes.now ≤ 65535 }
@@ -119,6 +124,7 @@ fn four_bit_run_token(bytes: &[u8], place: usize, form: u8) -> Option<(Token, us
     Some((pixels(u32::from(length) + 25, code), place + 12))
 }
 
+#[inline(always)]
 #[tactic(auto, unfolding(crate::specs::Reading::eight_at))]
 fn eight_bit_token(bytes: &[u8], place: usize) -> Option<(Token, usize)>
     requires bytes { length bytes.now ≤ 65535 }
@@ -140,6 +146,7 @@ fn eight_bit_token(bytes: &[u8], place: usize) -> Option<(Token, usize)>
     Some((pixels(u32::from(second - 128), code), place + 24))
 }
 
+#[inline(always)]
 fn pixels(length: u32, code: u8) -> Token
     ensures { result ≡ Token.Pixels length code }
 {

@@ -1,15 +1,20 @@
-//! A benchmark: writes the fields of a text-like picture of rows of 720 pixels at each depth and reads the top one
-//! again, as many times as its one word says, and tells on standard error how many million pixels a second that was.
+//! A benchmark: codes pictures and reads the blocks of their top fields again, as many times as its first word says,
+//! and tells on standard error how many million pixels a second that was. The pictures are those of the script that
+//! its second word names, all of one depth; without it a text-like picture of rows of 720 pixels at each depth.
 //! Standard output has the counts, which are the same in each run.
 #![tactic(auto)]
 
 mod letters;
 
 use anyhow::{Context, Result, ensure};
+use bitmap_font::Font;
+use cue_list::Script;
 use indexed_picture::Indexed;
 use pixel_codes::{CodeBlock, check_block};
 use set_coder::write_fields;
 use std::env;
+use std::fs::File;
+use std::io::Read;
 use std::time::Instant;
 use sub_base::Depth;
 
@@ -18,46 +23,83 @@ fn main(rt: HostRuntime) -> Result<()> {
         Some(word) => word
             .as_str()
             .parse::<u32>()
-            .context("the word is no number")?,
+            .context("the first word is no number")?,
         None => 1,
     };
+    match env::args(&rt)?.nth(2) {
+        Some(path) => {
+            let script = script_in(&rt, path.as_str())?;
+            measure(&rt, script.pictures.as_slice(), times)
+        }
+        None => measure_letters(&rt, times),
+    }
+}
+
+/// The script in a file, which has no texts.
+fn script_in(rt: &HostRuntime, path: &str) -> Result<Script> {
+    let mut bytes = Vec::new(rt.alloc());
+    File::open(rt, path)?.read_to_end(&mut bytes)?;
+    let font = Font::empty(rt.alloc());
+    Script::read(rt.alloc(), bytes.as_slice(), &font)
+        .ok()
+        .context("the file is no script without texts")
+}
+
+fn measure_letters(rt: &HostRuntime, times: u32) -> Result<()> {
     for depth in [Depth::Two, Depth::Four, Depth::Eight] {
-        let picture = letters::picture(rt.alloc(), depth)?;
-        measure(&rt, &picture, times)?;
+        let mut pictures = Vec::new(rt.alloc());
+        pictures.push(letters::picture(rt.alloc(), depth)?)?;
+        measure(rt, pictures.as_slice(), times)?;
     }
     Ok(())
 }
 
-/// Writes and reads a picture so many times.
-fn measure(rt: &HostRuntime, picture: &Indexed, times: u32) -> Result<()> {
-    let depth = picture.depth();
+/// Codes and reads pictures, one after another, so many times.
+fn measure(rt: &HostRuntime, pictures: &[Indexed], times: u32) -> Result<()> {
+    let depth = pictures.first().context("there is no picture")?.depth();
+    let mut tops = Vec::new(rt.alloc());
+    let mut bytes = 0usize;
+    let mut sides = 0u64;
+    for picture in pictures {
+        ensure!(picture.depth() == depth, "pictures have different depths");
+        let mut out = Vec::new(rt.alloc());
+        let lengths = write_fields(picture, picture.depth(), &mut out)?;
+        bytes = bytes.wrapping_add(out.len());
+        sides = sides.wrapping_add(u64::from(picture.width()) * u64::from(picture.height()));
+        out.truncate(lengths.top as usize);
+        ensure!(out.len() <= 65_535, "a top block is too long");
+        tops.push(out)?;
+    }
     let mut out = Vec::new(rt.alloc());
-    let lengths = write_fields(picture, depth, &mut out)?;
     let start = Instant::now(rt)?;
     for _ in 0..times {
-        out.clear();
-        let _lengths = write_fields(picture, depth, &mut out)?;
+        for picture in pictures {
+            out.clear();
+            let _lengths = write_fields(picture, picture.depth(), &mut out)?;
+        }
     }
-    let written = rate(720 * 48, times, start.elapsed(rt)?.as_micros());
-    let top = out
-        .get(..lengths.top as usize)
-        .context("the top block is there")?;
-    ensure!(top.len() <= 65535, "the top block is too long");
+    let written = rate(sides, times, start.elapsed(rt)?.as_micros());
     let mut pixels = 0;
     let start = Instant::now(rt)?;
     for _ in 0..times {
-        pixels = pixels_of(&check_block(top, depth)?);
+        pixels = pixels_in(tops.as_slice(), depth)?;
     }
     let read = rate(pixels, times, start.elapsed(rt)?.as_micros());
-    println!(rt;
-        "{depth:?}: {} bytes, {pixels} pixels in the top field",
-        out.len()
-    )?;
-    let bytes = out.len();
+    println!(rt; "{depth:?}: {bytes} bytes, {pixels} pixels in the top field")?;
     eprintln!(rt;
         "{depth:?}: {bytes} bytes, {written} million pixels a second written, {read} read"
     )?;
     Ok(())
+}
+
+/// How many pixels the runs of blocks draw.
+fn pixels_in(blocks: &[Vec<u8>], depth: Depth) -> Result<u64> {
+    let mut pixels = 0u64;
+    for block in blocks {
+        ensure!(block.len() <= 65_535, "a block is too long");
+        pixels = pixels.wrapping_add(pixels_of(&check_block(block.as_slice(), depth)?));
+    }
+    Ok(pixels)
 }
 
 /// How many pixels the runs of a block draw.

@@ -3,7 +3,7 @@ use Rattle.std.proofs.Common.{◌≡◌, ℕ, max, ◌+◌, ◌<◌, ◌≤◌, 
 use Rattle.std.specs.Prelude.{slice_index}
 use Rattle.std.proofs.lemmas.Bool.{cases_lt}
 use Rattle.std.proofs.lemmas.Bool.Decides.{nat_tests}
-use Rattle.sub_base.specs.declared.load.SetLoad.{SetLoad}
+use Rattle.sub_base.specs.declared.load.WriteLoad.{WriteLoad}
 use Rattle.schedule.specs.Packets.{sum_below, size_of}
 use Rattle.sub_base.specs.declared.pace.Pace.{Pace}
 use Rattle.sub_base.specs.Pace.{tick_of}
@@ -16,25 +16,25 @@ pub ltb-false : (a b : ℕ) → ltb a b ≡ false → b ≤ a
 ltb-false a b h = grind (arith, nat_tests)
 
 -- a set that is done has left
-pub left_of-yes : (loads : List SetLoad) (dones : List ℕ) (tick i : ℕ) → slice_index dones i ≤ tick → left_of loads dones tick i ≡ size_of loads i
+pub left_of-yes : (loads : List WriteLoad) (dones : List ℕ) (tick i : ℕ) → slice_index dones i ≤ tick → left_of loads dones tick i ≡ size_of loads i
 left_of-yes loads dones tick i h = grind (arith, nat_tests)
 
 -- one that is not has not
-pub left_of-no : (loads : List SetLoad) (dones : List ℕ) (tick i : ℕ) → tick < slice_index dones i → left_of loads dones tick i ≡ 0
+pub left_of-no : (loads : List WriteLoad) (dones : List ℕ) (tick i : ℕ) → tick < slice_index dones i → left_of loads dones tick i ≡ 0
 left_of-no loads dones tick i h = grind (arith, nat_tests)
 
-pub left_of-most : (loads : List SetLoad) (dones : List ℕ) (tick i : ℕ) → left_of loads dones tick i ≤ size_of loads i
+pub left_of-most : (loads : List WriteLoad) (dones : List ℕ) (tick i : ℕ) → left_of loads dones tick i ≤ size_of loads i
 left_of-most loads dones tick i = grind (arith, nat_tests)
 
 -- where the first m sets are done, they have left
-pub left-least : (loads : List SetLoad) (dones : List ℕ) (tick m i : ℕ) → m ≤ i → ((j : ℕ) → j < m → slice_index dones j ≤ tick) →
+pub left-least : (loads : List WriteLoad) (dones : List ℕ) (tick m i : ℕ) → m ≤ i → ((j : ℕ) → j < m → slice_index dones j ≤ tick) →
     sum_below (size_of loads) m ≤ sum_below (left_of loads dones tick) i
 left-least loads dones tick m i within done =
     let same = sum_below-same (left_of loads dones tick) (size_of loads) m (λ j below. left_of-yes loads dones tick j (done j below)) in
     omega (arith, same, sum_below-rises (left_of loads dones tick) m i within)
 
 -- where set m and those after it are not done, no more than those before it have left
-pub left-most : (loads : List SetLoad) (dones : List ℕ) (tick m i : ℕ) → m ≤ i → ((j : ℕ) → m ≤ j → j < i → tick < slice_index dones j) →
+pub left-most : (loads : List WriteLoad) (dones : List ℕ) (tick m i : ℕ) → m ≤ i → ((j : ℕ) → m ≤ j → j < i → tick < slice_index dones j) →
     sum_below (left_of loads dones tick) i ≤ sum_below (size_of loads) m
 left-most loads dones tick m i within later =
     let none = sum_below-ends (left_of loads dones tick) m i within (λ j from to. left_of-no loads dones tick j (later j from to)) in
@@ -68,7 +68,7 @@ AreDone-more dones gone pace slot at next done below rises later reached =
     }
 
 -- where what arrived has no room before set `gone` leaves, it has room no earlier than that set is done
-pub needs_next : (loads : List SetLoad) (dones : List ℕ) (pace : Pace) (gone total slot : ℕ) → AreOrdered dones → gone < length dones →
+pub needs_next : (loads : List WriteLoad) (dones : List ℕ) (pace : Pace) (gone total slot : ℕ) → AreOrdered dones → gone < length dones →
     pace.coded + sum_below (size_of loads) gone < total → total ≤ pace.coded + sum_below (left_of loads dones (tick_of pace slot)) (length dones) →
     slice_index dones gone ≤ tick_of pace slot
 needs_next loads dones pace gone total slot ordered below full room =

@@ -4,10 +4,10 @@ use Rattle.std.specs.Prelude.{slice_index, All}
 use Rattle.std.specs.List.Sorted.{IsStrictlyIncreasing}
 use Rattle.std.proofs.lemmas.Bool.{cases_lt}
 use Rattle.std.proofs.lemmas.Bool.Decides.{nat_tests}
-use Rattle.sub_base.specs.declared.load.SetLoad.{SetLoad}
+use Rattle.sub_base.specs.declared.load.WriteLoad.{WriteLoad}
 use Rattle.sub_base.specs.declared.pace.Pace.{Pace}
 use Rattle.schedule.specs.declared.fault.ScheduleFault.{ScheduleFault}
-use Rattle.schedule.specs.declared.fault.ScheduleFault.TheVariants.{Memory, CodedFull, Late}
+use Rattle.schedule.specs.declared.fault.ScheduleFault.TheVariants.{Memory, CodedFull, Late, SegmentFull}
 use Rattle.schedule.specs.Arrivals.{payload_by, arrived_of, IsArrival, IsEarliest, IsHopeless}
 use Rattle.schedule.specs.Packets.{sum_below, size_of, first_packet, packets_of, payload_of, bytes_with}
 use Rattle.schedule.specs.Refusals.{IsCause}
@@ -15,8 +15,8 @@ use Rattle.sub_base.specs.Pace.{tick_of}
 use Rattle.schedule.specs.Slots.{slot_of, left_of, done_of, Timetable, IsSchedule, IsLoad}
 use Rattle.schedule.proofs.SumLaws.{sum_below-more, sum_below-zero, sum_below-rises, sum_below-same, sum_below-le, sum_below-ends}
 use Rattle.schedule.proofs.BufferLaws.{tick_of-rises, left_of-no, left_of-most}
-use Rattle.schedule.proofs.SendLaws.{payloads}
-use Rattle.schedule.proofs.MakeLaws.{load_at, some_packets, within_packets}
+use Rattle.schedule.proofs.PacketLaws.{load_at, payloads, some_bytes, some_packets}
+use Rattle.schedule.proofs.MakeLaws.{within_packets}
 
 -- of rising slots, a later one is not less
 pub rise-le : (slots : List ℕ) (a b : ℕ) → IsStrictlyIncreasing slots → a ≤ b → b < length slots → slice_index slots a ≤ slice_index slots b
@@ -28,31 +28,31 @@ rise-le slots a (suc b) rise order within =
     ]
 
 -- a packet that has arrived, and one that has not
-pub payload_by-yes : (loads : List SetLoad) (slots : List ℕ) (slot i k : ℕ) → slot_of loads slots i k ≤ slot → payload_by loads slots slot i k ≡ payload_of (size_of loads i) k
+pub payload_by-yes : (loads : List WriteLoad) (slots : List ℕ) (slot i k : ℕ) → slot_of loads slots i k ≤ slot → payload_by loads slots slot i k ≡ payload_of loads i k
 payload_by-yes loads slots slot i k h = grind (arith, nat_tests)
 
-pub payload_by-no : (loads : List SetLoad) (slots : List ℕ) (slot i k : ℕ) → slot < slot_of loads slots i k → payload_by loads slots slot i k ≡ 0
+pub payload_by-no : (loads : List WriteLoad) (slots : List ℕ) (slot i k : ℕ) → slot < slot_of loads slots i k → payload_by loads slots slot i k ≡ 0
 payload_by-no loads slots slot i k h = grind (arith, nat_tests)
 
-pub payload_by-most : (loads : List SetLoad) (slots : List ℕ) (slot i k : ℕ) → payload_by loads slots slot i k ≤ payload_of (size_of loads i) k
+pub payload_by-most : (loads : List WriteLoad) (slots : List ℕ) (slot i k : ℕ) → payload_by loads slots slot i k ≤ payload_of loads i k
 payload_by-most loads slots slot i k = grind (arith, nat_tests)
 
 -- a later done tick leaves no more bytes gone
-pub left_of-le : (loads : List SetLoad) (dones others : List ℕ) (tick i : ℕ) → slice_index dones i ≤ slice_index others i → left_of loads others tick i ≤ left_of loads dones tick i
+pub left_of-le : (loads : List WriteLoad) (dones others : List ℕ) (tick i : ℕ) → slice_index dones i ≤ slice_index others i → left_of loads others tick i ≤ left_of loads dones tick i
 left_of-le loads dones others tick i h = grind (arith, nat_tests)
 
 -- the packets up to a place in rising slots have arrived by its slot
-pub arrived-least : (loads : List SetLoad) (n : ℕ) (slots : List ℕ) (i k : ℕ) → length slots ≡ first_packet loads n → IsStrictlyIncreasing slots →
+pub arrived-least : (loads : List WriteLoad) (n : ℕ) (slots : List ℕ) (i k : ℕ) → length slots ≡ first_packet loads n → IsStrictlyIncreasing slots →
     i < n → k < packets_of loads i → bytes_with loads i k ≤ sum_below (arrived_of loads slots (slot_of loads slots i k)) n
 arrived-least loads n slots i k count rise before within =
     let slot = slot_of loads slots i k in
     let place = within_packets loads i k n before within in
     let all : (j : ℕ) → j < i → size_of loads j ≤ arrived_of loads slots slot j = λ j less.
-    let same = sum_below-same (payload_by loads slots slot j) (payload_of (size_of loads j)) (packets_of loads j)
+    let same = sum_below-same (payload_by loads slots slot j) (payload_of loads j) (packets_of loads j)
     (λ m among. payload_by-yes loads slots slot j m
     (rise-le slots (first_packet loads j + m) (first_packet loads i + k) rise (omega (arith, within_packets loads j m i less among)) (omega (arith, count, place)))) in
-    omega (arith, same, payloads (size_of loads j)) in
-    let own_same = sum_below-same (payload_by loads slots slot i) (payload_of (size_of loads i)) (k + 1)
+    omega (arith, same, payloads loads j) in
+    let own_same = sum_below-same (payload_by loads slots slot i) (payload_of loads i) (k + 1)
     (λ m among. payload_by-yes loads slots slot i m (rise-le slots (first_packet loads i + m) (first_packet loads i + k) rise (omega arith) (omega (arith, count, place)))) in
     let own = sum_below-rises (payload_by loads slots slot i) (k + 1) (packets_of loads i) (omega arith) in
     let sets = sum_below-le (size_of loads) (arrived_of loads slots slot) i all in
@@ -61,7 +61,7 @@ arrived-least loads n slots i k count rise before within =
     omega (arith, own_same, own, sets, here, whole)
 
 -- no other packets have
-pub arrived-most : (loads : List SetLoad) (n : ℕ) (slots : List ℕ) (i k : ℕ) → length slots ≡ first_packet loads n → IsStrictlyIncreasing slots →
+pub arrived-most : (loads : List WriteLoad) (n : ℕ) (slots : List ℕ) (i k : ℕ) → length slots ≡ first_packet loads n → IsStrictlyIncreasing slots →
     i < n → k < packets_of loads i → sum_below (arrived_of loads slots (slot_of loads slots i k)) n ≤ bytes_with loads i k
 arrived-most loads n slots i k count rise before within =
     let slot = slot_of loads slots i k in
@@ -75,15 +75,15 @@ arrived-most loads n slots i k count rise before within =
     ∙ sum_below-zero (payload_by loads slots slot j) in
     let own_rest = sum_below-ends (payload_by loads slots slot i) (k + 1) (packets_of loads i) (omega arith)
     (λ m after less. payload_by-no loads slots slot i m (later (first_packet loads i + m) (omega arith) (within_packets loads i m n before less))) in
-    let own = sum_below-le (payload_by loads slots slot i) (payload_of (size_of loads i)) (k + 1) (λ m _. payload_by-most loads slots slot i m) in
+    let own = sum_below-le (payload_by loads slots slot i) (payload_of loads i) (k + 1) (λ m _. payload_by-most loads slots slot i m) in
     let sets = sum_below-le (arrived_of loads slots slot) (size_of loads) i (λ j less.
-    omega (arith, sum_below-le (payload_by loads slots slot j) (payload_of (size_of loads j)) (packets_of loads j) (λ m _. payload_by-most loads slots slot j m), payloads (size_of loads j))) in
+    omega (arith, sum_below-le (payload_by loads slots slot j) (payload_of loads j) (packets_of loads j) (λ m _. payload_by-most loads slots slot j m), payloads loads j)) in
     let rest = sum_below-ends (arrived_of loads slots slot) (i + 1) n (omega arith) none in
     let here = sum_below-more (arrived_of loads slots slot) i in
     omega (arith, own_rest, own, sets, rest, here)
 
 -- at a packet of an arrival neither its set nor a later one is done, so that it has room among the sets before
-pub arrival-room : (loads : List SetLoad) (n : ℕ) (pace : Pace) (slots dones : List ℕ) (i k : ℕ) → All IsLoad loads → n ≤ length loads →
+pub arrival-room : (loads : List WriteLoad) (n : ℕ) (pace : Pace) (slots dones : List ℕ) (i k : ℕ) → All IsLoad loads → n ≤ length loads →
     IsArrival loads n pace slots dones → i < n → k < packets_of loads i →
     bytes_with loads i k ≤ pace.coded + sum_below (left_of loads dones (tick_of pace (slot_of loads slots i k))) i
 arrival-room loads n pace slots dones i k each all at before within =
@@ -91,8 +91,8 @@ arrival-room loads n pace slots dones i k each all at before within =
     let place = within_packets loads i k n before within in
     let arrived = arrived-least loads n slots i k at.packets at.rise before within in
     let not_yet : (j : ℕ) → i ≤ j → j < n → left_of loads dones (tick_of pace slot) j ≡ 0 = λ j after among.
-    let some = (load_at loads j each (omega arith)).size in
-    let any = some_packets loads j some in
+    let some = (load_at loads j each (omega arith)).some in
+    let any = some_packets loads j (some_bytes loads j each (omega arith)) in
     let in_place = within_packets loads j (packets_of loads j - 1) n among (omega (arith, any)) in
     let order : first_packet loads i + k ≤ first_packet loads j + (packets_of loads j - 1) =
     elim (cases_lt i j) [
@@ -105,13 +105,13 @@ arrival-room loads n pace slots dones i k each all at before within =
     omega (arith, arrived, left, at.level i k before within)
 
 -- earlier slots make an earlier done tick
-pub done_of-le : (loads : List SetLoad) (pace : Pace) (slots others : List ℕ) (i : ℕ) →
+pub done_of-le : (loads : List WriteLoad) (pace : Pace) (slots others : List ℕ) (i : ℕ) →
     slot_of loads slots i (packets_of loads i - 1) ≤ slot_of loads others i (packets_of loads i - 1) → done_of loads pace slots i ≤ done_of loads pace others i
 done_of-le loads pace slots others i h =
     omega (arith, tick_of-rises pace (slot_of loads slots i (packets_of loads i - 1)) (slot_of loads others i (packets_of loads i - 1)) h)
 
 -- one packet: where all before stand no later than in an arrival, so does this one
-pub earlier-packet : (loads : List SetLoad) (n m : ℕ) (pace : Pace) (table : Timetable) (slots dones : List ℕ) (i k : ℕ) → All IsLoad loads →
+pub earlier-packet : (loads : List WriteLoad) (n m : ℕ) (pace : Pace) (table : Timetable) (slots dones : List ℕ) (i k : ℕ) → All IsLoad loads →
     n ≤ m → m ≤ length loads → IsSchedule loads n pace table → IsArrival loads m pace slots dones → i < n → k < packets_of loads i →
     ((p : ℕ) → p < first_packet loads i + k → slice_index table.slots p ≤ slice_index slots p) →
     slot_of loads table.slots i k ≤ slot_of loads slots i k
@@ -119,7 +119,7 @@ earlier-packet loads n m pace table slots dones i k each fewer all at other befo
     let slot = slot_of loads slots i k in
     let place = within_packets loads i k m (omega arith) within in
     let gone = sum_below-le (left_of loads dones (tick_of pace slot)) (left_of loads table.dones (tick_of pace slot)) i (λ j less.
-    let some = some_packets loads j (load_at loads j each (omega arith)).size in
+    let some = some_packets loads j (some_bytes loads j each (omega arith)) in
     let last = earlier (first_packet loads j + (packets_of loads j - 1)) (omega (arith, within_packets loads j (packets_of loads j - 1) i less (omega (arith, some)))) in
     left_of-le loads table.dones dones (tick_of pace slot) j
     (omega (arith, at.dones j (omega arith), other.done j (omega arith), done_of-le loads pace table.slots slots j last))) in
@@ -130,7 +130,7 @@ earlier-packet loads n m pace table slots dones i k each fewer all at other befo
     })
 
 -- the packets of one set
-pub earlier-set : (loads : List SetLoad) (n m : ℕ) (pace : Pace) (table : Timetable) (slots dones : List ℕ) (i k : ℕ) → All IsLoad loads →
+pub earlier-set : (loads : List WriteLoad) (n m : ℕ) (pace : Pace) (table : Timetable) (slots dones : List ℕ) (i k : ℕ) → All IsLoad loads →
     n ≤ m → m ≤ length loads → IsSchedule loads n pace table → IsArrival loads m pace slots dones → i < n → k ≤ packets_of loads i →
     ((p : ℕ) → p < first_packet loads i → slice_index table.slots p ≤ slice_index slots p) →
     (p : ℕ) → p < first_packet loads i + k → slice_index table.slots p ≤ slice_index slots p
@@ -150,7 +150,7 @@ earlier-set loads n m pace table slots dones i (suc k) each fewer all at other b
     ]
 
 -- all packets of the first i sets
-pub earlier-sets : (loads : List SetLoad) (n m : ℕ) (pace : Pace) (table : Timetable) (slots dones : List ℕ) (i : ℕ) → All IsLoad loads →
+pub earlier-sets : (loads : List WriteLoad) (n m : ℕ) (pace : Pace) (table : Timetable) (slots dones : List ℕ) (i : ℕ) → All IsLoad loads →
     n ≤ m → m ≤ length loads → IsSchedule loads n pace table → IsArrival loads m pace slots dones → i ≤ n →
     (p : ℕ) → p < first_packet loads i → slice_index table.slots p ≤ slice_index slots p
 earlier-sets loads n m pace table slots dones zero each fewer all at other within p below = absurd (omega (arith, below, sum_below-zero (packets_of loads)))
@@ -160,16 +160,16 @@ earlier-sets loads n m pace table slots dones (suc i) each fewer all at other wi
     (omega (arith, sum_below-more (packets_of loads) i, ap (first_packet loads) (add-one i)))
 
 -- the done tick of a set
-pub earlier-done : (loads : List SetLoad) (n m : ℕ) (pace : Pace) (table : Timetable) (slots dones : List ℕ) (i : ℕ) → All IsLoad loads →
+pub earlier-done : (loads : List WriteLoad) (n m : ℕ) (pace : Pace) (table : Timetable) (slots dones : List ℕ) (i : ℕ) → All IsLoad loads →
     n ≤ m → m ≤ length loads → IsSchedule loads n pace table → IsArrival loads m pace slots dones → i < n → slice_index table.dones i ≤ slice_index dones i
 earlier-done loads n m pace table slots dones i each fewer all at other within =
-    let some = some_packets loads i (load_at loads i each (omega arith)).size in
+    let some = some_packets loads i (some_bytes loads i each (omega arith)) in
     let last = earlier-sets loads n m pace table slots dones n each fewer all at other (omega arith) (first_packet loads i + (packets_of loads i - 1))
     (within_packets loads i (packets_of loads i - 1) n within (omega (arith, some))) in
     omega (arith, at.dones i within, other.done i (omega arith), done_of-le loads pace table.slots slots i last)
 
 -- the schedule is the earliest arrival
-pub earliest : (loads : List SetLoad) (n : ℕ) (pace : Pace) (table : Timetable) → All IsLoad loads → IsSchedule loads n pace table → IsEarliest loads n pace table
+pub earliest : (loads : List WriteLoad) (n : ℕ) (pace : Pace) (table : Timetable) → All IsLoad loads → IsSchedule loads n pace table → IsEarliest loads n pace table
 earliest loads n pace table each at =
     record {
       slots = λ m slots dones fewer all other. earlier-sets loads n m pace table slots dones n each fewer all at other (omega arith);
@@ -177,7 +177,7 @@ earliest loads n pace table each at =
     }
 
 -- the schedule is an arrival
-pub arrival : (loads : List SetLoad) (n : ℕ) (pace : Pace) (table : Timetable) → IsStrictlyIncreasing table.slots → IsSchedule loads n pace table →
+pub arrival : (loads : List WriteLoad) (n : ℕ) (pace : Pace) (table : Timetable) → IsStrictlyIncreasing table.slots → IsSchedule loads n pace table →
     IsArrival loads n pace table.slots table.dones
 arrival loads n pace table rise at =
     record {
@@ -197,15 +197,16 @@ arrival loads n pace table rise at =
     }
 
 -- a refusal holds for every arrival
-pub hopeless : (loads : List SetLoad) (pace : Pace) (fault : ScheduleFault) → All IsLoad loads → IsCause loads pace fault → IsHopeless loads pace fault
+pub hopeless : (loads : List WriteLoad) (pace : Pace) (fault : ScheduleFault) → All IsLoad loads → IsCause loads pace fault → IsHopeless loads pace fault
 hopeless loads pace Memory each cause = tt
 hopeless loads pace (CodedFull set size) each cause = λ m slots dones among all other.
-    let some = some_packets loads set (load_at loads set each cause.among).size in
+    let some = some_packets loads set (some_bytes loads set each cause.among) in
     let last : packets_of loads set - 1 + 1 ≡ packets_of loads set = omega (arith, some) in
     let room = arrival-room loads m pace slots dones set (packets_of loads set - 1) each all other among (omega (arith, some)) in
     let slot = slot_of loads slots set (packets_of loads set - 1) in
     let left = sum_below-le (left_of loads dones (tick_of pace slot)) (size_of loads) set (λ j _. left_of-most loads dones (tick_of pace slot) j) in
-    omega (arith, room, left, ap (sum_below (payload_of (size_of loads set))) last, payloads (size_of loads set), cause.is_size, cause.full)
+    omega (arith, room, left, ap (sum_below (payload_of loads set)) last, payloads loads set, cause.is_size, cause.full)
 hopeless loads pace (Late set done shown) each cause = λ m slots dones among all other.
     let later = earlier-done loads (set + 1) m pace cause.table slots dones set each (omega arith) all cause.schedule other (omega arith) in
     (omega (arith, later, cause.is_done), omega (arith, later, cause.is_done, cause.is_shown, cause.late))
+hopeless loads pace (SegmentFull set longest) each cause = (cause.is_longest, cause.long)

@@ -1,45 +1,30 @@
 -- The packets of one set, put into their slots one after the other.
-use Rattle.std.proofs.Common.{◌≡◌, ℕ, zero, suc, min, max, ◌-◌, ◌+◌, ◌*◌, ◌^◌, ◌<◌, ◌≤◌, inl, inr, List, [], ◌∷◌, ◌++◌, length, ap, sym, ◌∙◌, subst, refl, arith, below_more, length-append}
+use Rattle.std.proofs.Common.{◌≡◌, ℕ, max, ◌-◌, ◌+◌, ◌^◌, ◌<◌, ◌≤◌, inl, inr, List, [], ◌∷◌, ◌++◌, length, ap, sym, ◌∙◌, subst, refl, arith, below_more, length-append}
 use Rattle.std.specs.Prelude.{slice_index}
 use Rattle.std.specs.List.Sorted.{IsStrictlyIncreasing}
 use Rattle.std.proofs.Math.ListN.{get_or-append}
 use Rattle.std.proofs.Math.Seq.{get_or-append_seam}
 use Rattle.std.proofs.lemmas.Bool.{cases_lt}
-use Rattle.sub_base.specs.declared.load.SetLoad.{SetLoad}
+use Rattle.sub_base.specs.declared.load.WriteLoad.{WriteLoad}
 use Rattle.sub_base.specs.declared.pace.Pace.{Pace}
 use Rattle.schedule.specs.declared.place.Search.{Search}
-use Rattle.schedule.specs.Packets.{sum_below, size_of, load_of, first_packet, packets_of, payload_of, packet_count, bytes_with}
+use Rattle.schedule.specs.declared.limits.TheConstants.{SEND_WINDOW}
+use Rattle.schedule.specs.Packets.{sum_below, size_of, load_of, first_packet, packets_of, payload_of, bytes_with}
 use Rattle.sub_base.specs.Pace.{tick_of, IsSound}
 use Rattle.schedule.specs.Slots.{CanStand, left_of, slot_of}
 use Rattle.schedule.specs.Safe.{AreDone}
-use Rattle.schedule.specs.Search.{HaveStood, IsBetween}
-use Rattle.schedule.proofs.SumLaws.{sum_below-more, sum_below-suc, sum_below-zero}
+use Rattle.schedule.specs.Search.{HaveStood, IsBetween, IsWithin}
+use Rattle.schedule.proofs.SumLaws.{sum_below-more, sum_below-zero}
 use Rattle.schedule.proofs.BufferLaws.{tick_of-rises, tick_of-max}
+use Rattle.schedule.proofs.PacketLaws.{payloads, some_packets}
 use Rattle.schedule.proofs.SlotLaws.{CanStand-along}
-
--- where the search stands once k packets of the next set have their slots
-pub record IsSending (loads : List SetLoad) (pace : Pace) (old slots dones : List ℕ) (k : ℕ) (search : Search) : Type 0 where
-  pub packets : length slots ≡ first_packet loads (length dones) + k
-  pub kept : (n : ℕ) → n < length old → slice_index slots n ≡ slice_index old n
-  pub longer : length old ≤ length slots
-  pub rise : IsStrictlyIncreasing slots
-  pub above : (n : ℕ) → n < length slots → slice_index slots n < search.slot
-  pub first : (other : ℕ) → ((n : ℕ) → n + 1 ≡ length slots → slice_index slots n < other) →
-      (load_of loads (length dones)).pts ≤ tick_of pace other + 450000 → search.slot ≤ other
-  pub last : 0 < k → (n : ℕ) → n + 1 ≡ length slots → search.slot ≡ slice_index slots n + 1
-  pub window : (load_of loads (length dones)).pts ≤ tick_of pace search.slot + 450000
-  pub total : search.level + sum_below (size_of loads) search.gone ≡ sum_below (size_of loads) (length dones) + sum_below (payload_of (size_of loads (length dones))) k
-  pub level : search.level ≤ pace.coded
-  pub gone : AreDone dones search.gone (tick_of pace search.slot)
-  pub near : tick_of pace search.slot ≤ 2 ^ 62 + 705 * (k + 1)
-  pub stood : HaveStood loads pace slots dones (length dones) k
 
 -- the tick of the next slot
 pub tick_of-next : (pace : Pace) (slot : ℕ) → tick_of pace (slot + 1) ≡ tick_of pace slot + pace.step
 tick_of-next pace slot = omega arith
 
 -- one packet more has its slot
-pub HaveStood-more : (loads : List SetLoad) (pace : Pace) (slots dones : List ℕ) (i k slot : ℕ) → length slots ≡ first_packet loads i + k →
+pub HaveStood-more : (loads : List WriteLoad) (pace : Pace) (slots dones : List ℕ) (i k slot : ℕ) → length slots ≡ first_packet loads i + k →
     HaveStood loads pace slots dones i k → CanStand loads pace slots dones i k slot →
     ((other : ℕ) → CanStand loads pace slots dones i k other → slot ≤ other) → HaveStood loads pace (slots ++ slot ∷ []) dones i (k + 1)
 HaveStood-more loads pace slots dones i k slot count stood can least =
@@ -88,19 +73,19 @@ rise-more slots slot rise above k within =
     ]
 
 -- one packet more is sent, in the slot that the search found for it
-pub IsSending-more : (loads : List SetLoad) (pace : Pace) (old slots dones : List ℕ) (k payload : ℕ) (search placed : Search) →
-    IsSound pace → IsSending loads pace old slots dones k search → payload ≡ payload_of (size_of loads (length dones)) k →
+pub IsWithin-more : (loads : List WriteLoad) (pace : Pace) (slots dones : List ℕ) (k payload : ℕ) (search placed : Search) →
+    IsSound pace → IsWithin loads pace slots dones k search → payload ≡ payload_of loads (length dones) k →
     placed.level + sum_below (size_of loads) placed.gone ≡ search.level + payload + sum_below (size_of loads) search.gone →
     placed.level ≤ pace.coded → AreDone dones placed.gone (tick_of pace placed.slot) → search.slot ≤ placed.slot →
     tick_of pace placed.slot ≤ max (tick_of pace search.slot) (2 ^ 62 + 705) →
     search.level + payload + sum_below (size_of loads) search.gone ≤ pace.coded + sum_below (left_of loads dones (tick_of pace placed.slot)) (length dones) →
     ((slot : ℕ) → search.slot ≤ slot → search.level + payload + sum_below (size_of loads) search.gone ≤ pace.coded + sum_below (left_of loads dones (tick_of pace slot)) (length dones) → placed.slot ≤ slot) →
-    IsSending loads pace old (slots ++ placed.slot ∷ []) dones (k + 1) (record placed { slot = placed.slot + 1 })
-IsSending-more loads pace old slots dones k payload search placed sound at is total level gone after near room least =
+    IsWithin loads pace (slots ++ placed.slot ∷ []) dones (k + 1) (record placed { slot = placed.slot + 1 })
+IsWithin-more loads pace slots dones k payload search placed sound at is total level gone after near room least =
     let i = length dones in
     let grown = slots ++ placed.slot ∷ [] in
     let count : length grown ≡ length slots + 1 = length-append slots (placed.slot ∷ []) in
-    let sums = sum_below-more (payload_of (size_of loads i)) k in
+    let sums = sum_below-more (payload_of loads i) k in
     let whole : bytes_with loads i k ≡ search.level + payload + sum_below (size_of loads) search.gone = omega (arith, sums, at.total, is) in
     let new : slice_index grown (length slots) ≡ placed.slot = get_or-append_seam slots placed.slot [] 0 in
     let same : (n : ℕ) → n < length slots → slice_index grown n ≡ slice_index slots n = λ n below. get_or-append slots (placed.slot ∷ []) 0 n below in
@@ -115,8 +100,6 @@ IsSending-more loads pace old slots dones k payload search placed sound at is to
     let next = tick_of-next pace placed.slot in
     record {
       packets = omega (arith, count, at.packets);
-      kept = λ n below. same n (omega (arith, at.longer)) ∙ at.kept n below;
-      longer = omega (arith, count, at.longer);
       rise = rise-more slots placed.slot at.rise above;
       above = λ n below. elim (cases_lt n (length slots)) [
         | inl less ↦ omega (arith, same n less, above n less)
@@ -137,25 +120,23 @@ IsSending-more loads pace old slots dones k payload search placed sound at is to
     }
 
 -- before the first packet of a set: the search begins at the first slot that is free and in the set's window
-pub IsSending-begins : (loads : List SetLoad) (pace : Pace) (slots dones : List ℕ) (from : Search) (window slot : ℕ) →
+pub IsWithin-begins : (loads : List WriteLoad) (pace : Pace) (slots dones : List ℕ) (from : Search) (window slot : ℕ) →
     IsSound pace → IsBetween loads pace slots dones (length dones) from → IsStrictlyIncreasing slots →
     tick_of pace from.slot ≤ 2 ^ 62 + 705 → (load_of loads (length dones)).pts < 2 ^ 62 → slot ≡ max from.slot window →
-    (load_of loads (length dones)).pts ≤ tick_of pace window + 450000 → tick_of pace window ≤ 2 ^ 62 + 705 →
-    ((other : ℕ) → (load_of loads (length dones)).pts ≤ tick_of pace other + 450000 → window ≤ other) →
-    IsSending loads pace slots slots dones 0 (record from { slot = slot })
-IsSending-begins loads pace slots dones from window slot sound between rise near shown is reached low first =
+    (load_of loads (length dones)).pts ≤ tick_of pace window + SEND_WINDOW → tick_of pace window ≤ 2 ^ 62 + 705 →
+    ((other : ℕ) → (load_of loads (length dones)).pts ≤ tick_of pace other + SEND_WINDOW → window ≤ other) →
+    IsWithin loads pace slots dones 0 (record from { slot = slot })
+IsWithin-begins loads pace slots dones from window slot sound between rise near shown is reached low first =
     let later : from.slot ≤ slot = omega arith in
     let in_window : window ≤ slot = omega arith in
     record {
       packets = omega (arith, between.packets);
-      kept = λ n below. refl;
-      longer = omega arith;
       rise = rise;
       above = λ n below. omega (arith, between.next.above n below);
       first = λ other after shown_later. omega (arith, between.next.first other after, first other shown_later);
       last = λ none. absurd (omega (arith, none));
       window = omega (arith, reached, tick_of-rises pace window slot in_window);
-      total = omega (arith, between.total, sum_below-zero (payload_of (size_of loads (length dones))));
+      total = omega (arith, between.total, sum_below-zero (payload_of loads (length dones)));
       level = between.level;
       gone = record {
         within = between.gone.within;
@@ -165,25 +146,17 @@ IsSending-begins loads pace slots dones from window slot sound between rise near
       stood = record { stands = λ k none. absurd (omega (arith, none)); least = λ k other none. absurd (omega (arith, none)) };
     }
 
--- the payloads of all packets of a set are its bytes
-pub payloads-front : (size k : ℕ) → sum_below (payload_of size) k ≡ min (184 * k) size
-payloads-front size zero = omega (arith, sum_below-zero (payload_of size))
-payloads-front size (suc k) = omega (arith, sum_below-suc (payload_of size) k, payloads-front size k)
-
-pub payloads : (size : ℕ) → sum_below (payload_of size) (packet_count size) ≡ size
-payloads size = omega (arith, payloads-front size (packet_count size))
-
 -- once all packets of a set have their slots, the search stands behind it
-pub IsSending-ends : (loads : List SetLoad) (pace : Pace) (old slots dones : List ℕ) (search : Search) →
+pub IsWithin-ends : (loads : List WriteLoad) (pace : Pace) (slots dones : List ℕ) (search : Search) →
     1 ≤ size_of loads (length dones) →
-    IsSending loads pace old slots dones (packets_of loads (length dones)) search → IsBetween loads pace slots dones (length dones + 1) search
-IsSending-ends loads pace old slots dones search some at =
+    IsWithin loads pace slots dones (packets_of loads (length dones)) search → IsBetween loads pace slots dones (length dones + 1) search
+IsWithin-ends loads pace slots dones search some at =
     let i = length dones in
     let count = sum_below-more (packets_of loads) i in
     let bytes = sum_below-more (size_of loads) i in
-    let own = payloads (size_of loads i) in
-    let last : (n : ℕ) → n + 1 ≡ length slots → search.slot ≡ slice_index slots n + 1 = at.last (omega arith) in
-    let one : (length slots - 1) + 1 ≡ length slots = omega (arith, at.packets) in
+    let own = payloads loads i in
+    let last : (n : ℕ) → n + 1 ≡ length slots → search.slot ≡ slice_index slots n + 1 = at.last (some_packets loads i some) in
+    let one : (length slots - 1) + 1 ≡ length slots = omega (arith, at.packets, some_packets loads i some) in
     record {
       packets = omega (arith, at.packets, count);
       next = record { above = at.above; first = λ other after. omega (arith, last (length slots - 1) one, after (length slots - 1) one) };

@@ -1,49 +1,51 @@
 -- Any way to send the packets of display sets in time for a receiver's coded data buffer.
 use Rattle.std.specs.Prelude.{◌≡◌, ℕ, ◌+◌, ◌-◌, ◌<◌, ◌≤◌, nat_le, if◌then◌else◌, List, length, slice_index, ⊤}
 use Rattle.std.specs.List.Sorted.{IsStrictlyIncreasing}
-use Rattle.sub_base.specs.declared.load.SetLoad.{SetLoad}
+use Rattle.sub_base.specs.declared.load.WriteLoad.{WriteLoad}
 use Rattle.sub_base.specs.declared.pace.Pace.{Pace}
 use Rattle.schedule.specs.declared.fault.ScheduleFault.{ScheduleFault}
-use Rattle.schedule.specs.declared.fault.ScheduleFault.TheVariants.{Memory, CodedFull, Late}
-use Rattle.schedule.specs.Packets.{sum_below, load_of, size_of, packets_of, first_packet, payload_of}
+use Rattle.schedule.specs.declared.fault.ScheduleFault.TheVariants.{Memory, CodedFull, Late, SegmentFull}
+use Rattle.schedule.specs.declared.limits.TheConstants.{SEND_WINDOW, LONGEST_SEGMENT}
+use Rattle.schedule.specs.Packets.{sum_below, load_of, longest_of, packets_of, first_packet, payload_of}
 use Rattle.sub_base.specs.Pace.{tick_of}
 use Rattle.schedule.specs.Slots.{Timetable, slot_of, left_of, done_of}
 
 -- the payload of packet k of set i where its slot is at most this one, and else 0
-abbrev pub payload_by : List SetLoad → List ℕ → ℕ → ℕ → ℕ → ℕ
-payload_by loads slots slot i k = if nat_le (slot_of loads slots i k) slot then payload_of (size_of loads i) k else 0
+abbrev pub payload_by : List WriteLoad → List ℕ → ℕ → ℕ → ℕ → ℕ
+payload_by loads slots slot i k = if nat_le (slot_of loads slots i k) slot then payload_of loads i k else 0
 
 -- the payload of all packets of set i with a slot at most this one
-abbrev pub arrived_of : List SetLoad → List ℕ → ℕ → ℕ → ℕ
+abbrev pub arrived_of : List WriteLoad → List ℕ → ℕ → ℕ → ℕ
 arrived_of loads slots slot i = sum_below (payload_by loads slots slot i) (packets_of loads i)
 
 -- the coded level at a slot: the payload of all packets of the first n sets with a slot at most this one, less the
 -- bytes of the sets that are done by its tick
-abbrev pub level_at : List SetLoad → ℕ → Pace → List ℕ → List ℕ → ℕ → ℕ
+abbrev pub level_at : List WriteLoad → ℕ → Pace → List ℕ → List ℕ → ℕ → ℕ
 level_at loads n pace slots dones slot = sum_below (arrived_of loads slots slot) n - sum_below (left_of loads dones (tick_of pace slot)) n
 
 -- the packets of the first n sets arrive in these slots, in order, each at most 450,000 ticks before its set is shown,
 -- the sets are done at these ticks, and at no packet the coded data buffer holds more than its bytes
-pub record IsArrival (loads : List SetLoad) (n : ℕ) (pace : Pace) (slots dones : List ℕ) : Type 0 where
+pub record IsArrival (loads : List WriteLoad) (n : ℕ) (pace : Pace) (slots dones : List ℕ) : Type 0 where
   pub packets : length slots ≡ first_packet loads n
   pub rise : IsStrictlyIncreasing slots
-  pub window : (i k : ℕ) → i < n → k < packets_of loads i → (load_of loads i).pts ≤ tick_of pace (slot_of loads slots i k) + 450000
+  pub window : (i k : ℕ) → i < n → k < packets_of loads i → (load_of loads i).pts ≤ tick_of pace (slot_of loads slots i k) + SEND_WINDOW
   pub sets : length dones ≡ n
   pub done : (i : ℕ) → i < n → slice_index dones i ≡ done_of loads pace slots i
   pub level : (i k : ℕ) → i < n → k < packets_of loads i → level_at loads n pace slots dones (slot_of loads slots i k) ≤ pace.coded
 
 -- in no arrival of the first n sets, or of more, one of their packets stands earlier or one of the sets is done earlier
-pub record IsEarliest (loads : List SetLoad) (n : ℕ) (pace : Pace) (table : Timetable) : Type 0 where
+pub record IsEarliest (loads : List WriteLoad) (n : ℕ) (pace : Pace) (table : Timetable) : Type 0 where
   pub slots : (m : ℕ) (slots dones : List ℕ) → n ≤ m → m ≤ length loads → IsArrival loads m pace slots dones →
       (p : ℕ) → p < first_packet loads n → slice_index table.slots p ≤ slice_index slots p
   pub dones : (m : ℕ) (slots dones : List ℕ) → n ≤ m → m ≤ length loads → IsArrival loads m pace slots dones →
       (i : ℕ) → i < n → slice_index table.dones i ≤ slice_index dones i
 
--- no other arrival of these sets helps: with a set that is larger than the buffer there is none, and a set that is late
--- is late in each
-abbrev pub IsHopeless : List SetLoad → Pace → ScheduleFault → Type 0
+-- no other arrival of these sets helps: with a set that is larger than the buffer there is none, a set that is late is late
+-- in each, and a segment that is too long for a PES packet is so in whatever slots
+abbrev pub IsHopeless : List WriteLoad → Pace → ScheduleFault → Type 0
 IsHopeless loads pace Memory = ⊤
 IsHopeless loads pace (CodedFull set size) = (m : ℕ) (slots dones : List ℕ) → set < m → m ≤ length loads → IsArrival loads m pace slots dones → ⊥
 IsHopeless loads pace (Late set done shown) =
     (m : ℕ) (slots dones : List ℕ) → set < m → m ≤ length loads → IsArrival loads m pace slots dones →
     (done ≤ slice_index dones set) × ((load_of loads set).pts < slice_index dones set)
+IsHopeless loads pace (SegmentFull set longest) = (longest_of loads set ≡ longest) × (LONGEST_SEGMENT < longest)

@@ -15,6 +15,9 @@ pub enum ScheduleFault {
     /// The set is done after its presentation time, both in ticks of 90 kHz.
     #[error("set {set} is done at {done}, after it is to be shown at {pts}")]
     Late { set: u64, done: u64, pts: u64 },
+    /// The set has a segment that is too long for a PES packet.
+    #[error("set {set} has a segment of {longest} bytes, more than a PES packet has room for")]
+    SegmentFull { set: u64, longest: u64 },
 }
 
 impl From<AllocError> for ScheduleFault {

@@ -3,11 +3,13 @@
 #![tactic(auto)]
 
 mod fault;
+mod limits;
 mod place;
 mod schedule;
 mod send;
 
 pub use fault::ScheduleFault;
+pub use limits::{LONGEST_SEGMENT, PAYLOAD, SEND_WINDOW};
 pub use schedule::Schedule;
 
 #[cfg(test)]

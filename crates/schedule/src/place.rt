@@ -1,10 +1,11 @@
-ghost use Rattle.std.specs.Prelude.{◌≡◌, ℕ, ◌+◌, ◌*◌, ◌^◌, ◌<◌, ◌≤◌, max, length, slice_index};
+ghost use Rattle.std.specs.Prelude.{◌≡◌, ℕ, ◌+◌, ◌*◌, ◌^◌, ◌<◌, ◌≤◌, max, length, slice_index, All};
 ghost use Rattle.schedule.specs.Packets.{sum_below, size_of};
 ghost use Rattle.sub_base.specs.Pace.{tick_of, IsSound};
-ghost use Rattle.schedule.specs.Slots.{left_of};
+ghost use Rattle.schedule.specs.Slots.{left_of, IsLoad};
+ghost use Rattle.schedule.specs.declared.limits.TheConstants.{PAYLOAD};
 ghost use Rattle.schedule.specs.Safe.{AreDone, AreOrdered};
 
-use sub_base::{Pace, SetLoad};
+use sub_base::{Pace, WriteLoad};
 
 /// Where the search for slots stands: the first slot that is still free, the bytes in the coded data buffer there, and
 /// how many sets have left it.
@@ -19,8 +20,9 @@ pub struct Search {
 ///
 /// A set leaves the buffer where it is done by the slot, or where the packet has no room before it leaves; then the
 /// packet stands no earlier than the slot at which the set is done.
-pub fn place(pace: &Pace, loads: &[SetLoad], dones: &[u64], from: Search, payload: u64) -> Search
+pub fn place(pace: &Pace, loads: &[WriteLoad], dones: &[u64], from: Search, payload: u64) -> Search
     requires pace { IsSound pace.now }
+    requires loads { All IsLoad loads.now }
     requires sets { length dones.now ≤ length loads.now }
     requires ordered { AreOrdered dones.now }
     requires gone { AreDone dones.now from.gone (tick_of pace.now from.slot) }
@@ -28,7 +30,7 @@ pub fn place(pace: &Pace, loads: &[SetLoad], dones: &[u64], from: Search, payloa
     requires own { from.level + payload + sum_below (size_of loads.now) from.gone ≤ sum_below (size_of loads.now) (length dones.now) + pace.now.coded }
     requires some { sum_below (size_of loads.now) (length dones.now) ≤ from.level + sum_below (size_of loads.now) from.gone }
     requires level { from.level ≤ pace.now.coded }
-    requires payload { payload ≤ 184 }
+    requires payload { payload ≤ PAYLOAD }
     ensures total { result.level + sum_below (size_of loads.now) result.gone ≡ from.level + payload + sum_below (size_of loads.now) from.gone }
     ensures level { result.level ≤ pace.now.coded }
     ensures gone { AreDone dones.now result.gone (tick_of pace.now result.slot) }
@@ -42,7 +44,7 @@ pub fn place(pace: &Pace, loads: &[SetLoad], dones: &[u64], from: Search, payloa
     let mut gone = from.gone;
     while gone < dones.len() && (dones[gone] <= pace.tick(slot) || level + payload > pace.coded) {
         slot = slot.max(pace.first_slot_at(dones[gone]));
-        level -= loads[gone].size;
+        level -= loads[gone].load.size;
         gone += 1;
     }
     Search {

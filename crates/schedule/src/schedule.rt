@@ -6,11 +6,12 @@ ghost use Rattle.schedule.specs.Arrivals.{IsArrival, IsEarliest, IsHopeless};
 ghost use Rattle.schedule.specs.Refusals.{IsCause};
 
 use crate::fault::ScheduleFault;
+use crate::limits::LONGEST_SEGMENT;
 use crate::place::Search;
 use crate::send::send_set;
 use std::alloc::Global;
 use std::marker::Model;
-use sub_base::{Pace, Profile, SetLoad};
+use sub_base::{Pace, Profile, WriteLoad};
 
 /// The slots of the packets of display sets, and the ticks at which the sets are done.
 #[derive(Drop)]
@@ -34,10 +35,11 @@ impl Model for Schedule {
 impl Schedule {
     /// The earliest schedule of these sets from the origin on, a tick of 90 kHz, in a profile with a step.
     ///
-    /// The sets are tested in order: a set must fit the coded data buffer, and be done by its presentation time.
+    /// The sets are tested in order: a set must fit the coded data buffer, each of its segments a PES packet, and it must
+    /// be done by its presentation time.
     pub fn make(
         alloc: Global,
-        loads: &[SetLoad],
+        loads: &[WriteLoad],
         origin: u64,
         profile: &Profile,
     ) -> Result<Schedule, ScheduleFault>
@@ -55,7 +57,7 @@ impl Schedule {
 
         // What callers count with.
         ensures rise { IfOk result (λ table. IsStrictlyIncreasing table.slots) }
-        ensures small { IfOk result (λ table. All (λ slot. slot < 2 ^ 54) table.slots) }
+        ensures small { IfOk result (λ table. All (λ slot. slot < 2 ^ 56) table.slots) }
     {
         let pace = Pace::of(origin, profile);
         let mut slots = Vec::new(alloc);
@@ -67,15 +69,22 @@ impl Schedule {
             level: 0,
             gone: 0,
         };
-        for (set, load) in loads.iter().enumerate() {
+        for (set, write) in loads.iter().enumerate() {
+            let load = write.load;
             if load.size > pace.coded {
                 return Err(ScheduleFault::CodedFull {
                     set: set as u64,
                     size: load.size,
                 });
             }
+            if write.longest > LONGEST_SEGMENT {
+                return Err(ScheduleFault::SegmentFull {
+                    set: set as u64,
+                    longest: write.longest,
+                });
+            }
             search = send_set(&pace, loads, &dones, search, &mut slots)?;
-            let done = pace.tick(search.slot - 1).max(shown) + load.size + load.painted;
+            let done = load.done(pace.tick(search.slot - 1), shown);
             if done > load.pts {
                 return Err(ScheduleFault::Late {
                     set: set as u64,

@@ -1,61 +1,11 @@
 -- Laws of the bits of numbers and bytes, and of the rows of a table over them.
-use Rattle.std.proofs.Common.{◌≡◌, ℕ, zero, suc, ◌+◌, ◌*◌, ◌/◌, ◌%◌, ◌^◌, ◌<◌, List, [], ◌∷◌, ◌++◌, length, take, drop, refl, sym, ap, subst, ◌∙◌, append_assoc, arith}
-use Rattle.std.proofs.Math.Nat.{mod-eq_of_lt, div-one}
-use Rattle.std.proofs.lemmas.Nat.{pow-add, shr-shr, field_of, mod-pow-add, shr_high, mod_low}
-use Rattle.std.proofs.lemmas.List.{length-append, take_at, drop_at, append-nil}
+use Rattle.std.proofs.Common.{◌≡◌, ℕ, ◌+◌, ◌*◌, ◌/◌, ◌%◌, ◌^◌, ◌<◌, List, ◌∷◌, ◌++◌, length, take, drop, refl, sym, ap, subst, ◌∙◌, append_assoc, arith}
+use Rattle.std.proofs.Math.Nat.{mod-eq_of_lt}
+use Rattle.std.proofs.lemmas.Nat.{shr_high, mod_low}
+use Rattle.std.proofs.lemmas.List.{take_at, drop_at}
 use Rattle.stream_syntax.specs.Fields.{Field, number, reserved, number_of, HasFields, row_first}
 use Rattle.stream_syntax.specs.PixelCodes.{bits, bits_of}
-
-pub length-bits : (width n : ℕ) → length (bits width n) ≡ width
-unfolding bits
-length-bits zero n = refl
-length-bits (suc width) n = omega (arith, length-append (bits width (n / 2)) (n % 2 ∷ []), length-bits width (n / 2))
-
--- the high bits and the low bits of a number
-pub bits-add : (high low n : ℕ) → bits (high + low) n ≡ bits high (n / 2 ^ low) ++ bits low n
-unfolding bits
-bits-add high zero n =
-    let e : high + 0 ≡ high = omega arith in
-    let one : n / 2 ^ 0 ≡ n = div-one n in
-    rw (e, one) (sym (append-nil (bits high n)))
-bits-add high (suc low) n =
-    let e : high + suc low ≡ suc (high + low) = omega arith in
-    let half : n / 2 / 2 ^ low ≡ n / 2 ^ suc low = shr-shr n 1 low ∙ ap (λ (k : ℕ). n / 2 ^ k) (omega arith) in
-    rw (e, bits-add high low (n / 2), half) (append_assoc (bits high (n / 2 ^ suc low)) (bits low (n / 2)) (n % 2 ∷ []))
-
-low_bit : (n more : ℕ) → n % 2 ^ suc more % 2 ≡ n % 2
-low_bit n more =
-    let e : suc more ≡ more + 1 = omega arith in
-    let split : n % 2 ^ (more + 1) ≡ (n / 2 ^ 1 % 2 ^ more) * 2 ^ 1 + n % 2 ^ 1 = mod-pow-add n more 1 in
-    let low : n % 2 < 2 = omega arith in
-    rw (e, split) (mod_low (n / 2 % 2 ^ more) 1 (n % 2) low)
-
--- bits above the width do not count
-pub bits-mod : (width n : ℕ) → bits width (n % 2 ^ width) ≡ bits width n
-unfolding bits
-bits-mod zero n = refl
-bits-mod (suc width) n =
-    let e : suc width ≡ width + 1 = omega arith in
-    let half : n % 2 ^ suc width / 2 ≡ n / 2 % 2 ^ width = ap (λ (k : ℕ). n % 2 ^ k / 2) e ∙ field_of n width 1 in
-    rw (half, bits-mod width (n / 2), low_bit n width) refl
-
-number_of-push : (stream : List ℕ) (bit : ℕ) → number_of (stream ++ bit ∷ []) ≡ number_of stream * 2 + bit
-unfolding number_of
-number_of-push [] bit = omega arith
-number_of-push (first ∷ stream) bit =
-    let len : length (stream ++ bit ∷ []) ≡ length stream + 1 = omega (arith, length-append stream (bit ∷ [])) in
-    let ih = number_of-push stream bit in
-    rw (len, pow-add 2 (length stream) 1, ih) (grind arith)
-
-pub number_of-bits : (width n : ℕ) → number_of (bits width n) ≡ n % 2 ^ width
-unfolding bits number_of
-number_of-bits zero n = omega arith
-number_of-bits (suc width) n =
-    let push = number_of-push (bits width (n / 2)) (n % 2) in
-    let ih = number_of-bits width (n / 2) in
-    let split : n % 2 ^ (width + 1) ≡ (n / 2 ^ 1 % 2 ^ width) * 2 ^ 1 + n % 2 ^ 1 = mod-pow-add n width 1 in
-    let e : suc width ≡ width + 1 = omega arith in
-    push ∙ rw (ih, e, split) refl
+use Rattle.pixel_codes.proofs.Bits.{length-bits, bits-add, bits-mod, number_of-bits}
 
 -- the bits of a number determine it, where it fits them
 pub bits-same : (width n v : ℕ) → n % 2 ^ width ≡ v → bits width n ≡ bits width v

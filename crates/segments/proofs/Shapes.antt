@@ -7,7 +7,8 @@ use Rattle.std.proofs.lemmas.List.Sums.{sum_by-cons}
 use Rattle.stream_syntax.specs.Fields.{Field, number, reserved, HasFields, no_row, row_first, IsRow}
 use Rattle.stream_syntax.specs.PixelCodes.{bits, bits_of}
 use Rattle.stream_syntax.specs.Segments.{flag, width_of}
-use Rattle.segments.proofs.Bits.{length-bits, bits_of-cons, bits_of-two, take_number, put_number, take_reserved, put_reserved, no_bits}
+use Rattle.pixel_codes.proofs.Bits.{length-bits}
+use Rattle.segments.proofs.Bits.{bits_of-cons, bits_of-two, take_number, put_number, take_reserved, put_reserved, no_bits}
 
 -- each number is a byte
 abbrev pub AreBytes : List ℕ → Type 0

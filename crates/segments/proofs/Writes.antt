@@ -5,7 +5,8 @@ use Rattle.std.proofs.lemmas.Nat.{shr_high, mod_low}
 use Rattle.std.proofs.lemmas.List.{length-replicate}
 use Rattle.stream_syntax.specs.Fields.{Field, number, reserved, HasFields, no_row, row_first, written, bytes_of}
 use Rattle.stream_syntax.specs.PixelCodes.{bits, bits_of}
-use Rattle.segments.proofs.Bits.{bits-add, bits-same, number_of-bits, bits_of-cons, bits_of-two}
+use Rattle.pixel_codes.proofs.Bits.{bits-add, number_of-bits}
+use Rattle.segments.proofs.Bits.{bits-same, bits_of-cons, bits_of-two}
 use Rattle.segments.proofs.Shapes.{AreBytes, AreBytes-tail}
 
 -- the bytes are what a writer makes of the table

@@ -8,10 +8,7 @@ ghost use Rattle.stream_syntax.specs.Tests.{byte_at, word_at, first_fault};
 
 use crate::fault::cut;
 use crate::word::read_word;
-use stream_syntax::{SegmentFault, SegmentKind};
-
-/// The first byte of each segment.
-pub(crate) const SYNC: u8 = 0x0F;
+use stream_syntax::{SEGMENT_SYNC, SegmentFault, SegmentKind};
 
 /// The bytes of a segment's head.
 pub(crate) const HEAD: usize = 6;
@@ -41,7 +38,7 @@ pub fn read_frame(bytes: &[u8]) -> Result<Frame<'_>, SegmentFault>
     ensures head { IfOk result (λ frame. HasFields (head_fields frame.kind frame.page (length frame.body.now)) (bits_of (take 6 bytes.now))) }
     ensures body { IfOk result (λ frame. frame.body.now ≡ take (word_at 4 bytes.now) (drop 6 bytes.now)) }
 {
-    if bytes.is_empty() || bytes[0] != SYNC {
+    if bytes.is_empty() || bytes[0] != SEGMENT_SYNC {
         return Err(SegmentFault {
             place: 0,
             kind: SegmentKind::NoSync,

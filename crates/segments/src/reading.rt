@@ -20,7 +20,10 @@ use crate::frame::read_frame;
 use crate::object::{ObjectSeg, check_blocks, object_of};
 use crate::page::{PageSeg, page_of};
 use crate::region::{RegionSeg, region_of};
-use stream_syntax::SegmentFault;
+use stream_syntax::{
+    CLUT_DEFINITION, DISPLAY_DEFINITION, END_OF_DISPLAY_SET, OBJECT_DATA, PAGE_COMPOSITION,
+    REGION_COMPOSITION, SegmentFault,
+};
 
 /// A segment (EN 300 743, clause 7.2), borrowed from the bytes that it was read from.
 #[derive(Clone, Copy, Debug, PartialEq, Eq)]
@@ -59,7 +62,7 @@ fn framed(bytes: &[u8]) -> Result<(Segment<'_>, usize), SegmentFault>
     ensures head { OnOk result (first_fault (frame_tests bytes.now) ≡ None) }
     ensures value { IfOk result (λ found. contents found.0 ≡ value_in (byte_at 1 bytes.now) (body_of bytes.now)) }
     ensures passes { OnOk result (first_fault (body_tests (byte_at 1 bytes.now) (body_of bytes.now)) ≡ None) }
-    ensures blocks { OnOk result (byte_at 1 bytes.now ≡ 0x13 → AreBlocks (top_in (body_of bytes.now)) (bottom_in (body_of bytes.now))) }
+    ensures blocks { OnOk result (byte_at 1 bytes.now ≡ OBJECT_DATA → AreBlocks (top_in (body_of bytes.now)) (bottom_in (body_of bytes.now))) }
     ensures size { IfOk result (λ found. found.1 ≡ 6 + word_at 4 bytes.now) }
     ensures within { IfOk result (λ found. found.1 ≤ length bytes.now) }
     ensures fault { IfErr result (IsSegmentFault bytes.now) }
@@ -74,20 +77,20 @@ fn by_kind(kind: u8, body: &[u8]) -> Result<Segment<'_>, SegmentFault>
     requires { length body.now < 65536 }
     ensures value { IfOk result (λ segment. contents segment ≡ value_in kind body.now) }
     ensures passes { OnOk result (first_fault (body_tests kind body.now) ≡ None) }
-    ensures blocks { OnOk result (kind ≡ 0x13 → AreBlocks (top_in body.now) (bottom_in body.now)) }
+    ensures blocks { OnOk result (kind ≡ OBJECT_DATA → AreBlocks (top_in body.now) (bottom_in body.now)) }
     ensures fault { IfErr result (IsBodyFault kind body.now) }
 {
     match kind {
-        0x10 => Ok(Segment::Page(page_of(body)?)),
-        0x11 => Ok(Segment::Region(region_of(body)?)),
-        0x12 => Ok(Segment::Clut(clut_of(body)?)),
-        0x13 => {
+        PAGE_COMPOSITION => Ok(Segment::Page(page_of(body)?)),
+        REGION_COMPOSITION => Ok(Segment::Region(region_of(body)?)),
+        CLUT_DEFINITION => Ok(Segment::Clut(clut_of(body)?)),
+        OBJECT_DATA => {
             let object = object_of(body)?;
             check_blocks(object.top, object.bottom)?;
             Ok(Segment::Object(object))
         }
-        0x14 => Ok(Segment::Display(display_of(body)?)),
-        0x80 => Ok(Segment::End),
+        DISPLAY_DEFINITION => Ok(Segment::Display(display_of(body)?)),
+        END_OF_DISPLAY_SET => Ok(Segment::End),
         _ => Ok(Segment::Passed),
     }
 }

@@ -20,9 +20,12 @@ ghost use Rattle.stream_syntax.specs.Fields.{FitsFields};
 ghost use Rattle.stream_syntax.specs.Segments.{IsHeadedBy, IsRight, IsSegment, IsWritable, byte_count, segment_kind, is_odd, spelled, state_number, depth_number, written_body};
 
 use crate::append::{append, word};
-use crate::frame::{HEAD, SYNC};
+use crate::frame::HEAD;
 use crate::object::ObjectSeg;
-use stream_syntax::{ClutEntry, Listing, PageEntry, RegionHead, State};
+use stream_syntax::{
+    CLUT_DEFINITION, ClutEntry, DISPLAY_DEFINITION, END_OF_DISPLAY_SET, Listing, OBJECT_DATA,
+    PAGE_COMPOSITION, PageEntry, REGION_COMPOSITION, RegionHead, SEGMENT_SYNC, State,
+};
 use sub_base::{Depth, NoMemory};
 
 /// A byte of reserved bits.
@@ -81,12 +84,12 @@ fn kind_of(segment: &SegmentOut<'_>) -> u8
     ensures { result ≡ segment_kind (value_of segment.now) }
 {
     match *segment {
-        SegmentOut::Page { .. } => 0x10,
-        SegmentOut::Region { .. } => 0x11,
-        SegmentOut::Clut { .. } => 0x12,
-        SegmentOut::Object(_) => 0x13,
-        SegmentOut::Display { .. } => 0x14,
-        SegmentOut::End => 0x80,
+        SegmentOut::Page { .. } => PAGE_COMPOSITION,
+        SegmentOut::Region { .. } => REGION_COMPOSITION,
+        SegmentOut::Clut { .. } => CLUT_DEFINITION,
+        SegmentOut::Object(_) => OBJECT_DATA,
+        SegmentOut::Display { .. } => DISPLAY_DEFINITION,
+        SegmentOut::End => END_OF_DISPLAY_SET,
     }
 }
 
@@ -113,7 +116,7 @@ fn frame_bytes(kind: u8, page: u16, size: u16) -> [u8; HEAD]
     ensures { result ≡ frame_bytes kind page size }
 {
     let (page, size) = (word(page), word(size));
-    [SYNC, kind, page[0], page[1], size[0], size[1]]
+    [SEGMENT_SYNC, kind, page[0], page[1], size[0], size[1]]
 }
 
 /// Appends the body, for which there is room.

@@ -7,3 +7,4 @@ pub mod WritableLaws
 pub mod BlockLaws
 pub mod ObjectLaws
 pub mod SampleLaws
+pub mod KeptLaws

@@ -1,10 +1,11 @@
 -- The segments that a display set of a plan is sent as, and its PES packet (EN 300 743, clauses 5 and 7).
-use Rattle.std.specs.Prelude.{◌≡◌, ℕ, ◌+◌, ◌*◌, ◌/◌, ◌==◌, Bool, List, [], ◌∷◌, ◌++◌, map, find, All, Option, Some, None, slice_get}
+use Rattle.std.specs.Prelude.{◌≡◌, ℕ, ◌+◌, ◌*◌, ◌/◌, ◌%◌, ◌==◌, Bool, List, [], ◌∷◌, ◌++◌, map, find, All, Option, Some, None, slice_get}
 use Rattle.std.specs.List.{flat_map}
 use Rattle.sub_base.specs.Depth.{bits_of}
 use Rattle.sub_base.specs.Picture.{Picture}
 use Rattle.sub_base.specs.declared.depth.Depth.{Depth}
 use Rattle.sub_base.specs.declared.depth.Depth.TheVariants.{Two}
+use Rattle.stream_syntax.specs.declared.wire.TheConstants.{TIME_ROUND}
 use Rattle.stream_syntax.specs.FieldBlocks.{AreFieldBlocks, DrawsPicture}
 use Rattle.stream_syntax.specs.Pes.{written_pes}
 use Rattle.stream_syntax.specs.Segments.{SegmentValue, of_page, of_region, of_clut, of_object, of_display, end_of_set, spelled, IsWritable}
@@ -142,8 +143,9 @@ pub record IsSetField (script : Script) (page : ℕ) (set : PlannedSet) (bytes :
   pub fit : All (IsWritable page) (leading_segments script epoch set ++ (objects ++ end_of_set ∷ []))
   pub field : bytes ≡ data_field page (leading_segments script epoch set ++ (objects ++ end_of_set ∷ []))
 
--- these bytes are the PES packet of a set of the script: its data field, at the set's presentation time
+-- these bytes are the PES packet of a set of the script: its data field, at the set's presentation time, which a packet tells
+-- modulo 2 to the 33
 pub record IsSetPacket (script : Script) (page : ℕ) (set : PlannedSet) (bytes : List ℕ) : Type 0 where
   pub field_bytes : List ℕ
   pub carried : IsSetField script page set field_bytes
-  pub packet : bytes ≡ written_pes set.pts field_bytes
+  pub packet : bytes ≡ written_pes (set.pts % TIME_ROUND) field_bytes

@@ -1,14 +1,11 @@
-ghost use Rattle.std.specs.Prelude.{◌≡◌, ◌==◌, ◌+◌, ◌*◌, ◌<◌, ◌≤◌, length, slice_index, take_while, All};
-ghost use Rattle.sub_base.specs.Depth.{code_count};
+ghost use Rattle.std.specs.Prelude.{◌*◌, ◌<◌, ◌≤◌, length};
 ghost use Rattle.sub_base.specs.Picture.{bottom_field};
-ghost use Rattle.stream_syntax.specs.PixelCodes.{ending, IsLeastSum, IsRowSize};
 ghost use Rattle.stream_syntax.specs.FieldBlocks.{AreRowSizes, IsFieldSize, AreFieldSizes};
-ghost use Rattle.pixel_codes.specs.Rows.{runs_of};
 ghost use Rattle.set_coder.specs.Rows.{AreRows};
 
 use crate::fields::table_bytes;
 use indexed_picture::{FieldRows, Indexed};
-use pixel_codes::run_bits;
+use pixel_codes::row_size;
 use sub_base::Depth;
 
 /// The bytes of the pixel data blocks of a picture's two fields, as they would be written.
@@ -67,54 +64,4 @@ fn rows_size(depth: Depth, rows: FieldRows<'_>) -> u64
         size += 2 + row_size(depth, row);
     }
     size
-}
-
-/// The bytes of the string of a row.
-fn row_size(depth: Depth, codes: &[u8]) -> u64
-    requires short { length codes.now ≤ 65535 }
-    requires each { All (λ code. code < code_count depth) codes.now }
-    ensures size { IsRowSize depth codes.now result }
-    ensures short { result ≤ 2 * length codes.now + 3 }
-{
-    (row_bits(depth, codes) + end_bits(depth) + 7) / 8
-}
-
-/// The least bits of the maximal runs of a row.
-fn row_bits(depth: Depth, codes: &[u8]) -> u64
-    requires short { length codes.now ≤ 65535 }
-    requires each { All (λ code. code < code_count depth) codes.now }
-    ensures least { IsLeastSum depth (runs_of codes.now) result }
-    ensures short { result ≤ 16 * length codes.now }
-{
-    let mut place = 0;
-    let mut bits = 0;
-    while place < codes.len() {
-        let count = run_length(&codes[place..]);
-        bits += run_bits(depth, codes[place], count as u32);
-        place += count;
-    }
-    bits
-}
-
-/// How many codes at the front are equal.
-fn run_length(codes: &[u8]) -> usize
-    requires { 0 < length codes.now }
-    ensures count { result ≡ length (take_while (λ code. code == slice_index codes.now 0) codes.now) }
-    ensures short { result ≤ length codes.now }
-{
-    let first = codes[0];
-    codes.iter().take_while(|code| **code == first).count()
-}
-
-/// The bits of the end of a string.
-#[tactic(auto, unfolding(stream_syntax::specs::PixelCodes::ending, stream_syntax::specs::PixelCodes::bits))]
-fn end_bits(depth: Depth) -> u64
-    ensures bits { result ≡ length (ending depth) }
-    ensures short { result ≤ 16 }
-{
-    match depth {
-        Depth::Two => 6,
-        Depth::Four => 8,
-        Depth::Eight => 16,
-    }
 }

@@ -2,14 +2,17 @@
 //! packet of a set of a plan, with its size.
 #![tactic(auto)]
 
+mod coded_picture;
 mod field_sizes;
 mod fields;
+mod kept_blocks;
 mod named;
 mod set_objects;
 mod set_packets;
 mod set_segments;
 mod set_sizes;
 
+pub use coded_picture::KeptBlocks;
 pub use fields::{FieldLengths, write_fields};
 pub use set_packets::write_set;
 pub use set_sizes::{load_of, size_of};

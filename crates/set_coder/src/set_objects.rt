@@ -8,8 +8,9 @@ ghost use Rattle.set_coder.specs.BothBlocks.{AreBothBlocks};
 ghost use Rattle.set_coder.specs.SetSegments.{object_of, IsObjectOf, AreObjectsOf};
 ghost use Rattle.set_coder.specs.SetSizes.{made_even, IsObjectSize, AreObjectSizes};
 ghost use Rattle.set_coder.specs.Usable.{AreDrawable};
+ghost use Rattle.set_coder.specs.KeptBlocks.{AreCoded};
 
-use crate::fields::write_fields;
+use crate::coded_picture::BlockLookup;
 use crate::named::{cue_at, region_of};
 use cue_list::{Epoch, Script};
 use indexed_picture::Indexed;
@@ -19,11 +20,13 @@ use sub_base::{Depth, NoMemory};
 /// Appends the objects of cues.
 pub(crate) fn append_objects(
     script: &Script,
+    kept: &BlockLookup<'_>,
     epoch: &Epoch,
     page: u16,
     cues: &[u32],
     field: &mut Vec<u8>,
 ) -> Result<(), NoMemory>
+    requires kept { AreCoded script.now.pictures kept.now.coded.now }
     requires drawable { AreDrawable script.now.pictures epoch.now }
     requires few { length epoch.now.cues ≤ 4096 }
     requires each { All (HasCue epoch.now) cues.now }
@@ -33,7 +36,7 @@ pub(crate) fn append_objects(
     ensures size { OnOk result ((sum : ℕ) → AreObjectSizes script.now.pictures epoch.now cues.now sum → length field.new.items ≡ length field.old.items + sum) }
 {
     for place in cues {
-        append_object(script, epoch, page, *place, field)?;
+        append_object(script, kept, epoch, page, *place, field)?;
     }
     Ok(())
 }
@@ -41,11 +44,13 @@ pub(crate) fn append_objects(
 /// Appends the object of a cue.
 fn append_object(
     script: &Script,
+    kept: &BlockLookup<'_>,
     epoch: &Epoch,
     page: u16,
     place: u32,
     field: &mut Vec<u8>,
 ) -> Result<(), NoMemory>
+    requires kept { AreCoded script.now.pictures kept.now.coded.now }
     requires drawable { AreDrawable script.now.pictures epoch.now }
     requires few { length epoch.now.cues ≤ 4096 }
     requires cue { HasCue epoch.now place }
@@ -58,7 +63,13 @@ fn append_object(
     let picture = &script.pictures.as_slice()[cue.picture as usize];
     let region = region_of(epoch, cue.region);
     let mut blocks = Vec::new(*field.allocator());
-    let lengths = write_fields(picture, region.depth, &mut blocks)?;
+    let lengths = kept.write_fields(
+        script.pictures.as_slice(),
+        picture,
+        cue.picture,
+        region.depth,
+        &mut blocks,
+    )?;
     let (top, bottom) = fields_of(
         picture,
         region.depth,

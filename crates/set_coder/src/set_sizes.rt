@@ -2,8 +2,9 @@ ghost use Rattle.std.specs.Prelude.{◌≡◌, ℕ, ◌*◌, ◌^◌, ◌<◌, �
 ghost use Rattle.page_epoch.specs.Sendable.{HasCue, IsSendable, IsSendableRegion};
 ghost use Rattle.set_coder.specs.SetSizes.{display_size, region_size, clut_size, leading_size, made_even, painting_of, IsObjectSize, AreObjectSizes, IsSetSize, IsPaintedIn, IsSetLoad};
 ghost use Rattle.set_coder.specs.Usable.{AreDrawable};
+ghost use Rattle.set_coder.specs.KeptBlocks.{AreCoded};
 
-use crate::field_sizes::field_sizes;
+use crate::coded_picture::{BlockLookup, KeptBlocks};
 use crate::named::{cue_at, epoch_of, region_of};
 use cue_list::{Epoch, Script};
 use page_epoch::{PlannedSet, SentClut, SentRegion, State};
@@ -25,8 +26,19 @@ pub fn size_of(script: &Script, set: &PlannedSet) -> u64
     // No other size is that of the set.
     ensures only_size { (size : ℕ) → IsSetSize script.now set.now size → result ≡ size }
 {
+    size_with(&BlockLookup::nothing(), script, set)
+}
+
+/// How many bytes it has, by the blocks that are kept.
+fn size_with(kept: &BlockLookup<'_>, script: &Script, set: &PlannedSet) -> u64
+    requires kept { AreCoded script.now.pictures kept.now.coded.now }
+    requires set { IsSendable script.now set.now }
+    ensures size { IsSetSize script.now set.now result }
+    ensures some { 1 ≤ result }
+    ensures only_size { (size : ℕ) → IsSetSize script.now set.now size → result ≡ size }
+{
     let epoch = epoch_of(script, set);
-    PACKET + leading_size(set) + objects_size(script, epoch, set.cues.as_slice()) + END
+    PACKET + leading_size(set) + objects_size(script, kept, epoch, set.cues.as_slice()) + END
 }
 
 /// What a set asks of a receiver: when it is shown, the bytes of its PES packet, and the ticks that painting its
@@ -39,12 +51,40 @@ pub fn load_of(script: &Script, set: &PlannedSet) -> SetLoad
 
     // What a schedule asks of a load.
     ensures some { 1 ≤ result.size }
-    ensures early { result.pts < 2 ^ 33 }
+    ensures early { result.pts < 2 ^ 34 }
+    ensures short { result.painted ≤ 274877906944 }
+{
+    load_with(&BlockLookup::nothing(), script, set)
+}
+
+impl KeptBlocks {
+    /// What `load_of` says of a set of the script whose blocks these are.
+    pub fn load_of(&self, script: &Script, set: &PlannedSet) -> SetLoad
+        requires kept { AreCoded script.now.pictures self.now.coded.items }
+        requires set { IsSendable script.now set.now }
+        ensures load { IsSetLoad script.now set.now result }
+        ensures only_size { (size : ℕ) → IsSetSize script.now set.now size → result.size ≡ size }
+        ensures some { 1 ≤ result.size }
+        ensures early { result.pts < 2 ^ 34 }
+        ensures short { result.painted ≤ 274877906944 }
+    {
+        load_with(&self.lookup(), script, set)
+    }
+}
+
+/// What a set asks of a receiver, by the blocks that are kept.
+fn load_with(kept: &BlockLookup<'_>, script: &Script, set: &PlannedSet) -> SetLoad
+    requires kept { AreCoded script.now.pictures kept.now.coded.now }
+    requires set { IsSendable script.now set.now }
+    ensures load { IsSetLoad script.now set.now result }
+    ensures only_size { (size : ℕ) → IsSetSize script.now set.now size → result.size ≡ size }
+    ensures some { 1 ≤ result.size }
+    ensures early { result.pts < 2 ^ 34 }
     ensures short { result.painted ≤ 274877906944 }
 {
     SetLoad {
         pts: set.pts,
-        size: size_of(script, set),
+        size: size_with(kept, script, set),
         painted: painted_in(script, set),
     }
 }
@@ -140,7 +180,8 @@ fn cluts_size(cluts: &[SentClut]) -> u64
 }
 
 /// The bytes of the objects of cues.
-fn objects_size(script: &Script, epoch: &Epoch, cues: &[u32]) -> u64
+fn objects_size(script: &Script, kept: &BlockLookup<'_>, epoch: &Epoch, cues: &[u32]) -> u64
+    requires kept { AreCoded script.now.pictures kept.now.coded.now }
     requires drawable { AreDrawable script.now.pictures epoch.now }
     requires few { length cues.now ≤ 4096 }
     requires each { All (HasCue epoch.now) cues.now }
@@ -149,13 +190,14 @@ fn objects_size(script: &Script, epoch: &Epoch, cues: &[u32]) -> u64
 {
     let mut size = 0;
     for place in cues {
-        size += object_size(script, epoch, *place);
+        size += object_size(script, kept, epoch, *place);
     }
     size
 }
 
 /// The bytes of the object of a cue.
-fn object_size(script: &Script, epoch: &Epoch, place: u32) -> u64
+fn object_size(script: &Script, kept: &BlockLookup<'_>, epoch: &Epoch, place: u32) -> u64
+    requires kept { AreCoded script.now.pictures kept.now.coded.now }
     requires drawable { AreDrawable script.now.pictures epoch.now }
     requires cue { HasCue epoch.now place }
     ensures size { IsObjectSize script.now.pictures epoch.now place result }
@@ -164,7 +206,12 @@ fn object_size(script: &Script, epoch: &Epoch, place: u32) -> u64
     let cue = cue_at(epoch, place);
     let picture = &script.pictures.as_slice()[cue.picture as usize];
     let region = region_of(epoch, cue.region);
-    let sizes = field_sizes(picture, region.depth);
+    let sizes = kept.field_sizes(
+        script.pictures.as_slice(),
+        picture,
+        cue.picture,
+        region.depth,
+    );
     made_even(13 + sizes.top + sizes.bottom)
 }
 

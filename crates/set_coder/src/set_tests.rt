@@ -4,14 +4,14 @@ ghost use Rattle.cue_list.specs.Sound.{IsSound};
 ghost use Rattle.page_epoch.specs.Sendable.{IsSendableClut, IsSendableIn};
 ghost use Rattle.set_coder.specs.Sample.{sample};
 
-use crate::{load_of, size_of, write_set};
-use cue_list::{ColourRow, Cue, Epoch, Items, Region, Script};
+use crate::{KeptBlocks, load_of, size_of, write_set};
+use cue_list::{ColourRow, Cue, Epoch, Region, Script};
 use indexed_picture::Indexed;
 use page_epoch::{PlannedSet, SentClut, SentRegion, State};
 use std::alloc::Global;
 use std::process::Abort;
 use std::test::Fail;
-use sub_base::{Colour, Depth, SetLoad};
+use sub_base::{Colour, Depth, Items, SetLoad};
 
 /// A picture of four pixels of four bits.
 fn four_pixels(alloc: Global, codes: &[u8]) -> Result<Indexed, Fail>
@@ -29,14 +29,14 @@ fn sample_epoch(alloc: Global) -> Result<Epoch, Fail>
     Ok(Epoch {
         start: 90_000,
         row: 4,
-        regions: Items::new(vec![in alloc; REGION]?),
-        colours: Items::new(vec![in alloc; COLOUR]?),
-        cues: Items::new(vec![in alloc; SOLID, THROUGH]?),
+        regions: Items::new(alloc, vec![in alloc; REGION]?),
+        colours: Items::new(alloc, vec![in alloc; COLOUR]?),
+        cues: Items::new(alloc, vec![in alloc; SOLID, THROUGH]?),
     })
 }
 
 /// The script of that epoch and these pictures.
-fn script_of(epochs: Vec<Epoch>, pictures: Vec<Indexed>) -> Script
+fn script_of(alloc: Global, epochs: Vec<Epoch>, pictures: Vec<Indexed>) -> Script
     requires { IsSound 0 4 1 450000 epochs.items pictures.items }
     ensures { result.epochs ≡ epochs.items }
 {
@@ -45,8 +45,8 @@ fn script_of(epochs: Vec<Epoch>, pictures: Vec<Indexed>) -> Script
         width: 4,
         height: 1,
         refresh: 450_000,
-        epochs: Items::new(epochs),
-        pictures: Items::new(pictures),
+        epochs: Items::new(alloc, epochs),
+        pictures: Items::new(alloc, pictures),
     }
 }
 
@@ -58,7 +58,7 @@ fn script(alloc: Global) -> Result<Script, Fail>
     let through = four_pixels(alloc, &[1, 1, 3, 4])?;
     let epochs = vec![in alloc; sample_epoch(alloc)?]?;
     let pictures = vec![in alloc; solid, through]?;
-    Ok(script_of(epochs, pictures))
+    Ok(script_of(alloc, epochs, pictures))
 }
 
 const REGION: Region = Region {
@@ -168,7 +168,7 @@ fn set_with(
         id: 0,
         version: page_version,
         fill: state != State::Normal,
-        cues: Items::new(vec![in alloc; cue]?),
+        cues: Items::new(alloc, vec![in alloc; cue]?),
     };
     Ok(PlannedSet {
         pts,
@@ -176,10 +176,10 @@ fn set_with(
         row: 4,
         epoch: 0,
         page_version,
-        shown: Items::new(vec![in alloc; 0u8]?),
-        regions: Items::new(vec![in alloc; region]?),
-        cluts: Items::new(cluts),
-        cues: Items::new(vec![in alloc; cue]?),
+        shown: Items::new(alloc, vec![in alloc; 0u8]?),
+        regions: Items::new(alloc, vec![in alloc; region]?),
+        cluts: Items::new(alloc, cluts),
+        cues: Items::new(alloc, vec![in alloc; cue]?),
     })
 }
 
@@ -195,10 +195,10 @@ fn empty_set(alloc: Global, pts: u64, page_version: u8) -> PlannedSet
         row: 4,
         epoch: 0,
         page_version,
-        shown: Items::new(Vec::new(alloc)),
-        regions: Items::new(Vec::new(alloc)),
-        cluts: Items::new(Vec::new(alloc)),
-        cues: Items::new(Vec::new(alloc)),
+        shown: Items::new(alloc, Vec::new(alloc)),
+        regions: Items::new(alloc, Vec::new(alloc)),
+        cluts: Items::new(alloc, Vec::new(alloc)),
+        cues: Items::new(alloc, Vec::new(alloc)),
     }
 }
 
@@ -207,7 +207,7 @@ fn one_clut(alloc: Global) -> Result<Vec<SentClut>, Fail>
     ensures few { IfOk result (λ cluts. length cluts.items ≤ 1) }
     ensures each { IfOk result (λ cluts. All (IsSendableClut sample) cluts.items) }
 {
-    let rows = Items::new(vec![in alloc; 0u32]?);
+    let rows = Items::new(alloc, vec![in alloc; 0u32]?);
     Ok(vec![in alloc;
         SentClut {
             clut: 0,
@@ -231,6 +231,11 @@ fn packet_of<R: Abort>(
     assert!(rt; size <= 65_541);
     let mut out = Vec::new(alloc);
     write_set(script, set, 1, &mut out)?;
+    let kept = KeptBlocks::of_script(alloc, script)?;
+    assert_eq!(rt; kept.load_of(script, set), load_of(script, set));
+    let mut again = Vec::new(alloc);
+    kept.write_set(script, set, 1, &mut again)?;
+    assert_eq!(rt; again.as_slice(), out.as_slice());
     Ok(out)
 }
 

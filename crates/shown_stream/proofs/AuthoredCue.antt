@@ -12,6 +12,7 @@ use Rattle.sub_base.specs.Depth.{bits_of}
 use Rattle.sub_base.specs.Picture.{Picture, IsPicture, picture_of, code_at}
 use Rattle.sub_base.specs.declared.depth.Depth.TheVariants.{Two}
 use Rattle.sub_base.specs.declared.colour.Colour.{Colour}
+use Rattle.cue_list.specs.declared.limits.TheConstants.{LATEST_ORIGIN}
 use Rattle.cue_list.specs.Authored.{is_live, live_cues, authored_at, authored_picture, colour_in_epoch, colour_in, colour_with, lies_in, picture_at_place, covers, code_of, code_shown, latest_row}
 use Rattle.cue_list.specs.Sound.{IsSound, IsEpoch, IsCue, FitsRegion}
 use Rattle.cue_list.specs.declared.epoch.Cue.{Cue}
@@ -28,12 +29,13 @@ use Rattle.shown_stream.specs.Shows.{authored_view}
 -- ---- what the cue has besides
 
 -- what a script of one cue has besides, since it is right: a picture with sides and codes that is no deeper than its region, and
--- times that a PTS of 33 bits can say
+-- times near each other, below 2 to the 34
 pub record CueFacts (region : Region) (cue : Cue) (picture : Picture) : Type 0 where
   pub is_picture : IsPicture picture
   pub shallow : bits_of picture.depth ≤ bits_of region.depth
-  pub early_start : cue.start < 2 ^ 33
-  pub early_end : cue.end < 2 ^ 33
+  pub early_start : cue.start < 2 ^ 34
+  pub early_end : cue.end < 2 ^ 34
+  pub near : cue.end < cue.start + 4294967296
 
 cue_facts_prop : (region : Region) (cue : Cue) (picture : Picture) → IsProp (CueFacts region cue picture)
 cue_facts_prop region cue picture = hlevel props
@@ -44,7 +46,7 @@ found_one region found true is = cc
 found_one region found false is = cc
 
 -- a right cue, whose region is the only one, has them
-facts_of_cue : (origin start : ℕ) (pictures : List Picture) (region : Region) (cue : Cue) (picture : Picture) → origin ≤ 5000000000 → All IsPicture pictures → picture_at_place pictures cue.picture ≡ picture
+facts_of_cue : (origin start : ℕ) (pictures : List Picture) (region : Region) (cue : Cue) (picture : Picture) → origin ≤ LATEST_ORIGIN → All IsPicture pictures → picture_at_place pictures cue.picture ≡ picture
     → IsCue origin start (region ∷ []) pictures cue → CueFacts region cue picture
 facts_of_cue origin start pictures region cue picture low drawn same is =
     let first = is.starts.early in
@@ -55,6 +57,7 @@ facts_of_cue origin start pictures region cue picture low drawn same is =
       shallow = shallow;
       early_start = omega arith;
       early_end = omega arith;
+      near = omega arith;
     }
   where
     by : is.region ≡ region → FitsRegion is.region cue.x cue.y (picture_at_place pictures cue.picture) → bits_of picture.depth ≤ bits_of region.depth

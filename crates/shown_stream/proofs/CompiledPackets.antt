@@ -1,15 +1,16 @@
 -- The packets that a script is compiled to, one by one: they carry the PES packets of the script's sets, and these sets are
 -- received.
-use Rattle.std.proofs.Common.{◌≡◌, ◌∙◌, ℕ, zero, suc, ◌+◌, ◌-◌, ◌<◌, ◌≤◌, true, false, List, [], ◌∷◌, length, map, get_or, replicate, IsSome, inl, refl, sym, ap, arith, All, length-append}
+use Rattle.std.proofs.Common.{◌≡◌, ◌∙◌, ℕ, zero, suc, ◌+◌, ◌-◌, ◌%◌, ◌<◌, ◌≤◌, true, false, List, [], ◌∷◌, length, map, get_or, replicate, inl, refl, sym, ap, arith, All, length-append}
 use Rattle.std.specs.List.{AllByRecursion, concat}
+use Rattle.std.specs.Prelude.{sum}
 use Rattle.std.proofs.lemmas.List.{length-replicate}
 use Rattle.std.proofs.lemmas.List.Elements.{All-from_recursion}
 use Rattle.std.proofs.lemmas.List.FromFn.{length-map-range_with_len}
 use Rattle.sub_base.specs.Pace.{pace_of}
 use Rattle.sub_base.specs.Profile.{profile_of}
-use Rattle.sub_base.specs.declared.load.SetLoad.{SetLoad}
+use Rattle.sub_base.specs.declared.load.WriteLoad.{WriteLoad}
 use Rattle.sub_base.specs.declared.profile.ProfileName.{ProfileName}
-use Rattle.sub_base.specs.declared.profile.ProfileName.TheVariants.{Sd, Hd, Wide}
+use Rattle.stream_syntax.specs.declared.wire.TheConstants.{TIME_ROUND}
 use Rattle.stream_syntax.specs.Cutting.{IsUnit}
 use Rattle.stream_syntax.specs.TransportPackets.{adaptation_field, null_packet}
 use Rattle.decoder_model.specs.Sets.{sets_of}
@@ -18,9 +19,10 @@ use Rattle.decoder_model.proofs.SentUnits.{all-append, sets_of_sent}
 use Rattle.ts_packets.proofs.AnyCuttingLemmas.{any_cutting, nothing_lost}
 use Rattle.cue_list.specs.declared.script.Script.{Script}
 use Rattle.page_epoch.specs.declared.planned_set.PlannedSet.{PlannedSet}
-use Rattle.schedule.specs.Packets.{first_packet, packets_of, packet_count, no_load}
+use Rattle.schedule.specs.Packets.{first_packet, packets_of, packet_count, payloads_of, size_of, unit_payloads}
+use Rattle.schedule.proofs.PacketLaws.{unit_count}
 use Rattle.schedule.proofs.SumLaws.{sum_below-zero, sum_below-suc}
-use Rattle.shown_stream.specs.Compiled.{AreUnits, AreSizedAs, IsCompiledTo}
+use Rattle.shown_stream.specs.Compiled.{IsCompiledFor, AreLoads, AreUnits, AreSizedAs, IsCompiledTo}
 use Rattle.shown_stream.specs.SlotStream.{Piece, all_pieces, pieces_of, piece_of, piece_count, packet_of, IsPiece}
 use Rattle.shown_stream.proofs.LaidPackets.{laid, stream_is_laid}
 use Rattle.shown_stream.proofs.LateStream.{no_counter}
@@ -36,7 +38,7 @@ length-pieces_of : (unit : List ℕ) → length (pieces_of unit) ≡ piece_count
 length-pieces_of unit = length-map-range_with_len (piece_of unit) 0 (piece_count unit)
 
 -- the packets of the first load, and of the others
-first_packet-cons : (load : SetLoad) (loads : List SetLoad) (n : ℕ) → first_packet (load ∷ loads) (suc n) ≡ packet_count load.size + first_packet loads n
+first_packet-cons : (load : WriteLoad) (loads : List WriteLoad) (n : ℕ) → first_packet (load ∷ loads) (suc n) ≡ length (payloads_of load.units) + first_packet loads n
 first_packet-cons load loads zero =
     sum_below-suc (packets_of (load ∷ loads)) 0
     ∙ omega (arith, sum_below-zero (packets_of (load ∷ loads)), sum_below-zero (packets_of loads))
@@ -44,15 +46,34 @@ first_packet-cons load loads (suc n) =
     sum_below-suc (packets_of (load ∷ loads)) (suc n)
     ∙ omega (arith, first_packet-cons load loads n, sum_below-suc (packets_of loads) n)
 
+-- a set is sent in one PES packet
+abbrev pub IsSingle : WriteLoad → Type 0
+IsSingle load = load.units ≡ load.load.size ∷ []
+
+-- the packets of one unit
+one_unit : (size : ℕ) → length (payloads_of (size ∷ [])) ≡ packet_count size
+unfolding payloads_of
+one_unit size = length-append (unit_payloads size) [] ∙ omega (arith, unit_count size)
+
 -- as many pieces as packets
-pub count_pieces : (loads : List SetLoad) (units : List (List ℕ)) → AreSizedAs loads units → first_packet loads (length loads) ≡ length (all_pieces units)
-count_pieces [] [] sized = sum_below-zero (packets_of [])
-count_pieces [] (unit ∷ units) sized = absurd sized
-count_pieces (load ∷ loads) [] sized = absurd sized
-count_pieces (load ∷ loads) (unit ∷ units) sized =
-    let here : packet_count load.size ≡ piece_count unit = ap packet_count (sym sized.0) in
+pub count_pieces : (loads : List WriteLoad) (units : List (List ℕ)) → AreSizedAs loads units → AllByRecursion IsSingle loads → first_packet loads (length loads) ≡ length (all_pieces units)
+count_pieces [] [] sized single = sum_below-zero (packets_of [])
+count_pieces [] (unit ∷ units) sized single = absurd sized
+count_pieces (load ∷ loads) [] sized single = absurd sized
+count_pieces (load ∷ loads) (unit ∷ units) sized single =
+    let here : length (payloads_of load.units) ≡ piece_count unit = ap (λ (all : List ℕ). length (payloads_of all)) single.0 ∙ one_unit load.load.size ∙ ap packet_count (sym sized.0) in
     first_packet-cons load loads (length loads)
-    ∙ omega (arith, here, count_pieces loads units sized.1, length-append (pieces_of unit) (all_pieces units), length-pieces_of unit)
+    ∙ omega (arith, here, count_pieces loads units sized.1 single.1, length-append (pieces_of unit) (all_pieces units), length-pieces_of unit)
+
+-- sets that fit a buffer that a PES packet fills are sent in one each
+pub singles : (coded : ℕ) (script : Script) (sets : List PlannedSet) (loads : List WriteLoad) → coded ≤ 65541 → AreLoads script sets loads → ((i : ℕ) → i < length loads → size_of loads i ≤ coded) → AllByRecursion IsSingle loads
+singles coded script [] [] few asked fits = tt
+singles coded script [] (load ∷ loads) few asked fits = absurd asked
+singles coded script (set ∷ sets) [] few asked fits = tt
+singles coded script (set ∷ sets) (load ∷ loads) few asked fits =
+    let whole = asked.0.sent.whole in
+    let long : sum load.units ≤ coded = fits 0 (omega arith) in
+    (asked.0.sent.one (omega arith), singles coded script sets loads few asked.1 (λ i within. fits (suc i) (omega arith)))
 
 -- ---- how long they are
 
@@ -78,24 +99,19 @@ laid_whole pid from number (piece ∷ pieces) (slot ∷ slots) are =
 
 -- ---- the units
 
--- a profile with a step has a coded data buffer whose size the length field of a PES packet can tell
-pub coded_few : (name : ProfileName) → IsSome (profile_of name).step → (profile_of name).coded ≤ 65541
-coded_few Sd steps = omega arith
-coded_few Hd steps = omega arith
-coded_few Wide steps = let never : false ≡ true = steps in absurd cc
-
 -- packets of sets, none of them larger than a buffer, are units that a demultiplexer of its size hands out
-units_of : (coded page : ℕ) (script : Script) (sets : List PlannedSet) (units : List (List ℕ)) (loads : List SetLoad) → coded ≤ 65541 → AreUnits script page sets units → AreSizedAs loads units
-    → ((i : ℕ) → i < length loads → (get_or loads i no_load).size ≤ coded) → AllByRecursion (IsUnit coded) units
-units_of coded page script [] [] loads few carried sized fits = tt
-units_of coded page script [] (unit ∷ units) loads few carried sized fits = absurd carried
-units_of coded page script (set ∷ sets) [] loads few carried sized fits = tt
-units_of coded page script (set ∷ sets) (unit ∷ units) [] few carried sized fits = absurd sized
-units_of coded page script (set ∷ sets) (unit ∷ units) (load ∷ loads) few carried sized fits =
-    let long : load.size ≤ coded = fits 0 (omega arith) in
-    let same : length unit ≡ load.size = sized.0 in (
-      written_unit coded set.pts carried.0.field_bytes unit (omega arith) (omega arith) carried.0.packet,
-      units_of coded page script sets units loads few carried.1 sized.1 (λ i within. fits (suc i) (omega arith)),
+units_of : (coded page : ℕ) (script : Script) (sets : List PlannedSet) (units : List (List ℕ)) (loads : List WriteLoad) → coded ≤ 65541 → AreUnits script page sets units → AreSizedAs loads units
+    → AllByRecursion IsSingle loads → ((i : ℕ) → i < length loads → size_of loads i ≤ coded) → AllByRecursion (IsUnit coded) units
+units_of coded page script [] [] loads few carried sized single fits = tt
+units_of coded page script [] (unit ∷ units) loads few carried sized single fits = absurd carried
+units_of coded page script (set ∷ sets) [] loads few carried sized single fits = tt
+units_of coded page script (set ∷ sets) (unit ∷ units) [] few carried sized single fits = absurd sized
+units_of coded page script (set ∷ sets) (unit ∷ units) (load ∷ loads) few carried sized single fits =
+    let long : sum load.units ≤ coded = fits 0 (omega arith) in
+    let all : sum load.units ≡ load.load.size = ap sum single.0 ∙ omega arith in
+    let same : length unit ≡ load.load.size = sized.0 in (
+      written_unit coded (set.pts % TIME_ROUND) carried.0.field_bytes unit (omega arith) (omega arith) carried.0.packet,
+      units_of coded page script sets units loads few carried.1 sized.1 single.1 (λ i within. fits (suc i) (omega arith)),
     )
 
 -- ---- the packets
@@ -113,15 +129,16 @@ pub record ArePackets (name : ProfileName) (pid page : ℕ) (script : Script) (b
       → sets_of (profile_of name).coded pid page true (packets_in name pid page script bytes compiled) ≡ map delivered timed
 
 -- joined they are the bytes, each has 188 bytes, and where their units are those of sets, these sets are received
-pub are_packets : (name : ProfileName) (pid page : ℕ) (script : Script) (bytes : List ℕ) → IsFree pid → IsSome (profile_of name).step
+pub are_packets : (name : ProfileName) (pid page : ℕ) (script : Script) (bytes : List ℕ) → IsFree pid → IsCompiledFor name
     → (compiled : IsCompiledTo name pid page script bytes) → ArePackets name pid page script bytes compiled
-are_packets name pid page script bytes free steps compiled =
+are_packets name pid page script bytes free made compiled =
     let coded = (profile_of name).coded in
     let loads = compiled.loads in
     let slots = compiled.table.slots in
     let ahead = slots_rise loads (length loads) (pace_of script.origin (profile_of name)) compiled.table compiled.schedule in
-    let same : length (all_pieces compiled.units) ≡ length slots = sym (count_pieces loads compiled.units compiled.sized) ∙ sym compiled.schedule.packets in
-    let units = units_of coded page script compiled.sets compiled.units loads (coded_few name steps) compiled.carried compiled.sized compiled.on_time.fits in
+    let single = singles coded script compiled.sets loads made.few compiled.planned.asked compiled.on_time.fits in
+    let same : length (all_pieces compiled.units) ≡ length slots = sym (count_pieces loads compiled.units compiled.sized single) ∙ sym compiled.schedule.packets in
+    let units = units_of coded page script compiled.sets compiled.units loads made.few compiled.carried compiled.sized single compiled.on_time.fits in
     let pieces = pieces_are coded compiled.units units in
     record {
       joined = compiled.sent ∙ stream_is_laid pid (all_pieces compiled.units) slots ahead same;

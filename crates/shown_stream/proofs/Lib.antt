@@ -15,3 +15,8 @@ pub mod AuthoredCue
 pub mod SoleCueUnits
 pub mod SoleCueShown
 pub mod SoleCueExample
+pub mod SentPlaces
+pub mod LateCuts
+pub mod LateTicks
+pub mod SentOrder
+pub mod PlannedOrder

@@ -1,5 +1,5 @@
 -- What a receiver shows of packets at a tick is one view.
-use Rattle.std.proofs.Common.{◌≡◌, ◌∙◌, ℕ, List, [], ◌∷◌, reverse, refl, sym, ap, true}
+use Rattle.std.proofs.Common.{◌≡◌, ◌∙◌, ℕ, List, [], ◌∷◌, reverse, Bool, refl, sym, ap}
 use Rattle.sub_base.specs.declared.profile.Profile.{Profile}
 use Rattle.decoder_model.specs.Readings.{Reading, read, faulty, IsReading, AreReadings, IsDeliveryRead, AreDeliveriesRead}
 use Rattle.decoder_model.specs.Sets.{Delivery, lost, whole, refused, sets_of}
@@ -23,8 +23,8 @@ same_readings (bytes ∷ segments) (reading ∷ one) (found ∷ other) h k =
 
 same_delivery : (delivery : Delivery (List ℕ)) (one other : Delivery Reading) → IsDeliveryRead delivery one → IsDeliveryRead delivery other → one ≡ other
 same_delivery lost one other h k = h ∙ sym k
-same_delivery (whole time segments) one other h k = h.2 ∙ ap (whole time) (same_readings segments h.0 k.0 h.1 k.1) ∙ sym k.2
-same_delivery (refused time fault) one other h k = h ∙ sym k
+same_delivery (whole time size segments) one other h k = h.2 ∙ ap (whole time size) (same_readings segments h.0 k.0 h.1 k.1) ∙ sym k.2
+same_delivery (refused time size fault) one other h k = h ∙ sym k
 
 same_past : (deliveries : List (Delivery (List ℕ))) (one other : List (Delivery Reading)) → AreDeliveriesRead deliveries one → AreDeliveriesRead deliveries other → one ≡ other
 same_past [] [] [] h k = refl
@@ -36,6 +36,6 @@ same_past (delivery ∷ deliveries) (reading ∷ one) (found ∷ other) h k =
     ap (λ first. first ∷ one) (same_delivery delivery reading found h.0 k.0) ∙ ap (λ rest. found ∷ rest) (same_past deliveries one other h.1 k.1)
 
 -- the view of packets at a tick is one
-pub one_view : (profile : Profile) (pid page : ℕ) (packets : List (List ℕ)) (tick : ℕ) (shown other : View) → IsShown profile pid page packets tick shown → IsShown profile pid page packets tick other → shown ≡ other
-one_view profile pid page packets tick shown other h k =
-    h.is_view ∙ ap (view_at profile tick) (same_past (reverse (sets_of profile.coded pid page true packets)) h.past k.past h.are_read k.are_read) ∙ sym k.is_view
+pub one_view : (profile : Profile) (pid page anchor : ℕ) (ended : Bool) (packets : List (List ℕ)) (tick : ℕ) (shown other : View) → IsShown profile pid page anchor ended packets tick shown → IsShown profile pid page anchor ended packets tick other → shown ≡ other
+one_view profile pid page anchor ended packets tick shown other h k =
+    h.is_view ∙ ap (view_at profile anchor tick) (same_past (reverse (sets_of profile.coded pid page ended packets)) h.past k.past h.received k.received) ∙ sym k.is_view

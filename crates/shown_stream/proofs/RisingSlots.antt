@@ -5,18 +5,18 @@ use Rattle.schedule.specs.Packets.{packets_of, first_packet}
 use Rattle.schedule.specs.Slots.{Timetable, IsSchedule}
 use Rattle.sub_base.specs.declared.pace.Pace.{Pace}
 use Rattle.schedule.proofs.SumLaws.{sum_below-zero, sum_below-suc}
-use Rattle.sub_base.specs.declared.load.SetLoad.{SetLoad}
+use Rattle.sub_base.specs.declared.load.WriteLoad.{WriteLoad}
 use Rattle.shown_stream.proofs.LaidPackets.{IsAhead}
 
 -- the set of a packet, and its place there
-record PlaceOf (loads : List SetLoad) (n packet : ℕ) : Type 0 where
+record PlaceOf (loads : List WriteLoad) (n packet : ℕ) : Type 0 where
   set : ℕ
   place : ℕ
   among : set < n
   within : place < packets_of loads set
   there : first_packet loads set + place ≡ packet
 
-place_of : (loads : List SetLoad) (n packet : ℕ) → packet < first_packet loads n → PlaceOf loads n packet
+place_of : (loads : List WriteLoad) (n packet : ℕ) → packet < first_packet loads n → PlaceOf loads n packet
 place_of loads zero packet h = absurd (omega (arith, sum_below-zero (packets_of loads)))
 place_of loads (suc n) packet h = by (cases_lt packet (first_packet loads n)) (place_of loads n packet)
   where
@@ -28,7 +28,7 @@ place_of loads (suc n) packet h = by (cases_lt packet (first_packet loads n)) (p
     by (inr here) onward = record { set = n; place = packet - first_packet loads n; among = omega arith; within = omega (arith, sum_below-suc (packets_of loads) n); there = omega arith }
 
 -- the slot of each packet is above that of the one before
-rises : (loads : List SetLoad) (n : ℕ) (pace : Pace) (table : Timetable) → IsSchedule loads n pace table → (k : ℕ) → k + 1 < length table.slots → get_or table.slots k 0 < get_or table.slots (k + 1) 0
+rises : (loads : List WriteLoad) (n : ℕ) (pace : Pace) (table : Timetable) → IsSchedule loads n pace table → (k : ℕ) → k + 1 < length table.slots → get_or table.slots k 0 < get_or table.slots (k + 1) 0
 rises loads n pace table schedule k within =
     let packets = schedule.packets in
     let at = place_of loads n (k + 1) (omega arith) in
@@ -46,5 +46,5 @@ from_start : (slots : List ℕ) → ((k : ℕ) → k + 1 < length slots → get_
 from_start [] h = tt
 from_start (slot ∷ slots) h = ahead 0 slot slots (omega arith) h
 
-pub slots_rise : (loads : List SetLoad) (n : ℕ) (pace : Pace) (table : Timetable) → IsSchedule loads n pace table → IsAhead 0 table.slots
+pub slots_rise : (loads : List WriteLoad) (n : ℕ) (pace : Pace) (table : Timetable) → IsSchedule loads n pace table → IsAhead 0 table.slots
 slots_rise loads n pace table schedule = from_start table.slots (rises loads n pace table schedule)

@@ -1,5 +1,5 @@
 -- What a receiver shows of the packets of a script of one cue is what the script authors, at every tick.
-use Rattle.std.proofs.Common.{◌≡◌, ◌∙◌, ◌⊎◌, inl, inr, ℕ, ◌+◌, ◌*◌, ◌<◌, ◌≤◌, ◌^◌, true, false, eqb, List, [], ◌∷◌, ◌++◌, length, map, reverse, IsSome, refl, sym, ap, subst, arith}
+use Rattle.std.proofs.Common.{◌≡◌, ◌∙◌, ◌⊎◌, inl, inr, ℕ, ◌+◌, ◌*◌, ◌%◌, ◌<◌, ◌≤◌, ◌≢◌, ◌^◌, true, false, eqb, List, [], ◌∷◌, ◌++◌, length, map, reverse, refl, sym, ap, subst, arith}
 use Rattle.std.specs.List.{AllByRecursion}
 use Rattle.std.proofs.lemmas.Bool.{cases_lt}
 use Rattle.std.proofs.lemmas.Bool.Decides.{nat_tests}
@@ -18,11 +18,13 @@ use Rattle.cue_list.specs.declared.epoch.Cue.{Cue}
 use Rattle.cue_list.specs.declared.epoch.Epoch.{Epoch}
 use Rattle.cue_list.specs.declared.epoch.Region.{Region}
 use Rattle.cue_list.specs.declared.script.Script.{Script}
+use Rattle.page_epoch.specs.Plan.{IsPlan}
 use Rattle.page_epoch.specs.SoleCue.{IsSoleCue}
 use Rattle.page_epoch.proofs.SoleCueSets.{HasRoom, first_set, last_set}
 use Rattle.page_epoch.specs.declared.planned_set.PlannedSet.{PlannedSet}
 use Rattle.page_epoch.proofs.SoleCuePlan.{sole_cue_fills, sole_cue_plan, sole_cue_room}
 use Rattle.set_coder.specs.SetSegments.{IsSetPacket, time_out_of}
+use Rattle.decoder_model.specs.Kept.{time_round}
 use Rattle.decoder_model.specs.Readings.{AreFields, IsContent, AreReadings, AreDeliveriesRead}
 use Rattle.decoder_model.specs.Sets.{Delivery, sets_of}
 use Rattle.decoder_model.specs.Shown.{View, plane, IsClear, Agrees, view_at}
@@ -30,10 +32,10 @@ use Rattle.decoder_model.proofs.Depths.{parts_in_eight, none_too_deep}
 use Rattle.decoder_model.proofs.SentSets.{TimedSet, AreUnitsOf, no_unit, one_more, IsUnitOf, all_segments}
 use Rattle.decoder_model.proofs.SoleCue as shown
 use Rattle.decoder_model.proofs.SoleCueView.{IsDrawn, both_sets, coloured, nothing_before, picture_while, clear_after}
-use Rattle.shown_stream.specs.Compiled.{AreUnits, IsCompiledTo}
-use Rattle.shown_stream.specs.Shows.{authored_view, Shows}
+use Rattle.shown_stream.specs.Compiled.{IsCompiledFor, AreUnits, IsCompiledTo}
+use Rattle.shown_stream.specs.Shows.{authored_view, IsAnchorOf, Shows}
 use Rattle.shown_stream.proofs.AuthoredCue.{sole_cue_facts, clear_outside, picture_inside}
-use Rattle.shown_stream.proofs.CompiledPackets.{coded_few, packets_in, are_packets}
+use Rattle.shown_stream.proofs.CompiledPackets.{packets_in, are_packets}
 use Rattle.shown_stream.proofs.DrawnObject.{ObjectDraws}
 use Rattle.shown_stream.proofs.SentPieces.{IsFree}
 use Rattle.shown_stream.proofs.SoleCueUnits.{cue_of, first_values, last_values, FieldOf, first_field, last_field}
@@ -57,14 +59,14 @@ two_packets script page one two (first ∷ last ∷ more ∷ units) h = absurd h
 
 -- the packet of the first set is that of its segments
 first_unit : (coded page time : ℕ) (cue : shown.Cue) (field bytes : List ℕ) → FieldOf page (first_values cue) field → bytes ≡ written_pes time field → time < 2 ^ 33 → length bytes ≤ coded → length bytes ≤ 65541
-    → IsUnitOf coded page bytes (set_with page time (first_values cue))
+    → IsUnitOf coded page bytes (set_with page time (length bytes) (first_values cue))
 first_unit coded page time cue field bytes is packet early fits short =
     let each = recursion_from_All (IsWritable page) (first_values cue ++ end_of_set ∷ []) is.fit in
     written_set coded page time (first_values cue) bytes
     ((each.0, tt), ((each.1.0, tt), ((each.1.1.0, tt), ((each.1.1.1.0, tt), tt)))) each.1.1.1.1.0 early fits short (packet ∙ ap (written_pes time) is.field)
 
 last_unit : (coded page time : ℕ) (cue : shown.Cue) (field bytes : List ℕ) → FieldOf page (last_values cue) field → bytes ≡ written_pes time field → time < 2 ^ 33 → length bytes ≤ coded → length bytes ≤ 65541
-    → IsUnitOf coded page bytes (set_with page time (last_values cue))
+    → IsUnitOf coded page bytes (set_with page time (length bytes) (last_values cue))
 last_unit coded page time cue field bytes is packet early fits short =
     let each = recursion_from_All (IsWritable page) (last_values cue ++ end_of_set ∷ []) is.fit in
     written_set coded page time (last_values cue) bytes ((each.0, tt), tt) each.1.0 early fits short (packet ∙ ap (written_pes time) is.field)
@@ -74,9 +76,9 @@ last_unit coded page time cue field bytes is packet early fits short =
 content_of : (page : ℕ) (value : SegmentValue) (top bottom : List Part) → IsWritable page value → AreFields value top bottom → IsContent (spelled page value) (record { value = value; top = top; bottom = bottom })
 content_of page value top bottom writable fields = record { segment = written_segment page value writable; fields = fields }
 
-first_read : (page time : ℕ) (cue : shown.Cue) (field : List ℕ) → FieldOf page (first_values cue) field → AreFields (of_object (shown.object_for cue)) cue.top cue.bottom
-    → AreReadings (all_segments (set_with page time (first_values cue))) (shown.first_readings cue)
-first_read page time cue field is parts =
+first_read : (page time size : ℕ) (cue : shown.Cue) (field : List ℕ) → FieldOf page (first_values cue) field → AreFields (of_object (shown.object_for cue)) cue.top cue.bottom
+    → AreReadings (all_segments (set_with page time size (first_values cue))) (shown.first_readings cue)
+first_read page time size cue field is parts =
     let each = recursion_from_All (IsWritable page) (first_values cue ++ end_of_set ∷ []) is.fit in (
       content_of page (of_display (shown.display_for cue)) [] [] each.0 (refl, refl),
       (
@@ -91,24 +93,39 @@ first_read page time cue field is parts =
       ),
     )
 
-last_read : (page time : ℕ) (cue : shown.Cue) (field : List ℕ) → FieldOf page (last_values cue) field → AreReadings (all_segments (set_with page time (last_values cue))) (shown.last_readings cue)
-last_read page time cue field is =
+last_read : (page time size : ℕ) (cue : shown.Cue) (field : List ℕ) → FieldOf page (last_values cue) field → AreReadings (all_segments (set_with page time size (last_values cue))) (shown.last_readings cue)
+last_read page time size cue field is =
     let each = recursion_from_All (IsWritable page) (last_values cue ++ end_of_set ∷ []) is.fit in
     (content_of page (of_page (shown.last_page cue)) [] [] each.0 (refl, refl), (content_of page end_of_set [] [] each.1.0 (refl, refl), tt))
 
+-- ---- times
+
+-- times that are near each other are told as different ones
+told_apart : (start end : ℕ) → start < end → end < start + 4294967296 → eqb (start % time_round) (end % time_round) ≡ false
+told_apart start end rising near = let differ : (start % time_round) ≢ (end % time_round) = omega arith in grind (arith, nat_tests)
+
+below_round : (time : ℕ) → time % time_round < 2 ^ 33
+below_round time = omega arith
+
 -- ---- what is shown
+
+-- a cue with the sizes of its units
+abbrev sized : shown.Cue → ℕ → ℕ → shown.Cue
+sized cue first last = record cue { first_size = first; last_size = last }
 
 -- what a receiver was handed: the two sets, with what they are made of
 record Handed (name : ProfileName) (pid page : ℕ) (script : Script) (region : Region) (cue : Cue) (picture : Picture) (packets : List (List ℕ)) : Type 0 where
   top : List ℕ
   bottom : List ℕ
+  first_size : ℕ
+  last_size : ℕ
   draws : ObjectDraws picture region.depth top bottom
-  are_read : AreDeliveriesRead (reverse (sets_of (profile_of name).coded pid page true packets)) (both_sets (cue_of script region picture top bottom draws.top_parts draws.bottom_has) cue.start cue.end)
+  are_read : AreDeliveriesRead (reverse (sets_of (profile_of name).coded pid page true packets)) (both_sets (sized (cue_of script region picture top bottom draws.top_parts draws.bottom_has) first_size last_size) cue.start cue.end)
 
 -- a receiver has room for the cue, since the plan has
-cue_fits : (profile : Profile) (script : Script) (epoch : Epoch) (region : Region) (cue : Cue) (picture : Picture) (top bottom : List ℕ) → IsSoleCue script epoch region cue picture → HasRoom script region profile
-    → (draws : ObjectDraws picture region.depth top bottom) → shown.Fits profile (cue_of script region picture top bottom draws.top_parts draws.bottom_has)
-cue_fits profile script epoch region cue picture top bottom sole room draws =
+cue_fits : (profile : Profile) (script : Script) (epoch : Epoch) (region : Region) (cue : Cue) (picture : Picture) (top bottom : List ℕ) (first_size last_size : ℕ) → IsSoleCue script epoch region cue picture → HasRoom script region profile
+    → (draws : ObjectDraws picture region.depth top bottom) → shown.Fits profile (sized (cue_of script region picture top bottom draws.top_parts draws.bottom_has) first_size last_size)
+cue_fits profile script epoch region cue picture top bottom first_size last_size sole room draws =
     let wide : picture.width ≡ region.width = sole.picture_wide ∙ sym sole.wide in
     let high : picture.height ≡ region.height = sole.picture_high ∙ sym sole.high in
     record {
@@ -121,9 +138,9 @@ cue_fits profile script epoch region cue picture top bottom sole room draws =
     }
 
 -- the two sets are handed on
-handed : (name : ProfileName) (pid page : ℕ) (script : Script) (epoch : Epoch) (region : Region) (cue : Cue) (picture : Picture) (bytes : List ℕ) → IsFree pid → IsSome (profile_of name).step → IsSoleCue script epoch region cue picture
+handed : (name : ProfileName) (pid page : ℕ) (script : Script) (epoch : Epoch) (region : Region) (cue : Cue) (picture : Picture) (bytes : List ℕ) → IsFree pid → IsCompiledFor name → IsSoleCue script epoch region cue picture
     → (compiled : IsCompiledTo name pid page script bytes) → Handed name pid page script region cue picture (packets_in name pid page script bytes compiled)
-handed name pid page script epoch region cue picture bytes free steps sole compiled =
+handed name pid page script epoch region cue picture bytes free for_it sole compiled =
     let sets = sole_cue_plan script epoch region cue picture (profile_of name) compiled.sets sole compiled.planned.plan in
     by sets.0 sets.1
     (two_packets script page (first_set region cue sets.0) (last_set cue sets.1) compiled.units (subst (λ (all : List PlannedSet). AreUnits script page all compiled.units) sets.2 compiled.carried))
@@ -133,30 +150,34 @@ handed name pid page script epoch region cue picture bytes free steps sole compi
 
     by : (first_row last_row : ℕ) → TwoPackets script page (first_set region cue first_row) (last_set cue last_row) compiled.units → Handed name pid page script region cue picture (packets_in name pid page script bytes compiled)
     by first_row last_row two =
-        let known = are_packets name pid page script bytes free steps compiled in
+        let known = are_packets name pid page script bytes free for_it compiled in
         let units : AllByRecursion (IsUnit coded) (two.first ∷ two.last ∷ []) = subst (AllByRecursion (IsUnit coded)) two.are known.units in
-        let few = coded_few name steps in
+        let few = for_it.few in
+        let start_time = cue.start % time_round in
+        let end_time = cue.end % time_round in
         let facts = sole_cue_facts script epoch region cue picture sole in
         let first_fits = units.0.fits in
         let last_fits = units.1.0.fits in
         let rising = (sole_cue_fills script epoch region cue picture sole).lasts in
         let opening = first_field script epoch region cue picture page first_row two.first_is.field_bytes sole two.first_is.carried in
-        let made = cue_of script region picture opening.top opening.bottom opening.draws.top_parts opening.draws.bottom_has in
+        let made = sized (cue_of script region picture opening.top opening.bottom opening.draws.top_parts opening.draws.bottom_has) (length two.first) (length two.last) in
         let closing = last_field script epoch region cue picture page last_row two.last_is.field_bytes opening.top opening.bottom opening.draws.top_parts opening.draws.bottom_has sole two.last_is.carried in
-        let timed : List TimedSet = set_with page cue.start (first_values made) ∷ set_with page cue.end (last_values made) ∷ [] in
+        let timed : List TimedSet = set_with page start_time (length two.first) (first_values made) ∷ set_with page end_time (length two.last) (last_values made) ∷ [] in
         let are : AreUnitsOf coded page (two.first ∷ two.last ∷ []) timed =
-        one_more (first_unit coded page cue.start made two.first_is.field_bytes two.first opening.is two.first_is.packet facts.early_start first_fits (omega arith))
-        (one_more (last_unit coded page cue.end made two.last_is.field_bytes two.last closing two.last_is.packet facts.early_end last_fits (omega arith)) no_unit) in
-        let apart : eqb cue.start cue.end ≡ false = grind (arith, nat_tests) in
+        one_more (first_unit coded page start_time made two.first_is.field_bytes two.first opening.is two.first_is.packet (below_round cue.start) first_fits (omega arith))
+        (one_more (last_unit coded page end_time made two.last_is.field_bytes two.last closing two.last_is.packet (below_round cue.end) last_fits (omega arith)) no_unit) in
+        let apart : eqb start_time end_time ≡ false = told_apart cue.start cue.end rising facts.near in
         let received = known.received timed (subst (λ (all : List (List ℕ)). AreUnitsOf coded page all timed) (sym two.are) are) (apart, tt) in
         let parts : AreFields (of_object (shown.object_for made)) made.top made.bottom = (parts_in_eight region.depth opening.draws.top_parts opening.top opening.draws.top_whole, parts_in_eight region.depth opening.draws.bottom_has opening.bottom opening.draws.bottom_whole) in
         record {
           top = opening.top;
           bottom = opening.bottom;
+          first_size = length two.first;
+          last_size = length two.last;
           draws = opening.draws;
           are_read = subst (λ (all : List (Delivery (List ℕ))). AreDeliveriesRead (reverse all) (both_sets made cue.start cue.end)) (sym received) (
-            (shown.last_readings made, last_read page cue.end made two.last_is.field_bytes closing, refl),
-            ((shown.first_readings made, first_read page cue.start made two.first_is.field_bytes opening.is parts, refl), tt),
+            (shown.last_readings made, last_read page end_time (length two.last) made two.last_is.field_bytes closing, refl),
+            ((shown.first_readings made, first_read page start_time (length two.first) made two.first_is.field_bytes opening.is parts, refl), tt),
           );
         }
 
@@ -168,38 +189,52 @@ agree_clear : (a b : View) → IsClear a → IsClear b → Agrees a b
 agree_clear a b h k = inr (h, k)
 
 -- at every tick the view is the authored one
-view_agrees : (name : ProfileName) (script : Script) (epoch : Epoch) (region : Region) (cue : Cue) (picture : Picture) (tick : ℕ) (made : shown.Cue) → IsSoleCue script epoch region cue picture
-    → made.picture ≡ picture → made.depth ≡ region.depth → made.time_out ≡ time_out_of script → shown.Fits (profile_of name) made → IsDrawn made
-    → Agrees (view_at (profile_of name) tick (both_sets made cue.start cue.end)) (authored_view script tick)
-view_agrees name script epoch region cue picture tick made sole its_picture its_depth its_time fits drawn = by (cases_lt tick cue.start) (cases_lt tick cue.end)
+view_agrees : (name : ProfileName) (script : Script) (epoch : Epoch) (region : Region) (cue : Cue) (picture : Picture) (anchor tick : ℕ) (made : shown.Cue) → IsSoleCue script epoch region cue picture
+    → made.picture ≡ picture → made.depth ≡ region.depth → made.time_out ≡ time_out_of script → shown.Fits (profile_of name) made → IsDrawn made → shown.AreLiftable anchor cue.start cue.end
+    → Agrees (view_at (profile_of name) anchor tick (both_sets made cue.start cue.end)) (authored_view script tick)
+view_agrees name script epoch region cue picture anchor tick made sole its_picture its_depth its_time fits drawn times = by (cases_lt tick cue.start) (cases_lt tick cue.end)
   where
-    rising : cue.start < cue.end
-    rising = (sole_cue_fills script epoch region cue picture sole).lasts
-
-    by : (tick < cue.start) ⊎ (cue.start ≤ tick) → (tick < cue.end) ⊎ (cue.end ≤ tick) → Agrees (view_at (profile_of name) tick (both_sets made cue.start cue.end)) (authored_view script tick)
+    by : (tick < cue.start) ⊎ (cue.start ≤ tick) → (tick < cue.end) ⊎ (cue.end ≤ tick) → Agrees (view_at (profile_of name) anchor tick (both_sets made cue.start cue.end)) (authored_view script tick)
     by (inl early) late =
-        agree_clear (view_at (profile_of name) tick (both_sets made cue.start cue.end)) (authored_view script tick)
-        (subst IsClear (sym (nothing_before (profile_of name) made cue.start cue.end tick rising early)) tt) (clear_outside script epoch region cue picture tick sole (inl early))
+        agree_clear (view_at (profile_of name) anchor tick (both_sets made cue.start cue.end)) (authored_view script tick)
+        (subst IsClear (sym (nothing_before (profile_of name) made anchor cue.start cue.end tick times early)) tt) (clear_outside script epoch region cue picture tick sole (inl early))
     by (inr come) (inr late) =
-        agree_clear (view_at (profile_of name) tick (both_sets made cue.start cue.end)) (authored_view script tick)
-        (clear_after (profile_of name) made cue.start cue.end tick fits rising late) (clear_outside script epoch region cue picture tick sole (inr late))
+        agree_clear (view_at (profile_of name) anchor tick (both_sets made cue.start cue.end)) (authored_view script tick)
+        (clear_after (profile_of name) made anchor cue.start cue.end tick fits times late) (clear_outside script epoch region cue picture tick sole (inr late))
     by (inr come) (inl within) =
         let until : cue.end ≤ cue.start + 90000 * made.time_out = rw its_time (in_time script epoch region cue picture sole) in
         let same : coloured made ≡ record { width = picture.width; height = picture.height; colours = map (default_of region.depth) picture.codes } = rw (its_picture, its_depth) refl in
-        inl (picture_while (profile_of name) made cue.start cue.end tick fits drawn come within until ∙ ap plane same ∙ sym (picture_inside script epoch region cue picture tick sole come within))
+        inl (picture_while (profile_of name) made anchor cue.start cue.end tick fits drawn times come within until ∙ ap plane same ∙ sym (picture_inside script epoch region cue picture tick sole come within))
+
+-- an anchor of the sets is one of the cue's two times
+liftable : (profile : Profile) (script : Script) (epoch : Epoch) (region : Region) (cue : Cue) (picture : Picture) (sets : List PlannedSet) (anchor : ℕ) → IsSoleCue script epoch region cue picture → IsPlan script profile sets
+    → IsAnchorOf (map (λ (set : PlannedSet). set.pts) sets) anchor → shown.AreLiftable anchor cue.start cue.end
+liftable profile script epoch region cue picture sets anchor sole plan fits =
+    let two = sole_cue_plan script epoch region cue picture profile sets sole plan in
+    let both = recursion_from_All (λ time. (anchor ≤ time) × (time < anchor + 8589934592)) (cue.start ∷ cue.end ∷ []) (subst (λ (all : List PlannedSet). IsAnchorOf (map (λ (set : PlannedSet). set.pts) all) anchor) two.2 fits) in
+    let facts = sole_cue_facts script epoch region cue picture sole in
+    let early = facts.early_end in
+    record {
+      later = both.0.0;
+      round = both.0.1;
+      rising = (sole_cue_fills script epoch region cue picture sole).lasts;
+      near = facts.near;
+      low = omega arith;
+    }
 
 -- what a receiver of the profile shows of the packets, from the first on, is what the script authors, at every tick
-pub sole_cue_shown : (name : ProfileName) (pid page : ℕ) (script : Script) (epoch : Epoch) (region : Region) (cue : Cue) (picture : Picture) (bytes : List ℕ) → IsFree pid → IsSome (profile_of name).step
-    → IsSoleCue script epoch region cue picture → (compiled : IsCompiledTo name pid page script bytes) → (tick : ℕ)
-    → Shows (profile_of name) pid page (packets_in name pid page script bytes compiled) tick (authored_view script tick)
-sole_cue_shown name pid page script epoch region cue picture bytes free steps sole compiled tick =
-    let given = handed name pid page script epoch region cue picture bytes free steps sole compiled in
-    let made = cue_of script region picture given.top given.bottom given.draws.top_parts given.draws.bottom_has in
+pub sole_cue_shown : (name : ProfileName) (pid page : ℕ) (script : Script) (epoch : Epoch) (region : Region) (cue : Cue) (picture : Picture) (bytes : List ℕ) → IsFree pid → IsCompiledFor name
+    → IsSoleCue script epoch region cue picture → (compiled : IsCompiledTo name pid page script bytes) → (anchor : ℕ) → IsAnchorOf (map (λ (set : PlannedSet). set.pts) compiled.sets) anchor → (tick : ℕ)
+    → Shows (profile_of name) pid page anchor (packets_in name pid page script bytes compiled) tick (authored_view script tick)
+sole_cue_shown name pid page script epoch region cue picture bytes free for_it sole compiled anchor fits tick =
+    let given = handed name pid page script epoch region cue picture bytes free for_it sole compiled in
+    let made = sized (cue_of script region picture given.top given.bottom given.draws.top_parts given.draws.bottom_has) given.first_size given.last_size in
     let room = sole_cue_room script epoch region cue picture (profile_of name) compiled.sets sole compiled.planned.plan in
     let facts = sole_cue_facts script epoch region cue picture sole in
+    let times = liftable (profile_of name) script epoch region cue picture compiled.sets anchor sole compiled.planned.plan fits in
     record {
-      shown = view_at (profile_of name) tick (both_sets made cue.start cue.end);
-      is_shown = record { past = both_sets made cue.start cue.end; are_read = given.are_read; is_view = refl };
-      agrees = view_agrees name script epoch region cue picture tick made sole refl refl refl
-          (cue_fits (profile_of name) script epoch region cue picture given.top given.bottom sole room given.draws) (record { is_picture = facts.is_picture; fields = given.draws.draws });
+      shown = view_at (profile_of name) anchor tick (both_sets made cue.start cue.end);
+      is_shown = record { past = both_sets made cue.start cue.end; received = given.are_read; is_view = refl };
+      agrees = view_agrees name script epoch region cue picture anchor tick made sole refl refl refl
+          (cue_fits (profile_of name) script epoch region cue picture given.top given.bottom given.first_size given.last_size sole room given.draws) (record { is_picture = facts.is_picture; fields = given.draws.draws }) times;
     }

@@ -39,7 +39,7 @@ only_epoch script epoch found is there = let same : Some epoch ≡ Some found = 
 
 -- ---- the segments
 
--- what the two sets are made of, with the blocks and sub-blocks of the cue's object
+-- what the two sets are made of, with the blocks and sub-blocks of the cue's object; the sizes of their units are not told
 abbrev pub cue_of : Script → Region → Picture → (top bottom : List ℕ) → List Part → List Part → shown.Cue
 cue_of script region picture top bottom top_parts bottom_has = record {
   picture = picture;
@@ -51,6 +51,8 @@ cue_of script region picture top bottom top_parts bottom_has = record {
   bottom_bytes = bottom;
   top = top_parts;
   bottom = bottom_has;
+  first_size = 0;
+  last_size = 0;
 }
 
 -- the segments of the first set, but for its end

@@ -68,9 +68,9 @@ inner_before page value writable inner = record {
 abbrev pub AreInner : ℕ → List SegmentValue → Type 0
 AreInner page values = AllByRecursion (λ value. IsWritable page value × IsInner value) values
 
--- the set of these segments and an end of set
-abbrev pub set_with : ℕ → ℕ → List SegmentValue → TimedSet
-set_with page set_time values = record { time = set_time; segments = map (spelled page) values; end = spelled page end_of_set }
+-- the set of these segments and an end of set, with its time and the size of its unit
+abbrev pub set_with : ℕ → ℕ → ℕ → List SegmentValue → TimedSet
+set_with page set_time unit_size values = record { time = set_time; size = unit_size; segments = map (spelled page) values; end = spelled page end_of_set }
 
 -- its data field
 abbrev pub data_field : ℕ → List SegmentValue → List ℕ
@@ -96,7 +96,7 @@ packet_size time field = omega arith
 
 -- the PES packet of the set
 pub written_set : (coded page time : ℕ) (values : List SegmentValue) (bytes : List ℕ) → AreInner page values → IsWritable page end_of_set → time < 2 ^ 33 → length bytes ≤ coded → length bytes ≤ 65541
-    → bytes ≡ written_pes time (data_field page values) → IsUnitOf coded page bytes (set_with page time values)
+    → bytes ≡ written_pes time (data_field page values) → IsUnitOf coded page bytes (set_with page time (length bytes) values)
 written_set coded page time values bytes inner end early fits short is =
     let long = ap length is ∙ packet_size time (data_field page values) in
     let size = field_size page values in
@@ -106,6 +106,7 @@ written_set coded page time values bytes inner end early fits short is =
       end_headed = headed_by page end_of_set end refl;
       is_end = ap (λ kind. eqb kind 0x80) (spelled_head page end_of_set end).kind_is;
       fits = omega (arith, sum_of_lengths (map (spelled page) values ++ spelled page end_of_set ∷ []));
+      size = refl;
       packet = ap pes_of is ∙ read ∙ ap (λ segments. Ok (time, segments ++ 0xFF ∷ [])) (joined_segments page values);
     }
 

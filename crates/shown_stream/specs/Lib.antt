@@ -1,3 +1,6 @@
 pub mod SlotStream
 pub mod Compiled
 pub mod Shows
+pub mod SentSets
+pub mod StreamCalls
+pub mod HoldsScript

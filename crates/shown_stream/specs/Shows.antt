@@ -1,5 +1,5 @@
 -- Packets that show what is authored.
-use Rattle.std.specs.Prelude.{ℕ, List}
+use Rattle.std.specs.Prelude.{ℕ, ◌+◌, ◌≤◌, ◌<◌, true, List, All}
 use Rattle.sub_base.specs.declared.profile.Profile.{Profile}
 use Rattle.cue_list.specs.Authored.{authored_picture}
 use Rattle.cue_list.specs.declared.script.Script.{Script}
@@ -13,8 +13,13 @@ authored_view script tick = plane (record {
   colours = authored_picture script.width script.height script.epochs script.pictures tick;
 })
 
--- a receiver of the profile that gets these packets shows at a tick, for a PID and a page, what agrees with that view
-pub record Shows (profile : Profile) (pid page : ℕ) (packets : List (List ℕ)) (tick : ℕ) (wanted : View) : Type 0 where
+-- an anchor from which a receiver lifts times rightly: each of them is from the anchor on, and less than 2 to the 33 ticks behind
+abbrev pub IsAnchorOf : List ℕ → ℕ → Type 0
+IsAnchorOf times anchor = All (λ time. (anchor ≤ time) × (time < anchor + 8589934592)) times
+
+-- a receiver of the profile with that anchor that gets these packets, with which the stream ends, shows at a tick, for a PID and
+-- a page, what agrees with that view
+pub record Shows (profile : Profile) (pid page anchor : ℕ) (packets : List (List ℕ)) (tick : ℕ) (wanted : View) : Type 0 where
   pub shown : View
-  pub is_shown : IsShown profile pid page packets tick shown
+  pub is_shown : IsShown profile pid page anchor true packets tick shown
   pub agrees : Agrees shown wanted

@@ -1,6 +1,7 @@
 pub mod BitFields
 pub mod Fields
 pub mod Cutting
+pub mod DataField
 pub mod Pes
 pub mod PixelBlocks
 pub mod PixelCodes

@@ -2,6 +2,7 @@
 use Rattle.std.specs.Prelude.{◌≡◌, ℕ, ◌+◌, ◌*◌, ◌/◌, ◌%◌, ◌^◌, ◌≤◌, Bool, ◌==◌, ◌||◌, not, nat_lt, List, [], ◌∷◌, ◌++◌, length, drop, slice_index, find, Option, Some, None, Result, Ok, Err}
 use Rattle.std.specs.Option.{option_map}
 use Rattle.byteorder.specs.Endian.{big_number}
+use Rattle.stream_syntax.specs.declared.wire.TheConstants.{DATA_IDENTIFIER, PRIVATE_STREAM_1}
 use Rattle.stream_syntax.specs.declared.pes.PesFault.{PesFault}
 use Rattle.stream_syntax.specs.declared.pes.PesFault.TheVariants.{NoPrefix, OtherStream, BadHeader, Scrambled, NoPts, BadMarker, OtherField}
 use Rattle.stream_syntax.specs.BitFields.{Field, field, packed, AreGroups}
@@ -51,13 +52,13 @@ pes_bytes form = packed (pes_groups form) ++ (form.further_header ++ form.data_f
 -- and a data field of data identifier 20 and subtitle stream id 00
 pub record IsSubtitleForm (form : PesForm) (pts : ℕ) (segments : List ℕ) : Type 0 where
   pub fits : AreGroups (pes_groups form)
-  pub private_stream : form.stream_id ≡ 0xBD
+  pub private_stream : form.stream_id ≡ PRIVATE_STREAM_1
   pub whole : length (pes_bytes form) ≡ 6 + form.packet_length
   pub clear : form.scrambling ≡ 0
   pub timed : 2 ≤ form.pts_dts_flags
   pub header : form.header_length ≡ 5 + length form.further_header
   pub time : form.pts ≡ pts
-  pub subtitles : form.data_field ≡ 0x20 ∷ 0 ∷ segments
+  pub subtitles : form.data_field ≡ DATA_IDENTIFIER ∷ 0 ∷ segments
 
 -- the bytes are a PES packet with this presentation time and these bytes of segments
 pub record IsPes (bytes : List ℕ) (pts : ℕ) (segments : List ℕ) : Type 0 where
@@ -68,7 +69,7 @@ pub record IsPes (bytes : List ℕ) (pts : ℕ) (segments : List ℕ) : Type 0 w
 -- what a writer writes: data alignment, no further flags and no further header bytes
 abbrev pub written_form : ℕ → List ℕ → PesForm
 written_form time field_bytes = record {
-  stream_id = 0xBD;
+  stream_id = PRIVATE_STREAM_1;
   packet_length = 8 + length field_bytes;
   scrambling = 0;
   priority = 0;
@@ -115,13 +116,13 @@ lacks_marker bytes =
 
 -- another data identifier than 20, or another subtitle stream id than 00
 abbrev pub is_other_field : List ℕ → Bool
-is_other_field bytes = not (slice_index bytes (field_place bytes) == 0x20) || not (slice_index bytes (field_place bytes + 1) == 0)
+is_other_field bytes = not (slice_index bytes (field_place bytes) == DATA_IDENTIFIER) || not (slice_index bytes (field_place bytes + 1) == 0)
 
 -- the tests of a reader, in order: whether the bytes fail it, and the fault that says so
 abbrev pub pes_tests : List ℕ → List (Bool × PesFault)
 pes_tests bytes =
     (lacks_prefix bytes, NoPrefix)
-    ∷ (not (slice_index bytes 3 == 0xBD), OtherStream (slice_index bytes 3))
+    ∷ (not (slice_index bytes 3 == PRIVATE_STREAM_1), OtherStream (slice_index bytes 3))
     ∷ (has_bad_head bytes, BadHeader)
     ∷ (not (slice_index bytes 6 / 16 % 4 == 0), Scrambled)
     ∷ (nat_lt (slice_index bytes 7 / 64) 2, NoPts)

@@ -1,6 +1,7 @@
 -- When the bytes of a segment are refused: the tests in order, each with the place and the kind of its fault. Places
 -- count from the segment's first byte, and a length is always at place 4.
 use Rattle.std.specs.Prelude.{◌≡◌, ℕ, ◌+◌, ◌/◌, ◌%◌, ◌==◌, nat_lt, not, ◌&&◌, ◌||◌, Bool, true, false, List, [], ◌∷◌, ◌++◌, length, take, drop, Some, None, suc, zero, if◌then◌else◌}
+use Rattle.stream_syntax.specs.declared.wire.TheConstants.{SEGMENT_SYNC, CLUT_DEFINITION, DISPLAY_DEFINITION, OBJECT_DATA, PAGE_COMPOSITION, REGION_COMPOSITION}
 use Rattle.stream_syntax.specs.declared.segment_fault.SegmentFault.{SegmentFault}
 use Rattle.stream_syntax.specs.declared.segment_fault.SegmentKind.{SegmentKind}
 use Rattle.stream_syntax.specs.declared.segment_fault.SegmentKind.TheVariants.{NoSync, Cut, BadLength, ReservedState, BadDepth, CharacterObject, HeldObject, Progressive, ReservedMethod, Code, BadWindow, ZeroSize}
@@ -17,7 +18,7 @@ refuse fails place kind = record { fails = fails; fault = record { place = place
 -- the head: it begins with the sync byte, and the segment has all of its bytes
 abbrev pub frame_tests : List ℕ → List (Test SegmentFault)
 frame_tests bytes =
-    refuse (not (byte_at 0 bytes == 15)) 0 NoSync
+    refuse (not (byte_at 0 bytes == SEGMENT_SYNC)) 0 NoSync
     ∷ refuse (nat_lt (length bytes) 6 || nat_lt (length bytes) (6 + word_at 4 bytes)) (length bytes) Cut
     ∷ []
 
@@ -113,11 +114,11 @@ bottom_in body = take (word_at 5 body) (drop (7 + word_at 3 body) body)
 -- the tests of a body by the segment type; bodies of other types are not tested
 abbrev pub body_tests : ℕ → List ℕ → List (Test SegmentFault)
 body_tests kind body =
-    if kind == 0x10 then page_tests body else
-    if kind == 0x11 then region_tests body else
-    if kind == 0x12 then clut_tests body else
-    if kind == 0x13 then object_tests body else
-    if kind == 0x14 then display_tests body else
+    if kind == PAGE_COMPOSITION then page_tests body else
+    if kind == REGION_COMPOSITION then region_tests body else
+    if kind == CLUT_DEFINITION then clut_tests body else
+    if kind == OBJECT_DATA then object_tests body else
+    if kind == DISPLAY_DEFINITION then display_tests body else
     []
 
 -- the bytes after the head, as many as it says
@@ -142,7 +143,7 @@ pub data IsBlocksFault : List ℕ → List ℕ → SegmentFault → Type 0 where
 -- the fault of a body: that of the first test that fails, or, where an object passes them, that of its blocks
 pub data IsBodyFault : ℕ → List ℕ → SegmentFault → Type 0 where
   in_tests : {kind : ℕ} {body : List ℕ} {fault : SegmentFault} → first_fault (body_tests kind body) ≡ Some fault → IsBodyFault kind body fault
-  in_blocks : {kind : ℕ} {body : List ℕ} {fault : SegmentFault} → first_fault (body_tests kind body) ≡ None → kind ≡ 0x13 → IsBlocksFault (top_in body) (bottom_in body) fault → IsBodyFault kind body fault
+  in_blocks : {kind : ℕ} {body : List ℕ} {fault : SegmentFault} → first_fault (body_tests kind body) ≡ None → kind ≡ OBJECT_DATA → IsBlocksFault (top_in body) (bottom_in body) fault → IsBodyFault kind body fault
 
 -- the fault of the segment that begins the bytes: that of its head, or, where that has none, that of its body
 pub data IsSegmentFault : List ℕ → SegmentFault → Type 0 where

@@ -6,6 +6,7 @@ use Rattle.sub_base.specs.Colour.{shown_of}
 use Rattle.sub_base.specs.declared.colour.Colour.{Colour}
 use Rattle.sub_base.specs.declared.depth.Depth.{Depth}
 use Rattle.sub_base.specs.declared.depth.Depth.TheVariants.{Two, Four, Eight}
+use Rattle.stream_syntax.specs.declared.wire.TheConstants.{SEGMENT_SYNC, CLUT_DEFINITION, DISPLAY_DEFINITION, END_OF_DISPLAY_SET, OBJECT_DATA, PAGE_COMPOSITION, REGION_COMPOSITION}
 use Rattle.stream_syntax.specs.Fields.{Field, number, reserved, HasFields, FitsFields, written, bytes_of}
 use Rattle.stream_syntax.specs.PixelCodes.{bits_of}
 use Rattle.stream_syntax.specs.SegmentTests.{AreBlocks}
@@ -87,7 +88,7 @@ flag true = 1
 -- the head of a segment (7.2): sync byte, segment type, page id, segment length in bytes
 abbrev pub head_fields : ℕ → ℕ → ℕ → List Field
 head_fields kind page size =
-    number 8 15
+    number 8 SEGMENT_SYNC
     ∷ number 8 kind
     ∷ number 16 page
     ∷ number 16 size
@@ -240,28 +241,28 @@ display_fields further display =
 
 -- a segment type (7.2) of none of these kinds
 abbrev pub IsPassedOver : ℕ → Type 0
-IsPassedOver kind = (kind < 256) × (kind ≢ 0x10) × (kind ≢ 0x11) × (kind ≢ 0x12) × (kind ≢ 0x13) × (kind ≢ 0x14) × (kind ≢ 0x80)
+IsPassedOver kind = (kind < 256) × (kind ≢ PAGE_COMPOSITION) × (kind ≢ REGION_COMPOSITION) × (kind ≢ CLUT_DEFINITION) × (kind ≢ OBJECT_DATA) × (kind ≢ DISPLAY_DEFINITION) × (kind ≢ END_OF_DISPLAY_SET)
 
 -- the segment types that have the value
 abbrev pub IsKindOf : SegmentValue → ℕ → Type 0
-IsKindOf (of_page value) kind = kind ≡ 0x10
-IsKindOf (of_region value) kind = kind ≡ 0x11
-IsKindOf (of_clut value) kind = kind ≡ 0x12
-IsKindOf (of_object value) kind = kind ≡ 0x13
-IsKindOf (of_display value) kind = kind ≡ 0x14
-IsKindOf end_of_set kind = kind ≡ 0x80
+IsKindOf (of_page value) kind = kind ≡ PAGE_COMPOSITION
+IsKindOf (of_region value) kind = kind ≡ REGION_COMPOSITION
+IsKindOf (of_clut value) kind = kind ≡ CLUT_DEFINITION
+IsKindOf (of_object value) kind = kind ≡ OBJECT_DATA
+IsKindOf (of_display value) kind = kind ≡ DISPLAY_DEFINITION
+IsKindOf end_of_set kind = kind ≡ END_OF_DISPLAY_SET
 IsKindOf passed_over kind = IsPassedOver kind
 
 -- the segment types and the tables of bodies that have the value: what the value leaves open, as the level of
 -- compatibility, the coding of colours and further bytes, is free
 abbrev pub IsBody : SegmentValue → ℕ → List Field → Type 0
-IsBody (of_page value) kind body = (kind ≡ 0x10) × (body ≡ page_fields value)
-IsBody (of_region value) kind body = (kind ≡ 0x11) × (compatibility : ℕ) × (body ≡ region_fields compatibility value)
+IsBody (of_page value) kind body = (kind ≡ PAGE_COMPOSITION) × (body ≡ page_fields value)
+IsBody (of_region value) kind body = (kind ≡ REGION_COMPOSITION) × (compatibility : ℕ) × (body ≡ region_fields compatibility value)
 IsBody (of_clut value) kind body =
-    (kind ≡ 0x12) × (coded : List CodedEntry) × (map entry_of coded ≡ value.entries) × (body ≡ clut_fields value.clut value.version coded)
-IsBody (of_object value) kind body = (kind ≡ 0x13) × (padded : Bool) × (body ≡ object_fields padded value)
-IsBody (of_display value) kind body = (kind ≡ 0x14) × (further : ℕ) × (body ≡ display_fields further value)
-IsBody end_of_set kind body = (kind ≡ 0x80) × (further : ℕ) × (body ≡ free_bytes further)
+    (kind ≡ CLUT_DEFINITION) × (coded : List CodedEntry) × (map entry_of coded ≡ value.entries) × (body ≡ clut_fields value.clut value.version coded)
+IsBody (of_object value) kind body = (kind ≡ OBJECT_DATA) × (padded : Bool) × (body ≡ object_fields padded value)
+IsBody (of_display value) kind body = (kind ≡ DISPLAY_DEFINITION) × (further : ℕ) × (body ≡ display_fields further value)
+IsBody end_of_set kind body = (kind ≡ END_OF_DISPLAY_SET) × (further : ℕ) × (body ≡ free_bytes further)
 IsBody passed_over kind body = IsPassedOver kind × (further : ℕ) × (body ≡ free_bytes further)
 
 -- the window is not empty, and inside the display
@@ -296,12 +297,12 @@ pub record IsSegment (bytes : List ℕ) (value : SegmentValue) : Type 0 where
 
 -- the segment type
 abbrev pub segment_kind : SegmentValue → ℕ
-segment_kind (of_page value) = 0x10
-segment_kind (of_region value) = 0x11
-segment_kind (of_clut value) = 0x12
-segment_kind (of_object value) = 0x13
-segment_kind (of_display value) = 0x14
-segment_kind end_of_set = 0x80
+segment_kind (of_page value) = PAGE_COMPOSITION
+segment_kind (of_region value) = REGION_COMPOSITION
+segment_kind (of_clut value) = CLUT_DEFINITION
+segment_kind (of_object value) = OBJECT_DATA
+segment_kind (of_display value) = DISPLAY_DEFINITION
+segment_kind end_of_set = END_OF_DISPLAY_SET
 segment_kind passed_over = 0xFF
 
 -- each colour in the full range

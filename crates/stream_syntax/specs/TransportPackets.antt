@@ -1,6 +1,7 @@
 -- Transport packets (ISO/IEC 13818-1, 2.4.3.2 to 2.4.3.5). A packet is a list of 188 bytes.
 use Rattle.std.specs.Prelude.{ℕ, zero, suc, ◌+◌, ◌-◌, ◌*◌, ◌/◌, ◌%◌, Bool, false, ◌==◌, ◌||◌, ◌&&◌, not, nat_lt, if◌then◌else◌, List, [], ◌∷◌, ◌++◌, length, drop, replicate, slice_index, find, Option}
 use Rattle.std.specs.Option.{option_map}
+use Rattle.stream_syntax.specs.declared.wire.TheConstants.{NULL_PID, PAYLOAD_LENGTH, SYNC_BYTE}
 use Rattle.stream_syntax.specs.declared.transport.PacketFault.{PacketFault}
 use Rattle.stream_syntax.specs.declared.transport.PacketFault.TheVariants.{NoSync, ReservedControl, BadAdaptation, Scrambled}
 use Rattle.stream_syntax.specs.BitFields.{Field, field, packed}
@@ -8,7 +9,7 @@ use Rattle.stream_syntax.specs.BitFields.{Field, field, packed}
 -- ---- what a packet says
 
 abbrev pub has_sync : List ℕ → Bool
-has_sync packet = slice_index packet 0 == 0x47
+has_sync packet = slice_index packet 0 == SYNC_BYTE
 
 -- transport_error_indicator
 abbrev pub has_error_flag : List ℕ → Bool
@@ -83,7 +84,7 @@ pub record PacketHead : Type 0 where
 
 abbrev pub head_groups : PacketHead → List (List Field)
 head_groups head =
-    (field 8 0x47 ∷ [])
+    (field 8 SYNC_BYTE ∷ [])
     ∷ (field 1 head.error_flag ∷ field 1 head.start_flag ∷ field 1 head.priority ∷ field 13 head.pid ∷ [])
     ∷ (field 2 head.scrambling ∷ field 2 head.control ∷ field 4 head.counter ∷ [])
     ∷ []
@@ -109,9 +110,9 @@ written_head number start kind count = record {
 -- a packet with this piece of a unit: an adaptation field takes the place that the piece leaves
 abbrev pub written_packet : ℕ → Bool → ℕ → List ℕ → List ℕ
 written_packet pid start counter piece =
-    packed (head_groups (written_head pid start (if length piece == 184 then 1 else 3) counter))
-    ++ (adaptation_field (184 - length piece) ++ piece)
+    packed (head_groups (written_head pid start (if length piece == PAYLOAD_LENGTH then 1 else 3) counter))
+    ++ (adaptation_field (PAYLOAD_LENGTH - length piece) ++ piece)
 
 -- the packet that a multiplex has where nothing is to be sent
 abbrev pub null_packet : List ℕ
-null_packet = packed (head_groups (written_head 0x1FFF false 1 0)) ++ replicate 184 0xFF
+null_packet = packed (head_groups (written_head NULL_PID false 1 0)) ++ replicate PAYLOAD_LENGTH 0xFF

@@ -4,6 +4,7 @@ use Rattle.std.specs.Prelude.{ℕ, ◌+◌, ◌%◌, Bool, true, false, ◌==◌
 use Rattle.std.specs.Option.{option_map}
 use Rattle.std.specs.List.{list_any, list_all, flat_map, filter_map}
 use Rattle.byteorder.specs.Endian.{big_number}
+use Rattle.sub_base.specs.Lists.{prefixes}
 use Rattle.stream_syntax.specs.declared.transport.Event.{Event}
 use Rattle.stream_syntax.specs.declared.transport.Event.TheVariants as event
 use Rattle.stream_syntax.specs.TransportPackets.{has_error_flag, has_start_flag, has_payload, pid_of, counter_of, payload_of}
@@ -116,18 +117,13 @@ last_unit [] = []
 last_unit (part ∷ parts) =
     if list_any begins_unit parts then last_unit parts else if begins_unit part then part ∷ parts else []
 
--- the fronts of a list, the empty one left out
-abbrev pub fronts : List Part → List (List Part)
-fronts [] = []
-fronts (part ∷ parts) = (part ∷ []) ∷ map (λ (front : List Part). part ∷ front) (fronts parts)
-
 abbrev pub gathered : List Part → List ℕ
 gathered parts = flat_map bytes_in parts
 
 -- the unit that these parts are is in hand: nothing breaks it off, and with no part of it was it handed out or dropped
 unfoldable pub stays_in_hand : ℕ → List Part → Bool
 stays_in_hand size unit =
-    list_all (λ part. not (breaks_unit part)) unit && list_all (λ front. is_waiting (fate_of size (gathered front))) (fronts unit)
+    list_all (λ part. not (breaks_unit part)) unit && list_all (λ front. is_waiting (fate_of size (gathered front))) (prefixes unit)
 
 abbrev pub unit_in_hand : ℕ → List Part → Option (List ℕ)
 unit_in_hand size [] = None

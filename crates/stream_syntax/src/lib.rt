@@ -13,6 +13,7 @@ mod pixel_run;
 mod region;
 mod segment_fault;
 mod transport;
+mod wire;
 
 pub use clut::ClutEntry;
 pub use code_fault::{CodeFault, CodeKind};
@@ -24,3 +25,8 @@ pub use pixel_run::Run;
 pub use region::{Listing, RegionHead};
 pub use segment_fault::{SegmentFault, SegmentKind};
 pub use transport::{Event, PacketFault};
+pub use wire::{
+    CLUT_DEFINITION, DATA_IDENTIFIER, DISPLAY_DEFINITION, END_OF_DISPLAY_SET, END_OF_FIELD,
+    NULL_PID, OBJECT_DATA, PACKET_LENGTH, PAGE_COMPOSITION, PAYLOAD_LENGTH, PRIVATE_STREAM_1,
+    REGION_COMPOSITION, SEGMENT_SYNC, SYNC_BYTE, TIME_ROUND,
+};

@@ -29,6 +29,10 @@ Consumes-none a b c bytes buffer n first second none =
 pub counted-counted : (start had more : ℕ) → counted (counted start had) more ≡ counted start (had + more)
 counted-counted start had more = grind arith
 
+-- the count after a read of nothing
+pub given-none : (start held now n all : ℕ) → now ≡ counted held n → n ≡ 0 → held ≡ counted start all → now ≡ counted start all
+given-none start held now n all after none before = grind arith
+
 -- the count after a piece more
 pub counted-more : (start held now : ℕ) (bytes piece all : List ℕ) → held ≡ counted start (length bytes) → now ≡ counted held (length piece) → all ≡ bytes ++ piece → now ≡ counted start (length all)
 counted-more start held now bytes piece all before after joined =

@@ -20,3 +20,7 @@ HasRisenPast limit before now = (before + limit < now) ⊎ (greatest_count ≤ n
 -- at `Ok(n)` n more were counted, and at an `Err` none
 abbrev pub CountsOnOk : {E : Type 0} → ℕ → ℕ → Result ℕ E → Type 0
 CountsOnOk before now r = MatchResult r (λ n. now ≡ counted before n) (λ _. now ≡ before)
+
+-- at an `Ok` no fault was counted, and at an `Err` one
+abbrev pub FaultsCount : {A E : Type 0} → ℕ → ℕ → Result A E → Type 0
+FaultsCount before now r = MatchResult r (λ _. now ≡ before) (λ _. now ≡ counted before 1)

@@ -12,9 +12,11 @@ pub record Supply : Type 0 where
   pub given : ℕ
   pub faults : ℕ
 
--- a sink in memory: what was written, the numbers of the calls that fail, and the counts of its calls and of its faults
+-- a sink in memory: what was written, how many bytes a call takes at most, the numbers of the calls that fail, and the
+-- counts of its calls and of its faults
 pub record Store : Type 0 where
   pub written : List ℕ
+  pub most : ℕ
   pub fails : List ℕ
   pub calls : ℕ
   pub faults : ℕ

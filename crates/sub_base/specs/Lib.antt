@@ -1,9 +1,10 @@
 pub mod Colour
 pub mod Counts
 pub mod Depth
+pub mod Endpoints
 pub mod InMemory
+pub mod Lists
 pub mod Number
 pub mod Pace
 pub mod Picture
 pub mod Profile
-pub mod Transfer

@@ -27,6 +27,6 @@ number_of most text = if is_number most text then Some (value_from 0 text) else 
 abbrev pub in_range : ℕ → ℕ → ℕ → Option ℕ
 in_range least most number = if nat_le least number && nat_le number most then Some number else None
 
--- the number that the text is, of at most ten digits, where it lies in that range
+-- the number that the text is, of at most eleven digits, where it lies in that range
 abbrev pub number_in : ℕ → ℕ → List ℕ → Option ℕ
-number_in least most text = option_and_then (in_range least most) (number_of 10 text)
+number_in least most text = option_and_then (in_range least most) (number_of 11 text)

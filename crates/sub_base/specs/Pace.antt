@@ -1,5 +1,6 @@
 -- How packets are sent to a receiver of a profile: one at most at each step.
-use Rattle.std.specs.Prelude.{◌≡◌, ℕ, ◌+◌, ◌*◌, ◌^◌, ◌<◌, ◌≤◌, unwrap_or, IsSome}
+use Rattle.std.specs.Prelude.{◌≡◌, ℕ, ◌+◌, ◌*◌, ◌^◌, ◌<◌, ◌≤◌, max, nat_le, if◌then◌else◌, unwrap_or, IsSome}
+use Rattle.sub_base.specs.declared.load.SetLoad.{SetLoad}
 use Rattle.sub_base.specs.declared.pace.Pace.{Pace}
 use Rattle.sub_base.specs.declared.profile.Profile.{Profile}
 use Rattle.sub_base.specs.declared.profile.ProfileName.{ProfileName}
@@ -17,8 +18,17 @@ pace_of origin profile = record { origin = origin; step = unwrap_or profile.step
 abbrev pub tick_of : Pace → ℕ → ℕ
 tick_of pace slot = pace.origin + slot * pace.step
 
+-- the tick at which a display set is done: it is decoded a byte a tick, and painted, once its last packet is there and the
+-- set before is shown
+abbrev pub done_tick : (last_arrival shown_before : ℕ) → SetLoad → ℕ
+done_tick last_arrival shown_before load = max last_arrival shown_before + load.size + load.painted
+
+-- the bytes of a set that have left the coded data buffer by a tick: all where it is done by then, and else none
+abbrev pub left_by : (tick done bytes : ℕ) → ℕ
+left_by tick done bytes = if nat_le done tick then bytes else 0
+
 -- the numbers of a profile with a step, and an origin below 2^62
 pub record IsSound (pace : Pace) : Type 0 where
-  pub step : (360 ≤ pace.step) × (pace.step ≤ 705)
-  pub coded : pace.coded ≤ 61440
+  pub step : (90 ≤ pace.step) × (pace.step ≤ 705)
+  pub coded : pace.coded ≤ 262144
   pub origin : pace.origin < 2 ^ 62

@@ -1,10 +1,11 @@
-ghost use Rattle.std.specs.Prelude.{◌≡◌, ℕ, IfOk, vec_len};
+ghost use Rattle.std.specs.Prelude.{◌≡◌, ℕ, All, IfOk, vec_len};
 
 use std::alloc::{AllocError, Global};
 
 /// A buffer of that many bytes, each 0.
 pub fn zeros(alloc: Global, size: usize) -> Result<Vec<u8>, AllocError>
-    ensures { IfOk result (λ buffer. vec_len buffer ≡ size) }
+    ensures size { IfOk result (λ buffer. vec_len buffer ≡ size) }
+    ensures zero { IfOk result (λ buffer. All (λ byte. byte ≡ 0) buffer.items) }
 {
     vec![in alloc; 0u8; size]
 }

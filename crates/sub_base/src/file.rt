@@ -27,11 +27,7 @@ impl<R: Read + Drop> FileSource<R> {
 }
 
 impl<R: Read + Drop> Source for FileSource<R> {
-    ghost left = { λ _. None };
-
-    ghost given = { λ s. s.given };
-
-    ghost faults = { λ s. s.faults };
+    ghost supplied = { λ s. record { left = None; given = s.given; faults = s.faults } };
 
     fn read(&mut self, buf: &mut [u8]) -> Result<usize, ReadFailed> {
         let outcome = match &mut self.inner {
@@ -68,9 +64,7 @@ impl<W: Write + Drop> FileSink<W> {
 }
 
 impl<W: Write + Drop> Sink for FileSink<W> {
-    ghost written = { λ _. None };
-
-    ghost faults = { λ s. s.faults };
+    ghost received = { λ s. record { written = None; faults = s.faults } };
 
     fn write(&mut self, piece: &[u8]) -> Result<usize, WriteFailed> {
         let outcome = match &mut self.inner {

@@ -1,7 +1,7 @@
 ghost use Rattle.std.specs.Prelude.{◌≡◌, ℕ, ◌+◌, ◌<◌, ◌≤◌, ◌↔◌, List, [], length, take, drop, min, Some, Contains, IsErr, IsOk, OnOk, OnErr, IfOk};
 ghost use Rattle.std.specs.Io.{ReadsAtMost, WritesAtMost};
 ghost use Rattle.std.specs.Io.KnownBytes.{ReadConsumes, WriteAppends};
-ghost use Rattle.sub_base.specs.Counts.{HasRisen, CountsOnOk, counted};
+ghost use Rattle.sub_base.specs.Counts.{HasRisen, CountsOnOk, FaultsCount, counted};
 ghost use Rattle.sub_base.specs.InMemory.{IsToFail, Supply, Store};
 
 use crate::faults::{ReadFailed, WriteFailed};
@@ -52,11 +52,7 @@ impl MemSource {
 }
 
 impl Source for MemSource {
-    ghost left = { λ s. Some s.left };
-
-    ghost given = { λ s. s.given };
-
-    ghost faults = { λ s. s.faults };
+    ghost supplied = { λ s. record { left = Some s.left; given = s.given; faults = s.faults } };
 
     fn read(&mut self, buf: &mut [u8]) -> Result<usize, ReadFailed>
         ensures bound { ReadsAtMost result buf.new }
@@ -64,6 +60,9 @@ impl Source for MemSource {
         ensures given { CountsOnOk self.old.given self.new.given result }
         ensures kept { self.old.faults ≤ self.new.faults }
         ensures cause { OnErr result (HasRisen self.old.faults self.new.faults) }
+
+        // A call that succeeds leaves the count of faults, and one that fails raises it by one.
+        ensures counted { FaultsCount self.old.faults self.new.faults result }
 
         // It fails at the listed calls, and at no other.
         ensures fails { IsErr result ↔ IsToFail self.old.fails self.old.calls }
@@ -94,30 +93,37 @@ fn give(left: &[u8], most: usize, buf: &mut [u8]) -> usize
     count
 }
 
-/// A sink in memory, for tests: it takes all of a piece, and fails at given calls.
+/// A sink in memory, for tests: it takes up to a number of bytes a call, and fails at given calls.
 #[derive(Drop)]
 pub struct MemSink {
     taken: Vec<u8>,
+    most: usize,
     fails: Vec<u64>,
     calls: u64,
     faults: u64,
 }
 
 impl Model for MemSink {
+    ghost use Rattle.std.specs.Prelude.{◌<◌};
     ghost use Rattle.sub_base.specs.InMemory.{Store};
 
     ghost Value = { Store };
 
-    ghost view = { λ s. record { written = s.taken.items; fails = s.fails.items; calls = s.calls; faults = s.faults } };
+    ghost view = { λ s. record { written = s.taken.items; most = s.most; fails = s.fails.items; calls = s.calls; faults = s.faults } };
+
+    ghost invariant = { λ s. 0 < s.most };
 }
 
 impl MemSink {
-    /// An empty sink that fails at the calls with the numbers `fails`, counted from 1. Takes no memory.
-    pub fn make(alloc: Global, fails: Vec<u64>) -> MemSink
-        ensures { result ≡ record { written = []; fails = fails.items; calls = 0; faults = 0 } }
+    /// An empty sink that takes at most `most` bytes a call, and fails at the calls with the numbers `fails`, counted
+    /// from 1. Takes no memory.
+    pub fn make(alloc: Global, most: usize, fails: Vec<u64>) -> MemSink
+        requires { 1 ≤ most }
+        ensures { result ≡ record { written = []; most = most; fails = fails.items; calls = 0; faults = 0 } }
     {
         MemSink {
             taken: Vec::new(alloc),
+            most,
             fails,
             calls: 0,
             faults: 0,
@@ -133,9 +139,7 @@ impl MemSink {
 }
 
 impl Sink for MemSink {
-    ghost written = { λ s. Some s.written };
-
-    ghost faults = { λ s. s.faults };
+    ghost received = { λ s. record { written = Some s.written; faults = s.faults } };
 
     fn write(&mut self, piece: &[u8]) -> Result<usize, WriteFailed>
         ensures bound { WritesAtMost result piece.now }
@@ -144,17 +148,23 @@ impl Sink for MemSink {
         ensures kept { self.old.faults ≤ self.new.faults }
         ensures cause { OnErr result (HasRisen self.old.faults self.new.faults) }
 
-        // It fails at the listed calls, and else only where it finds no memory to grow.
+        // A call that succeeds leaves the count of faults, and one that fails raises it by one.
+        ensures counted { FaultsCount self.old.faults self.new.faults result }
+
+        // It fails at the listed calls, and else only where what was written has to grow and finds no memory.
         ensures fails { IsToFail self.old.fails self.old.calls → IsErr result }
         ensures counts { self.new.calls ≡ counted self.old.calls 1 }
-        ensures same { self.new.fails ≡ self.old.fails }
-        ensures whole { IfOk result (λ n. n ≡ length piece.now) }
+        ensures same { (self.new.fails ≡ self.old.fails) × (self.new.most ≡ self.old.most) }
+        ensures most { IfOk result (λ n. n ≡ min self.old.most (length piece.now)) }
     {
         self.calls = self.calls.saturating_add(1);
-        if self.fails.contains(&self.calls) || self.taken.extend_from_slice(piece).is_err() {
+        let count = self.most.min(piece.len());
+        if self.fails.contains(&self.calls)
+            || self.taken.extend_from_slice(&piece[..count]).is_err()
+        {
             self.faults = self.faults.saturating_add(1);
             return Err(WriteFailed);
         }
-        Ok(piece.len())
+        Ok(count)
     }
 }

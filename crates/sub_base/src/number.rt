@@ -14,13 +14,13 @@ pub fn decimal_number(text: &[u8], most_digits: usize) -> Option<u64>
     }
 }
 
-/// The number that the text is in decimal, of at most ten digits, where it lies in that range.
+/// The number that the text is in decimal, of at most eleven digits, where it lies in that range.
 pub fn number_in(text: &[u8], least: u64, most: u64) -> Option<u64>
     ensures value { result ≡ number_in_of least most text.now }
     ensures least { IfSome result (λ number. least ≤ number) }
     ensures most { IfSome result (λ number. number ≤ most) }
 {
-    let number = decimal_number(text, 10)?;
+    let number = decimal_number(text, 11)?;
     if least <= number && number <= most {
         Some(number)
     } else {

@@ -7,6 +7,7 @@ pub enum ProfileName {
     Sd,
     Hd,
     Wide,
+    Large,
 }
 
 /// What a receiver of a profile has: this project's numbers, since EN 300 743 leaves most of them open.
@@ -55,6 +56,14 @@ impl Profile {
                 step: None,
                 width: 4_096,
                 height: 2_304,
+            },
+            ProfileName::Large => Profile {
+                coded: 262_144,
+                pixels: 4_194_304,
+                nodes: 8_192,
+                step: Some(90),
+                width: 1_920,
+                height: 1_080,
             },
         }
     }

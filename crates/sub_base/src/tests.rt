@@ -35,6 +35,7 @@ fn profiles_differ(rt: HostRuntime) {
     assert_eq!(rt; Profile::of(ProfileName::Sd).step, Some(705));
     assert_eq!(rt; Profile::of(ProfileName::Hd).coded, 61_440);
     assert_eq!(rt; Profile::of(ProfileName::Wide).nodes, 8_192);
+    assert_eq!(rt; Profile::of(ProfileName::Large).step, Some(90));
 }
 
 #[test]
@@ -55,6 +56,11 @@ fn decimal_numbers(rt: HostRuntime) {
     assert_eq!(rt; decimal_number(b"+7", 10), None);
     assert_eq!(rt; decimal_number(b"12345678901", 10), None);
     assert_eq!(rt; number_in(b"31", 32, 8_190), None);
+    assert_eq!(rt;
+        number_in(b"17179869183", 0, 17_179_869_183),
+        Some(17_179_869_183)
+    );
+    assert_eq!(rt; number_in(b"100000000000", 0, 999_999_999_999), None);
 }
 
 /// A source of the bytes 7, 8, 9, so many a call, that fails at that call.
@@ -88,12 +94,33 @@ fn sources_are_read_whole(rt: HostRuntime) -> Result<(), Fail> {
 
 #[test]
 fn sinks_fail_at_their_calls(rt: HostRuntime) -> Result<(), Fail> {
-    let mut sink = MemSink::make(rt.alloc(), vec![in rt.alloc(); 2u64]?);
-    assert_eq!(rt; write_whole(&mut sink, b"ab"), Ok(()));
-    assert_eq!(rt; write_whole(&mut sink, b"cd"), Err(WriteFailed));
-    assert_eq!(rt; write_whole(&mut sink, b"ef"), Ok(()));
-    assert_eq!(rt; sink.written(), b"abef".as_slice());
+    let mut sink = MemSink::make(rt.alloc(), 2, vec![in rt.alloc(); 3u64]?);
+    assert_eq!(rt; write_whole(&mut sink, b"abc"), Ok(()));
+    assert_eq!(rt; write_whole(&mut sink, b"de"), Err(WriteFailed));
+    assert_eq!(rt; write_whole(&mut sink, b"fg"), Ok(()));
+    assert_eq!(rt; sink.written(), b"abcfg".as_slice());
     Ok(())
+}
+
+#[test]
+fn buffers_and_lists(rt: HostRuntime) -> Result<(), Fail> {
+    assert_eq!(rt; zeros(rt.alloc(), 2)?.as_slice(), [0u8, 0].as_slice());
+    let mut items = Items::new(rt.alloc(), vec![in rt.alloc(); 7u32]?);
+    items.push(8)?;
+    assert_eq!(rt; items.as_slice(), [7u32, 8].as_slice());
+    Ok(())
+}
+
+/// A set of 31 bytes whose last packet is there at 705, where the set before is shown at 900.
+#[test]
+fn sets_wait_for_the_one_before(rt: HostRuntime) {
+    let load = SetLoad {
+        pts: 1_000,
+        size: 31,
+        painted: 4,
+    };
+    assert_eq!(rt; load.done(705, 900), 935);
+    assert_eq!(rt; load.done(705, 0), 740);
 }
 
 #[test]

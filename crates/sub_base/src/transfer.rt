@@ -1,8 +1,8 @@
-ghost use Rattle.std.specs.Prelude.{◌≡◌, ℕ, ◌+◌, ◌<◌, ◌≤◌, List, Option, length, take, Result, OnOk, OnErr, IfOk, IsErrOf, MatchResult};
+ghost use Rattle.std.specs.Prelude.{◌≡◌, ℕ, ◌+◌, ◌<◌, ◌≤◌, List, length, take, Result, OnOk, OnErr, IfOk, IsErrOf, MatchResult};
 ghost use Rattle.std.specs.Io.{ReadsAtMost, WritesAtMost};
-ghost use Rattle.std.specs.Io.KnownBytes.{ReadConsumes, WriteAppends, Appends, Consumes, IsAtEnd};
-ghost use Rattle.sub_base.specs.Counts.{HasRisen, HasRisenPast, CountsOnOk, counted};
-ghost use Rattle.sub_base.specs.Transfer.{AppendsFront, ConsumesFront};
+ghost use Rattle.std.specs.Io.KnownBytes.{ReadConsumes, WriteAppends};
+ghost use Rattle.sub_base.specs.Counts.{HasRisenPast, CountsOnOk};
+ghost use Rattle.sub_base.specs.Endpoints.{Supplied, Received, HasReadFault, HasWriteFault, WasRead, WasReadInPart, Wrote, WrotePrefix};
 
 use crate::buffer::zeros;
 use crate::faults::{ReadAllFault, ReadFailed, WriteFailed};
@@ -10,48 +10,42 @@ use std::alloc::Global;
 
 /// Where bytes come from: a file, or memory.
 ///
-/// It means what is left in it, where it tells that, a count of the bytes that it gave, and a count of its faults. Both
-/// counts stay at 2^64 - 1 once they are there.
+/// Contracts see what is left in it, where it tells that, a count of the bytes that it gave, and a count of its faults.
+/// Both counts stay at 2^64 - 1 once they are there.
 pub trait Source {
-    ghost left: { Self → Option (List ℕ) };
-
-    ghost given: { Self → ℕ };
-
-    ghost faults: { Self → ℕ };
+    ghost supplied: { Self → Supplied };
 
     /// Reads some of the next bytes into the front of the buffer. 0 bytes into a buffer with room are the end.
     fn read(&mut self, buf: &mut [u8]) -> Result<usize, ReadFailed>
         ensures bound { ReadsAtMost result buf.new }
-        ensures bytes { ReadConsumes (left self.old) (left self.new) result buf.new }
-        ensures given { CountsOnOk (given self.old) (given self.new) result }
-        ensures kept { faults self.old ≤ faults self.new }
-        ensures cause { OnErr result (HasRisen (faults self.old) (faults self.new)) };
+        ensures bytes { ReadConsumes (supplied self.old).left (supplied self.new).left result buf.new }
+        ensures given { CountsOnOk (supplied self.old).given (supplied self.new).given result }
+        ensures kept { (supplied self.old).faults ≤ (supplied self.new).faults }
+        ensures cause { OnErr result (HasReadFault (supplied self.old) (supplied self.new)) };
 }
 
 /// Where bytes go: a file, standard output, or memory.
 ///
-/// It means what was written to it, where it tells that, and a count of its faults, which stays at 2^64 - 1 once it
+/// Contracts see what was written to it, where it tells that, and a count of its faults, which stays at 2^64 - 1 once it
 /// is there.
 pub trait Sink {
-    ghost written: { Self → Option (List ℕ) };
-
-    ghost faults: { Self → ℕ };
+    ghost received: { Self → Received };
 
     /// Writes some bytes from the front of the piece, at least one where it has any.
     fn write(&mut self, piece: &[u8]) -> Result<usize, WriteFailed>
         ensures bound { WritesAtMost result piece.now }
         ensures some { IfOk result (λ n. 0 < length piece.now → 0 < n) }
-        ensures bytes { WriteAppends (written self.old) (written self.new) result piece.now }
-        ensures kept { faults self.old ≤ faults self.new }
-        ensures cause { OnErr result (HasRisen (faults self.old) (faults self.new)) };
+        ensures bytes { WriteAppends (received self.old).written (received self.new).written result piece.now }
+        ensures kept { (received self.old).faults ≤ (received self.new).faults }
+        ensures cause { OnErr result (HasWriteFault (received self.old) (received self.new)) };
 }
 
-/// Writes all of the bytes. After a failure the sink has a front of them.
+/// Writes all of the bytes. After a failure the sink has a prefix of them.
 pub fn write_whole<K: Sink>(sink: &mut K, bytes: &[u8]) -> Result<(), WriteFailed>
-    ensures all { OnOk result (Appends (K.written sink.old) (K.written sink.new) bytes.now) }
-    ensures front { OnErr result (AppendsFront (K.written sink.old) (K.written sink.new) bytes.now) }
-    ensures kept { K.faults sink.old ≤ K.faults sink.new }
-    ensures cause { OnErr result (HasRisen (K.faults sink.old) (K.faults sink.new)) }
+    ensures all { OnOk result (Wrote (K.received sink.old) (K.received sink.new) bytes.now) }
+    ensures prefix { OnErr result (WrotePrefix (K.received sink.old) (K.received sink.new) bytes.now) }
+    ensures kept { (K.received sink.old).faults ≤ (K.received sink.new).faults }
+    ensures cause { OnErr result (HasWriteFault (K.received sink.old) (K.received sink.new)) }
 {
     let mut done = 0usize;
     while done < bytes.len() {
@@ -69,17 +63,14 @@ pub fn read_all<A: Source>(
     source: &mut A,
     limit: u64,
 ) -> Result<Vec<u8>, ReadAllFault>
-    ensures whole { IfOk result (λ bytes. Consumes (A.left source.old) (A.left source.new) bytes.items) }
-    ensures end { OnOk result (IsAtEnd (A.left source.new)) }
-    ensures within { IfOk result (λ bytes. length bytes.items ≤ limit) }
-    ensures given { IfOk result (λ bytes. A.given source.new ≡ counted (A.given source.old) (length bytes.items)) }
-    ensures front { OnErr result (ConsumesFront (A.left source.old) (A.left source.new)) }
-    ensures kept { A.faults source.old ≤ A.faults source.new }
-    ensures read { IsErrOf result ReadAllFault.Read → HasRisen (A.faults source.old) (A.faults source.new) }
+    ensures whole { IfOk result (λ bytes. WasRead limit (A.supplied source.old) (A.supplied source.new) bytes.items) }
+    ensures part { OnErr result (WasReadInPart (A.supplied source.old) (A.supplied source.new)) }
+    ensures kept { (A.supplied source.old).faults ≤ (A.supplied source.new).faults }
+    ensures read { IsErrOf result ReadAllFault.Read → HasReadFault (A.supplied source.old) (A.supplied source.new) }
 
     // That the limit was passed is answered exactly where the source gave more.
-    ensures long { IsErrOf result ReadAllFault.TooLong → HasRisenPast limit (A.given source.old) (A.given source.new) }
-    ensures not_long { (A.given source.old + limit < A.given source.new) → IsErrOf result ReadAllFault.TooLong }
+    ensures long { IsErrOf result ReadAllFault.TooLong → HasRisenPast limit (A.supplied source.old).given (A.supplied source.new).given }
+    ensures not_long { ((A.supplied source.old).given + limit < (A.supplied source.new).given) → IsErrOf result ReadAllFault.TooLong }
 {
     let mut bytes = Vec::new(alloc);
     let mut room = zeros(alloc, READ_SIZE)?;

@@ -11,7 +11,7 @@ use Rattle.stream_syntax.specs.Cutting.{IsUnit, CarriesPiece, IsBetween, HasCoun
 use Rattle.ts_packets.specs.Demuxing.{kept, next_hand}
 use Rattle.ts_packets.proofs.UnitLemmas.{hand_push, counter_push}
 
--- ---- what becomes of the fronts of a unit
+-- ---- what becomes of the prefixes of a unit
 
 same_head : (front rest : List ℕ) → 6 ≤ length front → (big_number 3 (front ++ rest) ≡ big_number 3 front) × (need_of (front ++ rest) ≡ need_of front)
 same_head (a ∷ b ∷ c ∷ d ∷ e ∷ f ∷ front) rest long = (refl, refl)

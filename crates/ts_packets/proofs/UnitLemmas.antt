@@ -5,7 +5,8 @@ use Rattle.std.specs.Option.{option_map}
 use Rattle.std.specs.List.{list_any, list_all, filter_map, cons_option}
 use Rattle.std.proofs.lemmas.List.{append-nil, reverse-append, map-append}
 use Rattle.stream_syntax.specs.TransportPackets.{counter_of}
-use Rattle.stream_syntax.specs.Units.{is_payload, last_counter, Part, Begins, Adds, Breaks, part_of, each_after, parts_of, begins_unit, breaks_unit, bytes_in, fate_of, is_waiting, last_unit, fronts, gathered, stays_in_hand, unit_in_hand, hand_after, joined}
+use Rattle.sub_base.specs.Lists.{prefixes}
+use Rattle.stream_syntax.specs.Units.{is_payload, last_counter, Part, Begins, Adds, Breaks, part_of, each_after, parts_of, begins_unit, breaks_unit, bytes_in, fate_of, is_waiting, last_unit, gathered, stays_in_hand, unit_in_hand, hand_after, joined}
 use Rattle.ts_packets.specs.Demuxing.{kept, next_hand}
 
 -- ---- what is told of each packet
@@ -75,11 +76,11 @@ last_unit_push (first ∷ parts) part =
 
 -- ---- the unit in hand
 
-fronts_push : (parts : List Part) (part : Part) → fronts (parts ++ part ∷ []) ≡ fronts parts ++ (parts ++ part ∷ []) ∷ []
+fronts_push : (parts : List Part) (part : Part) → prefixes (parts ++ part ∷ []) ≡ prefixes parts ++ (parts ++ part ∷ []) ∷ []
 fronts_push [] part = refl
 fronts_push (first ∷ parts) part =
     ap (λ xs. (first ∷ []) ∷ map (λ (front : List Part). first ∷ front) xs) (fronts_push parts part)
-    ∙ ap (λ xs. (first ∷ []) ∷ xs) (map-append (λ (front : List Part). first ∷ front) (fronts parts) ((parts ++ part ∷ []) ∷ []))
+    ∙ ap (λ xs. (first ∷ []) ∷ xs) (map-append (λ (front : List Part). first ∷ front) (prefixes parts) ((parts ++ part ∷ []) ∷ []))
 
 gathered_push : (parts : List Part) (part : Part) → gathered (parts ++ part ∷ []) ≡ gathered parts ++ bytes_in part
 gathered_push [] part = append-nil (bytes_in part)
@@ -91,14 +92,14 @@ abbrev waits : ℕ → List Part → Bool
 waits size front = is_waiting (fate_of size (gathered front))
 
 stays_push : (size : ℕ) (unit : List Part) (part : Part) → stays_in_hand size (unit ++ part ∷ [])
-    ≡ ((list_all (λ p. not (breaks_unit p)) unit && not (breaks_unit part)) && (list_all (waits size) (fronts unit) && is_waiting (fate_of size (gathered unit ++ bytes_in part))))
+    ≡ ((list_all (λ p. not (breaks_unit p)) unit && not (breaks_unit part)) && (list_all (waits size) (prefixes unit) && is_waiting (fate_of size (gathered unit ++ bytes_in part))))
 unfolding stays_in_hand
 stays_push size unit part =
-    ap (λ sound. sound && list_all (waits size) (fronts (unit ++ part ∷ []))) (list_all_push (λ p. not (breaks_unit p)) unit part)
+    ap (λ sound. sound && list_all (waits size) (prefixes (unit ++ part ∷ []))) (list_all_push (λ p. not (breaks_unit p)) unit part)
     ∙ ap (λ waiting. (list_all (λ p. not (breaks_unit p)) unit && not (breaks_unit part)) && waiting)
     (ap (λ xs. list_all (waits size) xs) (fronts_push unit part)
-    ∙ list_all_push (waits size) (fronts unit) (unit ++ part ∷ [])
-    ∙ ap (λ bytes. list_all (waits size) (fronts unit) && is_waiting (fate_of size bytes)) (gathered_push unit part))
+    ∙ list_all_push (waits size) (prefixes unit) (unit ++ part ∷ [])
+    ∙ ap (λ bytes. list_all (waits size) (prefixes unit) && is_waiting (fate_of size bytes)) (gathered_push unit part))
 
 hand_adds : (size : ℕ) (sound waiting : Bool) (bytes payload : List ℕ) → cond ((sound && true) && (waiting && is_waiting (fate_of size (bytes ++ payload)))) (Some (bytes ++ payload)) None
     ≡ kept size (joined (cond (sound && waiting) (Some bytes) None) (Some (Adds payload)))
@@ -117,11 +118,11 @@ extended_hand size [] (Adds payload) e = refl
 extended_hand size [] Breaks e = refl
 extended_hand size (first ∷ rest) (Adds payload) e =
     ap (λ stays. cond stays (Some (gathered ((first ∷ rest) ++ Adds payload ∷ []))) None) (stays_push size (first ∷ rest) (Adds payload))
-    ∙ ap (λ bytes. cond ((list_all (λ p. not (breaks_unit p)) (first ∷ rest) && true) && (list_all (waits size) (fronts (first ∷ rest)) && is_waiting (fate_of size (gathered (first ∷ rest) ++ payload)))) (Some bytes) None) (gathered_push (first ∷ rest) (Adds payload))
-    ∙ hand_adds size (list_all (λ p. not (breaks_unit p)) (first ∷ rest)) (list_all (waits size) (fronts (first ∷ rest))) (gathered (first ∷ rest)) payload
+    ∙ ap (λ bytes. cond ((list_all (λ p. not (breaks_unit p)) (first ∷ rest) && true) && (list_all (waits size) (prefixes (first ∷ rest)) && is_waiting (fate_of size (gathered (first ∷ rest) ++ payload)))) (Some bytes) None) (gathered_push (first ∷ rest) (Adds payload))
+    ∙ hand_adds size (list_all (λ p. not (breaks_unit p)) (first ∷ rest)) (list_all (waits size) (prefixes (first ∷ rest))) (gathered (first ∷ rest)) payload
 extended_hand size (first ∷ rest) Breaks e =
     ap (λ stays. cond stays (Some (gathered ((first ∷ rest) ++ Breaks ∷ []))) None) (stays_push size (first ∷ rest) Breaks)
-    ∙ hand_breaks (list_all (λ p. not (breaks_unit p)) (first ∷ rest)) (list_all (waits size) (fronts (first ∷ rest)) && is_waiting (fate_of size (gathered (first ∷ rest) ++ []))) (gathered ((first ∷ rest) ++ Breaks ∷ []))
+    ∙ hand_breaks (list_all (λ p. not (breaks_unit p)) (first ∷ rest)) (list_all (waits size) (prefixes (first ∷ rest)) && is_waiting (fate_of size (gathered (first ∷ rest) ++ []))) (gathered ((first ∷ rest) ++ Breaks ∷ []))
 
 begun_hand : (size : ℕ) (payload : List ℕ) → unit_in_hand size (Begins payload ∷ []) ≡ kept size (Some payload)
 unfolding stays_in_hand

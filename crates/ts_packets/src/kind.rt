@@ -2,9 +2,9 @@ ghost use Rattle.std.specs.Prelude.{◌≡◌, ℕ, ◌<◌, ◌≤◌, length, 
 ghost use Rattle.stream_syntax.specs.TransportPackets.{packet_fault, counter_of, has_start_flag};
 ghost use Rattle.ts_packets.specs.Kinds.{IsKind};
 
-use crate::packetiser::{HEAD_LENGTH, PACKET_LENGTH, SYNC_BYTE};
+use crate::packetiser::HEAD_LENGTH;
 use byteorder::{BigEndian, ByteOrder};
-use stream_syntax::PacketFault;
+use stream_syntax::{PacketFault, SYNC_BYTE};
 
 /// What a packet is for the units of a PID.
 pub enum Kind<'a> {

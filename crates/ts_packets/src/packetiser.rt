@@ -6,22 +6,12 @@ ghost use Rattle.ts_packets.specs.Numbering.{after_packet};
 
 use byteorder::{BigEndian, ByteOrder};
 use std::marker::Model;
-
-/// The bytes of a packet.
-pub const PACKET_LENGTH: usize = 188;
+use stream_syntax::{NULL_PID, PAYLOAD_LENGTH, SYNC_BYTE};
 
 /// The bytes of a packet's head.
 pub const HEAD_LENGTH: usize = 4;
 
-/// The most bytes of a unit that one packet takes.
-const PAYLOAD_LENGTH: usize = PACKET_LENGTH - HEAD_LENGTH;
-
-pub const SYNC_BYTE: u8 = 0x47;
-
 const STUFFING: u8 = 0xFF;
-
-/// The PID of null packets.
-const NULL_PID: u16 = 0x1FFF;
 
 /// Cuts the units of one PID into packets and numbers these.
 #[derive(Drop)]
@@ -54,7 +44,7 @@ impl Packetiser {
     /// Writes one packet with this piece of a unit, 1 to 184 bytes; `start` says that the unit begins with it.
     pub fn packet(&mut self, piece: &[u8], start: bool, out: &mut [u8; 188])
         requires some { 1 ≤ length piece.now }
-        requires fits { length piece.now ≤ 184 }
+        requires fits { length piece.now ≤ PAYLOAD_LENGTH }
         ensures bytes { out.new ≡ written_packet self.old.pid start self.old.counter piece.now }
         ensures counter { self.new ≡ after_packet self.old }
 
@@ -71,8 +61,8 @@ impl Packetiser {
 /// Writes the packet that a multiplex has where nothing is to be sent.
 pub fn null_packet(out: &mut [u8; 188])
     ensures bytes { out.new ≡ null_bytes }
-    ensures pid { pid_of out.new ≡ 0x1FFF }
-    ensures taken { (pid : ℕ) → pid ≢ 0x1FFF → packet_fault pid out.new ≡ None }
+    ensures pid { pid_of out.new ≡ NULL_PID }
+    ensures taken { (pid : ℕ) → pid ≢ NULL_PID → packet_fault pid out.new ≡ None }
 {
     write_null_packet(out);
 }
@@ -89,7 +79,7 @@ fn write_null_packet(out: &mut [u8; 188])
 fn write_packet(pid: u16, counter: u8, piece: &[u8], start: bool, out: &mut [u8; 188])
     requires pid { pid < 8192 }
     requires counter { counter < 16 }
-    requires fits { length piece.now ≤ 184 }
+    requires fits { length piece.now ≤ PAYLOAD_LENGTH }
     ensures { out.new ≡ written_packet pid start counter piece.now }
 {
     let room = PAYLOAD_LENGTH - piece.len();

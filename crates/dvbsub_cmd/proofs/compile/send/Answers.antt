@@ -1,7 +1,7 @@
 use Rattle.std.proofs.Common.{◌∙◌, ap, map}
 use Rattle.shown_stream.specs.SlotStream.{all_pieces, stream_of}
 use Rattle.dvbsub_cmd.specs.PieceView.{plain}
-use Rattle.dvbsub_cmd.proofs.CompileLaws.{among, compiled, sets_fit, slot_count-small, slots_pair}
+use Rattle.dvbsub_cmd.proofs.CompileLaws.{among, compiled, sent_singly, sets_fit, slot_count-small, slots_pair}
 use Rattle.dvbsub_cmd.proofs.compile.send.Goals as goal
 
 pub schedule_refused-requires : goal.schedule_refused-requires
@@ -11,12 +11,14 @@ schedule_refused-requires g c =
 pub units_of-requires-clause-fit : goal.units_of-requires-clause-fit
 units_of-requires-clause-fit g c =
     sets_fit c.args.profile c.args.script.now c.as_slice-sets.result.now c.of-receiver.result c.args.script.now.origin c.in-Ok-loads_of.loads.items c.as_slice-asked.result.now c.in-Ok-make.schedule c.of-receiver.ensures
-    c.requires.profile c.in-Ok-loads_of.ensures.loads c.as_slice-asked.ensures.value c.in-Ok-make.ensures.on_time
+    c.requires.profile c.in-Ok-loads_of.ensures.loads c.as_slice-asked.ensures.value c.in-Ok-loads_of.ensures.each c.in-Ok-make.ensures.on_time
 
 pub write_stream-requires-clause-pairs : goal.write_stream-requires-clause-pairs
 write_stream-requires-clause-pairs g c =
     slots_pair c.args.script.now c.as_slice-sets.result.now c.in-Ok-loads_of.loads.items c.as_slice-asked.result.now c.in-Ok-units_of.units.items c.in-Ok-make.schedule.slots c.all_slots.result.now c.in-Ok-pieces_of.pieces.items
     c.as_slice-2.result.now c.in-Ok-loads_of.ensures.loads c.as_slice-asked.ensures.value c.all_slots.ensures c.as_slice-2.ensures.value c.in-Ok-make.ensures.schedule.packets c.in-Ok-units_of.ensures.sizes
+    (sent_singly c.args.profile c.args.script.now c.as_slice-sets.result.now c.of-receiver.result c.args.script.now.origin c.in-Ok-loads_of.loads.items c.as_slice-asked.result.now c.in-Ok-make.schedule c.of-receiver.ensures
+    c.requires.profile c.in-Ok-loads_of.ensures.loads c.as_slice-asked.ensures.value c.in-Ok-make.ensures.on_time)
     (c.in-Ok-pieces_of.ensures.pieces ∙ ap all_pieces c.as_slice.ensures.value)
 
 pub write_stream-requires-clause-short : goal.write_stream-requires-clause-short

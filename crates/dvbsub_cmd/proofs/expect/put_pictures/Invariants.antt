@@ -7,6 +7,6 @@ use Rattle.dvbsub_cmd.proofs.expect.put_pictures.Given as goal
 abbrev pub invariant-loop-place : goal.invariant-loop-place
 invariant-loop-place g l =
     PutsOut
-    (record { written = g.K.Sink.written l.fn.out; faults = g.K.Sink.faults l.fn.out })
-    (record { written = g.K.Sink.written l.out; faults = g.K.Sink.faults l.out })
+    (g.K.Sink.received l.fn.out)
+    (g.K.Sink.received l.out)
     l.fn.buffer l.buffer (expect_text l.script (map tick_or_zero (take (l.place - 4) (drop 4 l.words))))

@@ -1,17 +1,13 @@
-use Rattle.dvbsub_cmd.proofs.CloseLaws.{ended_whole, ended_refused, ended_unread, ended_unwritten, ended_too_long, as_end}
+use Rattle.dvbsub_cmd.proofs.CloseLaws.{ended_refused, ended_unwritten, as_end}
 use Rattle.dvbsub_cmd.proofs.list.close.Goals as goal
 
-pub returns-in-Whole : goal.returns-in-Whole
-returns-in-Whole g c = λ pid before now start. λ told. let ended = as_end pid before now start _ c.args.buffer.now _ _ c.in-Whole.is told in ended_whole pid before now start _ _ c.args.buffer.now c.in-Whole.cut c.write_rest.result ended c.write_rest.ensures
+pub returns-in-Stream : goal.returns-in-Stream
+returns-in-Stream g c = λ pid before now start. λ told.
+    c.close_stream.ensures pid before now start (as_end pid before now start _ c.args.buffer.now _ _ c.in-Stream.is told)
 
 pub returns-in-Refused : goal.returns-in-Refused
-returns-in-Refused g c = λ pid before now start. λ told. let ended = as_end pid before now start _ c.args.buffer.now _ _ c.in-Refused.is told in ended_refused pid before now start _ _ c.args.buffer.now c.in-Refused.packet c.in-Refused.fault c.write_rest-in-Refused.result ended c.write_rest-in-Refused.ensures
-
-pub returns-in-Unread : goal.returns-in-Unread
-returns-in-Unread g c = λ pid before now start. λ told. let ended = as_end pid before now start _ c.args.buffer.now _ _ c.in-Unread.is told in ended_unread pid before now start _ _ c.args.buffer.now c.write_rest-in-Unread.result ended c.write_rest-in-Unread.ensures
+returns-in-Refused g c = λ pid before now start. λ told.
+    ended_refused pid before now start _ _ c.args.buffer.now c.in-Refused.refused c.status.result c.write_rest.result (as_end pid before now start _ c.args.buffer.now _ _ c.in-Refused.is told) c.status.ensures c.write_rest.ensures
 
 pub returns-in-Unwritten : goal.returns-in-Unwritten
 returns-in-Unwritten g c = λ pid before now start. λ told. let ended = as_end pid before now start _ c.args.buffer.now _ _ c.in-Unwritten.is told in ended_unwritten pid before now start _ c.args.buffer.now ended
-
-pub returns-in-TooLong : goal.returns-in-TooLong
-returns-in-TooLong g c = λ pid before now start. λ told. let ended = as_end pid before now start _ c.args.buffer.now _ _ c.in-TooLong.is told in ended_too_long pid before now start _ c.args.buffer.now ended

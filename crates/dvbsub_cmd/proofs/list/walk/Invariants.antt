@@ -1,20 +1,21 @@
-use Rattle.std.proofs.Common.{◌≡◌, ◌+◌, ◌-◌, ◌*◌, ◌<◌, ◌≤◌, ◌^◌, length, take}
-use Rattle.dvbsub_cmd.specs.Walking.{HasWalked}
+use Rattle.std.proofs.Common.{◌+◌, ◌-◌, ◌≤◌}
+use Rattle.packet_source.specs.InHand.{read_count}
+use Rattle.packet_source.specs.declared.limits.TheConstants.{STREAM_LIMIT}
+use Rattle.dvbsub_cmd.proofs.WalkLaws.{HasWalked}
 use Rattle.dvbsub_cmd.proofs.list.walk.Given as goal
 
-abbrev pub invariant-loop-count : goal.invariant-loop-count
-invariant-loop-count g l =
+abbrev pub invariant-loop-end : goal.invariant-loop-end
+invariant-loop-end g l =
     record {
-      room : length l.room ≡ 65724;
-      held : l.held < 188;
-      kept : g.A.Source.faults l.fn.stream ≤ g.A.Source.faults l.stream;
+      within : read_count l.packets ≤ STREAM_LIMIT;
+      kept : (g.A.Source.supplied l.fn.stream).faults ≤ (g.A.Source.supplied l.stream).faults;
       walked : HasWalked l.fn.demux.pid
-          (record { left = g.A.Source.left l.fn.stream; given = g.A.Source.given l.fn.stream; faults = g.A.Source.faults l.fn.stream })
-          (record { left = g.A.Source.left l.stream; given = g.A.Source.given l.stream; faults = g.A.Source.faults l.stream })
-          (record { written = g.K.Sink.written l.fn.out; faults = g.K.Sink.faults l.fn.out })
-          (record { written = g.K.Sink.written l.out; faults = g.K.Sink.faults l.out })
-          l.demux l.buffer l.taken (take l.held l.room);
+          (g.A.Source.supplied l.fn.stream)
+          (g.A.Source.supplied l.stream)
+          (g.K.Sink.received l.fn.out)
+          (g.K.Sink.received l.out)
+          l.demux l.buffer l.packets;
     }
 
-abbrev pub decreases-loop-count : goal.decreases-loop-count
-decreases-loop-count g l = 2 ^ 40 + 1 - (188 * l.taken + l.held)
+abbrev pub decreases-loop-end : goal.decreases-loop-end
+decreases-loop-end g l = STREAM_LIMIT + 1 - read_count l.packets

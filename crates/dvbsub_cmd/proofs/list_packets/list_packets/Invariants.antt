@@ -7,7 +7,7 @@ invariant-loop-packet g l =
     record {
       place : l.place ≡ l.first + l.packet-index;
       listed : Lists
-          (record { written = g.K.Sink.written l.fn.sink; faults = g.K.Sink.faults l.fn.sink })
-          (record { written = g.K.Sink.written l.sink; faults = g.K.Sink.faults l.sink })
+          (g.K.Sink.received l.fn.sink)
+          (g.K.Sink.received l.sink)
           l.fn.demux l.demux l.fn.buffer l.buffer l.first (take l.packet-index l.packets);
     }

@@ -7,8 +7,8 @@ invariant-loop-rest g l =
     record {
       short : length l.rest ≤ 65535;
       puts : PutsRow
-          (record { written = g.K.Sink.written l.fn.sink; faults = g.K.Sink.faults l.fn.sink })
-          (record { written = g.K.Sink.written l.sink; faults = g.K.Sink.faults l.sink })
+          (g.K.Sink.received l.fn.sink)
+          (g.K.Sink.received l.sink)
           l.fn.buffer l.buffer l.row l.rest;
     }
 

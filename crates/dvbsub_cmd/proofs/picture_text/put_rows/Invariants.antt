@@ -7,6 +7,6 @@ use Rattle.dvbsub_cmd.proofs.picture_text.put_rows.Given as goal
 abbrev pub invariant-loop-y : goal.invariant-loop-y
 invariant-loop-y g l =
     PutsOut
-    (record { written = g.K.Sink.written l.fn.sink; faults = g.K.Sink.faults l.fn.sink })
-    (record { written = g.K.Sink.written l.sink; faults = g.K.Sink.faults l.sink })
+    (g.K.Sink.received l.fn.sink)
+    (g.K.Sink.received l.sink)
     l.fn.buffer l.buffer (flat_map (λ (y : ℕ). row_line (plane_row l.width l.plane y)) (range_with_len 0 l.y))

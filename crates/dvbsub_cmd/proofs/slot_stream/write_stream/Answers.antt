@@ -1,6 +1,6 @@
 use Rattle.std.proofs.Common.{◌≤◌, ◌++◌, ℕ, List, map, ap, sym, ◌∙◌, subst, arith}
 use Rattle.std.specs.List.{flat_map, range_with_len}
-use Rattle.sub_base.specs.Transfer.{AppendsFront}
+use Rattle.sub_base.specs.Endpoints.{AppendsPrefix}
 use Rattle.dvbsub_cmd.specs.PieceView.{plain}
 use Rattle.shown_stream.specs.SlotStream.{slot_packet, slot_count}
 use Rattle.dvbsub_cmd.specs.SlotWalk.{Sent}
@@ -13,7 +13,7 @@ loop-slot-preserved g c =
     let before = flat_map (slot_packet c.args.pid pieces c.args.slots.now) (range_with_len 0 c.loop-slot.slot) in
     let told = c.packet_at-next.ensures.packet ∙ ap (λ (pid : ℕ). slot_packet pid pieces c.args.slots.now c.loop-slot.slot) c.loop-slot.invariant.pid in
     let grown = ap (λ (packet : List ℕ). before ++ packet) told ∙ sym (stream-more (slot_packet c.args.pid pieces c.args.slots.now) c.loop-slot.slot) in
-    let Holds : List ℕ → Type 0 = λ bytes. Sent (g.K.Sink.written c.args.sink.now) (g.K.Sink.written c.pass_on.new.sink) c.pass_on.new.outgoing bytes in
+    let Holds : List ℕ → Type 0 = λ bytes. Sent (g.K.Sink.received c.args.sink.now).written (g.K.Sink.received c.pass_on.new.sink).written c.pass_on.new.outgoing bytes in
     record {
       next = c.packet_at-next.ensures.next;
       pid = c.packet_at-next.ensures.pid ∙ c.loop-slot.invariant.pid;
@@ -32,5 +32,5 @@ pub returns-clause-front : goal.returns-clause-front
 returns-clause-front g c =
     let within : c.loop-slot.slot ≤ slot_count c.args.slots.now = omega (arith, c.slot_count-slot-end.ensures) in
     let rest = stream-rest (slot_packet c.args.pid (map plain c.args.pieces.now) c.args.slots.now) c.loop-slot.slot (slot_count c.args.slots.now) within in
-    let Fronts : List ℕ → Type 0 = λ bytes. AppendsFront (g.K.Sink.written c.loop-slot.sink) (g.K.Sink.written c.write_whole.new.sink) bytes in
-    λ _. Sent-front _ _ _ _ _ rest.0 _ c.loop-slot.invariant.sent (subst Fronts c.as_bytes.ensures c.in-Err-write_whole.ensures.front) rest.1
+    let Fronts : List ℕ → Type 0 = λ bytes. AppendsPrefix (g.K.Sink.received c.loop-slot.sink).written (g.K.Sink.received c.write_whole.new.sink).written bytes in
+    λ _. Sent-front _ _ _ _ _ rest.0 _ c.loop-slot.invariant.sent (subst Fronts c.as_bytes.ensures c.in-Err-write_whole.ensures.prefix) rest.1

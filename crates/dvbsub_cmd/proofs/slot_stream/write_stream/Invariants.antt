@@ -11,6 +11,6 @@ invariant-loop-slot g l =
       next : IsNext l.slots l.next l.slot;
       pid : l.packetiser.pid ≡ l.pid;
       counter : l.packetiser.counter ≡ l.next % 16;
-      kept : g.K.Sink.faults l.fn.sink ≤ g.K.Sink.faults l.sink;
-      sent : Sent (g.K.Sink.written l.fn.sink) (g.K.Sink.written l.sink) l.outgoing (flat_map (slot_packet l.pid (map plain l.pieces) l.slots) (range_with_len 0 l.slot));
+      kept : (g.K.Sink.received l.fn.sink).faults ≤ (g.K.Sink.received l.sink).faults;
+      sent : Sent (g.K.Sink.received l.fn.sink).written (g.K.Sink.received l.sink).written l.outgoing (flat_map (slot_packet l.pid (map plain l.pieces) l.slots) (range_with_len 0 l.slot));
     }

@@ -4,6 +4,7 @@ use Rattle.std.specs.Prelude.{slice_index}
 use Rattle.schedule.specs.Packets.{sum_below, size_of}
 use Rattle.sub_base.specs.Pace.{tick_of}
 use Rattle.schedule.proofs.SumLaws.{sum_below-more, sum_below-rises}
+use Rattle.schedule.proofs.PacketLaws.{bytes_at}
 use Rattle.schedule.proofs.BufferLaws.{ltb-false, left-least, AreDone-more, needs_next, tick_of-max, tick_of-rises}
 use Rattle.schedule.proofs.place.place.Goals as goal
 use Rattle.schedule.proofs.place.place.Goals.{then-loop-gone-test+else-level-payload, then-dones-gone, else-dones-gone, else-loop-gone-test}
@@ -12,7 +13,7 @@ pub overflow_sub-level : goal.overflow_sub-level
 overflow_sub-level c =
     let more = sum_below-more (size_of c.args.loads.now) c.loop-gone.gone in
     let rises = sum_below-rises (size_of c.args.loads.now) (c.loop-gone.gone + 1) (length c.args.dones.now) (omega arith) in
-    omega (arith, more, rises)
+    omega (arith, more, rises, bytes_at c.args.loads.now c.loop-gone.gone c.index-loads-gone.result c.requires.loads (omega arith))
 
 pub loop-gone-preserved : goal.loop-gone-preserved
 loop-gone-preserved c =
@@ -24,7 +25,7 @@ loop-gone-preserved c =
     let later : c.first_slot_at.result ≤ c.max-slot.result = omega (arith, c.max-slot.ensures) in
     let same : c.loop-gone.slot ≤ c.max-slot.result = omega (arith, c.max-slot.ensures) in
     record {
-      total = omega (arith, more, rises);
+      total = omega (arith, more, rises, bytes_at loads gone c.index-loads-gone.result c.requires.loads (omega arith));
       level = omega arith;
       gone = AreDone-more dones gone c.args.pace.now c.loop-gone.slot c.first_slot_at.result c.max-slot.result c.loop-gone.invariant.gone (omega arith) same later c.first_slot_at.ensures.reached;
       after = omega arith;

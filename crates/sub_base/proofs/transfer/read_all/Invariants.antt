@@ -8,9 +8,9 @@ invariant-loop-count g l =
     record {
       within : vec_len l.bytes ≤ l.limit;
       room : length l.buffer ≡ 65536;
-      kept : g.A.Source.faults l.fn.source ≤ g.A.Source.faults l.source;
-      given : g.A.Source.given l.source ≡ counted (g.A.Source.given l.fn.source) (length l.bytes.items);
-      whole : Consumes (g.A.Source.left l.fn.source) (g.A.Source.left l.source) l.bytes.items;
+      kept : (g.A.Source.supplied l.fn.source).faults ≤ (g.A.Source.supplied l.source).faults;
+      given : (g.A.Source.supplied l.source).given ≡ counted (g.A.Source.supplied l.fn.source).given (length l.bytes.items);
+      whole : Consumes (g.A.Source.supplied l.fn.source).left (g.A.Source.supplied l.source).left l.bytes.items;
     }
 
 abbrev pub decreases-loop-count : goal.decreases-loop-count

@@ -1,0 +1,32 @@
+-- Lifted times: a time from the anchor to the anchor and 2 to the 33, less 1, is lifted from its remainder by the anchor, and a
+-- later one by the one before, where it is less than 2 to the 32 ahead.
+use Rattle.std.proofs.Common.{◌≡◌, ◌∙◌, ℕ, ◌+◌, ◌-◌, ◌%◌, ◌<◌, ◌≤◌, true, Some, None, ap, arith}
+use Rattle.std.specs.Bool.{if◌then◌else◌}
+use Rattle.std.specs.Prelude.{nat_le, nat_lt, ◌&&◌}
+use Rattle.std.proofs.lemmas.Bool.Decides.{nat_tests}
+use Rattle.decoder_model.specs.Kept.{time_round, ahead_of, lift_by, lifted_behind}
+
+-- a time is as far ahead of a number, as they differ by
+pub ahead_by : (from time : ℕ) → from ≤ time → time < from + 8589934592 → ahead_of from (time % time_round) ≡ time - from
+ahead_by from time later near = omega arith
+
+-- the first set of all
+pub lifted_first : (anchor time : ℕ) → anchor ≤ time → time < anchor + 8589934592 → lifted_behind anchor None (time % time_round) ≡ Some time
+lifted_first anchor time later near = ap Some (ap (λ ticks. anchor + ticks) (ahead_by anchor time later near) ∙ omega arith)
+
+kept_by : (last ticks : ℕ) → 1 ≤ ticks → ticks < 4294967296 → last + ticks < 4611686018427387904 → lift_by last ticks ≡ Some (last + ticks)
+kept_by last ticks some few low =
+    let passes : (nat_le 1 ticks && (nat_lt ticks 4294967296 && nat_lt (last + ticks) 4611686018427387904)) ≡ true = grind (arith, nat_tests) in
+    ap (λ kept. if kept then Some (last + ticks) else None) passes
+
+-- a set behind others
+pub lifted_next : (anchor last time : ℕ) → last < time → time < last + 4294967296 → time < 4611686018427387904 → lifted_behind anchor (Some last) (time % time_round) ≡ Some time
+lifted_next anchor last time later near low =
+    ap (lift_by last) (ahead_by last time (omega arith) (omega arith)) ∙ kept_by last (time - last) (omega arith) (omega arith) (omega arith) ∙ ap Some (omega arith)
+
+-- the first lifted time is the least number from the anchor on that has this remainder
+pub lifted_is_least : (anchor time other : ℕ) → time < 8589934592 → anchor ≤ other → other % time_round ≡ time → anchor + ahead_of anchor time ≤ other
+lifted_is_least anchor time other round from same = omega arith
+
+pub lifted_has_remainder : (anchor time : ℕ) → time < 8589934592 → (anchor + ahead_of anchor time) % time_round ≡ time
+lifted_has_remainder anchor time round = omega arith

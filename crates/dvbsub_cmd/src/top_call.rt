@@ -1,0 +1,105 @@
+ghost use Rattle.dvbsub_cmd.specs.Command.{command_of as command_of_words};
+ghost use Rattle.dvbsub_cmd.specs.Completeness.{IsComplete};
+ghost use Rattle.dvbsub_cmd.specs.Headline.{IsShownBy};
+ghost use Rattle.dvbsub_cmd.specs.Seen.{seen};
+ghost use Rattle.dvbsub_cmd.specs.Outcome.{HasCause, IsCaused, IsSecondKept, Tells};
+
+use crate::command::{Command, command_of};
+use crate::compile::compile;
+use crate::expect::expect;
+use crate::list::list;
+use crate::status::{Status, Which, status_line};
+use std::alloc::Global;
+use std::thread::Threads;
+use sub_base::{BandGate, Sink, Source, Words, write_whole};
+
+/// Carries out the command that the words are: reads its sources, writes its output to `out`, and tells how it
+/// ended, by its answer and by one line to `notes`.
+pub fn top<R, A, B, K, N, G>(
+    _rt: &R,
+    alloc: Global,
+    words: &Words,
+    first: &mut A,
+    second: &mut B,
+    out: &mut K,
+    notes: &mut N,
+    _gate: &G,
+) -> Status
+where
+    R: Threads + Sync,
+    A: Source,
+    B: Source,
+    K: Sink,
+    N: Sink,
+    G: BandGate + Sync,
+    ensures cause { HasCause words.now
+        (seen (A.supplied first.old) (B.supplied second.old) (K.received out.old))
+        (seen (A.supplied first.new) (B.supplied second.new) (K.received out.new))
+        (N.received notes.old) (N.received notes.new) result }
+
+    // Where nothing gives a cause of refusal, the command is done whole, or memory is wanting.
+    ensures complete { IsComplete words.now
+        (seen (A.supplied first.old) (B.supplied second.old) (K.received out.old))
+        (seen (A.supplied first.new) (B.supplied second.new) (K.received out.new))
+        (N.received notes.old) (N.received notes.new) result }
+
+    // Where a script was compiled that is one cue that fills the display, a receiver that gets the packets from the first on
+    // shows the authored picture at every tick.
+    ensures shown { IsShownBy (command_of_words words.now)
+        (seen (A.supplied first.old) (B.supplied second.old) (K.received out.old))
+        (seen (A.supplied first.new) (B.supplied second.new) (K.received out.new))
+        result }
+
+    // A command that names no font does not call the second source.
+    ensures second { IsSecondKept (command_of_words words.now) second.old second.new }
+{
+    let status = run(alloc, words, first, second, out);
+    tell(status, notes)
+}
+
+/// Writes the line of the status, and answers the status, or what it becomes where the line cannot be written.
+pub fn tell<N: Sink>(status: Status, notes: &mut N) -> Status
+    ensures { Tells (N.received notes.old) (N.received notes.new) status result }
+{
+    let line = status_line(status);
+    match write_whole(notes, line.as_bytes()) {
+        Ok(()) => status,
+        Err(_) => match status {
+            Status::Done { .. } => Status::WriteFault(Which::Notes),
+            other => other,
+        },
+    }
+}
+
+/// Carries out the command without telling how it ended.
+fn run<A: Source, B: Source, K: Sink>(
+    alloc: Global,
+    words: &Words,
+    first: &mut A,
+    second: &mut B,
+    out: &mut K,
+) -> Status
+    ensures cause { IsCaused words.now
+        (seen (A.supplied first.old) (B.supplied second.old) (K.received out.old))
+        (seen (A.supplied first.new) (B.supplied second.new) (K.received out.new))
+        result }
+    ensures shown { IsShownBy (command_of_words words.now)
+        (seen (A.supplied first.old) (B.supplied second.old) (K.received out.old))
+        (seen (A.supplied first.new) (B.supplied second.new) (K.received out.new))
+        result }
+    ensures second { IsSecondKept (command_of_words words.now) second.old second.new }
+{
+    match command_of(words) {
+        None => Status::Usage,
+        Some(
+            Command::Compile {
+                profile,
+                pid,
+                page,
+                has_font,
+            },
+        ) => compile(alloc, profile, pid, page, has_font, first, second, out),
+        Some(Command::List { pid }) => list(alloc, pid, first, out),
+        Some(Command::Expect { has_font }) => expect(alloc, words, has_font, first, second, out),
+    }
+}

@@ -1,0 +1,2 @@
+pub mod GaveLaws
+mod ReaderLaws

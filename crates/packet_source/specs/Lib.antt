@@ -1,0 +1,3 @@
+pub mod InHand
+pub mod Packets
+pub mod Filling

@@ -1,0 +1,11 @@
+use Rattle.std.proofs.Common.{◌≡◌, ◌+◌, ◌-◌, ◌≤◌, length, drop}
+use Rattle.std.specs.List.{prefix_len}
+use Rattle.pixel_codes.specs.Maximal.{is_code}
+use Rattle.pixel_codes.proofs.maximal.end_by_one.Given as goal
+
+abbrev pub invariant-loop-place : goal.invariant-loop-place
+invariant-loop-place l =
+    (l.from + prefix_len (is_code l.code) (drop l.from l.codes) ≡ l.place + prefix_len (is_code l.code) (drop l.place l.codes)) × (l.place ≤ length l.codes)
+
+abbrev pub decreases-loop-place : goal.decreases-loop-place
+decreases-loop-place l = length l.codes - l.place

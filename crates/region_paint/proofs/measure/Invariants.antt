@@ -1,0 +1,5 @@
+use Rattle.region_paint.specs.Painted.{IsScreen}
+use Rattle.region_paint.proofs.measure.Given as goal
+
+abbrev pub invariant-loop-length : goal.invariant-loop-length
+invariant-loop-length l = IsScreen l.slot l.store

@@ -1,0 +1,5 @@
+use Rattle.region_paint.specs.Painted.{IsScreen}
+use Rattle.region_paint.proofs.paint_rows.Given as goal
+
+abbrev pub invariant-loop-y : goal.invariant-loop-y
+invariant-loop-y l = IsScreen l.slot l.store

@@ -1,0 +1,23 @@
+-- The display sets of a plan as they stand in the stream that is sent of them.
+use Rattle.std.specs.Prelude.{ℕ, ◌+◌, not, nat_le, List, [], ◌∷◌, map, filter}
+use Rattle.std.specs.List.{list_any}
+use Rattle.page_epoch.specs.States.{is_whole}
+use Rattle.page_epoch.specs.declared.planned_set.PlannedSet.{PlannedSet}
+use Rattle.schedule.specs.Slots.{Timetable, slots_of}
+use Rattle.decoder_model.specs.Streams.{SentSet}
+
+-- a set of that number as it is sent: the places of its packets are their slots, as each slot has one packet
+abbrev pub sent_set : Timetable → ℕ → PlannedSet → SentSet
+sent_set table number set = record { time = set.pts; is_normal = not (is_whole set.state); places = slots_of table number }
+
+-- sets from that number on, and all sets of a plan
+abbrev pub sent_from : Timetable → ℕ → List PlannedSet → List SentSet
+sent_from table number [] = []
+sent_from table number (set ∷ sets) = sent_set table number set ∷ sent_from table (number + 1) sets
+
+abbrev pub sent_sets : Timetable → List PlannedSet → List SentSet
+sent_sets table sets = sent_from table 0 sets
+
+-- the times of the sets of which a packet stands at that place or a later one
+abbrev pub times_from : ℕ → List SentSet → List ℕ
+times_from place sets = map (λ (set : SentSet). set.time) (filter (λ (set : SentSet). list_any (λ at. nat_le place at) set.places) sets)
