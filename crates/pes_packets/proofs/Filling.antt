@@ -5,7 +5,7 @@ use Rattle.std.proofs.lemmas.Grind.{flat_map-append}
 use Rattle.std.proofs.lemmas.List.{map-append, append-nil}
 use Rattle.std.proofs.lemmas.List.Sums.{sum_by_push, sum_by-cons}
 use Rattle.pes_packets.specs.Units.{IsClosed, AreUnits, IsSharedOut, unit_length}
-use Rattle.pes_packets.specs.declared.units.TheConstants.{MOST_SEGMENTS}
+use Rattle.sub_base.specs.declared.load.TheConstants.{UNIT_ROOM}
 
 -- the bytes of a list of lengths
 abbrev pub own : ℕ → ℕ
@@ -13,7 +13,7 @@ own bytes = bytes
 
 -- the last unit takes one segment more that it has room for
 pub AreUnits-grown : (closed : List (List ℕ)) (first : ℕ) (others : List ℕ) (next : ℕ) → AreUnits own (closed ++ (first ∷ others) ∷ []) →
-    sum_by own (first ∷ others) + next ≤ MOST_SEGMENTS → AreUnits own (closed ++ (first ∷ (others ++ next ∷ [])) ∷ [])
+    sum_by own (first ∷ others) + next ≤ UNIT_ROOM → AreUnits own (closed ++ (first ∷ (others ++ next ∷ [])) ∷ [])
 AreUnits-grown [] first others next at room =
     let sum = sum_by_push own (first ∷ others) next in
     ((omega arith, inr (omega (arith, sum, room))), tt, tt)
@@ -23,7 +23,7 @@ AreUnits-grown (unit ∷ (front ∷ rest) ∷ more) first others next at room = 
 
 -- the last unit is closed before a segment that it has no room for, which begins one of its own
 pub AreUnits-closed : (closed : List (List ℕ)) (unit : List ℕ) (next : ℕ) → AreUnits own (closed ++ unit ∷ []) →
-    MOST_SEGMENTS < sum_by own unit + next → AreUnits own ((closed ++ unit ∷ []) ++ (next ∷ []) ∷ [])
+    UNIT_ROOM < sum_by own unit + next → AreUnits own ((closed ++ unit ∷ []) ++ (next ∷ []) ∷ [])
 AreUnits-closed [] unit next at over = (at.0, over, ((omega arith, inl refl), tt, tt))
 AreUnits-closed (one ∷ []) unit next at over = (at.0, IsClosed-front one unit at.1, AreUnits-closed [] unit next at.2 over)
   where
@@ -55,7 +55,7 @@ lengths before out closed unit is =
     ∙ ap (λ xs. before ++ xs) (sym (map-append (unit_length own) closed (unit ∷ [])))
 
 -- a segment that the unit has room for
-pub IsFilled-grown : (front before out : List ℕ) (filled next : ℕ) → 1 ≤ next → (0 < filled → filled + next ≤ MOST_SEGMENTS) → IsFilled front before out filled →
+pub IsFilled-grown : (front before out : List ℕ) (filled next : ℕ) → 1 ≤ next → (0 < filled → filled + next ≤ UNIT_ROOM) → IsFilled front before out filled →
     IsFilled (front ++ next ∷ []) before out (filled + next)
 IsFilled-grown front before out filled next some room (Empty none same zero_bytes) =
     Begun [] next [] some (ap (λ xs. xs ++ next ∷ []) (sym none)) (same ∙ sym (append-nil before)) ((omega arith, inl refl), tt, tt) (omega (arith, zero_bytes, sum_by-cons own next []))
@@ -66,7 +66,7 @@ IsFilled-grown front before out filled next some room (Begun closed first others
     (AreUnits-grown closed first others next units (omega (arith, bytes, room (omega (arith, bytes, more, any))))) (omega (arith, bytes, sum))
 
 -- a segment that it has no room for
-pub IsFilled-closed : (front before out : List ℕ) (filled next : ℕ) → 1 ≤ next → 0 < filled → MOST_SEGMENTS < filled + next → IsFilled front before out filled →
+pub IsFilled-closed : (front before out : List ℕ) (filled next : ℕ) → 1 ≤ next → 0 < filled → UNIT_ROOM < filled + next → IsFilled front before out filled →
     IsFilled (front ++ next ∷ []) before (out ++ (17 + filled) ∷ []) next
 IsFilled-closed front before out filled next some any over (Empty none same zero_bytes) = absurd (omega (arith, any, zero_bytes))
 IsFilled-closed front before out filled next some any over (Begun closed first others one whole is units bytes) =

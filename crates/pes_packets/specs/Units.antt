@@ -2,17 +2,18 @@
 -- room for 65,524 bytes of segments (ISO/IEC 13818-1, 2.4.3.7: its length is a number of 16 bits).
 use Rattle.std.specs.Prelude.{◌≡◌, ℕ, ◌+◌, ◌^◌, ◌<◌, ◌≤◌, ◌⊎◌, ⊤, List, [], ◌∷◌, length}
 use Rattle.std.specs.List.{flat_map, sum_by}
-use Rattle.pes_packets.specs.declared.units.TheConstants.{MOST_SEGMENTS, OTHER_BYTES}
+use Rattle.sub_base.specs.declared.load.TheConstants.{UNIT_ROOM}
+use Rattle.pes_packets.specs.declared.units.TheConstants.{OTHER_BYTES}
 
 -- a unit has one segment, or several that have no more bytes together than a PES packet has room for
 abbrev pub IsOneUnit : {X : Type 0} → (X → ℕ) → List X → Type 0
-IsOneUnit bytes unit = (1 ≤ length unit) × ((length unit ≡ 1) ⊎ (sum_by bytes unit ≤ MOST_SEGMENTS))
+IsOneUnit bytes unit = (1 ≤ length unit) × ((length unit ≡ 1) ⊎ (sum_by bytes unit ≤ UNIT_ROOM))
 
 -- a unit is closed before its next segment only where it has no room for it
 abbrev pub IsClosed : {X : Type 0} → (X → ℕ) → List X → List (List X) → Type 0
 IsClosed bytes unit [] = ⊤
 IsClosed bytes unit ([] ∷ units) = ⊤
-IsClosed bytes unit ((next ∷ others) ∷ units) = MOST_SEGMENTS < sum_by bytes unit + bytes next
+IsClosed bytes unit ((next ∷ others) ∷ units) = UNIT_ROOM < sum_by bytes unit + bytes next
 
 -- these are units, each closed before the next
 abbrev pub AreUnits : {X : Type 0} → (X → ℕ) → List (List X) → Type 0

@@ -9,7 +9,7 @@ mod writing;
 
 pub use reading::{Pes, read_pes};
 pub use stream_syntax::PesFault;
-pub use units::{MOST_SEGMENTS, OTHER_BYTES, unit_lengths};
+pub use units::{OTHER_BYTES, unit_lengths};
 pub use writing::write_pes;
 
 #[cfg(test)]

@@ -1,10 +1,7 @@
 ghost use Rattle.std.specs.Prelude.{◌≡◌, ℕ, ◌+◌, ◌^◌, ◌<◌, ◌≤◌, ◌↔◌, IsTrue, List, ◌++◌, map, length, All, OnOk, OnErr, vec_capacity};
 ghost use Rattle.pes_packets.specs.Units.{IsSharedOut, IsSegmentLength, unit_length};
 
-use sub_base::NoMemory;
-
-/// The most bytes of segments that a PES packet has room for.
-pub const MOST_SEGMENTS: u64 = 65_524;
+use sub_base::{NoMemory, UNIT_ROOM};
 
 /// The bytes of a PES packet that are no segments: its header, data identifier, subtitle stream id and end marker.
 pub const OTHER_BYTES: u64 = 17;
@@ -47,7 +44,7 @@ fn append_lengths(segments: &[u32], out: &mut Vec<u32>)
 /// Tells whether a unit with so many bytes of segments is closed before a segment of that many.
 fn is_closed(filled: u64, bytes: u64) -> bool
     requires { filled + bytes < 2 ^ 64 }
-    ensures { IsTrue result ↔ ((0 < filled) × (MOST_SEGMENTS < filled + bytes)) }
+    ensures { IsTrue result ↔ ((0 < filled) × (UNIT_ROOM < filled + bytes)) }
 {
-    filled > 0 && filled + bytes > MOST_SEGMENTS
+    filled > 0 && filled + bytes > UNIT_ROOM
 }

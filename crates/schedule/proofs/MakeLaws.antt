@@ -9,7 +9,7 @@ use Rattle.std.proofs.lemmas.List.Elements.{All-from_get_or}
 use Rattle.sub_base.specs.declared.load.WriteLoad.{WriteLoad}
 use Rattle.sub_base.specs.declared.pace.Pace.{Pace}
 use Rattle.schedule.specs.declared.place.Search.{Search}
-use Rattle.schedule.specs.declared.limits.TheConstants.{LONGEST_SEGMENT}
+use Rattle.sub_base.specs.declared.load.TheConstants.{UNIT_ROOM}
 use Rattle.schedule.specs.Packets.{sum_below, size_of, load_of, longest_of, first_packet, packets_of}
 use Rattle.sub_base.specs.Pace.{tick_of, done_tick, IsSound}
 use Rattle.schedule.specs.Slots.{CanStand, slot_of, done_of, shown_before, Timetable, IsSchedule, IsOnTime, IsLoad, IsTable}
@@ -156,7 +156,7 @@ on_time-longer loads pace n slots ends dones slots' ends' done count at =
 pub IsScheduled-more : (loads : List WriteLoad) (pace : Pace) (n : ℕ) (slots ends dones slots' : List ℕ) (shown : ℕ) (search search' : Search) (done : ℕ) →
     IsSound pace → All IsLoad loads → n < length loads → IsScheduled loads pace n slots ends dones shown search → IsSent loads pace slots slots' dones search' →
     done ≡ done_tick (tick_of pace (search'.slot - 1)) shown (load_of loads n) →
-    size_of loads n ≤ pace.coded → longest_of loads n ≤ LONGEST_SEGMENT → done ≤ (load_of loads n).pts →
+    size_of loads n ≤ pace.coded → longest_of loads n ≤ UNIT_ROOM → done ≤ (load_of loads n).pts →
     IsScheduled loads pace (n + 1) slots' (ends ++ length slots' ∷ []) (dones ++ done ∷ []) (load_of loads n).pts search'
 IsScheduled-more loads pace n slots ends dones slots' shown search search' done sound each below at sent is fits short ready =
     let dones' = dones ++ done ∷ [] in
@@ -177,7 +177,7 @@ IsScheduled-more loads pace n slots ends dones slots' shown search search' done 
       schedule = schedule-next loads pace n slots ends dones slots' shown search search' done each below at sent is;
       on_time = record {
         fits = below_more (λ i. size_of loads i ≤ pace.coded) n on_time.fits fits;
-        short = below_more (λ i. longest_of loads i ≤ LONGEST_SEGMENT) n on_time.short short;
+        short = below_more (λ i. longest_of loads i ≤ UNIT_ROOM) n on_time.short short;
         ready = below_more (λ i. slice_index dones' i ≤ (load_of loads i).pts) n on_time.ready
             (omega (arith, ready, new, ap (λ (m : ℕ). slice_index dones' m) count));
       };
@@ -268,7 +268,7 @@ some_slot loads pace slots dones n search below each between =
 pub late-cause : (loads : List WriteLoad) (pace : Pace) (n : ℕ) (slots ends dones slots' : List ℕ) (shown : ℕ) (search search' : Search) (done : ℕ) →
     All IsLoad loads → n < length loads → IsScheduled loads pace n slots ends dones shown search → IsSent loads pace slots slots' dones search' →
     done ≡ done_tick (tick_of pace (search'.slot - 1)) shown (load_of loads n) →
-    size_of loads n ≤ pace.coded → longest_of loads n ≤ LONGEST_SEGMENT → (load_of loads n).pts < done → IsFirstLate loads pace n done (load_of loads n).pts
+    size_of loads n ≤ pace.coded → longest_of loads n ≤ UNIT_ROOM → (load_of loads n).pts < done → IsFirstLate loads pace n done (load_of loads n).pts
 late-cause loads pace n slots ends dones slots' shown search search' done each below at sent is fits short late =
     record {
       table = table_of slots' (ends ++ length slots' ∷ []) (dones ++ done ∷ []);
@@ -290,7 +290,7 @@ full-cause loads pace n slots ends dones shown search below at full =
 
 -- a set with a segment that is too long is the cause of a refusal
 pub long-cause : (loads : List WriteLoad) (pace : Pace) (n : ℕ) (slots ends dones : List ℕ) (shown : ℕ) (search : Search) →
-    n < length loads → IsScheduled loads pace n slots ends dones shown search → size_of loads n ≤ pace.coded → LONGEST_SEGMENT < longest_of loads n →
+    n < length loads → IsScheduled loads pace n slots ends dones shown search → size_of loads n ≤ pace.coded → UNIT_ROOM < longest_of loads n →
     IsFirstLong loads pace n (longest_of loads n)
 long-cause loads pace n slots ends dones shown search below at fits long =
     record { table = table_of slots ends dones; among = below; schedule = at.schedule; before = at.on_time; fits = fits; is_longest = refl; long = long }

@@ -5,7 +5,8 @@ use Rattle.sub_base.specs.declared.load.WriteLoad.{WriteLoad}
 use Rattle.sub_base.specs.declared.pace.Pace.{Pace}
 use Rattle.schedule.specs.declared.fault.ScheduleFault.{ScheduleFault}
 use Rattle.schedule.specs.declared.fault.ScheduleFault.TheVariants.{Memory, CodedFull, Late, SegmentFull}
-use Rattle.schedule.specs.declared.limits.TheConstants.{SEND_WINDOW, LONGEST_SEGMENT}
+use Rattle.sub_base.specs.declared.load.TheConstants.{UNIT_ROOM}
+use Rattle.schedule.specs.declared.limits.TheConstants.{SEND_WINDOW}
 use Rattle.schedule.specs.Packets.{sum_below, load_of, longest_of, packets_of, first_packet, payload_of}
 use Rattle.sub_base.specs.Pace.{tick_of}
 use Rattle.schedule.specs.Slots.{Timetable, slot_of, left_of, done_of}
@@ -48,4 +49,4 @@ IsHopeless loads pace (CodedFull set size) = (m : ℕ) (slots dones : List ℕ) 
 IsHopeless loads pace (Late set done shown) =
     (m : ℕ) (slots dones : List ℕ) → set < m → m ≤ length loads → IsArrival loads m pace slots dones →
     (done ≤ slice_index dones set) × ((load_of loads set).pts < slice_index dones set)
-IsHopeless loads pace (SegmentFull set longest) = (longest_of loads set ≡ longest) × (LONGEST_SEGMENT < longest)
+IsHopeless loads pace (SegmentFull set longest) = (longest_of loads set ≡ longest) × (UNIT_ROOM < longest)

@@ -4,7 +4,7 @@ use Rattle.sub_base.specs.declared.load.WriteLoad.{WriteLoad}
 use Rattle.sub_base.specs.declared.pace.Pace.{Pace}
 use Rattle.schedule.specs.declared.fault.ScheduleFault.{ScheduleFault}
 use Rattle.schedule.specs.declared.fault.ScheduleFault.TheVariants.{Memory, CodedFull, Late, SegmentFull}
-use Rattle.schedule.specs.declared.limits.TheConstants.{LONGEST_SEGMENT}
+use Rattle.sub_base.specs.declared.load.TheConstants.{UNIT_ROOM}
 use Rattle.schedule.specs.Packets.{load_of, longest_of, size_of}
 use Rattle.schedule.specs.Slots.{Timetable, IsSchedule, IsOnTime}
 
@@ -25,7 +25,7 @@ pub record IsFirstLong (loads : List WriteLoad) (pace : Pace) (set longest : ℕ
   pub before : IsOnTime loads set pace table
   pub fits : size_of loads set ≤ pace.coded
   pub is_longest : longest_of loads set ≡ longest
-  pub long : LONGEST_SEGMENT < longest
+  pub long : UNIT_ROOM < longest
 
 -- the sets before are on time, and this one fits the coded data buffer, has no segment that is too long, and is done too late
 pub record IsFirstLate (loads : List WriteLoad) (pace : Pace) (set done shown : ℕ) : Type 0 where
@@ -34,7 +34,7 @@ pub record IsFirstLate (loads : List WriteLoad) (pace : Pace) (set done shown : 
   pub schedule : IsSchedule loads (set + 1) pace table
   pub before : IsOnTime loads set pace table
   pub fits : size_of loads set ≤ pace.coded
-  pub short : longest_of loads set ≤ LONGEST_SEGMENT
+  pub short : longest_of loads set ≤ UNIT_ROOM
   pub is_done : slice_index table.dones set ≡ done
   pub is_shown : (load_of loads set).pts ≡ shown
   pub late : shown < done

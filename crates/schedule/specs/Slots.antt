@@ -3,7 +3,8 @@ use Rattle.std.specs.Prelude.{◌≡◌, ℕ, zero, suc, ◌+◌, ◌-◌, ◌^�
 use Rattle.sub_base.specs.declared.load.WriteLoad.{WriteLoad}
 use Rattle.sub_base.specs.declared.pace.Pace.{Pace}
 use Rattle.sub_base.specs.Pace.{tick_of, done_tick, left_by}
-use Rattle.schedule.specs.declared.limits.TheConstants.{SEND_WINDOW, LONGEST_SEGMENT}
+use Rattle.sub_base.specs.declared.load.TheConstants.{UNIT_ROOM}
+use Rattle.schedule.specs.declared.limits.TheConstants.{SEND_WINDOW}
 use Rattle.schedule.specs.Packets.{sum_below, load_of, longest_of, size_of, packets_of, first_packet, bytes_with}
 
 -- the bytes of a set that have left the buffer by a tick: all where the set is done by then, and else none
@@ -52,7 +53,7 @@ pub record IsSchedule (loads : List WriteLoad) (n : ℕ) (pace : Pace) (table : 
 -- presentation time
 pub record IsOnTime (loads : List WriteLoad) (n : ℕ) (pace : Pace) (table : Timetable) : Type 0 where
   pub fits : (i : ℕ) → i < n → size_of loads i ≤ pace.coded
-  pub short : (i : ℕ) → i < n → longest_of loads i ≤ LONGEST_SEGMENT
+  pub short : (i : ℕ) → i < n → longest_of loads i ≤ UNIT_ROOM
   pub ready : (i : ℕ) → i < n → slice_index table.dones i ≤ (load_of loads i).pts
 
 -- the slots of one set, from where those of the set before end to where its own do

@@ -9,7 +9,7 @@ mod schedule;
 mod send;
 
 pub use fault::ScheduleFault;
-pub use limits::{LONGEST_SEGMENT, PAYLOAD, SEND_WINDOW};
+pub use limits::{PAYLOAD, SEND_WINDOW};
 pub use schedule::Schedule;
 
 #[cfg(test)]

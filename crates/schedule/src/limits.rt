@@ -3,6 +3,3 @@ pub const PAYLOAD: u64 = 184;
 
 /// How long before its set is shown a packet is sent at the earliest, in ticks of 90 kHz.
 pub const SEND_WINDOW: u64 = 450_000;
-
-/// The most bytes that a segment of a set that is sent has: as many as a PES packet has room for.
-pub const LONGEST_SEGMENT: u64 = 65_524;

@@ -6,12 +6,11 @@ ghost use Rattle.schedule.specs.Arrivals.{IsArrival, IsEarliest, IsHopeless};
 ghost use Rattle.schedule.specs.Refusals.{IsCause};
 
 use crate::fault::ScheduleFault;
-use crate::limits::LONGEST_SEGMENT;
 use crate::place::Search;
 use crate::send::send_set;
 use std::alloc::Global;
 use std::marker::Model;
-use sub_base::{Pace, Profile, WriteLoad};
+use sub_base::{Pace, Profile, UNIT_ROOM, WriteLoad};
 
 /// The slots of the packets of display sets, and the ticks at which the sets are done.
 #[derive(Drop)]
@@ -77,7 +76,7 @@ impl Schedule {
                     size: load.size,
                 });
             }
-            if write.longest > LONGEST_SEGMENT {
+            if write.longest > UNIT_ROOM {
                 return Err(ScheduleFault::SegmentFull {
                     set: set as u64,
                     longest: write.longest,

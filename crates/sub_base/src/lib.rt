@@ -25,7 +25,7 @@ pub use file::{FileSink, FileSource};
 pub use gate::{BandGate, NoGate};
 pub use in_memory::{MemSink, MemSource};
 pub use items::Items;
-pub use load::{SetLoad, WriteLoad};
+pub use load::{SetLoad, UNIT_ROOM, WriteLoad};
 pub use number::{decimal_number, number_in};
 pub use pace::Pace;
 pub use profile::{Profile, ProfileName};

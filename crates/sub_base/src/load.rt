@@ -3,6 +3,9 @@ ghost use Rattle.sub_base.specs.Pace.{done_tick};
 
 use crate::items::Items;
 
+/// The most bytes of segments that one PES packet has room for.
+pub const UNIT_ROOM: u64 = 65_524;
+
 /// What a display set asks of a receiver: when it is shown, how many bytes it has, and how long it is painted.
 #[derive(Clone, Copy, Debug, PartialEq, Eq)]
 pub struct SetLoad {
