@@ -1,5 +1,8 @@
 mod UsualEncoder
 pub mod Searches
+pub mod TakenLaws
+pub mod TakenSets
+pub mod IdleSegments
 pub mod DrawnLines
 pub mod DrawnPictures
 pub mod Depths
