@@ -1,0 +1,4 @@
+pub mod ReadSets
+pub mod Painted
+pub mod Keeps
+pub mod ObjectsPaint
