@@ -33,7 +33,7 @@ no_fault_by test older set passes = none_found test older (in_order set) passes
 -- ---- sums
 
 -- where an item stands in a list: what is before it and behind it
-stands_in : {X : Type 0} (x : X) (xs : List X) → Contains xs x → (front : List X) × (back : List X) × (xs ≡ front ++ x ∷ back)
+pub stands_in : {X : Type 0} (x : X) (xs : List X) → Contains xs x → (front : List X) × (back : List X) × (xs ≡ front ++ x ∷ back)
 stands_in x [] there = absurd (omega (arith, there.1))
 stands_in {X} x (y ∷ ys) (zero, within, is) = ([], ys, ap (λ z. z ∷ ys) is)
 stands_in {X} x (y ∷ ys) (suc k, within, is) =
