@@ -6,3 +6,5 @@ pub mod Ordered
 pub mod Parts
 pub mod OwnIds
 pub mod SetView
+pub mod RegionViews
+pub mod RegionSteps

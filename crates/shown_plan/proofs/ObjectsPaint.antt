@@ -42,7 +42,7 @@ named_none epoch (first ∷ places) place others =
     ∙ named_none epoch places place (All-tail (λ other. other ≢ place) first places others)
 
 -- the first of a rising list is below the others
-rise_head : (first : ℕ) (places : List ℕ) → AreRising (first ∷ places) → All (λ other. first < other) places
+pub rise_head : (first : ℕ) (places : List ℕ) → AreRising (first ∷ places) → All (λ other. first < other) places
 rise_head first places rise = λ k d within. rise 0 (suc k) d (omega arith) (omega arith)
 
 rise_tail : (first : ℕ) (places : List ℕ) → AreRising (first ∷ places) → AreRising places
@@ -73,7 +73,7 @@ are_listed epoch id places listings are rise own =
 -- ---- one object
 
 -- an object is found by its own number
-object_itself : (content : Content) (object : Object) → content.value ≡ of_object object → object_named object.object content ≡ Some object
+pub object_itself : (content : Content) (object : Object) → content.value ≡ of_object object → object_named object.object content ≡ Some object
 object_itself content object is = rw is (ap (λ b. cond b (Some object) None) (let same : eqb object.object object.object ≡ true = grind (arith, nat_tests) in same))
 
 object_other : (content : Content) (object : Object) (number : ℕ) → content.value ≡ of_object object → object.object ≢ number → object_named number content ≡ None
@@ -102,7 +102,7 @@ AreOnce epoch id [] = Unit {0}
 AreOnce epoch id (place ∷ places) = (is_own epoch id place ≡ true → All (λ other. is_own epoch id other ≡ true → place ≢ other) places) × AreOnce epoch id places
 
 -- the object of a cue that comes, behind others of the set
-abbrev IsFresh : Epoch → ℕ → List Content → ℕ → Type 0
+abbrev pub IsFresh : Epoch → ℕ → List Content → ℕ → Type 0
 IsFresh epoch id taken place = is_own epoch id place ≡ true → first_given (object_named place) (since_region id (record { segments = taken })) ≡ None
 
 pub objects_paint : (pictures : List Picture) (epoch : Epoch) (id x y : ℕ) (places cues : List ℕ) (objects taken : List Content) (last : Region)

@@ -85,7 +85,7 @@ anonymous_pairs [] ys none pairs = pairs
 anonymous_pairs (x ∷ xs) ys none pairs =
     AllPairs-cons IsOther x (xs ++ ys) (λ k d within. anonymous_first x (get_or (xs ++ ys) k d) (All-head IsAnonymous x xs none)) (anonymous_pairs xs ys (All-tail IsAnonymous x xs none) pairs)
 
-reversed_all : {X : Type 0} (P : X → Type 0) (xs : List X) → All P xs → All P (reverse xs)
+pub reversed_all : {X : Type 0} (P : X → Type 0) (xs : List X) → All P xs → All P (reverse xs)
 reversed_all P [] all = All-none P
 reversed_all {X} P (x ∷ xs) all =
     subst (All P) (sym (reverse-append (x ∷ []) xs)) (All-append P (reverse xs) (x ∷ []) (reversed_all P xs (All-tail P x xs all)) (All-cons P x [] (All-head P x xs all) (All-none P)))
