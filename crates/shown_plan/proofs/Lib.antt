@@ -8,3 +8,5 @@ pub mod OwnIds
 pub mod SetView
 pub mod RegionViews
 pub mod RegionSteps
+pub mod RegionOn
+pub mod RegionNext

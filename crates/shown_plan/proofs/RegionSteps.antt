@@ -92,11 +92,11 @@ filter_inside {X} p xs ys kept k d within = subst (λ (all : List X). (k : ℕ) 
     by xs = All-filter p (Contains xs) xs (All-contains_itself xs)
 
 -- an object of each cue of the set is there
-some_or_first : {X : Type 0} (a b : Option X) → IsSome a → IsSome (option_or a b)
+pub some_or_first : {X : Type 0} (a b : Option X) → IsSome a → IsSome (option_or a b)
 some_or_first (Some x) b some = refl
 some_or_first None b some = absurd (let no : false ≡ true = some in cc)
 
-some_or_second : {X : Type 0} (a b : Option X) → IsSome b → IsSome (option_or a b)
+pub some_or_second : {X : Type 0} (a b : Option X) → IsSome b → IsSome (option_or a b)
 some_or_second (Some x) b some = refl
 some_or_second None b some = some
 
@@ -154,13 +154,13 @@ segment_named epoch sent = ap (λ b. cond b (Some (sent_value epoch sent)) None)
 no_regions : (id : ℕ) (xs : List Content) → All (IsAside id) xs → All (λ c. region_named id c ≡ None) xs
 no_regions id xs aside = λ k d within. (aside k d within).0
 
-all_idle : (id : ℕ) (taken xs : List Content) → All (IsAside id) xs → All (IsIdle id taken) xs
+pub all_idle : (id : ℕ) (taken xs : List Content) → All (IsAside id) xs → All (IsIdle id taken) xs
 all_idle id taken xs aside = λ k d within. aside_is_idle id taken (get_or xs k d) (aside k d within).0 (aside k d within).1
 
 no_objects : (id object : ℕ) (xs : List Content) → All (IsAside id) xs → first_given (object_named object) xs ≡ None
 no_objects id object xs aside = first_given-all_none (object_named object) xs (λ k d within. ap (where_passes (λ (o : Object). o.object == object)) (aside k d within).1)
 
-objects_no_regions : (pictures : List Picture) (epoch : Epoch) (id : ℕ) (cues : List ℕ) (objects : List Content) → AllZip (IsDrawnObject pictures epoch) cues objects → All (λ c. region_named id c ≡ None) objects
+pub objects_no_regions : (pictures : List Picture) (epoch : Epoch) (id : ℕ) (cues : List ℕ) (objects : List Content) → AllZip (IsDrawnObject pictures epoch) cues objects → All (λ c. region_named id c ≡ None) objects
 objects_no_regions pictures epoch id [] [] drawn = All-none _
 objects_no_regions pictures epoch id [] (o ∷ objects) drawn = absurd drawn
 objects_no_regions pictures epoch id (place ∷ cues) [] drawn = absurd drawn
@@ -168,7 +168,7 @@ objects_no_regions pictures epoch id (place ∷ cues) (o ∷ objects) drawn =
     All-cons (λ c. region_named id c ≡ None) o objects (rw drawn.0.value_is refl) (objects_no_regions pictures epoch id cues objects drawn.1)
 
 -- the segments with a region's own one taken
-abbrev with_own : Epoch → SentRegion → List Content → List Content → List Content → List Content → List Content
+abbrev pub with_own : Epoch → SentRegion → List Content → List Content → List Content → List Content → List Content
 with_own epoch sent objects above below taken = reverse objects ++ (above ++ (region_content epoch sent ∷ (below ++ taken)))
 
 -- a region whose segment is taken: it is the last one, its listings have had their objects, and its codes are those of the cues
