@@ -10,3 +10,4 @@ pub mod RegionViews
 pub mod RegionSteps
 pub mod RegionOn
 pub mod RegionNext
+pub mod ColourRows
