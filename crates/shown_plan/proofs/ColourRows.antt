@@ -96,7 +96,7 @@ authored_by_place colours clut tick depth number =
 -- ---- what rows give an entry
 
 -- what the row at a place gives an entry of a depth, where it passes a test
-abbrev given_by : List ColourRow → (ℕ → Bool) → Entry → ℕ → Option Colour
+abbrev pub given_by : List ColourRow → (ℕ → Bool) → Entry → ℕ → Option Colour
 given_by colours test entry place = cond (test place && is_of_entry entry (row_at colours place)) (Some (colour_at colours place)) None
 
 -- what the latest row gives
@@ -105,7 +105,7 @@ given_latest colours test None = None
 given_latest colours test (Some place) = cond (test place) (Some (colour_at colours place)) None
 
 -- two entries are one
-abbrev is_entry : Entry → Entry → Bool
+abbrev pub is_entry : Entry → Entry → Bool
 is_entry entry other = (bits_of other.depth == bits_of entry.depth) && (other.number == entry.number)
 
 latest_kept : (colours : List ColourRow) (P : ℕ → Type 0) (places : List ℕ) (place : ℕ) → All P places → latest_place colours places ≡ Some place → P place
@@ -175,7 +175,7 @@ given_entry colours clut tick test entry other = by (is_entry entry other) refl
         ∙ one (latest_of colours clut entry tick) (λ place is. latest_is_own colours clut tick entry place is)
     by false e = none (latest_of colours clut other tick) (λ place is. unlike e (row_at colours place) (latest_is_own colours clut tick other place is))
 
-given_all_entries : (colours : List ColourRow) (clut tick : ℕ) (test : ℕ → Bool) (entry : Entry) (entries : List Entry)
+pub given_all_entries : (colours : List ColourRow) (clut tick : ℕ) (test : ℕ → Bool) (entry : Entry) (entries : List Entry)
     → last_given (given_by colours test entry) (flat_map (λ other. row_by colours tick (rows_of_entry colours clut other)) entries)
     ≡ cond (list_any (is_entry entry) entries) (given_latest colours test (latest_of colours clut entry tick)) None
 given_all_entries colours clut tick test entry [] = refl

@@ -11,3 +11,4 @@ pub mod RegionSteps
 pub mod RegionOn
 pub mod RegionNext
 pub mod ColourRows
+pub mod SentColours
