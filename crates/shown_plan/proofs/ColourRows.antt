@@ -108,7 +108,7 @@ given_latest colours test (Some place) = cond (test place) (Some (colour_at colo
 abbrev pub is_entry : Entry → Entry → Bool
 is_entry entry other = (bits_of other.depth == bits_of entry.depth) && (other.number == entry.number)
 
-latest_kept : (colours : List ColourRow) (P : ℕ → Type 0) (places : List ℕ) (place : ℕ) → All P places → latest_place colours places ≡ Some place → P place
+pub latest_kept : (colours : List ColourRow) (P : ℕ → Type 0) (places : List ℕ) (place : ℕ) → All P places → latest_place colours places ≡ Some place → P place
 unfolding latest_place
 latest_kept colours P [] place all is = absurd (cc)
 latest_kept colours P (first ∷ places) place all is = by (latest_place colours places) refl is (λ other there. latest_kept colours P places other (All-tail P first places all) there)

@@ -12,3 +12,5 @@ pub mod RegionOn
 pub mod RegionNext
 pub mod ColourRows
 pub mod SentColours
+pub mod Lists
+pub mod ClutRows

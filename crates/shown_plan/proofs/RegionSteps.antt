@@ -29,6 +29,7 @@ use Rattle.decoder_model.proofs.Searches.{first_given-append, first_given-all_no
 use Rattle.decoder_model.proofs.TakenSets.{since_behind, last_behind}
 use Rattle.shown_plan.proofs.Keeps.{AreRising, HasObject, KeepsRegion, last_code_or_zero}
 use Rattle.shown_plan.proofs.ObjectsPaint.{is_own, AreOnce, IsFresh, are_listed, objects_paint, object_itself, rise_head}
+use Rattle.shown_plan.proofs.Lists.{kept_contains, kept_pass, of_all, filter_inside}
 use Rattle.shown_plan.proofs.Ordered.{region_content}
 use Rattle.shown_plan.proofs.Painted.{code_by_cue, authored_last}
 use Rattle.shown_plan.proofs.ReadSets.{IsDrawnObject}
@@ -44,34 +45,6 @@ pub record DrawsListed (pictures : List Picture) (epoch : Epoch) (id : ℕ) (cue
   pub own : filter (is_own epoch id) cues ≡ places
   pub rise : AreRising places
 
-kept_contains : {X : Type 0} (p : X → Bool) (xs : List X) → All (λ x. p x ≡ true → Contains (filter p xs) x) xs
-kept_contains p [] = All-none _
-kept_contains {X} p (x ∷ xs) = All-cons (λ y. p y ≡ true → Contains (filter p (x ∷ xs)) y) x xs (first (p x) refl) (λ k d within is. behind (p x) (get_or xs k d) refl (kept_contains p xs k d within is))
-  where
-    first : (b : Bool) → p x ≡ b → p x ≡ true → Contains (filter p (x ∷ xs)) x
-    first true e is = subst (λ (all : List X). Contains all x) (sym (ap (λ b. cond b (x ∷ filter p xs) (filter p xs)) e)) (0, omega arith, refl)
-    first false e is = absurd (let no : false ≡ true = sym e ∙ is in cc)
-
-    behind : (b : Bool) (y : X) → p x ≡ b → Contains (filter p xs) y → Contains (filter p (x ∷ xs)) y
-    behind true y e there = subst (λ (all : List X). Contains all y) (sym (ap (λ b. cond b (x ∷ filter p xs) (filter p xs)) e)) (suc there.0, omega (arith, there.1), there.2)
-    behind false y e there = subst (λ (all : List X). Contains all y) (sym (ap (λ b. cond b (x ∷ filter p xs) (filter p xs)) e)) there
-
-kept_pass : {X : Type 0} (p : X → Bool) (xs : List X) → All (λ x. p x ≡ true) (filter p xs)
-kept_pass p [] = All-none _
-kept_pass {X} p (x ∷ xs) = by (p x) refl (kept_pass p xs)
-  where
-    by : (b : Bool) → p x ≡ b → All (λ x. p x ≡ true) (filter p xs) → All (λ x. p x ≡ true) (cond b (x ∷ filter p xs) (filter p xs))
-    by true e again = All-cons (λ x. p x ≡ true) x (filter p xs) e again
-    by false e again = again
-
-of_all : {X : Type 0} (P : X → Type 0) (p : X → Bool) (xs : List X) → All P (filter p xs) → All (λ x. p x ≡ true → P x) xs
-of_all P p [] all = All-none _
-of_all {X} P p (x ∷ xs) all = by (p x) refl all (of_all P p xs)
-  where
-    by : (b : Bool) → p x ≡ b → All P (cond b (x ∷ filter p xs) (filter p xs)) → (All P (filter p xs) → All (λ x. p x ≡ true → P x) xs) → All (λ x. p x ≡ true → P x) (x ∷ xs)
-    by true e all again = All-cons (λ x. p x ≡ true → P x) x xs (λ is. All-head P x (filter p xs) all) (again (All-tail P x (filter p xs) all))
-    by false e all again = All-cons (λ x. p x ≡ true → P x) x xs (λ is. absurd (let no : false ≡ true = sym e ∙ is in cc)) (again all)
-
 once_from : (epoch : Epoch) (id : ℕ) (cues : List ℕ) → AreRising (filter (is_own epoch id) cues) → AreOnce epoch id cues
 once_from epoch id [] rise = tt
 once_from epoch id (place ∷ cues) rise = by (is_own epoch id place) refl rise (once_from epoch id cues)
@@ -83,13 +56,6 @@ once_from epoch id (place ∷ cues) rise = by (is_own epoch id place) refl rise 
       again (λ i j d before within. rise (suc i) (suc j) d (omega arith) (omega arith)),
     )
     by false e rise again = (λ mine. absurd (let no : false ≡ true = sym e ∙ mine in cc), again rise)
-
--- what a filter keeps stands in the list
-filter_inside : {X : Type 0} (p : X → Bool) (xs ys : List X) → filter p xs ≡ ys → (k : ℕ) (d : X) → k < length ys → Contains xs (get_or ys k d)
-filter_inside {X} p xs ys kept k d within = subst (λ (all : List X). (k : ℕ) (d : X) → k < length all → Contains xs (get_or all k d)) kept (λ k d within. by xs k d within) k d within
-  where
-    by : (xs : List X) → All (Contains xs) (filter p xs)
-    by xs = All-filter p (Contains xs) xs (All-contains_itself xs)
 
 -- an object of each cue of the set is there
 pub some_or_first : {X : Type 0} (a b : Option X) → IsSome a → IsSome (option_or a b)
