@@ -23,7 +23,7 @@ use Rattle.shown_plan.proofs.SentColours.{is_an_entry, is_sent_row}
 
 -- ---- the latest row
 
-latest_none : (colours : List ColourRow) (places : List ℕ) → latest_place colours places ≡ None → places ≡ []
+pub latest_none : (colours : List ColourRow) (places : List ℕ) → latest_place colours places ≡ None → places ≡ []
 unfolding latest_place
 latest_none colours [] none = refl
 latest_none colours (place ∷ places) none = absurd (cc)
@@ -33,7 +33,7 @@ unfolding latest_place
 latest_some colours place places = (later_place colours place (latest_place colours places), refl)
 
 -- no row has a later tick than the latest
-latest_greatest : (colours : List ColourRow) (places : List ℕ) (found : ℕ) → latest_place colours places ≡ Some found → All (λ place. (row_at colours place).tick ≤ (row_at colours found).tick) places
+pub latest_greatest : (colours : List ColourRow) (places : List ℕ) (found : ℕ) → latest_place colours places ≡ Some found → All (λ place. (row_at colours place).tick ≤ (row_at colours found).tick) places
 unfolding latest_place
 latest_greatest colours [] found is = All-none _
 latest_greatest colours (place ∷ places) found is = by (latest_place colours places) refl is (λ other e. latest_greatest colours places other e)
@@ -64,7 +64,7 @@ pub record AreSeenRows (colours : List ColourRow) (clut tick : ℕ) (earlier : L
 -- ---- changes
 
 -- a row of a CLUT at a tick changes it there
-row_changes : (colours : List ColourRow) (clut tick place : ℕ) → Contains (rows_of_clut colours clut) place → (row_at colours place).tick ≡ tick → is_changed colours clut tick ≡ true
+pub row_changes : (colours : List ColourRow) (clut tick place : ℕ) → Contains (rows_of_clut colours clut) place → (row_at colours place).tick ≡ tick → is_changed colours clut tick ≡ true
 row_changes colours clut tick place there at =
     let own : ((row_at colours place).clut == clut) ≡ true = all_at (λ place. ((row_at colours place).clut == clut) ≡ true) (rows_of_clut colours clut) place (kept_pass (λ place. (row_at colours place).clut == clut) (places_below (length colours))) there in
     let within : place < length colours = all_at (λ place. place < length colours) (rows_of_clut colours clut) place (own_within colours clut) there in
@@ -72,7 +72,7 @@ row_changes colours clut tick place there at =
     (let now : ((row_at colours place).tick == tick) ≡ true = grind (arith, nat_tests) in rw (own, now) refl)
 
 -- and a CLUT that changes at a tick has a row there
-changed_row : (colours : List ColourRow) (clut tick : ℕ) → is_changed colours clut tick ≡ true → (place : ℕ) × Contains (rows_of_clut colours clut) place × ((row_at colours place).tick ≡ tick)
+pub changed_row : (colours : List ColourRow) (clut tick : ℕ) → is_changed colours clut tick ≡ true → (place : ℕ) × Contains (rows_of_clut colours clut) place × ((row_at colours place).tick ≡ tick)
 changed_row colours clut tick changed =
     let at = any_place (λ (row : ColourRow). (row.clut == clut) && (row.tick == tick)) colours no_row changed in
     (at.0,
@@ -104,7 +104,7 @@ defined_own colours clut tick =
         ))
 
 -- a row of the CLUT by a tick is followed by a latest row of its entry
-row_defined : (colours : List ColourRow) (clut tick : ℕ) (earlier : List ℕ) (place : ℕ) → AreSeenRows colours clut tick earlier → Contains (rows_of_clut colours clut) place → (row_at colours place).tick ≤ tick
+pub row_defined : (colours : List ColourRow) (clut tick : ℕ) (earlier : List ℕ) (place : ℕ) → AreSeenRows colours clut tick earlier → Contains (rows_of_clut colours clut) place → (row_at colours place).tick ≤ tick
     → (found : ℕ) × Contains (defined_rows colours clut tick) found × ((row_at colours place).tick ≤ (row_at colours found).tick)
 row_defined colours clut tick earlier place rows there by_then =
     let row = row_at colours place in

@@ -14,3 +14,5 @@ pub mod ColourRows
 pub mod SentColours
 pub mod Lists
 pub mod ClutRows
+pub mod ClutChanges
+pub mod ClutNext
