@@ -148,7 +148,7 @@ colours_aside : (id : ℕ) (depth : Depth) (number : ℕ) (xs : List Content) �
 colours_aside id depth number xs aside = first_given-all_none (colour_by_segment id depth number) xs (λ k d within. ap (option_and_then (colour_by_clut depth number)) (aside k d within))
 
 -- where no segment of the CLUT is taken, all stays
-untaken : (epoch : Epoch) (id : ℕ) (own : List SentClut) (taken now : List Content) (view : IsClutView epoch id own taken now) → filter (keeps taken) (map (clut_content epoch) (reverse own)) ≡ []
+pub untaken : (epoch : Epoch) (id : ℕ) (own : List SentClut) (taken now : List Content) (view : IsClutView epoch id own taken now) → filter (keeps taken) (map (clut_content epoch) (reverse own)) ≡ []
     → (last_clut id now ≡ last_clut id taken) × ((depth : Depth) (number : ℕ) → first_given (colour_by_segment id depth number) now ≡ first_given (colour_by_segment id depth number) taken)
 untaken epoch id own taken now view none = (found (clut_named id) view.aside_above view.aside_below, λ depth number. found (colour_by_segment id depth number) (each depth number view.above view.aside_above) (each depth number view.below view.aside_below))
   where
@@ -164,7 +164,7 @@ untaken epoch id own taken now view none = (found (clut_named id) view.aside_abo
         ∙ first_given-append f view.below taken ∙ ap (λ found. option_or found (first_given f taken)) (first_given-all_none f view.below below)
 
 -- where its segment is taken, it is the last one, and its entries come first
-taken_clut : (epoch : Epoch) (sent : SentClut) (own : List SentClut) (taken now : List Content) (view : IsClutView epoch sent.clut own taken now) → filter (keeps taken) (map (clut_content epoch) (reverse own)) ≡ clut_content epoch sent ∷ []
+pub taken_clut : (epoch : Epoch) (sent : SentClut) (own : List SentClut) (taken now : List Content) (view : IsClutView epoch sent.clut own taken now) → filter (keeps taken) (map (clut_content epoch) (reverse own)) ≡ clut_content epoch sent ∷ []
     → (last_clut sent.clut now ≡ Some (sent_clut_value epoch sent))
     × ((depth : Depth) (number : ℕ) → first_given (colour_by_segment sent.clut depth number) now
     ≡ option_or (last_given (colour_by_entry depth number) (map (clut_entry_of epoch) sent.rows)) (first_given (colour_by_segment sent.clut depth number) taken))
@@ -191,6 +191,6 @@ taken_clut epoch sent own taken now view one = (
         ∙ ap (λ found. option_or found (first_given f (clut_content epoch sent ∷ (view.below ++ taken)))) (first_given-all_none f view.above above)
 
 -- a segment that a set sends is taken or held by its version
-own_kept : (epoch : Epoch) (taken : List Content) (sent : SentClut) (b : Bool) → has_new_version sent.version (clut_version (last_clut sent.clut taken)) ≡ b
+pub own_kept : (epoch : Epoch) (taken : List Content) (sent : SentClut) (b : Bool) → has_new_version sent.version (clut_version (last_clut sent.clut taken)) ≡ b
     → filter (keeps taken) (map (clut_content epoch) (reverse (sent ∷ []))) ≡ cond b (clut_content epoch sent ∷ []) []
 own_kept epoch taken sent b new = ap (λ b. cond b (clut_content epoch sent ∷ []) []) new

@@ -16,3 +16,4 @@ pub mod Lists
 pub mod ClutRows
 pub mod ClutChanges
 pub mod ClutNext
+pub mod ClutSteps
