@@ -17,3 +17,4 @@ pub mod ClutRows
 pub mod ClutChanges
 pub mod ClutNext
 pub mod ClutSteps
+pub mod CarriedSets

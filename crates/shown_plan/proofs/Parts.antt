@@ -93,7 +93,7 @@ pub sent_own : (cues : List Cue) (whole : Bool) (seen : List ℕ) (id : ℕ) →
 sent_own cues whole [] id = All-none _
 sent_own cues whole (tick ∷ earlier) id = from_own id (region_version cues id (tick ∷ earlier)) whole (live_before cues id earlier) (live_places cues id tick)
 
-others_sent : {X Y : Type 0} (number : Y → ℕ) (key : X → ℕ) (send : X → List Y) (id : ℕ) (xs : List X) → ((x : X) → All (λ y. number y ≡ key x) (send x)) → All (λ x. (key x == id) ≡ false) xs
+pub others_sent : {X Y : Type 0} (number : Y → ℕ) (key : X → ℕ) (send : X → List Y) (id : ℕ) (xs : List X) → ((x : X) → All (λ y. number y ≡ key x) (send x)) → All (λ x. (key x == id) ≡ false) xs
     → All (λ y. number y ≢ id) (flat_map send xs)
 others_sent number key send id [] own other = All-none _
 others_sent {X} {Y} number key send id (x ∷ xs) own other =

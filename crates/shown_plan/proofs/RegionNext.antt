@@ -37,10 +37,10 @@ pub record IsDrawnFor (pictures : List Picture) (epoch : Epoch) (id : ℕ) (own 
   pub are : All (λ place. IsPicture (picture_of_cue pictures epoch place)) cues
   pub listed : (sent : SentRegion) → own ≡ sent ∷ [] → filter (is_own epoch id) cues ≡ sent.cues
 
-live_rising : (epoch : Epoch) (id tick : ℕ) → AreRising (live_places epoch.cues id tick)
+pub live_rising : (epoch : Epoch) (id tick : ℕ) → AreRising (live_places epoch.cues id tick)
 live_rising epoch id tick = AllPairs-from_increasing (live_places epoch.cues id tick) (live_rise epoch.cues id tick)
 
-rising_drop : (n : ℕ) (places : List ℕ) → AreRising places → AreRising (drop n places)
+pub rising_drop : (n : ℕ) (places : List ℕ) → AreRising places → AreRising (drop n places)
 rising_drop n [] rise = by n
   where
     by : (n : ℕ) → AreRising (drop n [])
