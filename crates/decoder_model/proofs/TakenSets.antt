@@ -4,7 +4,7 @@ use Rattle.std.specs.Prelude.{All, take_while}
 use Rattle.std.specs.List.{AllPairs, list_any}
 use Rattle.std.specs.Option.{option_or, is_none}
 use Rattle.std.proofs.lemmas.Bool.Decides.{nat_tests}
-use Rattle.std.proofs.lemmas.List.Elements.{All-head, All-tail}
+use Rattle.std.proofs.lemmas.List.Elements.{All-head, All-tail, All-cons}
 use Rattle.std.proofs.lemmas.List.Sums.{take_while-cons}
 use Rattle.stream_syntax.specs.Segments.{SegmentValue, of_page, of_region, of_clut, of_object, of_display, end_of_set, passed_over, Region, Object}
 use Rattle.stream_syntax.specs.declared.region.Listing.{Listing}
@@ -97,6 +97,15 @@ taken_display (segment ∷ earlier) = by (is_taken earlier segment.value) refl (
     by : (b : Bool) → is_taken earlier segment.value ≡ b → last_display (taken_among earlier) ≡ last_display earlier → last_display (taken_among (segment ∷ earlier)) ≡ last_display (segment ∷ earlier)
     by true e again = ap last_display (taken_first earlier segment e) ∙ ap (λ found. option_or (display_of segment) found) again
     by false e again = ap last_display (held_first earlier segment e) ∙ again ∙ ap (λ found. option_or found (last_display earlier)) (sym (no_display segment.value refl e))
+
+-- what holds of all segments holds of those that are taken
+pub taken_all : (P : Content → Type 0) (segments : List Content) → All P segments → All P (taken_among segments)
+taken_all P [] all = subst (All P) (sym none_taken) all
+taken_all P (segment ∷ earlier) all = by (is_taken earlier segment.value) refl (taken_all P earlier (All-tail P segment earlier all))
+  where
+    by : (b : Bool) → is_taken earlier segment.value ≡ b → All P (taken_among earlier) → All P (taken_among (segment ∷ earlier))
+    by true e again = subst (All P) (sym (taken_first earlier segment e)) (All-cons P segment (taken_among earlier) (All-head P segment earlier all) again)
+    by false e again = subst (All P) (sym (held_first earlier segment e)) again
 
 -- ---- segments that leave a region as it is
 

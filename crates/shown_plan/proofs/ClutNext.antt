@@ -129,13 +129,7 @@ clut_view script epoch set contents sets is regions cluts id own part =
     kept_front : List Content
     kept_front = filter (keeps taken) (map (clut_content epoch) (reverse part.front))
 
--- ---- what is kept of a CLUT
-
--- its version is the plan's, and each entry has the colour of its latest row
-pub record KeepsClut (colours : List ColourRow) (tick : ℕ) (earlier : List ℕ) (taken : List Content) (clut : ℕ) : Type 0 where
-  pub version : clut_version (last_clut clut taken) ≡ clut_course colours (tick ∷ earlier) clut
-  pub inks : (depth : Depth) (number : ℕ) → number < code_count depth
-      → first_given (colour_by_segment clut depth number) taken ≡ option_map (colour_at colours) (latest_of colours clut (entry_of depth number) tick)
+-- ---- a CLUT whose segment is taken or not
 
 -- what the segment of a CLUT that is sent stands for
 abbrev pub sent_clut_value : Epoch → SentClut → Clut

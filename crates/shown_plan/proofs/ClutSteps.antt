@@ -20,9 +20,10 @@ use Rattle.decoder_model.specs.Readings.{Content}
 use Rattle.decoder_model.specs.Taken.{has_new_version, clut_version, last_clut}
 use Rattle.decoder_model.proofs.Searches.{option_or-none}
 use Rattle.shown_plan.proofs.ClutChanges.{changes_send, still_not_sent, version_known, defined_known, undefined_unknown, AreBetween, latest_unchanged, given_upon}
-use Rattle.shown_plan.proofs.ClutNext.{IsClutView, KeepsClut, sent_clut_value, untaken, taken_clut, own_kept}
+use Rattle.shown_plan.proofs.ClutNext.{IsClutView, sent_clut_value, untaken, taken_clut, own_kept}
 use Rattle.shown_plan.proofs.ClutRows.{AreSeenRows}
 use Rattle.shown_plan.proofs.ColourRows.{latest_of, colour_at, given_latest}
+use Rattle.shown_plan.proofs.Keeps.{KeepsClut}
 use Rattle.shown_plan.proofs.Ordered.{clut_content}
 use Rattle.shown_plan.proofs.SentColours.{is_sent_row, rows_give}
 use Rattle.shown_plan.proofs.SetView.{keeps}

@@ -2,13 +2,15 @@
 use Rattle.std.proofs.Common.{◌≡◌, ℕ, ◌<◌, ◌≤◌, true, List, [], ◌∷◌, length, map, Some, None, unwrap_or}
 use Rattle.std.specs.Prelude.{All, IsSome}
 use Rattle.std.specs.List.{AllPairs}
+use Rattle.std.specs.Option.{option_map}
 use Rattle.sub_base.specs.Depth.{code_count}
 use Rattle.sub_base.specs.Lists.{first_given}
 use Rattle.sub_base.specs.Picture.{Picture}
 use Rattle.sub_base.specs.declared.depth.Depth.{Depth}
 use Rattle.stream_syntax.specs.Segments.{SegmentValue, of_page, of_region, of_clut, of_object, of_display, end_of_set, passed_over, Region, Object}
 use Rattle.stream_syntax.specs.declared.clut.ClutEntry.{ClutEntry}
-use Rattle.cue_list.specs.Authored.{authored_code, authored_colour, live_cues}
+use Rattle.cue_list.specs.Authored.{authored_code, live_cues}
+use Rattle.cue_list.specs.declared.epoch.ColourRow.{ColourRow}
 use Rattle.cue_list.specs.declared.epoch.Epoch.{Epoch}
 use Rattle.cue_list.specs.declared.epoch.Region.{Region as AuthoredRegion}
 use Rattle.cue_list.specs.declared.script.Script.{Script}
@@ -20,10 +22,12 @@ use Rattle.page_epoch.specs.SentRegions.{region_version, held}
 use Rattle.set_coder.specs.SetSegments.{region_of, listing_of, clut_entry_of, depth_of_cue}
 use Rattle.decoder_model.specs.Contents.{object_named}
 use Rattle.decoder_model.specs.Faults.{too_deep_at}
-use Rattle.decoder_model.specs.Ink.{ink_of}
+use Rattle.decoder_model.specs.Ink.{colour_by_segment}
 use Rattle.decoder_model.specs.Pixels.{last_code, since_region}
 use Rattle.decoder_model.specs.Readings.{Content}
 use Rattle.decoder_model.specs.Taken.{segments_of, taken_among, last_region, last_clut, last_display, clut_version}
+use Rattle.page_epoch.proofs.RowLaws.{entry_of}
+use Rattle.shown_plan.proofs.ColourRows.{latest_of, colour_at}
 use Rattle.shown_plan.specs.HoldsScript.{display_of_script}
 
 -- the code in a column and a row of a region by taken segments, and 0 where nothing was written
@@ -93,14 +97,18 @@ pub record KeepsRegion (pictures : List Picture) (epoch : Epoch) (tick : ℕ) (e
   pub codes : has_some (live_places epoch.cues region.id tick) ≡ true → (x y : ℕ)
       → last_code_or_zero taken region.id x y ≡ authored_code pictures (live_cues epoch.cues region.id tick) x y
 
+-- a CLUT: its version is the plan's, and each entry has the colour of its latest row
+pub record KeepsClut (colours : List ColourRow) (tick : ℕ) (earlier : List ℕ) (taken : List Content) (clut : ℕ) : Type 0 where
+  pub version : clut_version (last_clut clut taken) ≡ clut_course colours (tick ∷ earlier) clut
+  pub inks : (depth : Depth) (number : ℕ) → number < code_count depth
+      → first_given (colour_by_segment clut depth number) taken ≡ option_map (colour_at colours) (latest_of colours clut (entry_of depth number) tick)
+
 -- an epoch behind a set at a tick, by its segments: `earlier` are its instants before, the latest first
 pub record Keeps (script : Script) (epoch : Epoch) (tick : ℕ) (earlier : List ℕ) (segments : List Content) : Type 0 where
   pub each : All (IsSent epoch tick) segments
   pub display : last_display (taken_among segments) ≡ Some (display_of_script script)
   pub regions : All (KeepsRegion script.pictures epoch tick earlier (taken_among segments)) epoch.regions
-  pub cluts : (clut : ℕ) → clut_version (last_clut clut (taken_among segments)) ≡ clut_course epoch.colours (tick ∷ earlier) clut
-  pub inks : (clut : ℕ) (depth : Depth) (entry : ℕ) → entry < code_count depth
-      → ink_of (record { segments = taken_among segments }) clut depth entry ≡ authored_colour epoch.colours clut depth entry tick
+  pub cluts : (clut : ℕ) → KeepsClut epoch.colours tick earlier (taken_among segments) clut
 
 -- what a receiver has of the epoch before a set: nothing, or that of the set before
 abbrev pub KeepsBefore : Script → Epoch → List ℕ → List (List Content) → Type 0

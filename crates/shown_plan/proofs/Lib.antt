@@ -18,3 +18,4 @@ pub mod ClutChanges
 pub mod ClutNext
 pub mod ClutSteps
 pub mod CarriedSets
+pub mod KeepsOn
