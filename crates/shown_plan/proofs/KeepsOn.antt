@@ -79,7 +79,7 @@ row_named epoch clut place there =
     (Contains-append_left (map (λ (row : ColourRow). row.tick) epoch.colours) (flat_map ticks_of_cue epoch.cues) (row_at epoch.colours place).tick
     (place, omega (arith, within, length-map epoch.colours (λ (row : ColourRow). row.tick)), get_or-map (λ (row : ColourRow). row.tick) epoch.colours place no_row (row_at epoch.colours place).tick within))
 
-rows_seen : (pictures : List Picture) (epoch : Epoch) (clut tick : ℕ) (earlier : List ℕ) → IsFairEpoch pictures epoch → AreSeen epoch tick earlier → AreSeenRows epoch.colours clut tick earlier
+pub rows_seen : (pictures : List Picture) (epoch : Epoch) (clut tick : ℕ) (earlier : List ℕ) → IsFairEpoch pictures epoch → AreSeen epoch tick earlier → AreSeenRows epoch.colours clut tick earlier
 rows_seen pictures epoch clut tick earlier fair seen =
     record {
       seen = λ k d within by_then. seen.all (row_at epoch.colours (get_or (rows_of_clut epoch.colours clut) k d)).tick (row_named epoch clut (get_or (rows_of_clut epoch.colours clut) k d) (All-contains_itself (rows_of_clut epoch.colours clut) k d within)) by_then;
@@ -87,7 +87,7 @@ rows_seen pictures epoch clut tick earlier fair seen =
       before = All-cons (λ time. time ≤ tick) tick earlier (omega arith) (λ k d within. (let less = seen.falls 0 (suc k) d (omega arith) (omega arith) in omega (arith, less)));
     }
 
-rows_between : (epoch : Epoch) (clut tick before : ℕ) (more : List ℕ) → AreSeen epoch tick (before ∷ more) → AreBetween epoch.colours clut before tick
+pub rows_between : (epoch : Epoch) (clut tick before : ℕ) (more : List ℕ) → AreSeen epoch tick (before ∷ more) → AreBetween epoch.colours clut before tick
 rows_between epoch clut tick before more seen k d within by_then =
     by (seen.all (row_at epoch.colours (get_or (rows_of_clut epoch.colours clut) k d)).tick (row_named epoch clut (get_or (rows_of_clut epoch.colours clut) k d) (All-contains_itself (rows_of_clut epoch.colours clut) k d within)) by_then)
   where
@@ -159,7 +159,7 @@ displays_sent script epoch tick Acquisition = All-cons (IsSent epoch tick) _ [] 
 displays_sent script epoch tick ModeChange = All-cons (IsSent epoch tick) _ [] tt (All-none _)
 
 -- a segment of a set up to a tick is one of a set up to a later one
-later_sent : (epoch : Epoch) (before tick : ℕ) (content : Content) → before ≤ tick → IsSent epoch before content → IsSent epoch tick content
+pub later_sent : (epoch : Epoch) (before tick : ℕ) (content : Content) → before ≤ tick → IsSent epoch before content → IsSent epoch tick content
 later_sent epoch before tick content order sent = by content.value sent
   where
     by : (value : SegmentValue) → IsSentBy epoch before content value → IsSentBy epoch tick content value
@@ -173,7 +173,7 @@ later_sent epoch before tick content order sent = by content.value sent
       | passed_over ↦ λ sent. tt
     ] sent
 
-newest_sent : (script : Script) (epoch : Epoch) (set : PlannedSet) (earlier : List ℕ) (objects : List Content) → IsPlannedIn epoch set earlier → AllZip (IsDrawnObject script.pictures epoch) set.cues objects → All (IsSent epoch set.pts) (newest script epoch set objects)
+pub newest_sent : (script : Script) (epoch : Epoch) (set : PlannedSet) (earlier : List ℕ) (objects : List Content) → IsPlannedIn epoch set earlier → AllZip (IsDrawnObject script.pictures epoch) set.cues objects → All (IsSent epoch set.pts) (newest script epoch set objects)
 newest_sent script epoch set earlier objects planned drawn =
     All-append (IsSent epoch set.pts) (reverse objects) _ (reversed_all (IsSent epoch set.pts) objects (objects_sent script.pictures epoch set.pts set.cues objects drawn))
     (All-append (IsSent epoch set.pts) (map (clut_content epoch) (reverse set.cluts)) _

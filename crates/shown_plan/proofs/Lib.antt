@@ -19,3 +19,4 @@ pub mod ClutNext
 pub mod ClutSteps
 pub mod CarriedSets
 pub mod KeepsOn
+pub mod KeepsStep
