@@ -20,3 +20,4 @@ pub mod ClutSteps
 pub mod CarriedSets
 pub mod KeepsOn
 pub mod KeepsStep
+pub mod SetFits

@@ -45,7 +45,7 @@ use Rattle.shown_plan.proofs.SetView.{keeps, reversed_all}
 abbrev pub HasVersionZero : Content → Type 0
 HasVersionZero content = (object : Object) → object_of content ≡ Some object → object.version ≡ 0
 
-given_all : {X Y : Type 0} (f : X → Option Y) (P : Y → Type 0) (xs : List X) (y : Y) → All (λ x. (y : Y) → f x ≡ Some y → P y) xs → first_given f xs ≡ Some y → P y
+pub given_all : {X Y : Type 0} (f : X → Option Y) (P : Y → Type 0) (xs : List X) (y : Y) → All (λ x. (y : Y) → f x ≡ Some y → P y) xs → first_given f xs ≡ Some y → P y
 given_all f P [] y all is = absurd (cc)
 given_all {X} {Y} f P (x ∷ xs) y all is = by (f x) refl is (given_all f P xs y (All-tail (λ x. (y : Y) → f x ≡ Some y → P y) x xs all))
   where
