@@ -18,7 +18,7 @@ use Rattle.page_epoch.specs.Courses.{version_of_count, clut_course}
 use Rattle.page_epoch.specs.SentCluts.{no_row, row_at, all_entries, rows_of_clut, is_of_entry, rows_of_entry, later_place, latest_place, by_tick, row_by, defined_rows, is_changed, clut_version, rows_from}
 use Rattle.page_epoch.specs.declared.clut_rows.Entry.{Entry}
 use Rattle.shown_plan.proofs.ColourRows.{latest_of, colour_at, given_latest, latest_kept, is_entry}
-use Rattle.shown_plan.proofs.Lists.{all_at, kept_one, kept_pass, any_place, place_there}
+use Rattle.shown_plan.proofs.Lists.{all_at, kept_one, kept_pass, any_place, place_there, piece_there}
 use Rattle.shown_plan.proofs.SentColours.{is_an_entry, is_sent_row}
 
 -- ---- the latest row
@@ -116,7 +116,7 @@ row_defined colours clut tick earlier place rows there by_then =
     let known = all_at (λ place. (row_at colours place).entry < code_count (row_at colours place).depth) (rows_of_clut colours clut) place rows.entries there in
     let at = any_place (is_entry entry) all_entries entry (is_an_entry row.depth row.entry known) in
     (latest.0,
-    piece_there (λ (other : Entry). row_by colours tick (rows_of_entry colours clut other)) all_entries at.0 entry latest.0 at.1
+    piece_there (λ (other : Entry). row_by colours tick (rows_of_entry colours clut other)) all_entries (get_or all_entries at.0 entry) latest.0 (All-contains_itself all_entries at.0 entry at.1)
     (subst (λ (places : List ℕ). Contains (row_by colours tick places) latest.0) (sym (same_rows entry (get_or all_entries at.0 entry) at.2)) (subst (λ (found : Option ℕ). Contains (option_to_list found) latest.0) (sym latest.1) (0, omega arith, refl))),
     all_at (λ place. (row_at colours place).tick ≤ (row_at colours latest.0).tick) (by_tick colours tick (rows_of_entry colours clut entry)) place (latest_greatest colours (by_tick colours tick (rows_of_entry colours clut entry)) latest.0 latest.1) listed)
   where
@@ -128,8 +128,3 @@ row_defined colours clut tick earlier place rows there by_then =
     same_rows entry other e =
         (let bits : bits_of other.depth ≡ bits_of entry.depth = grind (arith, nat_tests) in let number : other.number ≡ entry.number = grind (arith, nat_tests) in
         λ i. filter (λ place. (bits_of (row_at colours place).depth == bits i) && ((row_at colours place).entry == number i)) (rows_of_clut colours clut))
-
-    piece_there : {X Y : Type 0} (f : X → List Y) (xs : List X) (k : ℕ) (d : X) (y : Y) → k < length xs → Contains (f (get_or xs k d)) y → Contains (flat_map f xs) y
-    piece_there f [] k d y within there = absurd (omega arith)
-    piece_there f (x ∷ xs) zero d y within there = Contains-append_left (f x) (flat_map f xs) y there
-    piece_there f (x ∷ xs) (suc k) d y within there = Contains-append_right (f x) (flat_map f xs) y (piece_there f xs k d y (omega arith) there)

@@ -21,3 +21,4 @@ pub mod CarriedSets
 pub mod KeepsOn
 pub mod KeepsStep
 pub mod SetFits
+pub mod SetPixels

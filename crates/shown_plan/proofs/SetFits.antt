@@ -44,7 +44,7 @@ last_sent epoch tick id segments last sent is =
     (λ k d within region named. sent_region_value epoch tick id (get_or segments k d) region (sent k d within) named) is
 
 -- the segments before one of a set, and the older ones, are sent where all are
-before_sent : (epoch : Epoch) (tick : ℕ) (older front back : List Content) (content : Content) (set : List Content) → in_order set ≡ front ++ content ∷ back → All (IsSent epoch tick) (reverse (in_order set) ++ older)
+pub before_sent : (epoch : Epoch) (tick : ℕ) (older front back : List Content) (content : Content) (set : List Content) → in_order set ≡ front ++ content ∷ back → All (IsSent epoch tick) (reverse (in_order set) ++ older)
     → All (IsSent epoch tick) (reverse front ++ older) × IsSent epoch tick content
 before_sent epoch tick older front back content set parts sent =
     ((λ k d within. all_at (IsSent epoch tick) (reverse back ++ (content ∷ (reverse front ++ older))) (get_or (reverse front ++ older) k d) turned
