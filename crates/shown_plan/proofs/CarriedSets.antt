@@ -192,7 +192,7 @@ pub cluts_single : (colours : List ColourRow) (whole : Bool) (seen : List ℕ) �
 cluts_single colours whole seen =
     single_sent (λ (sent : SentClut). sent.clut) (λ (clut : ℕ). clut) (sent_clut colours whole seen) (named_cluts colours) (clut_own colours whole seen) (clut_once colours whole seen) (named_single colours)
 
-in_range : (id : ℕ) → id < 256 → Contains (range_with_len 0 clut_count) id
+pub in_range : (id : ℕ) → id < 256 → Contains (range_with_len 0 clut_count) id
 unfolding clut_count
 in_range id low = place_there 256 id low
 

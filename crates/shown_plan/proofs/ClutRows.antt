@@ -17,7 +17,7 @@ use Rattle.page_epoch.specs.Live.{places_below}
 use Rattle.page_epoch.specs.Courses.{version_of_count, clut_course}
 use Rattle.page_epoch.specs.SentCluts.{no_row, row_at, all_entries, rows_of_clut, is_of_entry, rows_of_entry, later_place, latest_place, by_tick, row_by, defined_rows, is_changed, clut_version, rows_from}
 use Rattle.page_epoch.specs.declared.clut_rows.Entry.{Entry}
-use Rattle.shown_plan.proofs.ColourRows.{latest_of, colour_at, given_latest, latest_kept, is_entry}
+use Rattle.shown_plan.proofs.ColourRows.{latest_of, colour_at, given_latest, latest_kept, latest_is_own, is_entry}
 use Rattle.shown_plan.proofs.Lists.{all_at, kept_one, kept_pass, any_place, place_there, piece_there}
 use Rattle.shown_plan.proofs.SentColours.{is_an_entry, is_sent_row}
 
@@ -106,6 +106,7 @@ defined_own colours clut tick =
 -- a row of the CLUT by a tick is followed by a latest row of its entry
 pub row_defined : (colours : List ColourRow) (clut tick : ℕ) (earlier : List ℕ) (place : ℕ) → AreSeenRows colours clut tick earlier → Contains (rows_of_clut colours clut) place → (row_at colours place).tick ≤ tick
     → (found : ℕ) × Contains (defined_rows colours clut tick) found × ((row_at colours place).tick ≤ (row_at colours found).tick)
+    × (is_of_entry (entry_of (row_at colours place).depth (row_at colours place).entry) (row_at colours found) ≡ true)
 row_defined colours clut tick earlier place rows there by_then =
     let row = row_at colours place in
     let entry = entry_of row.depth row.entry in
@@ -118,7 +119,8 @@ row_defined colours clut tick earlier place rows there by_then =
     (latest.0,
     piece_there (λ (other : Entry). row_by colours tick (rows_of_entry colours clut other)) all_entries (get_or all_entries at.0 entry) latest.0 (All-contains_itself all_entries at.0 entry at.1)
     (subst (λ (places : List ℕ). Contains (row_by colours tick places) latest.0) (sym (same_rows entry (get_or all_entries at.0 entry) at.2)) (subst (λ (found : Option ℕ). Contains (option_to_list found) latest.0) (sym latest.1) (0, omega arith, refl))),
-    all_at (λ place. (row_at colours place).tick ≤ (row_at colours latest.0).tick) (by_tick colours tick (rows_of_entry colours clut entry)) place (latest_greatest colours (by_tick colours tick (rows_of_entry colours clut entry)) latest.0 latest.1) listed)
+    all_at (λ place. (row_at colours place).tick ≤ (row_at colours latest.0).tick) (by_tick colours tick (rows_of_entry colours clut entry)) place (latest_greatest colours (by_tick colours tick (rows_of_entry colours clut entry)) latest.0 latest.1) listed,
+    latest_is_own colours clut tick entry latest.0 latest.1)
   where
     found_latest : (places : List ℕ) (place : ℕ) → Contains places place → (found : ℕ) × (latest_place colours places ≡ Some found)
     found_latest [] place there = absurd (omega (arith, there.1))

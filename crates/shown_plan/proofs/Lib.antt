@@ -22,3 +22,4 @@ pub mod KeepsOn
 pub mod KeepsStep
 pub mod SetFits
 pub mod SetPixels
+pub mod SetNodes
