@@ -23,3 +23,4 @@ pub mod KeepsStep
 pub mod SetFits
 pub mod SetPixels
 pub mod SetNodes
+pub mod FaultFree

@@ -141,19 +141,21 @@ leading_are script epoch set =
     (map-append plain (map (region_segment_of epoch) set.regions) (map (clut_segment_of epoch) set.cluts)
     ∙ (λ i. map_twice (region_segment_of epoch) set.regions i ++ map_twice (clut_segment_of epoch) set.cluts i))
 
+-- the segments of a set that is read so, as they stand
+pub contents_are : (script : Script) (epoch : Epoch) (set : PlannedSet) (contents : List Content) (is : IsReadSet script epoch set contents)
+    → contents ≡ displays_in script set ++ (page_content script epoch set ∷ (map (region_content epoch) set.regions ++ (map (clut_content epoch) set.cluts ++ (is.objects ++ plain end_of_set ∷ []))))
+contents_are script epoch set contents is =
+    is.are ∙ ap (λ front. front ++ (is.objects ++ plain end_of_set ∷ [])) (leading_are script epoch set)
+    ∙ append_assoc (displays_in script set) (page_content script epoch set ∷ (map (region_content epoch) set.regions ++ map (clut_content epoch) set.cluts)) (is.objects ++ plain end_of_set ∷ [])
+    ∙ ap (λ rest. displays_in script set ++ (page_content script epoch set ∷ rest)) (append_assoc (map (region_content epoch) set.regions) (map (clut_content epoch) set.cluts) (is.objects ++ plain end_of_set ∷ []))
+
 -- the segments of a set that is read so, as they are handled
 pub contents_in_order : (script : Script) (epoch : Epoch) (set : PlannedSet) (contents : List Content) (is : IsReadSet script epoch set contents)
     → in_order contents ≡ displays_in script set ++ (page_content script epoch set ∷ (map (region_content epoch) set.regions ++ (map (clut_content epoch) set.cluts ++ is.objects)))
 contents_in_order script epoch set contents is =
-    ap in_order whole
+    ap in_order (contents_are script epoch set contents is)
     ∙ kinds_in_order (displays_in script set) (page_content script epoch set ∷ []) (map (region_content epoch) set.regions) (map (clut_content epoch) set.cluts) is.objects (plain end_of_set)
     (displays_are script set.state)
     (All-cons (IsKind false true false false false) (page_content script epoch set) [] (record { display_is = refl; page_is = refl; region_is = refl; clut_is = refl; object_is = refl }) (All-none _))
     (regions_are epoch set.regions) (cluts_are epoch set.cluts) (objects_are script.pictures epoch set.cues is.objects is.drawn)
     (record { display_is = refl; page_is = refl; region_is = refl; clut_is = refl; object_is = refl })
-  where
-    whole : contents ≡ displays_in script set ++ (page_content script epoch set ∷ (map (region_content epoch) set.regions ++ (map (clut_content epoch) set.cluts ++ (is.objects ++ plain end_of_set ∷ []))))
-    whole =
-        is.are ∙ ap (λ front. front ++ (is.objects ++ plain end_of_set ∷ [])) (leading_are script epoch set)
-        ∙ append_assoc (displays_in script set) (page_content script epoch set ∷ (map (region_content epoch) set.regions ++ map (clut_content epoch) set.cluts)) (is.objects ++ plain end_of_set ∷ [])
-        ∙ ap (λ rest. displays_in script set ++ (page_content script epoch set ∷ rest)) (append_assoc (map (region_content epoch) set.regions) (map (clut_content epoch) set.cluts) (is.objects ++ plain end_of_set ∷ []))

@@ -49,7 +49,7 @@ turned a d e b c =
     ∙ append_assoc (reverse e ++ reverse d) (reverse c) (b ∷ reverse a)
     ∙ append_assoc (reverse e) (reverse d) (reverse c ++ (b ∷ reverse a))
 
-segments_more : (set : List Content) (sets : List (List Content)) → segments_of (set ∷ sets) ≡ reverse (in_order set) ++ segments_of sets
+pub segments_more : (set : List Content) (sets : List (List Content)) → segments_of (set ∷ sets) ≡ reverse (in_order set) ++ segments_of sets
 unfolding segments_of
 segments_more set sets = refl
 
