@@ -39,6 +39,7 @@ use Rattle.shown_plan.proofs.ClutChanges.{AreBetween}
 use Rattle.shown_plan.proofs.ClutNext.{clut_view}
 use Rattle.shown_plan.proofs.ClutRows.{AreSeenRows, defined_own}
 use Rattle.shown_plan.proofs.ClutSteps.{clut_first, clut_next}
+use Rattle.shown_plan.proofs.Fair.{IsFairEpoch}
 use Rattle.shown_plan.proofs.Keeps.{IsSentRegion, IsSentEntry, IsSentObject, IsSentBy, IsSent, KeepsRegion, KeepsClut, Keeps, KeepsBefore}
 use Rattle.shown_plan.proofs.Lists.{all_at, kept_pass}
 use Rattle.shown_plan.proofs.Ordered.{IsKind, displays_in, page_content, region_content, clut_content, objects_are}
@@ -51,13 +52,6 @@ use Rattle.shown_plan.proofs.SetView.{newest, newest_first, reversed_all, revers
 use Rattle.shown_plan.specs.HoldsScript.{display_of_script}
 
 -- ---- what is used of a script and its plan
-
--- an epoch: its regions have their own ids, its colour rows numbers that their depths have, and its cues pictures
-pub record IsFairEpoch (pictures : List Picture) (epoch : Epoch) : Type 0 where
-  pub apart : HaveOwnIds epoch.regions
-  pub cluts : All (λ (row : ColourRow). row.clut < 256) epoch.colours
-  pub entries : All (λ (row : ColourRow). row.entry < code_count row.depth) epoch.colours
-  pub drawn : (place : ℕ) → place < length epoch.cues → IsPicture (picture_of_cue pictures epoch place)
 
 -- the instants of an epoch up to a tick, the latest first: all of its named ticks up to there are among them
 pub record AreSeen (epoch : Epoch) (tick : ℕ) (earlier : List ℕ) : Type 0 where

@@ -29,8 +29,9 @@ use Rattle.decoder_model.proofs.TakenSets.{taken_display, taken_all}
 use Rattle.shown_plan.proofs.CarriedSets.{regions_single, cluts_single, clut_part, own_listed}
 use Rattle.shown_plan.proofs.ClutNext.{IsClutView, clut_view}
 use Rattle.shown_plan.proofs.ClutSteps.{clut_first, clut_next}
+use Rattle.shown_plan.proofs.Fair.{IsFairEpoch}
 use Rattle.shown_plan.proofs.Keeps.{IsSent, IsSentBy, KeepsRegion, KeepsClut, Keeps, KeepsBefore}
-use Rattle.shown_plan.proofs.KeepsOn.{IsFairEpoch, AreSeen, IsPlannedIn, rows_seen, rows_between, later_sent, newest_sent}
+use Rattle.shown_plan.proofs.KeepsOn.{AreSeen, IsPlannedIn, rows_seen, rows_between, later_sent, newest_sent}
 use Rattle.shown_plan.proofs.Ordered.{IsKind, displays_in, page_content, region_content, clut_content, objects_are}
 use Rattle.shown_plan.proofs.OwnIds.{AreSingle}
 use Rattle.shown_plan.proofs.Parts.{HasPart, region_part}
