@@ -11,7 +11,7 @@ use Rattle.stream_syntax.specs.Units.{last_counter, part_after, parts_of, each_a
 use Rattle.stream_syntax.specs.declared.transport.Event.{Event}
 use Rattle.decoder_model.specs.Arrivals.{packets_taken}
 use Rattle.decoder_model.specs.Sets.{sets_of}
-use Rattle.decoder_model.proofs.SentSets.{TimedSet, AreUnitsOf, HaveDifferentTimes, delivered, sets_come_whole}
+use Rattle.decoder_model.proofs.SentSets.{all-append, TimedSet, AreUnitsOf, HaveDifferentTimes, delivered, sets_come_whole}
 
 -- behind packets, these packets carry these units, one after another, each in pieces; other packets stand anywhere between and
 -- packets of other PIDs behind the last
@@ -36,10 +36,6 @@ given-append (Some x ∷ xs) ys = ap (λ rest. x ∷ rest) (given-append xs ys)
 nothing_given : (n : ℕ) → filter_map (λ (found : Option (List ℕ)). found) (replicate n None) ≡ []
 nothing_given zero = refl
 nothing_given (suc n) = nothing_given n
-
-pub all-append : {X : Type 0} (P : X → Type 0) (xs ys : List X) → AllByRecursion P xs → AllByRecursion P ys → AllByRecursion P (xs ++ ys)
-all-append P [] ys a b = b
-all-append P (x ∷ xs) ys a b = (a.0, all-append P xs ys a.1 b)
 
 -- ---- packets of other PIDs
 
