@@ -8,8 +8,8 @@ use Rattle.std.proofs.lemmas.List.{drop-append-le, length-take-le, length-replic
 use Rattle.stream_syntax.specs.Cutting.{IsUnit, units_behind, events_behind}
 use Rattle.stream_syntax.specs.TransportPackets.{null_packet}
 use Rattle.stream_syntax.specs.Units.{last_counter, unit_at, event_at, is_loss}
-use Rattle.decoder_model.proofs.SentSets.{ComeWhole}
-use Rattle.decoder_model.proofs.SentUnits.{AreSent, each_after-append, given-append, all-append, all_taken, no_hand, units_of_sent, none_lost}
+use Rattle.decoder_model.proofs.SentSets.{all-append, ComeWhole}
+use Rattle.decoder_model.proofs.SentUnits.{AreSent, each_after-append, given-append, all_taken, no_hand, units_of_sent, none_lost}
 use Rattle.stream_syntax.specs.declared.transport.Event.{Event}
 use Rattle.std.proofs.Math.Seq.{drop-nil, drop-append-add}
 use Rattle.ts_packets.proofs.AnyCuttingLemmas.{any_cutting, nothing_lost}

@@ -4,12 +4,14 @@ pub mod SentStream
 pub mod DrawnObject
 pub mod WrittenSets
 pub mod BlockSizes
+pub mod UnitSizes
 pub mod RisingSlots
 pub mod LateEntry
 pub mod LateStream
 pub mod LateSets
 pub mod OneReading
 pub mod OneView
+pub mod CompiledSets
 pub mod CompiledPackets
 pub mod AuthoredCue
 pub mod SoleCueUnits
