@@ -11,7 +11,7 @@ use Rattle.stream_syntax.specs.Segments.{SegmentValue, end_of_set, spelled, IsWr
 use Rattle.stream_syntax.specs.declared.page.State.{State}
 use Rattle.stream_syntax.specs.declared.page.State.TheVariants.{Normal, Acquisition, ModeChange}
 use Rattle.stream_syntax.specs.declared.wire.TheConstants.{TIME_ROUND}
-use Rattle.pes_packets.specs.Units.{AreUnits as AreShared}
+use Rattle.pes_packets.specs.Units.{AreUnits as AreShared, IsSharedOut}
 use Rattle.cue_list.specs.declared.epoch.Epoch.{Epoch}
 use Rattle.cue_list.specs.declared.script.Script.{Script}
 use Rattle.page_epoch.specs.declared.planned_set.PlannedSet.{PlannedSet}
@@ -22,7 +22,7 @@ use Rattle.decoder_model.proofs.SentSets.{all-append, TimedSet, timed, timed_uni
 use Rattle.set_coder.specs.SetSegments.{display_of, region_segment_of, clut_segment_of, leading_segments, AreObjectsOf, segment_bytes, unit_packet, AreSetSegments, AreSetPackets}
 use Rattle.shown_stream.specs.Compiled.{AreUnits, AreSizedAs, all_units}
 use Rattle.shown_stream.proofs.UnitSizes.{AreShort}
-use Rattle.shown_stream.proofs.WrittenSets.{IsInner, AreInner, set_with, joined_units, segments_with, size_with, HaveSegments, AreKnown, whole_set, packets_are, all_known, handed_out}
+use Rattle.shown_stream.proofs.WrittenSets.{IsInner, AreInner, unit_with, set_with, joined_units, segments_with, size_with, HaveSegments, AreKnown, whole_set, packets_are, all_known, handed_out}
 
 -- ---- the segments of a set
 
@@ -71,13 +71,18 @@ its_segments script page set segments h =
 
 -- ---- the units of a set
 
--- a set of a plan in a receiver: with its time modulo 2 to the 33, the bytes of its PES packets, and its segments
+-- a set of a plan in a receiver: its segments, the units that they are shared out to, each with the set's time modulo 2 to the
+-- 33 and as many bytes as its PES packet; together they are the set's segments, and its size is that of its PES packets
 pub record IsSentAs (script : Script) (page : ℕ) (set : PlannedSet) (packets : List (List ℕ)) (sent : TimedSet) : Type 0 where
-  pub time : sent.time ≡ set.pts % TIME_ROUND
-  pub size : size_of_units sent.units ≡ sum (map length packets)
   pub segments : List SegmentValue
   pub carried : AreSetSegments script page set segments
+  pub units : List (List SegmentValue)
+  pub shared : IsSharedOut (segment_bytes page) segments units
+  pub written : packets ≡ map (unit_packet page set.pts) units
+  pub time : sent.time ≡ set.pts % TIME_ROUND
+  pub each : sent.units ≡ map (unit_with page set.pts) units
   pub are : all_segments sent ≡ map (spelled page) segments
+  pub size : size_of_units sent.units ≡ sum (map length packets)
 
 have_segments : (page : ℕ) (units : List (List SegmentValue)) → AreShared (segment_bytes page) units → HaveSegments units
 have_segments page [] h = tt
@@ -110,11 +115,15 @@ packets_of_set coded script page set packets h room short =
     let short_too : AreShort written = subst AreShort h.are short in
     record {
       is = record {
-        time = refl;
-        size = size_with page set.pts h.units ∙ ap (λ all. sum (map length all)) (sym h.are);
         segments = h.segments;
         carried = h.carried;
+        units = h.units;
+        shared = h.shared;
+        written = h.are;
+        time = refl;
+        each = refl;
         are = segments_with page set.pts h.units ∙ ap (map (spelled page)) h.shared.whole;
+        size = size_with page set.pts h.units ∙ ap (λ all. sum (map length all)) (sym h.are);
       };
       whole = whole_set coded page set.pts h.units ends.inner some joined ends.fit ends.end room_too;
       each = subst (λ (all : List (List ℕ)). AllZip (IsUnitOf page) all (map (timed (set.pts % TIME_ROUND)) (set_with page set.pts h.units).units)) (sym h.are)

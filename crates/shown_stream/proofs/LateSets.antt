@@ -1,7 +1,7 @@
 -- A stream that is entered late gives exactly the units whose first packet was received, and with them the later units of a set
 -- as a set of its own, and all sets behind it.
-use Rattle.std.proofs.Common.{◌≡◌, ◌∙◌, ℕ, zero, suc, ◌+◌, ◌-◌, ◌<◌, ◌≤◌, Bool, true, false, cond, ltb, ◌⊎◌, inl, inr, List, [], ◌∷◌, ◌++◌, length, map, drop, refl, sym, ap, subst, arith}
-use Rattle.std.specs.List.{AllByRecursion, AllZip, sum_by}
+use Rattle.std.proofs.Common.{◌≡◌, ◌∙◌, ℕ, zero, suc, ◌+◌, ◌-◌, ◌<◌, ◌≤◌, Bool, true, false, cond, ltb, ◌⊎◌, inl, inr, List, [], ◌∷◌, ◌++◌, length, map, drop, Some, refl, sym, ap, subst, arith}
+use Rattle.std.specs.List.{slice_get, AllByRecursion, AllZip, sum_by}
 use Rattle.std.proofs.Math.Seq.{drop-append-add}
 use Rattle.std.proofs.lemmas.Bool.{cases_lt}
 use Rattle.std.proofs.lemmas.Bool.Decides.{nat_tests}
@@ -92,6 +92,76 @@ units_behind coded page n units sets are = record {
   each = subst (AllZip (IsUnitOf page) (drop n units)) (sym (timed_behind n sets)) (zip_behind (IsUnitOf page) n units (timed_units sets) are.each);
   whole = are_behind coded page n sets are.whole;
 }
+
+-- ---- the sets that are left
+
+-- how many units the first so many sets have
+abbrev pub units_before : ℕ → List TimedSet → ℕ
+units_before zero sets = 0
+units_before (suc i) [] = 0
+units_before (suc i) (set ∷ sets) = length set.units + units_before i sets
+
+-- of the sets before that number nothing is left, or of the last of them its later units, which are a set of their own
+pub data IsRest (sets : List TimedSet) : ℕ → List TimedSet → Type 0 where
+  none_left : {first : ℕ} → IsRest sets first []
+  some_left : {n : ℕ} {set : TimedSet} {k : ℕ} → slice_get sets n ≡ Some set → 1 ≤ k → k < length set.units → IsRest sets (suc n) (rest_of_set k set ∷ [])
+
+one_more : (set : TimedSet) (sets : List TimedSet) (first : ℕ) (rest : List TimedSet) → IsRest sets first rest → IsRest (set ∷ sets) (suc first) rest
+one_more set sets first rest (none_left) = none_left
+one_more set sets first rest (some_left found some inside) = some_left found some inside
+
+-- behind the first so many units all sets from one on are left, those whose first unit is not among these, and before them at most
+-- the rest of a set
+pub record SetsLeft (n : ℕ) (sets : List TimedSet) : Type 0 where
+  pub first : ℕ
+  pub rest : List TimedSet
+  pub is_rest : IsRest sets first rest
+  pub are : sets_behind n sets ≡ rest ++ drop first sets
+  pub begun : (i : ℕ) → i < length sets → (i < first → units_before i sets < n) × (first ≤ i → n ≤ units_before i sets)
+
+pub sets_left : (n : ℕ) (sets : List TimedSet) → AllByRecursion (λ (set : TimedSet). 1 ≤ length set.units) sets → SetsLeft n sets
+sets_left n [] some = record { first = 0; rest = []; is_rest = none_left; are = refl; begun = λ i inside. absurd (omega arith) }
+sets_left zero (set ∷ sets) some =
+    let any = some.0 in
+    let test : ltb 0 (length set.units) ≡ true = grind (arith, nat_tests) in
+    record {
+      first = 0;
+      rest = [];
+      is_rest = none_left;
+      are = ap (λ b. cond b (rest_of_set 0 set ∷ sets) (sets_behind (0 - length set.units) sets)) test;
+      begun = λ i inside. (λ before. absurd (omega arith), λ behind. omega arith);
+    }
+sets_left (suc n) (set ∷ sets) some = by (cases_lt (suc n) (length set.units)) (sets_left (suc n - length set.units) sets some.1)
+  where
+    begun_within : suc n < length set.units → (i : ℕ) → i < suc (length sets) → (i < 1 → units_before i (set ∷ sets) < suc n) × (1 ≤ i → suc n ≤ units_before i (set ∷ sets))
+    begun_within within zero inside = (λ before. omega arith, λ behind. absurd (omega arith))
+    begun_within within (suc i) inside = (λ before. absurd (omega arith), λ behind. omega arith)
+
+    begun_past : (left : SetsLeft (suc n - length set.units) sets) → length set.units ≤ suc n → (i : ℕ) → i < suc (length sets)
+        → (i < suc left.first → units_before i (set ∷ sets) < suc n) × (suc left.first ≤ i → suc n ≤ units_before i (set ∷ sets))
+    begun_past left past zero inside = (λ before. omega arith, λ behind. absurd (omega arith))
+    begun_past left past (suc i) inside =
+        let there = left.begun i (omega arith) in (λ before. let less = there.0 (omega arith) in omega arith, λ behind. let most = there.1 (omega arith) in omega arith)
+
+    by : (suc n < length set.units) ⊎ (length set.units ≤ suc n) → SetsLeft (suc n - length set.units) sets → SetsLeft (suc n) (set ∷ sets)
+    by (inl within) left =
+        let test : ltb (suc n) (length set.units) ≡ true = grind (arith, nat_tests) in
+        record {
+          first = 1;
+          rest = rest_of_set (suc n) set ∷ [];
+          is_rest = some_left refl (omega arith) within;
+          are = ap (λ b. cond b (rest_of_set (suc n) set ∷ sets) (sets_behind (suc n - length set.units) sets)) test;
+          begun = begun_within within;
+        }
+    by (inr past) left =
+        let test : ltb (suc n) (length set.units) ≡ false = grind (arith, nat_tests) in
+        record {
+          first = suc left.first;
+          rest = left.rest;
+          is_rest = one_more set sets left.first left.rest left.is_rest;
+          are = ap (λ b. cond b (rest_of_set (suc n) set ∷ sets) (sets_behind (suc n - length set.units) sets)) test ∙ left.are;
+          begun = begun_past left past;
+        }
 
 -- ---- a stream
 

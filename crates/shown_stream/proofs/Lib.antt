@@ -9,6 +9,7 @@ pub mod RisingSlots
 pub mod LateEntry
 pub mod LateStream
 pub mod LateSets
+pub mod LateRest
 pub mod OneReading
 pub mod OneView
 pub mod CompiledSets

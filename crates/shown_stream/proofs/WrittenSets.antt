@@ -193,7 +193,7 @@ front_of {X} (x ∷ front) behind (y ∷ all) last some e =
     let more = front_of front behind all last some tail in
     record { rest = more.rest; before = ap (λ z. z ∷ all) (sym head) ∙ ap (λ zs. x ∷ zs) more.before; after = more.after }
 
-parts_of_all : {X : Type 0} (P : X → Type 0) (xs ys : List X) → AllByRecursion P (xs ++ ys) → AllByRecursion P xs × AllByRecursion P ys
+pub parts_of_all : {X : Type 0} (P : X → Type 0) (xs ys : List X) → AllByRecursion P (xs ++ ys) → AllByRecursion P xs × AllByRecursion P ys
 parts_of_all P [] ys h = (tt, h)
 parts_of_all P (x ∷ xs) ys h = let more = parts_of_all P xs ys h.1 in ((h.0, more.0), more.1)
 
