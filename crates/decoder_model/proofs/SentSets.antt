@@ -428,7 +428,7 @@ all_arrive pid size page before (packet ∷ packets) h all are =
     (flat_map (λ (arrivals : List Arrival). arrivals) (each_after (arrivals_at size pid page) (before ++ packet ∷ []) packets)) all
     (λ more each. all_arrive pid size page (before ++ packet ∷ []) packets h.1 more each) are)
 
-have_units : (coded page : ℕ) (sets : List TimedSet) → AllByRecursion (IsTimedSet coded page) sets → AllByRecursion (λ (set : TimedSet). 1 ≤ length set.units) sets
+pub have_units : (coded page : ℕ) (sets : List TimedSet) → AllByRecursion (IsTimedSet coded page) sets → AllByRecursion (λ (set : TimedSet). 1 ≤ length set.units) sets
 have_units coded page [] h = tt
 have_units coded page (set ∷ sets) h = (some set.units h.0.units, have_units coded page sets h.1)
   where

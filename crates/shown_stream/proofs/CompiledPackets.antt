@@ -74,7 +74,7 @@ count_before (suc i) (load ∷ loads) (packets ∷ units) within sized =
     first_packet-cons load loads i
     ∙ omega (arith, here, count_before i loads units (omega arith) sized.1, ap length (pieces-append packets (take i units)), length-append (all_pieces packets) (all_pieces (all_units (take i units))))
 
-as_many : (loads : List WriteLoad) (units : List (List (List ℕ))) → AreSizedAs loads units → length loads ≡ length units
+pub as_many : (loads : List WriteLoad) (units : List (List (List ℕ))) → AreSizedAs loads units → length loads ≡ length units
 as_many [] [] sized = refl
 as_many [] (packets ∷ units) sized = absurd sized
 as_many (load ∷ loads) [] sized = absurd sized

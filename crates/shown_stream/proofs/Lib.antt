@@ -10,6 +10,8 @@ pub mod LateEntry
 pub mod LateStream
 pub mod LateSets
 pub mod LateRest
+pub mod LatePlaces
+pub mod LateCompiled
 pub mod OneReading
 pub mod OneView
 pub mod CompiledSets
