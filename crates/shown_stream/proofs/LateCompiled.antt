@@ -5,17 +5,14 @@ use Rattle.std.specs.Prelude.{nat_le}
 use Rattle.std.specs.List.{AllByRecursion, list_all, slice_get}
 use Rattle.std.specs.List.Sorted.{IsStrictlyIncreasing}
 use Rattle.std.proofs.lemmas.Bool.{cases_lt}
-use Rattle.std.proofs.lemmas.Option.{get_or_from_slice_get, slice_get_within}
+use Rattle.std.proofs.lemmas.Option.{slice_get_within}
 use Rattle.sub_base.specs.Pace.{pace_of}
 use Rattle.sub_base.specs.Profile.{profile_of}
 use Rattle.sub_base.specs.declared.profile.Profile.{Profile}
 use Rattle.sub_base.specs.declared.profile.ProfileName.{ProfileName}
 use Rattle.cue_list.specs.declared.script.Script.{Script}
 use Rattle.page_epoch.specs.Plan.{IsPlan}
-use Rattle.page_epoch.specs.Sendable.{IsSendable}
 use Rattle.page_epoch.specs.declared.planned_set.PlannedSet.{PlannedSet}
-use Rattle.page_epoch.proofs.SendLaws.{sendable_all}
-use Rattle.page_epoch.proofs.SoundLaws.{plain}
 use Rattle.schedule.specs.Packets.{first_packet}
 use Rattle.schedule.specs.Slots.{Timetable, slots_of}
 use Rattle.decoder_model.specs.Readings.{Reading, IsDeliveryRead}
@@ -32,6 +29,7 @@ use Rattle.shown_stream.proofs.LatePlaces.{HavePackets, same_many, count_units, 
 use Rattle.shown_stream.proofs.LateRest.{IsBrokenFirst, rest_comes_first}
 use Rattle.shown_stream.proofs.LateSets.{rest_of_set, IsRest, none_left, some_left, SetsLeft, sets_left, late_sets}
 use Rattle.shown_stream.proofs.LateStream.{passed, pieces_left, first_number, units_that_come}
+use Rattle.shown_stream.proofs.PlannedRegions.{planned_well}
 use Rattle.shown_stream.proofs.RisingSlots.{slots_rise}
 use Rattle.shown_stream.proofs.SentPieces.{IsFree}
 use Rattle.shown_stream.proofs.SentPlaces.{times_rise}
@@ -148,12 +146,6 @@ pub record IsEnteredLate (name : ProfileName) (pid page : ℕ) (script : Script)
       → (i < first → is_from missed (sent_set compiled.table i set) ≡ false) × (first ≤ i → is_from missed (sent_set compiled.table i set) ≡ true)
   pub cut : AllByRecursion (IsCutSet page script compiled.table compiled.sets missed) rest
 
-few_shown : (script : Script) (profile : Profile) (sets : List PlannedSet) (number : ℕ) (set : PlannedSet) → IsPlan script profile sets → slice_get sets number ≡ Some set → length set.shown ≤ 64
-few_shown script profile sets number set plan found =
-    let all = sendable_all script profile sets (plain script.origin script.width script.height script.refresh script.epochs script.pictures script.sound) plan.planned in
-    let one : IsSendable script set = subst (IsSendable script) (get_or_from_slice_get sets number set set found) (all number set (slice_get_within sets number set found)) in
-    one.carried.few_shown
-
 -- a set of which the first packet does not come lies before the entry set
 before_entry : (script : Script) (profile : Profile) (table : Timetable) (sets : List PlannedSet) (missed first number : ℕ) (set : PlannedSet) → IsPlan script profile sets → slice_get sets number ≡ Some set → number < first
     → ((i : ℕ) → i < length sets → i < first → list_all (λ at. nat_le missed at) (slots_of table i) ≡ false) → (entry : SentSet) → entry_set missed (sent_sets table sets) ≡ Some entry → set.pts < entry.time
@@ -234,7 +226,7 @@ entered_late name pid page script bytes free compiled known apart missed = recor
     cut_by first rest (none_left) none = tt
     cut_by first rest (some_left {n = number} {set = one} {k = k} found some few) none =
         let at = sent_at script page number compiled.sets compiled.units sent one known.are.are found in
-        let shown = few_shown script (profile_of name) compiled.sets number at.set compiled.planned.plan at.found in (
+        let well = planned_well script (profile_of name) compiled.sets number at.set compiled.planned.plan at.found in (
           record {
             number = number;
             set = at.set;
@@ -248,7 +240,7 @@ entered_late name pid page script bytes free compiled known apart missed = recor
             is = refl;
             cut = none number (slice_get_within compiled.sets number at.set at.found) (omega arith);
             earlier = before_entry script (profile_of name) compiled.table compiled.sets missed (suc number) number at.set compiled.planned.plan at.found (omega arith) none;
-            broken = λ profile anchor delivery come. rest_comes_first profile anchor script page at.set at.packets one at.is shown k some delivery come;
+            broken = λ profile anchor delivery come. rest_comes_first profile anchor script page at.set at.packets one at.is well k some delivery come;
           },
           tt,
         )

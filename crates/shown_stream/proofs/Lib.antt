@@ -9,8 +9,10 @@ pub mod RisingSlots
 pub mod LateEntry
 pub mod LateStream
 pub mod LateSets
+pub mod LateSegments
 pub mod LateRest
 pub mod LatePlaces
+pub mod PlannedRegions
 pub mod LateCompiled
 pub mod OneReading
 pub mod OneView
