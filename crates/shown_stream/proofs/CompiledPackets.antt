@@ -25,6 +25,7 @@ use Rattle.shown_stream.specs.Compiled.{IsCompiledFor, AreSizedAs, all_units, Is
 use Rattle.shown_stream.specs.SlotStream.{Piece, all_pieces, pieces_of, piece_of, piece_count, packet_of, IsPiece}
 use Rattle.shown_stream.proofs.LaidPackets.{laid, stream_is_laid}
 use Rattle.shown_stream.proofs.LateStream.{no_counter}
+use Rattle.shown_stream.proofs.PlannedTimes.{different_times}
 use Rattle.shown_stream.proofs.RisingSlots.{slots_rise}
 use Rattle.shown_stream.proofs.SentPieces.{IsFree, all-replicate, none_refused}
 use Rattle.shown_stream.proofs.SentStream.{pieces_are, sent_units}
@@ -145,10 +146,11 @@ pub record ArePackets (name : ProfileName) (pid page : ℕ) (script : Script) (b
       → sets_of (profile_of name).coded pid page true (packets_in name pid page script bytes compiled) ≡ map delivered timed
   pub sent : List TimedSet
   pub are : AreAllPackets (profile_of name).coded script page compiled.sets compiled.units sent
-  pub sets : HaveDifferentTimes sent → sets_of (profile_of name).coded pid page true (packets_in name pid page script bytes compiled) ≡ map delivered sent
+  pub apart : HaveDifferentTimes sent
+  pub sets : sets_of (profile_of name).coded pid page true (packets_in name pid page script bytes compiled) ≡ map delivered sent
 
 -- joined they are the bytes, each has 188 bytes, and a demultiplexer hands out all units of all sets, each whole. Where their
--- units are those of sets, these sets are received: so the plan's sets are, each with the segments of all of its units
+-- units are those of sets, these sets are received. So the sets of the plan are, each whole with the segments of all of its units
 pub are_packets : (name : ProfileName) (pid page : ℕ) (script : Script) (bytes : List ℕ) → IsFree pid → IsCompiledFor name
     → (compiled : IsCompiledTo name pid page script bytes) → ArePackets name pid page script bytes compiled
 are_packets name pid page script bytes free made compiled =
@@ -162,6 +164,8 @@ are_packets name pid page script bytes free made compiled =
     let room = all_room coded loads compiled.units compiled.sized compiled.on_time.fits in
     let short = all_short script compiled.sets loads compiled.units compiled.planned.asked compiled.sized compiled.on_time.short in
     let all = all_packets coded script page compiled.sets compiled.units compiled.carried room short in
+    let sent = sent_of script page compiled.sets compiled.units compiled.carried in
+    let apart = different_times script (profile_of name) page compiled.sets compiled.units sent compiled.planned.plan all.are in
     let pieces = pieces_are coded units all.units_are in
     let come = sent_come_whole coded pid packets units (any_cutting pid coded) (nothing_lost pid coded) (none_refused pid 0 0 (all_pieces units) slots free pieces)
     (sent_units pid coded 0 0 [] units slots free all.units_are same (inl (no_counter pid))) in
@@ -171,7 +175,8 @@ are_packets name pid page script bytes free made compiled =
       units = all.units_are;
       handed_out = come;
       received = λ timed are apart. sets_come_whole coded pid page true packets units timed come are apart;
-      sent = sent_of script page compiled.sets compiled.units compiled.carried;
+      sent = sent;
       are = all;
-      sets = λ apart. sets_come_whole coded pid page true packets units (sent_of script page compiled.sets compiled.units compiled.carried) come all.carry apart;
+      apart = apart;
+      sets = sets_come_whole coded pid page true packets units sent come all.carry apart;
     }

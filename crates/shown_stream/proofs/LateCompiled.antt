@@ -18,7 +18,7 @@ use Rattle.schedule.specs.Slots.{Timetable, slots_of}
 use Rattle.decoder_model.specs.Readings.{Reading, IsDeliveryRead}
 use Rattle.decoder_model.specs.Sets.{Delivery, sets_of}
 use Rattle.decoder_model.specs.Streams.{entered_at, SentSet, is_from, entry_set}
-use Rattle.decoder_model.proofs.SentSets.{TimedSet, HaveDifferentTimes, delivered, have_units}
+use Rattle.decoder_model.proofs.SentSets.{TimedSet, delivered, have_units}
 use Rattle.shown_stream.specs.Compiled.{all_units, IsCompiledTo}
 use Rattle.shown_stream.specs.SentSets.{sent_set, sent_from, sent_sets}
 use Rattle.shown_stream.specs.SlotStream.{all_pieces}
@@ -167,12 +167,12 @@ before_entry script profile table sets missed first number set plan found before
     ]
 
 pub entered_late : (name : ProfileName) (pid page : ℕ) (script : Script) (bytes : List ℕ) → IsFree pid → (compiled : IsCompiledTo name pid page script bytes) → (known : ArePackets name pid page script bytes compiled)
-    → HaveDifferentTimes known.sent → (missed : ℕ) → IsEnteredLate name pid page script bytes compiled known.sent missed
-entered_late name pid page script bytes free compiled known apart missed = record {
+    → (missed : ℕ) → IsEnteredLate name pid page script bytes compiled known.sent missed
+entered_late name pid page script bytes free compiled known missed = record {
   first = left.first;
   rest = left.rest;
   is_rest = left.is_rest;
-  come = late_sets coded pid page missed units sent slots free known.units known.are.carry apart same ahead ∙ ap (map delivered) left.are;
+  come = late_sets coded pid page missed units sent slots free known.units known.are.carry known.apart same ahead ∙ ap (map delivered) left.are;
   whole = λ i set inside. whole_by i inside;
   cut = cut_by left.first left.rest left.is_rest (λ i inside. (whole_by i inside).0);
 }

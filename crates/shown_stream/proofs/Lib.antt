@@ -17,6 +17,7 @@ pub mod LateCompiled
 pub mod OneReading
 pub mod OneView
 pub mod CompiledSets
+pub mod PlannedTimes
 pub mod CompiledPackets
 pub mod AuthoredCue
 pub mod SoleCueUnits

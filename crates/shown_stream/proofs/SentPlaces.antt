@@ -23,7 +23,7 @@ times_are : (table : Timetable) (k : ℕ) (sets : List PlannedSet) → map (λ (
 times_are table k [] = refl
 times_are table k (set ∷ sets) = ap (λ rest. set.pts ∷ rest) (times_are table (k + 1) sets)
 
-front_rises : (xs : List ℕ) (n : ℕ) → n ≤ length xs → IsStrictlyIncreasing xs → IsStrictlyIncreasing (take n xs)
+pub front_rises : (xs : List ℕ) (n : ℕ) → n ≤ length xs → IsStrictlyIncreasing xs → IsStrictlyIncreasing (take n xs)
 front_rises xs n within rise = λ k before.
     let size = length-take-le n xs within in
     let low : k + 1 < n = omega arith in

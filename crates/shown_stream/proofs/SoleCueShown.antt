@@ -1,7 +1,6 @@
 -- What a receiver shows of the packets of a script of one cue is what the script authors, at every tick.
-use Rattle.std.proofs.Common.{◌≡◌, ◌∙◌, ◌⊎◌, inl, inr, ℕ, ◌+◌, ◌*◌, ◌%◌, ◌<◌, ◌≤◌, ◌≢◌, true, false, eqb, List, [], ◌∷◌, ◌++◌, map, reverse, refl, sym, ap, subst, arith}
+use Rattle.std.proofs.Common.{◌≡◌, ◌∙◌, ◌⊎◌, inl, inr, ℕ, ◌+◌, ◌*◌, ◌%◌, ◌<◌, ◌≤◌, true, List, [], ◌∷◌, ◌++◌, map, reverse, refl, sym, ap, subst, arith}
 use Rattle.std.proofs.lemmas.Bool.{cases_lt}
-use Rattle.std.proofs.lemmas.Bool.Decides.{nat_tests}
 use Rattle.std.proofs.lemmas.List.Elements.{recursion_from_All}
 use Rattle.sub_base.specs.Colour.{default_of}
 use Rattle.sub_base.specs.Picture.{Picture}
@@ -26,7 +25,7 @@ use Rattle.decoder_model.specs.Readings.{Reading, AreFields, IsContent, AreReadi
 use Rattle.decoder_model.specs.Sets.{Delivery, whole, sets_of}
 use Rattle.decoder_model.specs.Shown.{View, plane, IsClear, Agrees, view_at}
 use Rattle.decoder_model.proofs.Depths.{parts_in_eight, none_too_deep}
-use Rattle.decoder_model.proofs.SentSets.{TimedSet, size_of_units, all_segments, HaveDifferentTimes, delivered}
+use Rattle.decoder_model.proofs.SentSets.{TimedSet, size_of_units, all_segments, delivered}
 use Rattle.decoder_model.proofs.SoleCue as shown
 use Rattle.decoder_model.proofs.SoleCueView.{IsDrawn, both_sets, coloured, nothing_before, picture_while, clear_after}
 use Rattle.shown_stream.specs.Compiled.{IsCompiledFor, IsCompiledTo}
@@ -88,12 +87,6 @@ last_read page cue segments sent is carried =
     subst (λ (all : List (List ℕ)). AreReadings all (shown.last_readings cue)) (sym (carried ∙ ap (map (spelled page)) is.are))
     (content_of page (of_page (shown.last_page cue)) [] [] each.0 (refl, refl), (content_of page end_of_set [] [] each.1.0 (refl, refl), tt))
 
--- ---- times
-
--- times that are near each other are told as different ones
-told_apart : (start end : ℕ) → start < end → end < start + 4294967296 → eqb (start % time_round) (end % time_round) ≡ false
-told_apart start end rising near = let differ : (start % time_round) ≢ (end % time_round) = omega arith in grind (arith, nat_tests)
-
 -- ---- what is shown
 
 -- a cue with the sizes of its units
@@ -143,16 +136,13 @@ handed name pid page script epoch region cue picture bytes free for_it sole comp
     packets : List (List ℕ)
     packets = packets_in name pid page script bytes compiled
 
-    by : {sent : List TimedSet} (first_row last_row : ℕ) → TwoSets script page (first_set region cue first_row) (last_set cue last_row) sent → (HaveDifferentTimes sent → sets_of coded pid page true packets ≡ map delivered sent)
+    by : {sent : List TimedSet} (first_row last_row : ℕ) → TwoSets script page (first_set region cue first_row) (last_set cue last_row) sent → sets_of coded pid page true packets ≡ map delivered sent
         → Handed name pid page script region cue picture packets
     by {sent} first_row last_row two come =
-        let facts = sole_cue_facts script epoch region cue picture sole in
-        let rising = (sole_cue_fills script epoch region cue picture sole).lasts in
         let opening = first_segments script epoch region cue picture page first_row two.first_is.segments sole two.first_is.carried in
         let made = sized (cue_of script region picture opening.top opening.bottom opening.draws.top_parts opening.draws.bottom_has) (size_of_units two.first.units) (size_of_units two.last.units) in
         let closing = last_segments script epoch region cue picture page last_row two.last_is.segments opening.top opening.bottom opening.draws.top_parts opening.draws.bottom_has sole two.last_is.carried in
-        let apart : eqb two.first.time two.last.time ≡ false = ap (λ time. eqb time two.last.time) two.first_is.time ∙ ap (eqb (cue.start % time_round)) two.last_is.time ∙ told_apart cue.start cue.end rising facts.near in
-        let received : sets_of coded pid page true packets ≡ delivered two.first ∷ delivered two.last ∷ [] = come (subst HaveDifferentTimes (sym two.are) (apart, (tt, tt))) ∙ ap (map delivered) two.are in
+        let received : sets_of coded pid page true packets ≡ delivered two.first ∷ delivered two.last ∷ [] = come ∙ ap (map delivered) two.are in
         let parts : AreFields (of_object (shown.object_for made)) made.top made.bottom = (parts_in_eight region.depth opening.draws.top_parts opening.top opening.draws.top_whole, parts_in_eight region.depth opening.draws.bottom_has opening.bottom opening.draws.bottom_whole) in
         record {
           top = opening.top;
