@@ -54,7 +54,7 @@ sent_at script page zero (set ∷ sets) (packets ∷ units) (one ∷ all) sent a
 sent_at script page (suc number) (set ∷ sets) (packets ∷ units) (one ∷ all) sent are found =
     let there = sent_at script page number sets units all sent are.1 found in record { set = there.set; packets = there.packets; found = there.found; is = there.is }
 
-have_packets : (script : Script) (page : ℕ) (sets : List PlannedSet) (units : List (List (List ℕ))) (sent : List TimedSet) → AreSentAs script page sets units sent → AllByRecursion (λ (one : TimedSet). 1 ≤ length one.units) sent → HavePackets units
+pub have_packets : (script : Script) (page : ℕ) (sets : List PlannedSet) (units : List (List (List ℕ))) (sent : List TimedSet) → AreSentAs script page sets units sent → AllByRecursion (λ (one : TimedSet). 1 ≤ length one.units) sent → HavePackets units
 have_packets script page [] [] sent are some = tt
 have_packets script page [] (packets ∷ units) sent are some = absurd are
 have_packets script page (set ∷ sets) [] sent are some = tt
@@ -166,9 +166,9 @@ before_entry script profile table sets missed first number set plan found before
           omega arith
     ]
 
-pub entered_late : (name : ProfileName) (pid page : ℕ) (script : Script) (bytes : List ℕ) → IsFree pid → (compiled : IsCompiledTo name pid page script bytes) → (known : ArePackets name pid page script bytes compiled)
+pub compiled_late : (name : ProfileName) (pid page : ℕ) (script : Script) (bytes : List ℕ) → IsFree pid → (compiled : IsCompiledTo name pid page script bytes) → (known : ArePackets name pid page script bytes compiled)
     → (missed : ℕ) → IsEnteredLate name pid page script bytes compiled known.sent missed
-entered_late name pid page script bytes free compiled known missed = record {
+compiled_late name pid page script bytes free compiled known missed = record {
   first = left.first;
   rest = left.rest;
   is_rest = left.is_rest;

@@ -14,6 +14,7 @@ pub mod LateRest
 pub mod LatePlaces
 pub mod PlannedRegions
 pub mod LateCompiled
+pub mod LateGood
 pub mod OneReading
 pub mod OneView
 pub mod CompiledSets
