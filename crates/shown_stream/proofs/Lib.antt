@@ -13,6 +13,7 @@ pub mod LateSegments
 pub mod LateRest
 pub mod LatePlaces
 pub mod PlannedRegions
+pub mod SetPackets
 pub mod LateCompiled
 pub mod LateGood
 pub mod OneReading
