@@ -76,7 +76,7 @@ pts_rise script profile sets plan =
     subst IsStrictlyIncreasing (sym planned.first.times) (front_rises planned.instants (length sets) planned.first.few planned.are_instants.rise)
 
 -- times that are near each other are told as different ones
-pub told_apart : (start end : ℕ) → start < end → end < start + 4294967296 → eqb (start % TIME_ROUND) (end % TIME_ROUND) ≡ false
+told_apart : (start end : ℕ) → start < end → end < start + 4294967296 → eqb (start % TIME_ROUND) (end % TIME_ROUND) ≡ false
 told_apart start end rising near = let differ : (start % TIME_ROUND) ≢ (end % TIME_ROUND) = omega arith in grind (arith, nat_tests)
 
 different_by : (script : Script) (page : ℕ) (sets : List PlannedSet) (units : List (List (List ℕ))) (sent : List TimedSet) → AreSentAs script page sets units sent → IsStrictlyIncreasing (pts_of sets) → AllByRecursion (IsTick script.origin) (pts_of sets)
