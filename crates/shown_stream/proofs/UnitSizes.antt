@@ -1,44 +1,18 @@
 -- The PES packets of sets that are on time are no longer than a length of 16 bits tells.
-use Rattle.std.proofs.Common.{◌≡◌, ◌∙◌, ℕ, suc, ◌+◌, ◌<◌, ◌≤◌, inl, inr, List, [], ◌∷◌, ◌++◌, length, map, Some, refl, sym, ap, subst, arith}
+use Rattle.std.proofs.Common.{◌≡◌, ℕ, suc, ◌<◌, ◌≤◌, inl, inr, List, [], ◌∷◌, ◌++◌, length, map, sym, subst, arith}
 use Rattle.std.specs.Prelude.{flat_map}
 use Rattle.std.specs.List.{AllByRecursion}
 use Rattle.std.proofs.lemmas.List.Elements.{recursion_from_All}
 use Rattle.std.proofs.lemmas.List.Sums.{sum_by-cons}
-use Rattle.sub_base.specs.Picture.{Picture}
 use Rattle.sub_base.specs.declared.load.TheConstants.{UNIT_ROOM}
 use Rattle.sub_base.specs.declared.load.WriteLoad.{WriteLoad}
 use Rattle.pes_packets.specs.Units.{IsOneUnit, AreUnits, unit_length}
-use Rattle.cue_list.specs.declared.epoch.Epoch.{Epoch}
 use Rattle.cue_list.specs.declared.script.Script.{Script}
 use Rattle.page_epoch.specs.declared.planned_set.PlannedSet.{PlannedSet}
 use Rattle.schedule.specs.Packets.{longest_of}
-use Rattle.set_coder.proofs.FieldLaws.{one_sizes}
-use Rattle.set_coder.specs.SetSegments.{picture_of_cue, depth_of_cue}
-use Rattle.set_coder.specs.SetSizes.{made_even, leading_sizes, IsObjectSize, AreObjectSizes, AreSegmentSizes, IsSetLoad}
+use Rattle.set_coder.proofs.SetSizeLaws.{one_segment_sizes}
+use Rattle.set_coder.specs.SetSizes.{IsSetLoad}
 use Rattle.shown_stream.specs.Compiled.{AreLoads, AreSizedAs}
-
--- ---- the segments of a set have one list of sizes
-
-one_object_size : (pictures : List Picture) (epoch : Epoch) (place size other : ℕ) → IsObjectSize pictures epoch place size → IsObjectSize pictures epoch place other → size ≡ other
-one_object_size pictures epoch place size other p q =
-    let same = one_sizes (picture_of_cue pictures epoch place) (depth_of_cue epoch place) p.0 p.1 q.0 q.1 p.2 q.2 in
-    let sum : 13 + p.0 + p.1 ≡ 13 + q.0 + q.1 = omega (arith, same.0, same.1) in
-    p.3 ∙ ap made_even sum ∙ sym q.3
-
-one_list_of_objects : (pictures : List Picture) (epoch : Epoch) (places sizes others : List ℕ) → AreObjectSizes pictures epoch places sizes → AreObjectSizes pictures epoch places others → sizes ≡ others
-one_list_of_objects pictures epoch [] [] [] p q = refl
-one_list_of_objects pictures epoch [] [] (other ∷ others) p q = absurd q
-one_list_of_objects pictures epoch [] (size ∷ sizes) others p q = absurd p
-one_list_of_objects pictures epoch (place ∷ places) [] others p q = absurd p
-one_list_of_objects pictures epoch (place ∷ places) (size ∷ sizes) [] p q = absurd q
-one_list_of_objects pictures epoch (place ∷ places) (size ∷ sizes) (other ∷ others) p q =
-    ap (λ n. n ∷ sizes) (one_object_size pictures epoch place size other p.0 q.0) ∙ ap (λ rest. other ∷ rest) (one_list_of_objects pictures epoch places sizes others p.1 q.1)
-
-one_list_of_sizes : (script : Script) (set : PlannedSet) (sizes others : List ℕ) → AreSegmentSizes script set sizes → AreSegmentSizes script set others → sizes ≡ others
-one_list_of_sizes script set sizes others p q =
-    let same : p.epoch ≡ q.epoch = (let both : Some p.epoch ≡ Some q.epoch = sym p.found ∙ q.found in cc) in
-    let objects = one_list_of_objects script.pictures q.epoch set.cues p.objects q.objects (subst (λ (epoch : Epoch). AreObjectSizes script.pictures epoch set.cues p.objects) same p.coded) q.coded in
-    p.whole ∙ ap (λ list. leading_sizes set ++ (list ++ 6 ∷ [])) objects ∙ sym q.whole
 
 -- ---- units
 
@@ -72,7 +46,7 @@ load_fits : (script : Script) (set : PlannedSet) (load : WriteLoad) → IsSetLoa
 load_fits script set load is short =
     let sizes = is.units.sizes in
     let longest = is.longest in
-    let same : longest.sizes ≡ sizes = one_list_of_sizes script set longest.sizes sizes longest.segments is.units.segments in
+    let same : longest.sizes ≡ sizes = one_segment_sizes script set longest.sizes sizes longest.segments is.units.segments in
     let least : Fits load.longest sizes = subst (Fits load.longest) same (recursion_from_All (λ size. size ≤ load.longest) longest.sizes longest.greatest) in
     let fit : Fits UNIT_ROOM (flat_map (λ unit. unit) is.units.units) = subst (Fits UNIT_ROOM) (sym is.units.shared.whole) (fits_more load.longest UNIT_ROOM sizes short least) in
     subst (Fits 65541) (sym is.units.are) (all_units_fit is.units.units fit is.units.shared.each)
