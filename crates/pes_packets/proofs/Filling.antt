@@ -1,11 +1,12 @@
 -- Segments are put into units one after the other.
-use Rattle.std.proofs.Common.{◌≡◌, ℕ, ◌+◌, ◌<◌, ◌≤◌, inl, inr, List, [], ◌∷◌, ◌++◌, map, sum_by, refl, ap, sym, ◌∙◌, arith, append_assoc}
+use Rattle.std.proofs.Common.{◌≡◌, ℕ, ◌+◌, ◌<◌, ◌≤◌, inl, inr, List, [], ◌∷◌, ◌++◌, map, sum_by, refl, ap, sym, subst, ◌∙◌, arith, append_assoc}
 use Rattle.std.specs.List.{flat_map}
 use Rattle.std.proofs.lemmas.Grind.{flat_map-append}
 use Rattle.std.proofs.lemmas.List.{map-append, append-nil}
 use Rattle.std.proofs.lemmas.List.Sums.{sum_by_push, sum_by-cons}
-use Rattle.pes_packets.specs.Units.{IsClosed, AreUnits, IsSharedOut, unit_length}
+use Rattle.pes_packets.specs.Units.{IsClosed, AreUnits, IsSharedOut, IsOpenAfter, no_segment, some_segments, AreUnitLengths, unit_length}
 use Rattle.sub_base.specs.declared.load.TheConstants.{UNIT_ROOM}
+use Rattle.pes_packets.specs.declared.units.TheConstants.{OTHER_BYTES}
 
 -- the bytes of a list of lengths
 abbrev pub own : ℕ → ℕ
@@ -33,59 +34,49 @@ AreUnits-closed (one ∷ []) unit next at over = (at.0, IsClosed-front one unit 
 AreUnits-closed (one ∷ [] ∷ more) unit next at over = (at.0, at.1, AreUnits-closed ([] ∷ more) unit next at.2 over)
 AreUnits-closed (one ∷ (front ∷ rest) ∷ more) unit next at over = (at.0, at.1, AreUnits-closed ((front ∷ rest) ∷ more) unit next at.2 over)
 
--- what stands once the segments of a front have been taken: units that are closed, and one that is being filled
-pub data IsFilled (front before out : List ℕ) (filled : ℕ) : Type 0 where
-  Empty : front ≡ [] → out ≡ before → filled ≡ 0 → IsFilled front before out filled
-  Begun : (closed : List (List ℕ)) (first : ℕ) (others : List ℕ) → 1 ≤ first → flat_map (λ unit. unit) closed ++ (first ∷ others) ≡ front →
-      out ≡ before ++ map (unit_length own) closed → AreUnits own (closed ++ (first ∷ others) ∷ []) → filled ≡ sum_by own (first ∷ others) → IsFilled front before out filled
-
-pub IsFilled-none : (before : List ℕ) → IsFilled [] before before 0
-IsFilled-none before = Empty refl refl refl
-
-one_more : (closed : List (List ℕ)) (unit front : List ℕ) (next : ℕ) → flat_map (λ unit. unit) closed ++ unit ≡ front → flat_map (λ unit. unit) closed ++ (unit ++ next ∷ []) ≡ front ++ next ∷ []
-one_more closed unit front next whole = sym (append_assoc (flat_map (λ unit. unit) closed) unit (next ∷ [])) ∙ ap (λ xs. xs ++ next ∷ []) whole
-
 joined : (closed : List (List ℕ)) (unit : List ℕ) → flat_map (λ unit. unit) (closed ++ unit ∷ []) ≡ flat_map (λ unit. unit) closed ++ unit
 joined closed unit = flat_map-append (λ unit. unit) closed (unit ∷ []) ∙ ap (λ xs. flat_map (λ unit. unit) closed ++ xs) (append-nil unit)
 
-lengths : (before out : List ℕ) (closed : List (List ℕ)) (unit : List ℕ) → out ≡ before ++ map (unit_length own) closed →
-    out ++ unit_length own unit ∷ [] ≡ before ++ map (unit_length own) (closed ++ unit ∷ [])
-lengths before out closed unit is =
-    ap (λ xs. xs ++ unit_length own unit ∷ []) is ∙ append_assoc before (map (unit_length own) closed) (unit_length own unit ∷ [])
-    ∙ ap (λ xs. before ++ xs) (sym (map-append (unit_length own) closed (unit ∷ [])))
+one_more : (closed : List (List ℕ)) (unit segments : List ℕ) (next : ℕ) → flat_map (λ unit. unit) (closed ++ unit ∷ []) ≡ segments → flat_map (λ unit. unit) (closed ++ (unit ++ next ∷ []) ∷ []) ≡ segments ++ next ∷ []
+one_more closed unit segments next whole =
+    joined closed (unit ++ next ∷ []) ∙ sym (append_assoc (flat_map (λ unit. unit) closed) unit (next ∷ [])) ∙ ap (λ xs. xs ++ next ∷ []) (sym (joined closed unit) ∙ whole)
 
--- a segment that the unit has room for
-pub IsFilled-grown : (front before out : List ℕ) (filled next : ℕ) → 1 ≤ next → (0 < filled → filled + next ≤ UNIT_ROOM) → IsFilled front before out filled →
-    IsFilled (front ++ next ∷ []) before out (filled + next)
-IsFilled-grown front before out filled next some room (Empty none same zero_bytes) =
-    Begun [] next [] some (ap (λ xs. xs ++ next ∷ []) (sym none)) (same ∙ sym (append-nil before)) ((omega arith, inl refl), tt, tt) (omega (arith, zero_bytes, sum_by-cons own next []))
-IsFilled-grown front before out filled next some room (Begun closed first others any whole is units bytes) =
+-- a segment that the open unit has room for
+pub open_grown : (segments lengths : List ℕ) (bytes next : ℕ) → 1 ≤ next → (0 < bytes → bytes + next ≤ UNIT_ROOM) → IsOpenAfter segments lengths bytes →
+    IsOpenAfter (segments ++ next ∷ []) (lengths ++ []) (bytes + next)
+open_grown segments lengths bytes next some room (no_segment none closed zero_bytes) =
+    some_segments [] (next ∷ []) (record { whole = ap (λ xs. xs ++ next ∷ []) (sym none); each = ((omega arith, inl refl), tt, tt) })
+    (omega (arith, some, sum_by-cons own next [])) (append-nil lengths ∙ closed) (omega (arith, zero_bytes, sum_by-cons own next []))
+open_grown segments lengths bytes next some room (some_segments closed [] shared any are is) = absurd (omega (arith, any))
+open_grown segments lengths bytes next some room (some_segments closed (first ∷ others) shared any are is) =
     let sum = sum_by_push own (first ∷ others) next in
-    let more = sum_by-cons own first others in
-    Begun closed first (others ++ next ∷ []) any (one_more closed (first ∷ others) front next whole) is
-    (AreUnits-grown closed first others next units (omega (arith, bytes, room (omega (arith, bytes, more, any))))) (omega (arith, bytes, sum))
+    some_segments closed (first ∷ (others ++ next ∷ [])) (record {
+      whole = one_more closed (first ∷ others) segments next shared.whole;
+      each = AreUnits-grown closed first others next shared.each (omega (arith, is, room (omega (arith, is, any))));
+    }) (omega (arith, sum, any)) (append-nil lengths ∙ are) (omega (arith, sum, is))
 
 -- a segment that it has no room for
-pub IsFilled-closed : (front before out : List ℕ) (filled next : ℕ) → 1 ≤ next → 0 < filled → UNIT_ROOM < filled + next → IsFilled front before out filled →
-    IsFilled (front ++ next ∷ []) before (out ++ (17 + filled) ∷ []) next
-IsFilled-closed front before out filled next some any over (Empty none same zero_bytes) = absurd (omega (arith, any, zero_bytes))
-IsFilled-closed front before out filled next some any over (Begun closed first others one whole is units bytes) =
-    let unit = first ∷ others in
-    Begun (closed ++ unit ∷ []) next [] some (ap (λ xs. xs ++ next ∷ []) (joined closed unit ∙ whole))
-    (ap (λ (n : ℕ). out ++ (17 + n) ∷ []) bytes ∙ lengths before out closed unit is)
-    (AreUnits-closed closed unit next units (omega (arith, bytes, over))) (omega (arith, sum_by-cons own next []))
+pub open_closed : (segments lengths : List ℕ) (bytes next : ℕ) → 1 ≤ next → 0 < bytes → UNIT_ROOM < bytes + next → IsOpenAfter segments lengths bytes →
+    IsOpenAfter (segments ++ next ∷ []) (lengths ++ (OTHER_BYTES + bytes) ∷ []) next
+open_closed segments lengths bytes next some any over (no_segment none closed zero_bytes) = absurd (omega (arith, any, zero_bytes))
+open_closed segments lengths bytes next some any over (some_segments closed last shared begun are is) =
+    let front = λ (xs : List ℕ). xs ++ unit_length own last ∷ [] in
+    some_segments (closed ++ last ∷ []) (next ∷ []) (record {
+      whole = joined (closed ++ last ∷ []) (next ∷ []) ∙ ap (λ xs. xs ++ next ∷ []) shared.whole;
+      each = AreUnits-closed closed last next shared.each (omega (arith, is, over));
+    }) (omega (arith, some, sum_by-cons own next []))
+    (ap (λ (n : ℕ). lengths ++ (OTHER_BYTES + n) ∷ []) is ∙ ap front are ∙ sym (map-append (unit_length own) closed (last ∷ [])))
+    (omega (arith, sum_by-cons own next []))
 
--- the lengths of the units of segments
-abbrev pub IsAppended : (segments before out : List ℕ) → Type 0
-IsAppended segments before out = (units : List (List ℕ)) × (IsSharedOut own segments units) × (out ≡ before ++ map (unit_length own) units)
+-- at the end no segment has been taken, or the open unit is the last one
+pub open_ends : (segments lengths : List ℕ) (bytes : ℕ) → bytes ≡ 0 → IsOpenAfter segments lengths bytes → AreUnitLengths segments (lengths ++ [])
+open_ends segments lengths bytes empty (no_segment none closed zero_bytes) = record { units = []; shared = record { whole = sym none; each = tt }; are = append-nil lengths ∙ closed }
+open_ends segments lengths bytes empty (some_segments closed last shared any are is) = absurd (omega (arith, empty, is, any))
 
--- at the end no unit is being filled, or the last one is closed
-pub IsFilled-ends : (segments before out : List ℕ) (filled : ℕ) → filled ≡ 0 → IsFilled segments before out filled → IsAppended segments before out
-IsFilled-ends segments before out filled empty (Empty none same zero_bytes) = ([], (record { whole = sym none; each = tt }), same ∙ sym (append-nil before))
-IsFilled-ends segments before out filled empty (Begun closed first others one whole is units bytes) = absurd (omega (arith, empty, bytes, one, sum_by-cons own first others))
-
-pub IsFilled-last : (segments before out : List ℕ) (filled : ℕ) → 0 < filled → IsFilled segments before out filled → IsAppended segments before (out ++ (17 + filled) ∷ [])
-IsFilled-last segments before out filled any (Empty none same zero_bytes) = absurd (omega (arith, any, zero_bytes))
-IsFilled-last segments before out filled any (Begun closed first others one whole is units bytes) =
-    let unit = first ∷ others in
-    (closed ++ unit ∷ [], (record { whole = joined closed unit ∙ whole; each = units }), ap (λ (n : ℕ). out ++ (17 + n) ∷ []) bytes ∙ lengths before out closed unit is)
+pub open_last : (segments lengths : List ℕ) (bytes : ℕ) → 0 < bytes → IsOpenAfter segments lengths bytes → AreUnitLengths segments (lengths ++ (OTHER_BYTES + bytes) ∷ [])
+open_last segments lengths bytes any (no_segment none closed zero_bytes) = absurd (omega (arith, any, zero_bytes))
+open_last segments lengths bytes any (some_segments closed last shared begun are is) = record {
+  units = closed ++ last ∷ [];
+  shared = shared;
+  are = ap (λ (n : ℕ). lengths ++ (OTHER_BYTES + n) ∷ []) is ∙ ap (λ (xs : List ℕ). xs ++ unit_length own last ∷ []) are ∙ sym (map-append (unit_length own) closed (last ∷ []));
+}

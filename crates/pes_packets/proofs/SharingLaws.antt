@@ -1,5 +1,5 @@
 -- What units of segments have together, and the units of their lengths.
-use Rattle.std.proofs.Common.{◌≡◌, ℕ, ◌+◌, ◌*◌, inl, inr, List, [], ◌∷◌, ◌++◌, length, map, sum_by, refl, ap, sym, ◌∙◌, arith}
+use Rattle.std.proofs.Common.{◌≡◌, ℕ, ◌+◌, ◌*◌, inl, inr, List, [], ◌∷◌, ◌++◌, length, map, sum_by, get_or, drop, refl, ap, sym, subst, ◌∙◌, arith}
 use Rattle.std.specs.Prelude.{sum}
 use Rattle.std.specs.List.{flat_map}
 use Rattle.std.proofs.lemmas.List.{length-map, map-append}
@@ -62,3 +62,67 @@ units_sum bytes (unit ∷ units) =
 pub shared_sum : {X : Type 0} (bytes : X → ℕ) (segments : List X) (units : List (List X)) → IsSharedOut bytes segments units →
     sum (map (unit_length bytes) units) ≡ OTHER_BYTES * length units + sum_by bytes segments
 shared_sum bytes segments units shared = omega (arith, units_sum bytes units, ap (sum_by bytes) shared.whole)
+
+-- ---- what is shared out by its lengths is shared out itself
+
+one_back : {X : Type 0} (bytes : X → ℕ) (unit : List X) → IsOneUnit own (map bytes unit) → IsOneUnit bytes unit
+one_back bytes unit one = (
+  omega (arith, length-map unit bytes, one.0),
+  elim one.1 [
+    | inl single ↦ inl (omega (arith, length-map unit bytes, single))
+    | inr fits ↦ inr (omega (arith, sum_lengths bytes unit, fits))
+  ],
+)
+
+closed_back : {X : Type 0} (bytes : X → ℕ) (unit : List X) (units : List (List X)) → IsClosed own (map bytes unit) (map (map bytes) units) → IsClosed bytes unit units
+closed_back bytes unit [] closed = tt
+closed_back bytes unit ([] ∷ units) closed = tt
+closed_back bytes unit ((next ∷ others) ∷ units) closed = omega (arith, sum_lengths bytes unit, closed)
+
+units_back : {X : Type 0} (bytes : X → ℕ) (units : List (List X)) → AreUnits own (map (map bytes) units) → AreUnits bytes units
+units_back bytes [] all = tt
+units_back bytes (unit ∷ units) all = (one_back bytes unit all.0, closed_back bytes unit units all.1, units_back bytes units all.2)
+
+head_length : (n m : ℕ) (ns ms : List ℕ) → n ∷ ns ≡ m ∷ ms → n ≡ m
+head_length n m ns ms e = ap (λ xs. get_or xs 0 0) e
+
+tail_lengths : (n m : ℕ) (ns ms : List ℕ) → n ∷ ns ≡ m ∷ ms → ns ≡ ms
+tail_lengths n m ns ms e = ap (drop 1) e
+
+no_items : {X : Type 0} (bytes : X → ℕ) (segments : List X) → map bytes segments ≡ [] → segments ≡ []
+no_items bytes [] e = refl
+no_items bytes (x ∷ segments) e = absurd (let f : bytes x ∷ map bytes segments ≡ [] = e in cc)
+
+cut_front : {X : Type 0} (bytes : X → ℕ) (unit more : List ℕ) (segments : List X) → map bytes segments ≡ unit ++ more →
+    (front : List X) × (back : List X) × (front ++ back ≡ segments) × (map bytes front ≡ unit) × (map bytes back ≡ more)
+cut_front bytes [] more segments e = ([], segments, refl, refl, e)
+cut_front bytes (n ∷ unit) more [] e = absurd (let f : [] ≡ n ∷ (unit ++ more) = e in cc)
+cut_front {X = X} bytes (n ∷ unit) more (x ∷ segments) e =
+    joined_on (head_length (bytes x) n (map bytes segments) (unit ++ more) e) (cut_front bytes unit more segments (tail_lengths (bytes x) n (map bytes segments) (unit ++ more) e))
+  where
+    joined_on : bytes x ≡ n → (front : List X) × (back : List X) × (front ++ back ≡ segments) × (map bytes front ≡ unit) × (map bytes back ≡ more) →
+        (front : List X) × (back : List X) × (front ++ back ≡ x ∷ segments) × (map bytes front ≡ n ∷ unit) × (map bytes back ≡ more)
+    joined_on same rest = (x ∷ rest.0, rest.1, ap (λ xs. x ∷ xs) rest.2, ap (λ (ns : List ℕ). bytes x ∷ ns) rest.3 ∙ ap (λ (m : ℕ). m ∷ unit) same, rest.4)
+
+cut : {X : Type 0} (bytes : X → ℕ) (lengths : List (List ℕ)) (segments : List X) → map bytes segments ≡ flat_map (λ unit. unit) lengths →
+    (units : List (List X)) × (flat_map (λ unit. unit) units ≡ segments) × (map (map bytes) units ≡ lengths)
+cut bytes [] segments e = ([], sym (no_items bytes segments e), refl)
+cut {X = X} bytes (unit ∷ lengths) segments e =
+    let front = cut_front bytes unit (flat_map (λ unit. unit) lengths) segments e in
+    with_first front (cut bytes lengths front.1 front.4)
+  where
+    with_first : (front : (front : List X) × (back : List X) × (front ++ back ≡ segments) × (map bytes front ≡ unit) × (map bytes back ≡ flat_map (λ unit. unit) lengths)) →
+        (units : List (List X)) × (flat_map (λ unit. unit) units ≡ front.1) × (map (map bytes) units ≡ lengths) →
+        (units : List (List X)) × (flat_map (λ unit. unit) units ≡ segments) × (map (map bytes) units ≡ unit ∷ lengths)
+    with_first front rest = (
+      front.0 ∷ rest.0,
+      ap (λ xs. front.0 ++ xs) rest.1 ∙ front.2,
+      ap (λ (ns : List ℕ). ns ∷ map (map bytes) rest.0) front.3 ∙ ap (λ (ns : List (List ℕ)). unit ∷ ns) rest.2,
+    )
+
+-- where the lengths of segments are shared out to units, the segments are, to units of these lengths
+pub shared_back : {X : Type 0} (bytes : X → ℕ) (segments : List X) (lengths : List (List ℕ)) → IsSharedOut own (map bytes segments) lengths →
+    (units : List (List X)) × IsSharedOut bytes segments units × (map (map bytes) units ≡ lengths)
+shared_back bytes segments lengths shared =
+    let parts = cut bytes lengths segments (sym shared.whole) in
+    (parts.0, (record { whole = parts.1; each = units_back bytes parts.0 (subst (AreUnits own) (sym parts.2) shared.each) }), parts.2)

@@ -24,6 +24,10 @@ fn worked_packet_is_read_and_written(rt: HostRuntime) -> Result<(), Fail> {
     )?;
     assert_eq!(rt; out.len(), 23);
     assert_eq!(rt; read_pes(&out)?.pts, 180_000);
+
+    let mut unit = Vec::new(rt.alloc());
+    write_unit(180_000, &SECOND_UNIT[16..30], &mut unit)?;
+    assert_eq!(rt; unit.as_slice(), SECOND_UNIT.as_slice());
     Ok(())
 }
 

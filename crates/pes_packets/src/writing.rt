@@ -3,13 +3,17 @@ ghost use Rattle.stream_syntax.specs.Cutting.{IsUnit};
 ghost use Rattle.stream_syntax.specs.Pes.{IsPes, pes_of, written_header, written_pes};
 
 use byteorder::{BigEndian, ByteOrder};
-use sub_base::NoMemory;
+use stream_syntax::{DATA_IDENTIFIER, END_OF_FIELD};
+use sub_base::{NoMemory, UNIT_ROOM};
 
 /// The stream id of private data that is not in the form of audio or video, which subtitles have.
 pub const PRIVATE_STREAM_1: u8 = 0xBD;
 
 /// The bytes before the data field.
 const HEADER_LENGTH: usize = 14;
+
+/// The data field begins with the data identifier of subtitles and the number of their stream.
+const FIELD_START: [u8; 2] = [DATA_IDENTIFIER, 0x00];
 
 /// The bytes behind the length field and before the data field.
 const LENGTH_BEFORE_FIELD: usize = 8;
@@ -36,6 +40,24 @@ pub fn write_pes(pts: u64, field: &[u8], out: &mut Vec<u8>) -> Result<(), NoMemo
     let header = header(pts, (LENGTH_BEFORE_FIELD + field.len()) as u16);
     out.extend_from_slice(&header).unwrap();
     out.extend_from_slice(field).unwrap();
+    Ok(())
+}
+
+/// Appends the PES packet of a unit of a display set: with this presentation time, in ticks of 90 kHz, and a data field of
+/// these segments between data identifier 20, subtitle stream id 00, and the end marker (EN 300 743, 7.1).
+pub fn write_unit(pts: u64, segments: &[u8], out: &mut Vec<u8>) -> Result<(), NoMemory>
+    requires time { pts < 2 ^ 33 }
+    requires fits { length segments.now ≤ UNIT_ROOM }
+    ensures bytes { OnOk result (out.new.items ≡ out.old.items ++ written_pes pts (0x20 ∷ 0 ∷ (segments.now ++ 0xFF ∷ []))) }
+    ensures err { OnErr result (out.new.items ≡ out.old.items) }
+{
+    let field_length = FIELD_START.len() + segments.len() + 1;
+    out.reserve(HEADER_LENGTH + field_length)?;
+    let header = header(pts, (LENGTH_BEFORE_FIELD + field_length) as u16);
+    out.extend_from_slice(&header).unwrap();
+    out.extend_from_slice(&FIELD_START).unwrap();
+    out.extend_from_slice(segments).unwrap();
+    out.push_reserved(END_OF_FIELD);
     Ok(())
 }
 

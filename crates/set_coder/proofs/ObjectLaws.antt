@@ -4,11 +4,12 @@ use Rattle.std.specs.Prelude.{All}
 use Rattle.std.specs.List.{flat_map}
 use Rattle.std.proofs.lemmas.Bool.{eqb-true, eqb-false}
 use Rattle.std.proofs.lemmas.List.{append-nil, drop_more, drop_all}
-use Rattle.std.proofs.lemmas.List.Elements.{All-cons, All-append}
+use Rattle.std.proofs.lemmas.List.Elements.{All-cons, All-append, AllZip-get_or, length_all_zip}
 use Rattle.std.proofs.lemmas.Grind.{flat_map-append}
 use Rattle.std.proofs.lemmas.Option.{get_or_from_slice_get, slice_get-get_or}
 use Rattle.sub_base.specs.Picture.{Picture, picture_of, top_field, bottom_field}
 use Rattle.sub_base.specs.declared.depth.Depth.{Depth}
+use Rattle.sub_base.specs.declared.load.TheConstants.{UNIT_ROOM}
 use Rattle.sub_base.specs.declared.depth.Depth.TheVariants.{Two}
 use Rattle.stream_syntax.specs.FieldBlocks.{AreFieldBlocks, AreFieldSizes, DrawsPicture}
 use Rattle.stream_syntax.specs.Fields.{Field, FitsFields}
@@ -20,7 +21,7 @@ use Rattle.cue_list.specs.declared.epoch.Epoch.{Epoch}
 use Rattle.cue_list.specs.declared.epoch.Region.{Region}
 use Rattle.page_epoch.specs.Live.{cue_at}
 use Rattle.page_epoch.specs.Sendable.{HasCue}
-use Rattle.set_coder.specs.SetSegments.{region_of, picture_of_cue, depth_of_cue, object_of, IsObjectOf, AreObjectsOf, data_field}
+use Rattle.set_coder.specs.SetSegments.{region_of, picture_of_cue, depth_of_cue, object_of, IsObjectOf, AreObjectsOf}
 use Rattle.set_coder.specs.SetSizes.{made_even, IsObjectSize, AreObjectSizes}
 use Rattle.set_coder.specs.Usable.{IsDrawable, AreDrawable}
 use Rattle.set_coder.proofs.FieldLaws.{field_size, one_sizes}
@@ -56,6 +57,14 @@ object_writable page object see_through top bottom page_fits object_fits blocks 
     let whole = writable page (object_of object see_through top bottom) page_fits body (omega (arith, pad, rest)) blocks tt in
     (whole, spelled_length page _ whole ∙ omega (arith, pad, rest))
 
+-- an object that can be written has that many bytes
+pub object_length : (page object : ℕ) (see_through : Bool) (top bottom : List ℕ) → IsWritable page (object_of object see_through top bottom) → length (spelled page (object_of object see_through top bottom)) ≡ made_even (13 + length top + length bottom)
+object_length page object see_through top bottom whole =
+    let padded = is_odd (record { object = object; version = 0; see_through = see_through; top = top; bottom = bottom }) in
+    let pad : length (padding_bytes padded) ≡ (13 + length top + length bottom) % 2 = padding_size (13 + length top + length bottom) in
+    let rest : length (top ++ (bottom ++ padding_bytes padded)) ≡ length top + (length bottom + length (padding_bytes padded)) = length-append top (bottom ++ padding_bytes padded) ∙ ap (λ (n : ℕ). length top + n) (length-append bottom (padding_bytes padded)) in
+    spelled_length page (object_of object see_through top bottom) whole ∙ omega (arith, pad, rest)
+
 -- ---- the object of a cue
 
 -- an item of a list that is there is the same by any default
@@ -83,7 +92,7 @@ object_is pictures epoch place cue picture depth top bottom named p d blocks dra
   value = ap (λ (c : Cue). object_of place c.see_through top bottom) named;
 }
 
-block_sizes : (picture : Picture) (region : Depth) (top bottom : List ℕ) → AreFieldBlocks picture region top bottom → AreFieldSizes picture region (length top) (length bottom)
+pub block_sizes : (picture : Picture) (region : Depth) (top bottom : List ℕ) → AreFieldBlocks picture region top bottom → AreFieldSizes picture region (length top) (length bottom)
 block_sizes picture region top bottom b = record {
   top_size = field_size picture.depth region (top_field picture) top b.top_block;
   shared = λ e. ap length (b.shared e);
@@ -108,38 +117,26 @@ pub record Objects (pictures : List Picture) (epoch : Epoch) (page : ℕ) (cues 
   pub right : All (IsWritable page) done
   pub bytes : now ≡ old ++ flat_map (spelled page) done
   pub drawn : (rest : List SegmentValue) → AreObjectsOf pictures epoch (drop i cues) rest → AreObjectsOf pictures epoch cues (done ++ rest)
-  pub sizes : (sum : ℕ) → AreObjectSizes pictures epoch cues sum → (rest : ℕ) × AreObjectSizes pictures epoch (drop i cues) rest × (length now + rest ≡ length old + sum)
 
 pub objects_none : (pictures : List Picture) (epoch : Epoch) (page : ℕ) (cues old : List ℕ) → Objects pictures epoch page cues old old 0
-objects_none pictures epoch page cues old = record { done = []; right = λ k d h. absurd (omega arith); bytes = sym (append-nil old); drawn = λ rest are. are; sizes = λ sum are. (sum, are, refl) }
-
--- the next object, and those after it
-next_sizes : (pictures : List Picture) (epoch : Epoch) (cues : List ℕ) (i rest : ℕ) → i < length cues → AreObjectSizes pictures epoch (drop i cues) rest
-    → (here : ℕ) × (more : ℕ) × IsObjectSize pictures epoch (get_or cues i 0) here × AreObjectSizes pictures epoch (drop (i + 1) cues) more × (rest ≡ here + more)
-next_sizes pictures epoch cues i rest h are = subst (λ (places : List ℕ). AreObjectSizes pictures epoch places rest) (drop_more cues i 0 h) are
+objects_none pictures epoch page cues old = record { done = []; right = λ k d h. absurd (omega arith); bytes = sym (append-nil old); drawn = λ rest are. are }
 
 -- there is room for the next object
-pub object_room : (pictures : List Picture) (epoch : Epoch) (page : ℕ) (cues old now : List ℕ) (i : ℕ) → i < length cues → Objects pictures epoch page cues old now i
-    → (sum : ℕ) × AreObjectSizes pictures epoch cues sum × (sum ≤ 65541) → (size : ℕ) × IsObjectSize pictures epoch (get_or cues i 0) size × (size ≤ 65541)
-object_room pictures epoch page cues old now i h o room =
-    let left = o.sizes room.0 room.1 in
-    let next = next_sizes pictures epoch cues i left.0 h left.1 in
-    (next.0, next.2, omega (arith, next.4, left.2, room.2, ap length o.bytes, length-append old (flat_map (spelled page) o.done)))
+pub object_room : (pictures : List Picture) (epoch : Epoch) (cues : List ℕ) (i : ℕ) → i < length cues
+    → (sizes : List ℕ) × AreObjectSizes pictures epoch cues sizes × All (λ size. size ≤ UNIT_ROOM) sizes → (size : ℕ) × IsObjectSize pictures epoch (get_or cues i 0) size × (size ≤ UNIT_ROOM)
+object_room pictures epoch cues i h room =
+    let count = length_all_zip (IsObjectSize pictures epoch) cues room.0 room.1 in
+    (get_or room.0 i 0, AllZip-get_or (IsObjectSize pictures epoch) cues room.0 i 0 0 room.1 h, room.2 i 0 (omega (arith, count, h)))
 
 pub objects_more : (pictures : List Picture) (epoch : Epoch) (page : ℕ) (cues old now new : List ℕ) (i : ℕ) → i < length cues → Objects pictures epoch page cues old now i
-    → (object : SegmentValue) × IsObjectOf pictures epoch (get_or cues i 0) object × IsWritable page object × (new ≡ now ++ spelled page object)
-    → ((size : ℕ) → IsObjectSize pictures epoch (get_or cues i 0) size → length new ≡ length now + size) → Objects pictures epoch page cues old new (i + 1)
-objects_more pictures epoch page cues old now new i h o one sized = record {
+    → (object : SegmentValue) × IsObjectOf pictures epoch (get_or cues i 0) object × IsWritable page object × (new ≡ now ++ spelled page object) → Objects pictures epoch page cues old new (i + 1)
+objects_more pictures epoch page cues old now new i h o one = record {
   done = o.done ++ one.0 ∷ [];
   right = All-append (IsWritable page) o.done (one.0 ∷ []) o.right (All-cons (IsWritable page) one.0 [] one.2 (λ k d l. absurd (omega arith)));
   bytes = one.3 ∙ ap (λ (xs : List ℕ). xs ++ spelled page one.0) o.bytes ∙ append_assoc old (flat_map (spelled page) o.done) (spelled page one.0)
       ∙ ap (λ (xs : List ℕ). old ++ xs) (ap (λ (xs : List ℕ). flat_map (spelled page) o.done ++ xs) (sym (append-nil (spelled page one.0))) ∙ sym (flat_map-append (spelled page) o.done (one.0 ∷ [])));
   drawn = λ rest are.
       subst (AreObjectsOf pictures epoch cues) (sym (append_assoc o.done (one.0 ∷ []) rest)) (o.drawn (one.0 ∷ rest) (subst (λ (places : List ℕ). AreObjectsOf pictures epoch places (one.0 ∷ rest)) (sym (drop_more cues i 0 h)) (one.1, are)));
-  sizes = λ sum are.
-      let left = o.sizes sum are in
-      let next = next_sizes pictures epoch cues i left.0 h left.1 in
-      (next.1, next.3, omega (arith, sized next.0 next.2, next.4, left.2));
 }
 
 pub objects_drawn : (pictures : List Picture) (epoch : Epoch) (page : ℕ) (cues old now : List ℕ) (i : ℕ) → length cues ≤ i → Objects pictures epoch page cues old now i
@@ -147,25 +144,16 @@ pub objects_drawn : (pictures : List Picture) (epoch : Epoch) (page : ℕ) (cues
 objects_drawn pictures epoch page cues old now i h o =
     (o.done, subst (AreObjectsOf pictures epoch cues) (append-nil o.done) (o.drawn [] (subst (λ (places : List ℕ). AreObjectsOf pictures epoch places []) (sym (drop_all i cues h)) tt)), o.right, o.bytes)
 
-pub objects_sized : (pictures : List Picture) (epoch : Epoch) (page : ℕ) (cues old now : List ℕ) (i : ℕ) → length cues ≤ i → Objects pictures epoch page cues old now i
-    → (sum : ℕ) → AreObjectSizes pictures epoch cues sum → length now ≡ length old + sum
-objects_sized pictures epoch page cues old now i h o sum are =
-    let left = o.sizes sum are in
-    let none : left.0 ≡ 0 = subst (λ (places : List ℕ). AreObjectSizes pictures epoch places left.0) (drop_all i cues h) left.1 in
-    omega (arith, left.2, none)
+-- ---- the segments
 
--- ---- the data field
-
-pub field_is : (page : ℕ) (leading objects : List SegmentValue) (start first second third whole : List ℕ) → start ≡ 0x20 ∷ 0x00 ∷ [] → first ≡ start ++ flat_map (spelled page) leading → second ≡ first ++ flat_map (spelled page) objects
-    → third ≡ second ++ spelled page end_of_set → whole ≡ third ++ 0xFF ∷ [] → whole ≡ data_field page (leading ++ (objects ++ end_of_set ∷ []))
-field_is page leading objects start first second third whole s a b c d =
+-- the bytes of all segments, one after the other
+pub bytes_are : (page : ℕ) (leading objects : List SegmentValue) (start first second whole : List ℕ) → start ≡ [] → first ≡ start ++ flat_map (spelled page) leading → second ≡ first ++ flat_map (spelled page) objects
+    → whole ≡ second ++ spelled page end_of_set → whole ≡ flat_map (spelled page) (leading ++ (objects ++ end_of_set ∷ []))
+bytes_are page leading objects start first second whole s a b c =
     let one = flat_map (spelled page) leading in
     let two = flat_map (spelled page) objects in
     let three = spelled page end_of_set in
     let text : flat_map (spelled page) (leading ++ (objects ++ end_of_set ∷ [])) ≡ one ++ (two ++ three) =
     flat_map-append (spelled page) leading (objects ++ end_of_set ∷ [])
     ∙ ap (λ (xs : List ℕ). one ++ xs) (flat_map-append (spelled page) objects (end_of_set ∷ []) ∙ ap (λ (xs : List ℕ). two ++ xs) (append-nil three)) in
-    let sum : third ≡ (0x20 ∷ 0x00 ∷ []) ++ (one ++ (two ++ three)) =
-    c ∙ ap (λ (xs : List ℕ). xs ++ three) (b ∙ ap (λ (xs : List ℕ). xs ++ two) (a ∙ ap (λ (xs : List ℕ). xs ++ one) s))
-    ∙ append_assoc ((0x20 ∷ 0x00 ∷ []) ++ one) two three ∙ append_assoc (0x20 ∷ 0x00 ∷ []) one (two ++ three) in
-    d ∙ ap (λ (xs : List ℕ). xs ++ 0xFF ∷ []) (sum ∙ ap (λ (xs : List ℕ). 0x20 ∷ 0x00 ∷ xs) (sym text))
+    c ∙ ap (λ (xs : List ℕ). xs ++ three) (b ∙ ap (λ (xs : List ℕ). xs ++ two) (a ∙ ap (λ (xs : List ℕ). xs ++ one) s)) ∙ append_assoc one two three ∙ sym text

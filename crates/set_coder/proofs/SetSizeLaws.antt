@@ -1,29 +1,19 @@
--- The size of a set: object by object, and that it is one number.
-use Rattle.std.proofs.Common.{◌≡◌, ℕ, ◌+◌, ◌<◌, ◌≤◌, List, [], ◌∷◌, length, get_or, drop, Some, refl, sym, ap, subst, ◌∙◌, arith}
-use Rattle.std.proofs.lemmas.List.{drop_more, drop_all}
+-- The sizes of a set's segments are one list, and so are the lengths of its units, its size, its longest segment and its load.
+use Rattle.std.proofs.Common.{◌≡◌, ℕ, ◌+◌, ◌<◌, ◌≤◌, eqb, Bool, true, false, List, [], ◌∷◌, ◌++◌, length, map, Some, sum, refl, sym, ap, subst, ◌∙◌, arith}
+use Rattle.std.specs.Prelude.{All, sum_by, ◌||◌}
+use Rattle.std.specs.List.{AllZip, list_any}
+use Rattle.std.proofs.lemmas.Bool.{eqb-true}
+use Rattle.std.proofs.lemmas.List.Elements.{All-head, All-tail}
 use Rattle.sub_base.specs.Picture.{Picture}
+use Rattle.sub_base.specs.declared.load.WriteLoad.{WriteLoad}
+use Rattle.pes_packets.specs.Units.{IsSharedOut, unit_length}
+use Rattle.pes_packets.proofs.OneSharing.{units_same}
 use Rattle.cue_list.specs.declared.epoch.Epoch.{Epoch}
 use Rattle.cue_list.specs.declared.script.Script.{Script}
 use Rattle.page_epoch.specs.declared.planned_set.PlannedSet.{PlannedSet}
 use Rattle.set_coder.specs.SetSegments.{picture_of_cue, depth_of_cue}
-use Rattle.set_coder.specs.SetSizes.{made_even, IsObjectSize, AreObjectSizes, IsSetSize}
+use Rattle.set_coder.specs.SetSizes.{made_even, leading_sizes, painting_of, IsObjectSize, AreObjectSizes, AreSegmentSizes, AreUnitSizes, IsSetSize, IsLongestSegment, IsPaintedIn, IsSetLoad}
 use Rattle.set_coder.proofs.FieldLaws.{one_sizes}
-
--- the objects so far, with one more
-pub objects_more : (pictures : List Picture) (epoch : Epoch) (cues : List ℕ) (i size here : ℕ) → i < length cues → IsObjectSize pictures epoch (get_or cues i 0) here
-    → ((rest : ℕ) → AreObjectSizes pictures epoch (drop i cues) rest → AreObjectSizes pictures epoch cues (size + rest))
-    → (rest : ℕ) → AreObjectSizes pictures epoch (drop (i + 1) cues) rest → AreObjectSizes pictures epoch cues (size + here + rest)
-objects_more pictures epoch cues i size here h one sum rest more =
-    let e : size + (here + rest) ≡ size + here + rest = omega arith in
-    subst (AreObjectSizes pictures epoch cues) e (sum (here + rest) (subst (λ (places : List ℕ). AreObjectSizes pictures epoch places (here + rest)) (sym (drop_more cues i 0 h)) (here, rest, one, more, refl)))
-
-pub objects_all : (pictures : List Picture) (epoch : Epoch) (cues : List ℕ) (i size : ℕ) → length cues ≤ i
-    → ((rest : ℕ) → AreObjectSizes pictures epoch (drop i cues) rest → AreObjectSizes pictures epoch cues (size + rest)) → AreObjectSizes pictures epoch cues size
-objects_all pictures epoch cues i size h sum =
-    let e : size + 0 ≡ size = omega arith in
-    subst (AreObjectSizes pictures epoch cues) e (sum 0 (subst (λ (places : List ℕ). AreObjectSizes pictures epoch places 0) (sym (drop_all i cues h)) refl))
-
--- ---- sizes are one number
 
 one_object_size : (pictures : List Picture) (epoch : Epoch) (place size other : ℕ) → IsObjectSize pictures epoch place size → IsObjectSize pictures epoch place other → size ≡ other
 one_object_size pictures epoch place size other p q =
@@ -31,13 +21,59 @@ one_object_size pictures epoch place size other p q =
     let e : 13 + p.0 + p.1 ≡ 13 + q.0 + q.1 = omega (arith, same.0, same.1) in
     p.3 ∙ ap made_even e ∙ sym q.3
 
-one_objects_size : (pictures : List Picture) (epoch : Epoch) (places : List ℕ) (size other : ℕ) → AreObjectSizes pictures epoch places size → AreObjectSizes pictures epoch places other → size ≡ other
-one_objects_size pictures epoch [] size other p q = p ∙ sym q
-one_objects_size pictures epoch (place ∷ places) size other p q =
-    omega (arith, p.4, q.4, one_object_size pictures epoch place p.0 q.0 p.2 q.2, one_objects_size pictures epoch places p.1 q.1 p.3 q.3)
+pub one_object_sizes : (pictures : List Picture) (epoch : Epoch) (places sizes others : List ℕ) → AreObjectSizes pictures epoch places sizes → AreObjectSizes pictures epoch places others → sizes ≡ others
+one_object_sizes pictures epoch [] [] [] p q = refl
+one_object_sizes pictures epoch [] [] (y ∷ others) p q = absurd q
+one_object_sizes pictures epoch [] (x ∷ sizes) others p q = absurd p
+one_object_sizes pictures epoch (place ∷ places) [] others p q = absurd p
+one_object_sizes pictures epoch (place ∷ places) (x ∷ sizes) [] p q = absurd q
+one_object_sizes pictures epoch (place ∷ places) (x ∷ sizes) (y ∷ others) p q =
+    ap (λ (n : ℕ). n ∷ sizes) (one_object_size pictures epoch place x y p.0 q.0) ∙ ap (λ (ns : List ℕ). y ∷ ns) (one_object_sizes pictures epoch places sizes others p.1 q.1)
+
+-- an epoch that is found is one
+pub one_epoch : (found other : Epoch) → Some found ≡ Some other → found ≡ other
+one_epoch found other e = cc
+
+pub one_segment_sizes : (script : Script) (set : PlannedSet) (sizes others : List ℕ) → AreSegmentSizes script set sizes → AreSegmentSizes script set others → sizes ≡ others
+one_segment_sizes script set sizes others p q =
+    let same : p.epoch ≡ q.epoch = one_epoch p.epoch q.epoch (sym p.found ∙ q.found) in
+    let objects = one_object_sizes script.pictures q.epoch set.cues p.objects q.objects (subst (λ (epoch : Epoch). AreObjectSizes script.pictures epoch set.cues p.objects) same p.coded) q.coded in
+    p.whole ∙ ap (λ (ns : List ℕ). leading_sizes set ++ (ns ++ 6 ∷ [])) objects ∙ sym q.whole
+
+pub one_unit_sizes : (script : Script) (set : PlannedSet) (lengths others : List ℕ) → AreUnitSizes script set lengths → AreUnitSizes script set others → lengths ≡ others
+one_unit_sizes script set lengths others p q =
+    let sizes = one_segment_sizes script set p.sizes q.sizes p.segments q.segments in
+    let units = units_same (λ bytes. bytes) q.sizes p.units q.units (subst (λ (ns : List ℕ). IsSharedOut (λ bytes. bytes) ns p.units) sizes p.shared) q.shared in
+    p.are ∙ ap (map (unit_length (λ bytes. bytes))) units ∙ sym q.are
 
 pub one_set_size : (script : Script) (set : PlannedSet) (size other : ℕ) → IsSetSize script set size → IsSetSize script set other → size ≡ other
-one_set_size script set size other p q =
-    let same : p.epoch ≡ q.epoch = (let f : Some p.epoch ≡ Some q.epoch = sym p.found ∙ q.found in cc) in
-    let objects = one_objects_size script.pictures q.epoch set.cues p.objects q.objects (subst (λ (epoch : Epoch). AreObjectSizes script.pictures epoch set.cues p.objects) same p.coded) q.coded in
-    omega (arith, p.whole, q.whole, objects)
+one_set_size script set size other p q = p.whole ∙ ap sum (one_unit_sizes script set p.lengths q.lengths p.sized q.sized) ∙ sym q.whole
+
+-- one of the items is at most as large as all of them are
+one_of : (sizes : List ℕ) (one most : ℕ) → list_any (λ size. eqb size one) sizes ≡ true → All (λ size. size ≤ most) sizes → one ≤ most
+one_of [] one most e all = absurd (let f : false ≡ true = e in cc)
+one_of (size ∷ sizes) one most e all = by (one_of sizes one most) (eqb size one) refl e
+  where
+    by : (list_any (λ size. eqb size one) sizes ≡ true → All (λ size. size ≤ most) sizes → one ≤ most) → (b : Bool) → eqb size one ≡ b → b || list_any (λ size. eqb size one) sizes ≡ true → one ≤ most
+    by more true here e = omega (arith, eqb-true size one here, All-head (λ (n : ℕ). n ≤ most) size sizes all)
+    by more false here e = more e (All-tail (λ (n : ℕ). n ≤ most) size sizes all)
+
+pub one_longest : (script : Script) (set : PlannedSet) (longest other : ℕ) → IsLongestSegment script set longest → IsLongestSegment script set other → longest ≡ other
+one_longest script set longest other p q =
+    let sizes = one_segment_sizes script set p.sizes q.sizes p.segments q.segments in
+    let left = one_of q.sizes longest other (subst (λ (ns : List ℕ). list_any (λ size. eqb size longest) ns ≡ true) sizes p.one) q.greatest in
+    let right = one_of q.sizes other longest q.one (subst (All (λ size. size ≤ longest)) sizes p.greatest) in
+    omega (arith, left, right)
+
+one_painted : (script : Script) (set : PlannedSet) (painted other : ℕ) → IsPaintedIn script set painted → IsPaintedIn script set other → painted ≡ other
+one_painted script set painted other p q =
+    p.sum ∙ ap (λ (epoch : Epoch). sum_by (painting_of epoch) set.regions) (one_epoch p.epoch q.epoch (sym p.found ∙ q.found)) ∙ sym q.sum
+
+pub one_load : (script : Script) (set : PlannedSet) (load other : WriteLoad) → IsSetLoad script set load → IsSetLoad script set other → load ≡ other
+one_load script set load other p q =
+    let time = p.time ∙ sym q.time in
+    let units = one_unit_sizes script set load.units other.units p.units q.units in
+    let size = p.size ∙ ap sum units ∙ sym q.size in
+    let painted = one_painted script set load.load.painted other.load.painted p.painted q.painted in
+    let longest = one_longest script set load.longest other.longest p.longest q.longest in
+    λ i. record { load = record { pts = time i; size = size i; painted = painted i }; longest = longest i; units = units i }

@@ -4,7 +4,7 @@ use Rattle.std.proofs.lemmas.List.Elements.{All-head, All-tail}
 use Rattle.sub_base.specs.declared.depth.Depth.{Depth}
 use Rattle.stream_syntax.specs.PixelCodes.{IsRowSize}
 use Rattle.stream_syntax.specs.FieldBlocks.{identity_table, AreRowSizes, IsFieldSize}
-use Rattle.set_coder.specs.Rows.{IsRowOf, AreRows}
+use Rattle.set_coder.specs.Rows.{IsRowOf, AreRows, room_of}
 
 -- the rows so far, with one more
 pub rows_more : (depth : Depth) (left next rows : List (List ℕ)) (row : List ℕ) (size here : ℕ) → AreRows depth left → left ≡ row ∷ next → IsRowSize depth row here → here ≤ 2 * length row + 3
@@ -19,6 +19,10 @@ rows_more depth left next rows row size here are e sized short few sum =
       λ more s. let g : size + (2 + here + more) ≡ size + (2 + here) + more = omega arith in
           subst (AreRowSizes depth rows) g (sum (2 + here + more) (subst (λ (t : List (List ℕ)). AreRowSizes depth t (2 + here + more)) (sym e) (here, more, sized, s, refl))),
     )
+
+-- they have no more bytes than there is room for
+pub room_more : (left next : List (List ℕ)) (row : List ℕ) (size here room : ℕ) → left ≡ row ∷ next → here ≤ 2 * length row + 3 → size + room_of left ≤ room → size + (2 + here) + room_of next ≤ room
+room_more left next row size here room e short fits = omega (arith, ap room_of e, short, fits)
 
 pub rows_all : (depth : Depth) (left rows : List (List ℕ)) (size : ℕ) → left ≡ [] → ((rest : ℕ) → AreRowSizes depth left rest → AreRowSizes depth rows (size + rest)) → AreRowSizes depth rows size
 rows_all depth left rows size e sum =

@@ -54,12 +54,16 @@ placed_cue origin start pictures epoch cue regions r =
     let region : IsUsableRegion r.region = find_holds IsUsableRegion (λ (region : Region). eqb region.id cue.region) epoch.regions r.region regions r.found in
     record { x = omega (arith, r.fits.across, region.width); y = omega (arith, r.fits.down, region.height) }
 
-drawn_cue : (origin start : ℕ) (pictures : List Picture) (epoch : Epoch) (cue : Cue) → IsCue origin start epoch.regions pictures cue → IsDrawable pictures epoch cue
-drawn_cue origin start pictures epoch cue r = record {
-  picture = r.picture;
-  region = ap is_some r.found;
-  shallow = subst (λ (one : Region). IsNoDeeper (picture_at_place pictures cue.picture).depth one.depth) (sym (ap region_or_none r.found)) r.fits.shallow;
-}
+drawn_cue : (origin start : ℕ) (pictures : List Picture) (epoch : Epoch) (cue : Cue) → All IsUsableRegion epoch.regions → IsCue origin start epoch.regions pictures cue → IsDrawable pictures epoch cue
+drawn_cue origin start pictures epoch cue regions r =
+    let region : IsUsableRegion r.region = find_holds IsUsableRegion (λ (region : Region). eqb region.id cue.region) epoch.regions r.region regions r.found in
+    record {
+      picture = r.picture;
+      region = ap is_some r.found;
+      shallow = subst (λ (one : Region). IsNoDeeper (picture_at_place pictures cue.picture).depth one.depth) (sym (ap region_or_none r.found)) r.fits.shallow;
+      wide = omega (arith, r.fits.across, region.width);
+      high = omega (arith, r.fits.down, region.height);
+    }
 
 usable_from : (origin width height refresh place : ℕ) (epochs : List Epoch) (pictures : List Picture) (epoch : Epoch) → slice_get epochs place ≡ Some epoch → IsSound origin width height refresh epochs pictures → IsUsable epoch × AreDrawable pictures epoch
 usable_from origin width height refresh place epochs pictures epoch found s =
@@ -91,7 +95,7 @@ usable_from origin width height refresh place epochs pictures epoch found s =
         few_cues = few;
         cues = λ k d lt. placed_cue origin epoch.start pictures epoch (get_or epoch.cues k d) regions (right.cues k d lt);
       },
-      λ k d lt. drawn_cue origin epoch.start pictures epoch (get_or epoch.cues k d) (right.cues k d lt),
+      λ k d lt. drawn_cue origin epoch.start pictures epoch (get_or epoch.cues k d) regions (right.cues k d lt),
     )
 
 -- the epochs of a script are usable

@@ -1,5 +1,5 @@
--- The segments that a display set of a plan is sent as, and its PES packet (EN 300 743, clauses 5 and 7).
-use Rattle.std.specs.Prelude.{◌≡◌, ℕ, ◌+◌, ◌*◌, ◌/◌, ◌%◌, ◌==◌, Bool, List, [], ◌∷◌, ◌++◌, map, find, All, Option, Some, None, slice_get}
+-- The segments that a display set of a plan is sent as, and its PES packets (EN 300 743, clauses 5 and 7).
+use Rattle.std.specs.Prelude.{◌≡◌, ℕ, ◌+◌, ◌*◌, ◌/◌, ◌%◌, ◌==◌, Bool, List, [], ◌∷◌, ◌++◌, length, map, find, All, Option, Some, None, slice_get}
 use Rattle.std.specs.List.{flat_map}
 use Rattle.sub_base.specs.Depth.{bits_of}
 use Rattle.sub_base.specs.Picture.{Picture}
@@ -14,6 +14,7 @@ use Rattle.stream_syntax.specs.declared.page.PageEntry.{PageEntry}
 use Rattle.stream_syntax.specs.declared.page.State.{State}
 use Rattle.stream_syntax.specs.declared.page.State.TheVariants.{Normal}
 use Rattle.stream_syntax.specs.declared.region.Listing.{Listing}
+use Rattle.pes_packets.specs.Units.{IsSharedOut}
 use Rattle.cue_list.specs.Authored.{picture_at_place}
 use Rattle.cue_list.specs.declared.epoch.Epoch.{Epoch}
 use Rattle.cue_list.specs.declared.epoch.Region.{Region}
@@ -126,26 +127,34 @@ AreObjectsOf pictures epoch [] (segment ∷ segments) = ⊥
 AreObjectsOf pictures epoch (place ∷ places) [] = ⊥
 AreObjectsOf pictures epoch (place ∷ places) (segment ∷ segments) = IsObjectOf pictures epoch place segment × AreObjectsOf pictures epoch places segments
 
--- ---- the packet
+-- ---- the packets
 
--- the data field of the set's PES packet (EN 300 743, clause 7.1): subtitle data of stream 0, the segments, and the end
--- marker
+-- how many bytes a segment of that page has
+abbrev pub segment_bytes : ℕ → SegmentValue → ℕ
+segment_bytes page segment = length (spelled page segment)
+
+-- the data field of a PES packet (EN 300 743, clause 7.1): subtitle data of stream 0, the segments, and the end marker
 abbrev pub data_field : ℕ → List SegmentValue → List ℕ
 data_field page segments = 0x20 ∷ 0x00 ∷ (flat_map (spelled page) segments ++ 0xFF ∷ [])
 
--- These bytes are the data field of the packet of a set of the script, whose segments are of that page: the segments
--- before the objects, an object for each cue of the set, and the end of the set. Each of them fits its table.
-pub record IsSetField (script : Script) (page : ℕ) (set : PlannedSet) (bytes : List ℕ) : Type 0 where
+-- the PES packet of a unit of a set: its segments, at the set's presentation time, which a packet tells modulo 2 to the 33
+abbrev pub unit_packet : ℕ → ℕ → List SegmentValue → List ℕ
+unit_packet page time unit = written_pes (time % TIME_ROUND) (data_field page unit)
+
+-- These are the segments of a set of the script, in their order: those before the objects, an object for each cue of the set,
+-- and the end of the set. Each of them fits its table on that page.
+pub record AreSetSegments (script : Script) (page : ℕ) (set : PlannedSet) (segments : List SegmentValue) : Type 0 where
   pub epoch : Epoch
   pub found : slice_get script.epochs set.epoch ≡ Some epoch
   pub objects : List SegmentValue
   pub drawn : AreObjectsOf script.pictures epoch set.cues objects
-  pub fit : All (IsWritable page) (leading_segments script epoch set ++ (objects ++ end_of_set ∷ []))
-  pub field : bytes ≡ data_field page (leading_segments script epoch set ++ (objects ++ end_of_set ∷ []))
+  pub fit : All (IsWritable page) segments
+  pub whole : segments ≡ leading_segments script epoch set ++ (objects ++ end_of_set ∷ [])
 
--- these bytes are the PES packet of a set of the script: its data field, at the set's presentation time, which a packet tells
--- modulo 2 to the 33
-pub record IsSetPacket (script : Script) (page : ℕ) (set : PlannedSet) (bytes : List ℕ) : Type 0 where
-  pub field_bytes : List ℕ
-  pub carried : IsSetField script page set field_bytes
-  pub packet : bytes ≡ written_pes (set.pts % TIME_ROUND) field_bytes
+-- These are the PES packets of a set of the script: one for each unit that its segments are shared out to, in their order.
+pub record AreSetPackets (script : Script) (page : ℕ) (set : PlannedSet) (packets : List (List ℕ)) : Type 0 where
+  pub segments : List SegmentValue
+  pub carried : AreSetSegments script page set segments
+  pub units : List (List SegmentValue)
+  pub shared : IsSharedOut (segment_bytes page) segments units
+  pub are : packets ≡ map (unit_packet page set.pts) units

@@ -1,10 +1,13 @@
--- How many bytes the PES packet of a display set has, and how long its regions are painted.
-use Rattle.std.specs.Prelude.{◌≡◌, ℕ, ◌+◌, ◌*◌, ◌/◌, ◌%◌, ◌≤◌, List, [], ◌∷◌, length, sum_by, Some, slice_get}
+-- How many bytes the PES packets of a display set have, and how long its regions are painted.
+use Rattle.std.specs.Prelude.{◌≡◌, ℕ, ◌+◌, ◌*◌, ◌/◌, ◌%◌, ◌==◌, ◌≤◌, true, List, [], ◌∷◌, ◌++◌, length, map, sum, sum_by, All, Some, slice_get}
+use Rattle.std.specs.List.{AllZip, list_any}
 use Rattle.sub_base.specs.Picture.{Picture}
-use Rattle.sub_base.specs.declared.load.SetLoad.{SetLoad}
+use Rattle.sub_base.specs.declared.load.TheConstants.{UNIT_ROOM}
+use Rattle.sub_base.specs.declared.load.WriteLoad.{WriteLoad}
 use Rattle.stream_syntax.specs.FieldBlocks.{AreFieldSizes}
 use Rattle.stream_syntax.specs.declared.page.State.{State}
 use Rattle.stream_syntax.specs.declared.page.State.TheVariants.{Normal}
+use Rattle.pes_packets.specs.Units.{IsSharedOut, unit_length}
 use Rattle.cue_list.specs.declared.epoch.Epoch.{Epoch}
 use Rattle.cue_list.specs.declared.script.Script.{Script}
 use Rattle.page_epoch.specs.declared.planned_set.PlannedSet.{PlannedSet}
@@ -13,9 +16,13 @@ use Rattle.page_epoch.specs.declared.planned_set.SentRegion.{SentRegion}
 use Rattle.set_coder.specs.SetSegments.{region_of, picture_of_cue, depth_of_cue}
 
 -- a set that is not normal has a display definition
-abbrev pub display_size : State → ℕ
-display_size Normal = 0
-display_size state = 11
+abbrev pub display_sizes : State → List ℕ
+display_sizes Normal = []
+display_sizes state = 11 ∷ []
+
+-- the page: six bytes for each region that it shows
+abbrev pub page_size : PlannedSet → ℕ
+page_size set = 8 + 6 * length set.shown
 
 -- six bytes for each listing of a region, and for each entry of a CLUT
 abbrev pub region_size : SentRegion → ℕ
@@ -24,10 +31,9 @@ region_size sent = 16 + 6 * length sent.cues
 abbrev pub clut_size : SentClut → ℕ
 clut_size sent = 8 + 6 * length sent.rows
 
--- the segments before the objects
-abbrev pub leading_size : PlannedSet → ℕ
-leading_size set =
-    display_size set.state + (8 + 6 * length set.shown) + sum_by region_size set.regions + sum_by clut_size set.cluts
+-- the segments before the objects, in their order
+abbrev pub leading_sizes : PlannedSet → List ℕ
+leading_sizes set = display_sizes set.state ++ (page_size set ∷ (map region_size set.regions ++ map clut_size set.cluts))
 
 -- an odd number of bytes and one more, an even number as it is
 abbrev pub made_even : ℕ → ℕ
@@ -39,19 +45,38 @@ IsObjectSize pictures epoch place size =
     (top : ℕ) × (bottom : ℕ) × AreFieldSizes (picture_of_cue pictures epoch place) (depth_of_cue epoch place) top bottom × (size ≡ made_even (13 + top + bottom))
 
 -- the objects of the cues at these places
-abbrev pub AreObjectSizes : List Picture → Epoch → List ℕ → ℕ → Type 0
-AreObjectSizes pictures epoch [] sum = sum ≡ 0
-AreObjectSizes pictures epoch (place ∷ places) sum =
-    (here : ℕ) × (rest : ℕ) × IsObjectSize pictures epoch place here × AreObjectSizes pictures epoch places rest × (sum ≡ here + rest)
+abbrev pub AreObjectSizes : List Picture → Epoch → List ℕ → List ℕ → Type 0
+AreObjectSizes pictures epoch places sizes = AllZip (IsObjectSize pictures epoch) places sizes
 
--- The PES packet: 14 bytes before its data field, the field's two first bytes and its last one, the segments before the
--- objects, the objects, and six bytes for the end of the set.
-pub record IsSetSize (script : Script) (set : PlannedSet) (size : ℕ) : Type 0 where
+-- These are the bytes of the segments of a set, in their order: those before the objects, the objects, and six bytes for the end
+-- of the set.
+pub record AreSegmentSizes (script : Script) (set : PlannedSet) (sizes : List ℕ) : Type 0 where
   pub epoch : Epoch
   pub found : slice_get script.epochs set.epoch ≡ Some epoch
-  pub objects : ℕ
+  pub objects : List ℕ
   pub coded : AreObjectSizes script.pictures epoch set.cues objects
-  pub whole : size ≡ 17 + leading_size set + objects + 6
+  pub whole : sizes ≡ leading_sizes set ++ (objects ++ 6 ∷ [])
+
+-- these are the lengths of the PES packets of a set: of the units that segments of these sizes are shared out to
+pub record AreUnitSizes (script : Script) (set : PlannedSet) (lengths : List ℕ) : Type 0 where
+  pub sizes : List ℕ
+  pub segments : AreSegmentSizes script set sizes
+  pub units : List (List ℕ)
+  pub shared : IsSharedOut (λ bytes. bytes) sizes units
+  pub are : lengths ≡ map (unit_length (λ bytes. bytes)) units
+
+-- the size of a set: that of all of its PES packets together
+pub record IsSetSize (script : Script) (set : PlannedSet) (size : ℕ) : Type 0 where
+  pub lengths : List ℕ
+  pub sized : AreUnitSizes script set lengths
+  pub whole : size ≡ sum lengths
+
+-- the bytes of the longest segment of a set
+pub record IsLongestSegment (script : Script) (set : PlannedSet) (longest : ℕ) : Type 0 where
+  pub sizes : List ℕ
+  pub segments : AreSegmentSizes script set sizes
+  pub one : list_any (λ size. size == longest) sizes ≡ true
+  pub greatest : All (λ size. size ≤ longest) sizes
 
 -- the ticks that painting the region of a number takes: 64 pixels a tick, a started one counted whole
 abbrev pub painting_of : Epoch → SentRegion → ℕ
@@ -63,14 +88,16 @@ pub record IsPaintedIn (script : Script) (set : PlannedSet) (painted : ℕ) : Ty
   pub found : slice_get script.epochs set.epoch ≡ Some epoch
   pub sum : painted ≡ sum_by (painting_of epoch) set.regions
 
--- what the set asks of a receiver: its presentation time, the size of its packet, and how long it is painted
-pub record IsSetLoad (script : Script) (set : PlannedSet) (load : SetLoad) : Type 0 where
-  pub time : load.pts ≡ set.pts
-  pub size : IsSetSize script set load.size
-  pub painted : IsPaintedIn script set load.painted
+-- what sending the set takes: its presentation time, the bytes of its PES packets, how long it is painted, and its longest segment
+pub record IsSetLoad (script : Script) (set : PlannedSet) (load : WriteLoad) : Type 0 where
+  pub time : load.load.pts ≡ set.pts
+  pub units : AreUnitSizes script set load.units
+  pub size : load.load.size ≡ sum load.units
+  pub painted : IsPaintedIn script set load.load.painted
+  pub longest : IsLongestSegment script set load.longest
 
--- the packet can be told by its length field
-pub record FitsPacket (script : Script) (set : PlannedSet) : Type 0 where
-  pub size : ℕ
-  pub sized : IsSetSize script set size
-  pub few : size ≤ 65541
+-- each segment of the set has room in a PES packet
+pub record FitsPackets (script : Script) (set : PlannedSet) : Type 0 where
+  pub longest : ℕ
+  pub is_longest : IsLongestSegment script set longest
+  pub few : longest ≤ UNIT_ROOM

@@ -43,11 +43,13 @@ pub record IsUsable (epoch : Epoch) : Type 0 where
   pub few_cues : length epoch.cues ≤ 4096
   pub cues : All IsUsablePlace epoch.cues
 
--- a cue's picture and region are there, and the picture is no deeper
+-- a cue's picture and region are there, and the picture is no deeper and no larger than a region can be
 pub record IsDrawable (pictures : List Picture) (epoch : Epoch) (cue : Cue) : Type 0 where
   pub picture : cue.picture < length pictures
   pub region : HasRegion epoch cue.region
   pub shallow : IsNoDeeper (picture_at_place pictures cue.picture).depth (region_of epoch cue.region).depth
+  pub wide : (picture_at_place pictures cue.picture).width ≤ 1920
+  pub high : (picture_at_place pictures cue.picture).height ≤ 1920
 
 abbrev pub AreDrawable : List Picture → Epoch → Type 0
 AreDrawable pictures epoch = All (IsDrawable pictures epoch) epoch.cues

@@ -1,7 +1,7 @@
-ghost use Rattle.std.specs.Prelude.{◌*◌, ◌<◌, ◌≤◌, length};
+ghost use Rattle.std.specs.Prelude.{◌+◌, ◌*◌, ◌<◌, ◌≤◌, length};
 ghost use Rattle.sub_base.specs.Picture.{bottom_field};
 ghost use Rattle.stream_syntax.specs.FieldBlocks.{AreRowSizes, IsFieldSize, AreFieldSizes};
-ghost use Rattle.set_coder.specs.Rows.{AreRows};
+ghost use Rattle.set_coder.specs.Rows.{AreRows, room_of};
 
 use crate::fields::table_bytes;
 use indexed_picture::{FieldRows, Indexed};
@@ -19,6 +19,7 @@ pub(crate) struct FieldSizes {
 pub(crate) fn field_sizes(picture: &Indexed, region: Depth) -> FieldSizes
     ensures sizes { AreFieldSizes picture.now region result.top result.bottom }
     ensures short { (result.top ≤ 4300000000) × (result.bottom ≤ 4300000000) }
+    ensures room { result.top + result.bottom ≤ 35 + picture.now.height * (3 * picture.now.width + 10) }
 {
     let top = field_size(picture.depth(), region, picture.top_rows());
     let bottom = if picture.fields_equal() {
@@ -33,6 +34,7 @@ pub(crate) fn field_sizes(picture: &Indexed, region: Depth) -> FieldSizes
 fn bottom_field_size(picture: &Indexed, region: Depth) -> u64
     ensures size { IsFieldSize picture.now.depth region (bottom_field picture.now) result }
     ensures short { result ≤ 4300000000 }
+    ensures room { result ≤ 17 + room_of (bottom_field picture.now) }
 {
     if picture.height() == 1 {
         1
@@ -48,6 +50,7 @@ fn field_size(depth: Depth, region: Depth, rows: FieldRows<'_>) -> u64
     requires rows { AreRows depth rows }
     ensures size { IsFieldSize depth region rows.entry result }
     ensures short { result ≤ 4300000000 }
+    ensures room { result ≤ 17 + room_of rows.entry }
 {
     table_bytes(depth, region).len() as u64 + rows_size(depth, rows)
 }
@@ -58,6 +61,7 @@ fn rows_size(depth: Depth, rows: FieldRows<'_>) -> u64
     requires rows { AreRows depth rows }
     ensures sizes { AreRowSizes depth rows.entry result }
     ensures short { result ≤ 131075 * length rows.entry }
+    ensures room { result ≤ room_of rows.entry }
 {
     let mut size = 0;
     for row in rows {

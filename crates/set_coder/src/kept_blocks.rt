@@ -1,4 +1,4 @@
-ghost use Rattle.std.specs.Prelude.{◌≡◌, ℕ, ◌<◌, ◌≤◌, ◌++◌, [], List, length, slice_index_or, IfOk, IfSome, OnOk, IsTrue, ◌↔◌};
+ghost use Rattle.std.specs.Prelude.{◌≡◌, ℕ, ◌+◌, ◌*◌, ◌<◌, ◌≤◌, ◌++◌, [], List, length, slice_index_or, IfOk, IfSome, OnOk, IsTrue, ◌↔◌};
 ghost use Rattle.stream_syntax.specs.PixelBlocks.{IsNoDeeper};
 ghost use Rattle.stream_syntax.specs.FieldBlocks.{AreFieldBlocks, AreFieldSizes, DrawsPicture};
 ghost use Rattle.set_coder.specs.KeptBlocks.{IsCoded, AreCoded};
@@ -226,7 +226,7 @@ impl<'a> BlockLookup<'a> {
         requires kept { AreCoded pictures.now self.now.coded.now }
         requires picture { picture.now ≡ slice_index_or pictures.now number picture.now }
         ensures sizes { AreFieldSizes picture.now region result.top result.bottom }
-        ensures short { (result.top ≤ 4300000000) × (result.bottom ≤ 4300000000) }
+        ensures room { result.top + result.bottom ≤ 35 + picture.now.height * (3 * picture.now.width + 10) }
     {
         match self.find(pictures, picture, number, region) {
             Some(coded) => sizes_of(coded.lengths),
@@ -239,7 +239,6 @@ impl<'a> BlockLookup<'a> {
 fn sizes_of(lengths: FieldLengths) -> FieldSizes
     ensures top { result.top ≡ lengths.top }
     ensures bottom { result.bottom ≡ lengths.bottom }
-    ensures short { (result.top ≤ 4300000000) × (result.bottom ≤ 4300000000) }
 {
     FieldSizes {
         top: u64::from(lengths.top),

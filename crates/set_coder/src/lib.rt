@@ -1,5 +1,5 @@
 //! The bytes of the display sets that a compiler sends: the pixel data blocks of a picture's two fields, and the PES
-//! packet of a set of a plan, with its size.
+//! packets of a set of a plan, with their sizes.
 #![tactic(auto)]
 
 mod coded_picture;
@@ -7,6 +7,7 @@ mod field_sizes;
 mod fields;
 mod kept_blocks;
 mod named;
+mod segment_sizes;
 mod set_objects;
 mod set_packets;
 mod set_segments;
@@ -21,3 +22,5 @@ pub use set_sizes::{load_of, size_of};
 mod set_tests;
 #[cfg(test)]
 mod tests;
+#[cfg(test)]
+mod unit_tests;

@@ -9,13 +9,14 @@ ghost use Rattle.set_coder.specs.SetSegments.{object_of, IsObjectOf, AreObjectsO
 ghost use Rattle.set_coder.specs.SetSizes.{made_even, IsObjectSize, AreObjectSizes};
 ghost use Rattle.set_coder.specs.Usable.{AreDrawable};
 ghost use Rattle.set_coder.specs.KeptBlocks.{AreCoded};
+ghost use Rattle.sub_base.specs.declared.load.TheConstants.{UNIT_ROOM};
 
 use crate::coded_picture::BlockLookup;
 use crate::named::{cue_at, region_of};
 use cue_list::{Epoch, Script};
 use indexed_picture::Indexed;
 use segments::{ObjectSeg, SegmentOut, write_segment};
-use sub_base::{Depth, NoMemory};
+use sub_base::{Depth, NoMemory, UNIT_ROOM};
 
 /// Appends the objects of cues.
 pub(crate) fn append_objects(
@@ -30,10 +31,9 @@ pub(crate) fn append_objects(
     requires drawable { AreDrawable script.now.pictures epoch.now }
     requires few { length epoch.now.cues ≤ 4096 }
     requires each { All (HasCue epoch.now) cues.now }
-    requires room { (sum : ℕ) × AreObjectSizes script.now.pictures epoch.now cues.now sum × (sum ≤ 65541) }
+    requires room { (sizes : List ℕ) × AreObjectSizes script.now.pictures epoch.now cues.now sizes × All (λ size. size ≤ UNIT_ROOM) sizes }
     ensures objects { OnOk result ((objects : List SegmentValue) × AreObjectsOf script.now.pictures epoch.now cues.now objects
         × All (IsWritable page) objects × (field.new.items ≡ field.old.items ++ flat_map (spelled page) objects)) }
-    ensures size { OnOk result ((sum : ℕ) → AreObjectSizes script.now.pictures epoch.now cues.now sum → length field.new.items ≡ length field.old.items + sum) }
 {
     for place in cues {
         append_object(script, kept, epoch, page, *place, field)?;
@@ -54,10 +54,9 @@ fn append_object(
     requires drawable { AreDrawable script.now.pictures epoch.now }
     requires few { length epoch.now.cues ≤ 4096 }
     requires cue { HasCue epoch.now place }
-    requires room { (size : ℕ) × IsObjectSize script.now.pictures epoch.now place size × (size ≤ 65541) }
+    requires room { (size : ℕ) × IsObjectSize script.now.pictures epoch.now place size × (size ≤ UNIT_ROOM) }
     ensures object { OnOk result ((object : SegmentValue) × IsObjectOf script.now.pictures epoch.now place object
         × IsWritable page object × (field.new.items ≡ field.old.items ++ spelled page object)) }
-    ensures size { OnOk result ((size : ℕ) → IsObjectSize script.now.pictures epoch.now place size → length field.new.items ≡ length field.old.items + size) }
 {
     let cue = cue_at(epoch, place);
     let picture = &script.pictures.as_slice()[cue.picture as usize];
@@ -106,11 +105,9 @@ fn append_blocks(
     field: &mut Vec<u8>,
 ) -> Result<(), NoMemory>
     requires blocks { AreBlocks top.now bottom.now }
-    requires short { length top.now + length bottom.now ≤ 65528 }
-    requires even { made_even (13 + length top.now + length bottom.now) ≤ 65541 }
+    requires short { made_even (13 + length top.now + length bottom.now) ≤ UNIT_ROOM }
     ensures fits { IsWritable page (object_of object see_through top.now bottom.now) }
     ensures bytes { OnOk result (field.new.items ≡ field.old.items ++ spelled page (object_of object see_through top.now bottom.now)) }
-    ensures size { OnOk result (length field.new.items ≡ length field.old.items + made_even (13 + length top.now + length bottom.now)) }
 {
     let object = ObjectSeg {
         object,

@@ -1,26 +1,28 @@
-ghost use Rattle.std.specs.Prelude.{◌≡◌, ℕ, ◌+◌, ◌≤◌, List, [], ◌∷◌, ◌++◌, length, take, OnOk, OnErr, IfOk};
+ghost use Rattle.std.specs.Prelude.{◌≡◌, ℕ, ◌+◌, ◌^◌, ◌<◌, ◌≤◌, List, ◌++◌, map, length, OnOk, OnErr, IfOk};
+ghost use Rattle.std.specs.List.{concat, flat_map};
+ghost use Rattle.pixel_codes.specs.Lists.{Extends};
+ghost use Rattle.stream_syntax.specs.Segments.{SegmentValue, spelled};
 ghost use Rattle.page_epoch.specs.Sendable.{IsSendable};
-ghost use Rattle.set_coder.specs.SetSegments.{IsSetField, IsSetPacket};
-ghost use Rattle.set_coder.specs.SetSizes.{IsSetSize, FitsPacket};
 ghost use Rattle.set_coder.specs.KeptBlocks.{AreCoded};
+ghost use Rattle.set_coder.specs.SetSegments.{AreSetSegments, AreSetPackets};
+ghost use Rattle.set_coder.specs.SetSizes.{AreUnitSizes, FitsPackets};
+ghost use Rattle.set_coder.specs.UnitParts.{AreUnitParts, part_packet};
 
 use crate::coded_picture::{BlockLookup, KeptBlocks};
 use crate::named::epoch_of;
 use crate::set_objects::append_objects;
 use crate::set_segments::{append_end, append_leading};
+use crate::set_sizes::load_with;
 use cue_list::Script;
 use page_epoch::PlannedSet;
-use pes_packets::write_pes;
+use pes_packets::{OTHER_BYTES, write_unit};
 use std::alloc::Global;
-use stream_syntax::{DATA_IDENTIFIER, END_OF_FIELD, TIME_ROUND};
+use stream_syntax::TIME_ROUND;
 use sub_base::NoMemory;
 
-/// The data field of a PES packet begins with the data identifier of subtitles and the number of their stream.
-const FIELD_START: [u8; 2] = [DATA_IDENTIFIER, 0x00];
-
-/// Appends the PES packet of a set, whose segments are of that page (EN 300 743, clauses 5 and 7): the display
-/// definition where the set is not normal, the page, the regions, the CLUTs, the objects and the end of the set. It
-/// has `size_of` bytes. After want of memory `out` is as before.
+/// Appends the PES packets of a set, whose segments are of that page (EN 300 743, clauses 5 and 7): the display
+/// definition where the set is not normal, the page, the regions, the CLUTs, the objects and the end of the set, as
+/// many in each packet as it has room for. Together they have `size_of` bytes. After want of memory `out` is as before.
 pub fn write_set(
     script: &Script,
     set: &PlannedSet,
@@ -28,9 +30,9 @@ pub fn write_set(
     out: &mut Vec<u8>,
 ) -> Result<(), NoMemory>
     requires sendable { IsSendable script.now set.now }
-    requires fits { FitsPacket script.now set.now }
-    ensures packet { OnOk result ((bytes : List ℕ) × (out.new.items ≡ out.old.items ++ bytes)
-        × IsSetPacket script.now page set.now bytes × IsSetSize script.now set.now (length bytes)) }
+    requires fits { FitsPackets script.now set.now }
+    ensures packets { OnOk result ((packets : List (List ℕ)) × (out.new.items ≡ out.old.items ++ concat packets)
+        × AreSetPackets script.now page set.now packets × AreUnitSizes script.now set.now (map length packets)) }
     ensures kept { OnErr result (out.new.items ≡ out.old.items) }
 {
     write_with(&BlockLookup::nothing(), script, set, page, out)
@@ -47,16 +49,16 @@ impl KeptBlocks {
     ) -> Result<(), NoMemory>
         requires blocks { AreCoded script.now.pictures self.now.coded.items }
         requires sendable { IsSendable script.now set.now }
-        requires fits { FitsPacket script.now set.now }
-        ensures packet { OnOk result ((bytes : List ℕ) × (out.new.items ≡ out.old.items ++ bytes)
-            × IsSetPacket script.now page set.now bytes × IsSetSize script.now set.now (length bytes)) }
+        requires fits { FitsPackets script.now set.now }
+        ensures packets { OnOk result ((packets : List (List ℕ)) × (out.new.items ≡ out.old.items ++ concat packets)
+            × AreSetPackets script.now page set.now packets × AreUnitSizes script.now set.now (map length packets)) }
         ensures kept { OnErr result (out.new.items ≡ out.old.items) }
     {
         write_with(&self.lookup(), script, set, page, out)
     }
 }
 
-/// Appends the PES packet of a set, with the blocks that are kept.
+/// Appends the PES packets of a set, with the blocks that are kept.
 fn write_with(
     kept: &BlockLookup<'_>,
     script: &Script,
@@ -66,36 +68,85 @@ fn write_with(
 ) -> Result<(), NoMemory>
     requires blocks { AreCoded script.now.pictures kept.now.coded.now }
     requires sendable { IsSendable script.now set.now }
-    requires fits { FitsPacket script.now set.now }
-    ensures packet { OnOk result ((bytes : List ℕ) × (out.new.items ≡ out.old.items ++ bytes)
-        × IsSetPacket script.now page set.now bytes × IsSetSize script.now set.now (length bytes)) }
+    requires fits { FitsPackets script.now set.now }
+    ensures packets { OnOk result ((packets : List (List ℕ)) × (out.new.items ≡ out.old.items ++ concat packets)
+        × AreSetPackets script.now page set.now packets × AreUnitSizes script.now set.now (map length packets)) }
     ensures kept { OnErr result (out.new.items ≡ out.old.items) }
 {
-    let field = data_field(*out.allocator(), script, kept, set, page)?;
-    write_pes(set.pts % TIME_ROUND, field.as_slice(), out)
+    let alloc = *out.allocator();
+    let load = load_with(alloc, kept, script, set)?;
+    let segments = segments_of(alloc, script, kept, set, page, load.load.size)?;
+    write_units(
+        set.pts % TIME_ROUND,
+        load.units.as_slice(),
+        segments.as_slice(),
+        out,
+    )
 }
 
-/// The data field of the PES packet of a set.
-fn data_field(
+/// The bytes of the segments of a set, with room for that many.
+fn segments_of(
     alloc: Global,
     script: &Script,
     kept: &BlockLookup<'_>,
     set: &PlannedSet,
     page: u16,
+    room: u64,
 ) -> Result<Vec<u8>, NoMemory>
     requires blocks { AreCoded script.now.pictures kept.now.coded.now }
     requires sendable { IsSendable script.now set.now }
-    requires fits { FitsPacket script.now set.now }
-    ensures field { IfOk result (λ field. IsSetField script.now page set.now field.items) }
-    ensures size { IfOk result (λ field. IsSetSize script.now set.now (14 + length field.items)) }
-    ensures start { IfOk result (λ field. take 2 field.items ≡ 0x20 ∷ 0 ∷ []) }
-    ensures short { IfOk result (λ field. length field.items ≤ 65527) }
+    requires fits { FitsPackets script.now set.now }
+    ensures { IfOk result (λ bytes. (segments : List SegmentValue) × AreSetSegments script.now page set.now segments
+        × (bytes.items ≡ flat_map (spelled page) segments)) }
 {
     let epoch = epoch_of(script, set);
-    let mut field = Vec::from_slice(alloc, &FIELD_START)?;
-    append_leading(script, epoch, page, set, &mut field)?;
-    append_objects(script, kept, epoch, page, set.cues.as_slice(), &mut field)?;
-    append_end(page, &mut field)?;
-    field.push(END_OF_FIELD)?;
-    Ok(field)
+    let mut bytes = Vec::with_capacity(alloc, room as usize)?;
+    append_leading(script, epoch, page, set, &mut bytes)?;
+    append_objects(script, kept, epoch, page, set.cues.as_slice(), &mut bytes)?;
+    append_end(page, &mut bytes)?;
+    Ok(bytes)
+}
+
+/// Appends a PES packet for each unit of these lengths, whose segments have the bytes that are next. After want of memory
+/// `out` is as before.
+fn write_units(
+    time: u64,
+    lengths: &[u32],
+    segments: &[u8],
+    out: &mut Vec<u8>,
+) -> Result<(), NoMemory>
+    requires time { time < 2 ^ 33 }
+    requires parts { (parts : List (List ℕ)) × AreUnitParts segments.now lengths.now parts }
+    ensures packets { (parts : List (List ℕ)) → AreUnitParts segments.now lengths.now parts
+        → OnOk result (out.new.items ≡ out.old.items ++ concat (map (part_packet time) parts)) }
+    ensures kept { OnErr result (out.new.items ≡ out.old.items) }
+{
+    let before = out.len();
+    let written = append_units(time, lengths, segments, out);
+    if written.is_err() {
+        out.truncate(before);
+    }
+    written
+}
+
+/// Appends a PES packet for each unit.
+fn append_units(
+    time: u64,
+    lengths: &[u32],
+    segments: &[u8],
+    out: &mut Vec<u8>,
+) -> Result<(), NoMemory>
+    requires time { time < 2 ^ 33 }
+    requires parts { (parts : List (List ℕ)) × AreUnitParts segments.now lengths.now parts }
+    ensures packets { (parts : List (List ℕ)) → AreUnitParts segments.now lengths.now parts
+        → OnOk result (out.new.items ≡ out.old.items ++ concat (map (part_packet time) parts)) }
+    ensures extends { Extends out.old.items out.new.items }
+{
+    let mut left = segments;
+    for length in lengths {
+        let (unit, behind) = left.split_at(*length as usize - OTHER_BYTES as usize);
+        write_unit(time, unit, out)?;
+        left = behind;
+    }
+    Ok(())
 }

@@ -1,9 +1,8 @@
-ghost use Rattle.std.specs.Prelude.{◌≡◌, ◌+◌, ◌*◌, ◌<◌, ◌≤◌, ◌++◌, length, map, sum_by, All, IfOk, OnOk};
+ghost use Rattle.std.specs.Prelude.{◌≡◌, ◌<◌, ◌≤◌, ◌++◌, length, map, All, IfOk, OnOk};
 ghost use Rattle.std.specs.List.{flat_map};
 ghost use Rattle.stream_syntax.specs.Segments.{spelled, end_of_set};
 ghost use Rattle.page_epoch.specs.Sendable.{HasRegion, HasCue, HasColour, IsSendableIn, IsSendableRegion, IsSendableClut};
 ghost use Rattle.set_coder.specs.SetSegments.{display_of, time_out_of, page_entry_of, page_of, listing_of, region_segment_of, clut_entry_of, clut_segment_of, leading_segments};
-ghost use Rattle.set_coder.specs.SetSizes.{display_size, region_size, clut_size, leading_size};
 ghost use Rattle.set_coder.specs.Usable.{IsUsable};
 
 use crate::named::{colour_at, cue_at, region_of};
@@ -24,7 +23,6 @@ pub(crate) fn append_leading(
     requires usable { IsUsable epoch.now }
     requires carried { IsSendableIn epoch.now set.now }
     ensures bytes { OnOk result (field.new.items ≡ field.old.items ++ flat_map (spelled page) (leading_segments script.now epoch.now set.now)) }
-    ensures size { OnOk result (length field.new.items ≡ length field.old.items + leading_size set.now) }
 {
     append_display(script, page, set.state, field)?;
     append_page(script, epoch, page, set, field)?;
@@ -40,7 +38,6 @@ fn append_display(
     field: &mut Vec<u8>,
 ) -> Result<(), NoMemory>
     ensures bytes { OnOk result (field.new.items ≡ field.old.items ++ flat_map (spelled page) (display_of script.now state)) }
-    ensures size { OnOk result (length field.new.items ≡ length field.old.items + display_size state) }
 {
     if state == State::Normal {
         return Ok(());
@@ -74,7 +71,6 @@ fn append_page(
     requires few { length set.now.shown ≤ 64 }
     requires shown { All (HasRegion epoch.now) set.now.shown }
     ensures bytes { OnOk result (field.new.items ≡ field.old.items ++ spelled page (page_of script.now epoch.now set.now)) }
-    ensures size { OnOk result (length field.new.items ≡ length field.old.items + (8 + 6 * length set.now.shown)) }
 {
     let entries = page_entries(*field.allocator(), epoch, set.shown.as_slice())?;
     let segment = SegmentOut::Page {
@@ -113,7 +109,6 @@ fn append_regions(
     requires usable { IsUsable epoch.now }
     requires each { All (IsSendableRegion epoch.now) regions.now }
     ensures bytes { OnOk result (field.new.items ≡ field.old.items ++ flat_map (spelled page) (map (region_segment_of epoch.now) regions.now)) }
-    ensures size { OnOk result (length field.new.items ≡ length field.old.items + sum_by region_size regions.now) }
 {
     for sent in regions {
         append_region(epoch, page, sent, field)?;
@@ -131,7 +126,6 @@ fn append_region(
     requires usable { IsUsable epoch.now }
     requires sent { IsSendableRegion epoch.now sent.now }
     ensures bytes { OnOk result (field.new.items ≡ field.old.items ++ spelled page (region_segment_of epoch.now sent.now)) }
-    ensures size { OnOk result (length field.new.items ≡ length field.old.items + region_size sent.now) }
 {
     let region = region_of(epoch, sent.id);
     let listings = listings_of(*field.allocator(), epoch, sent.cues.as_slice())?;
@@ -182,7 +176,6 @@ fn append_cluts(
     requires usable { IsUsable epoch.now }
     requires each { All (IsSendableClut epoch.now) cluts.now }
     ensures bytes { OnOk result (field.new.items ≡ field.old.items ++ flat_map (spelled page) (map (clut_segment_of epoch.now) cluts.now)) }
-    ensures size { OnOk result (length field.new.items ≡ length field.old.items + sum_by clut_size cluts.now) }
 {
     for sent in cluts {
         append_clut(epoch, page, sent, field)?;
@@ -200,7 +193,6 @@ fn append_clut(
     requires usable { IsUsable epoch.now }
     requires sent { IsSendableClut epoch.now sent.now }
     ensures bytes { OnOk result (field.new.items ≡ field.old.items ++ spelled page (clut_segment_of epoch.now sent.now)) }
-    ensures size { OnOk result (length field.new.items ≡ length field.old.items + clut_size sent.now) }
 {
     let entries = clut_entries(*field.allocator(), epoch, sent.rows.as_slice())?;
     let segment = SegmentOut::Clut {
@@ -234,7 +226,6 @@ fn clut_entries(alloc: Global, epoch: &Epoch, rows: &[u32]) -> Result<Vec<ClutEn
 /// Appends the end of a set.
 pub(crate) fn append_end(page: u16, field: &mut Vec<u8>) -> Result<(), NoMemory>
     ensures bytes { OnOk result (field.new.items ≡ field.old.items ++ spelled page end_of_set) }
-    ensures size { OnOk result (length field.new.items ≡ length field.old.items + 6) }
 {
     write_segment(page, &SegmentOut::End, field)
 }

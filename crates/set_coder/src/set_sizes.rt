@@ -1,23 +1,22 @@
-ghost use Rattle.std.specs.Prelude.{◌≡◌, ℕ, ◌*◌, ◌^◌, ◌<◌, ◌≤◌, length, sum_by, All};
-ghost use Rattle.page_epoch.specs.Sendable.{HasCue, IsSendable, IsSendableRegion};
-ghost use Rattle.set_coder.specs.SetSizes.{display_size, region_size, clut_size, leading_size, made_even, painting_of, IsObjectSize, AreObjectSizes, IsSetSize, IsPaintedIn, IsSetLoad};
-ghost use Rattle.set_coder.specs.Usable.{AreDrawable};
+ghost use Rattle.std.specs.Prelude.{◌≡◌, ℕ, ◌+◌, ◌*◌, ◌^◌, ◌<◌, ◌≤◌, List, [], ◌∷◌, ◌++◌, length, sum, sum_by, All, IfOk, OnOk, option_to_list};
+ghost use Rattle.pes_packets.specs.Units.{IsSegmentLength, AreUnitLengths};
+ghost use Rattle.page_epoch.specs.Sendable.{IsSendable, IsSendableRegion};
 ghost use Rattle.set_coder.specs.KeptBlocks.{AreCoded};
+ghost use Rattle.set_coder.specs.SetSizes.{painting_of, AreUnitSizes, IsSetSize, IsLongestSegment, IsPaintedIn, IsSetLoad};
+ghost use Rattle.set_coder.specs.Measuring.{IsMeasured, CanTake};
+ghost use Rattle.sub_base.specs.declared.load.WriteLoad.{WriteLoad as WriteLoadValue};
 
 use crate::coded_picture::{BlockLookup, KeptBlocks};
-use crate::named::{cue_at, epoch_of, region_of};
+use crate::named::{epoch_of, region_of};
+use crate::segment_sizes::SegmentSizes;
 use cue_list::{Epoch, Script};
-use page_epoch::{PlannedSet, SentClut, SentRegion, State};
-use sub_base::SetLoad;
+use page_epoch::{PlannedSet, SentRegion};
+use pes_packets::OpenUnit;
+use std::alloc::Global;
+use sub_base::{Items, NoMemory, SetLoad, WriteLoad};
 
-/// The bytes of a PES packet before its data field, and the first two and the last of the field.
-const PACKET: u64 = 17;
-
-/// The bytes of the end of a display set.
-const END: u64 = 6;
-
-/// How many bytes the PES packet of a set has. No memory is taken: the blocks of its objects are measured, and not
-/// written.
+/// How many bytes the PES packets of a set have together. No memory is taken: the blocks of its objects are measured,
+/// and not written.
 pub fn size_of(script: &Script, set: &PlannedSet) -> u64
     requires { IsSendable script.now set.now }
     ensures size { IsSetSize script.now set.now result }
@@ -26,66 +25,162 @@ pub fn size_of(script: &Script, set: &PlannedSet) -> u64
     // No other size is that of the set.
     ensures only_size { (size : ℕ) → IsSetSize script.now set.now size → result ≡ size }
 {
-    size_with(&BlockLookup::nothing(), script, set)
+    let nothing = BlockLookup::nothing();
+    let mut segments = SegmentSizes::of_set(script, &nothing, set);
+    let mut unit = OpenUnit::new();
+    let mut size = 0;
+    while let Some(segment) = segments.next_size() {
+        size += u64::from(unit.take(segment).unwrap_or(0));
+    }
+    size + u64::from(unit.length().unwrap_or(0))
 }
 
-/// How many bytes it has, by the blocks that are kept.
-fn size_with(kept: &BlockLookup<'_>, script: &Script, set: &PlannedSet) -> u64
-    requires kept { AreCoded script.now.pictures kept.now.coded.now }
-    requires set { IsSendable script.now set.now }
-    ensures size { IsSetSize script.now set.now result }
-    ensures some { 1 ≤ result }
-    ensures only_size { (size : ℕ) → IsSetSize script.now set.now size → result ≡ size }
-{
-    let epoch = epoch_of(script, set);
-    PACKET + leading_size(set) + objects_size(script, kept, epoch, set.cues.as_slice()) + END
-}
-
-/// What a set asks of a receiver: when it is shown, the bytes of its PES packet, and the ticks that painting its
-/// regions takes. No memory is taken.
-pub fn load_of(script: &Script, set: &PlannedSet) -> SetLoad
+/// What sending a set takes: when it is shown, the bytes of each of its PES packets and of all together, the ticks that
+/// painting its regions takes, and the bytes of its longest segment.
+pub fn load_of(alloc: Global, script: &Script, set: &PlannedSet) -> Result<WriteLoad, NoMemory>
     requires { IsSendable script.now set.now }
-    ensures load { IsSetLoad script.now set.now result }
-    // No other size is that of the set.
-    ensures only_size { (size : ℕ) → IsSetSize script.now set.now size → result.size ≡ size }
+    ensures load { IfOk result (λ load. IsSetLoad script.now set.now load) }
+
+    // No other load is that of the set.
+    ensures only { IfOk result (λ load. (other : WriteLoadValue) → IsSetLoad script.now set.now other → load ≡ other) }
 
     // What a schedule asks of a load.
-    ensures some { 1 ≤ result.size }
-    ensures early { result.pts < 2 ^ 34 }
-    ensures short { result.painted ≤ 274877906944 }
+    ensures some { IfOk result (λ load. 1 ≤ load.load.size) }
+    ensures each { IfOk result (λ load. All (λ unit. 17 ≤ unit) load.units) }
+    ensures early { IfOk result (λ load. load.load.pts < 2 ^ 34) }
+    ensures short { IfOk result (λ load. load.load.painted ≤ 274877906944) }
 {
-    load_with(&BlockLookup::nothing(), script, set)
+    load_with(alloc, &BlockLookup::nothing(), script, set)
 }
 
 impl KeptBlocks {
     /// What `load_of` says of a set of the script whose blocks these are.
-    pub fn load_of(&self, script: &Script, set: &PlannedSet) -> SetLoad
+    pub fn load_of(&self, script: &Script, set: &PlannedSet) -> Result<WriteLoad, NoMemory>
         requires kept { AreCoded script.now.pictures self.now.coded.items }
         requires set { IsSendable script.now set.now }
-        ensures load { IsSetLoad script.now set.now result }
-        ensures only_size { (size : ℕ) → IsSetSize script.now set.now size → result.size ≡ size }
-        ensures some { 1 ≤ result.size }
-        ensures early { result.pts < 2 ^ 34 }
-        ensures short { result.painted ≤ 274877906944 }
+        ensures load { IfOk result (λ load. IsSetLoad script.now set.now load) }
+        ensures only { IfOk result (λ load. (other : WriteLoadValue) → IsSetLoad script.now set.now other → load ≡ other) }
+        ensures some { IfOk result (λ load. 1 ≤ load.load.size) }
+        ensures each { IfOk result (λ load. All (λ unit. 17 ≤ unit) load.units) }
+        ensures early { IfOk result (λ load. load.load.pts < 2 ^ 34) }
+        ensures short { IfOk result (λ load. load.load.painted ≤ 274877906944) }
     {
-        load_with(&self.lookup(), script, set)
+        load_with(*self.coded.allocator(), &self.lookup(), script, set)
     }
 }
 
-/// What a set asks of a receiver, by the blocks that are kept.
-fn load_with(kept: &BlockLookup<'_>, script: &Script, set: &PlannedSet) -> SetLoad
+/// What sending a set takes, by the blocks that are kept.
+pub(crate) fn load_with(
+    alloc: Global,
+    kept: &BlockLookup<'_>,
+    script: &Script,
+    set: &PlannedSet,
+) -> Result<WriteLoad, NoMemory>
     requires kept { AreCoded script.now.pictures kept.now.coded.now }
     requires set { IsSendable script.now set.now }
-    ensures load { IsSetLoad script.now set.now result }
-    ensures only_size { (size : ℕ) → IsSetSize script.now set.now size → result.size ≡ size }
-    ensures some { 1 ≤ result.size }
-    ensures early { result.pts < 2 ^ 34 }
-    ensures short { result.painted ≤ 274877906944 }
+    ensures load { IfOk result (λ load. IsSetLoad script.now set.now load) }
+    ensures only { IfOk result (λ load. (other : WriteLoadValue) → IsSetLoad script.now set.now other → load ≡ other) }
+    ensures some { IfOk result (λ load. 1 ≤ load.load.size) }
+    ensures each { IfOk result (λ load. All (λ unit. 17 ≤ unit) load.units) }
+    ensures early { IfOk result (λ load. load.load.pts < 2 ^ 34) }
+    ensures short { IfOk result (λ load. load.load.painted ≤ 274877906944) }
 {
-    SetLoad {
-        pts: set.pts,
-        size: size_with(kept, script, set),
-        painted: painted_in(script, set),
+    let measured = measure(alloc, kept, script, set)?;
+    Ok(WriteLoad {
+        load: SetLoad {
+            pts: set.pts,
+            size: measured.size,
+            painted: painted_in(script, set),
+        },
+        longest: measured.longest,
+        units: Items::new(alloc, measured.units),
+    })
+}
+
+/// The units of a set, as its segments are measured one after the other.
+#[derive(Drop)]
+struct Measured {
+    unit: OpenUnit,
+    /// The bytes of each unit that is closed.
+    units: Vec<u32>,
+    /// The bytes of all of them.
+    size: u64,
+    /// The bytes of the longest segment.
+    longest: u64,
+}
+
+/// Measures the segments of a set.
+fn measure(
+    alloc: Global,
+    kept: &BlockLookup<'_>,
+    script: &Script,
+    set: &PlannedSet,
+) -> Result<Measured, NoMemory>
+    requires kept { AreCoded script.now.pictures kept.now.coded.now }
+    requires set { IsSendable script.now set.now }
+    ensures units { IfOk result (λ measured. AreUnitSizes script.now set.now measured.units.items) }
+    ensures size { IfOk result (λ measured. measured.size ≡ sum measured.units.items) }
+    ensures longest { IfOk result (λ measured. IsLongestSegment script.now set.now measured.longest) }
+{
+    let mut segments = SegmentSizes::of_set(script, kept, set);
+    let mut measured = Measured::new(alloc);
+    while let Some(segment) = segments.next_size() {
+        measured.take(segment)?;
+    }
+    measured.finish()?;
+    Ok(measured)
+}
+
+impl Measured {
+    /// No segment so far.
+    fn new(alloc: Global) -> Measured
+        ensures measured { IsMeasured [] result }
+        ensures few { CanTake result 0 }
+    {
+        Measured {
+            unit: OpenUnit::new(),
+            units: Vec::new(alloc),
+            size: 0,
+            longest: 0,
+        }
+    }
+
+    /// Takes the bytes of the next segment.
+    fn take(&mut self, segment: u32) -> Result<(), NoMemory>
+        requires segment { IsSegmentLength segment }
+        requires few { (count : ℕ) × CanTake self.old count × (count ≤ 5000) }
+        ensures measured { OnOk result ((sizes : List ℕ) → IsMeasured sizes self.old → IsMeasured (sizes ++ segment ∷ []) self.new) }
+        ensures few { OnOk result ((count : ℕ) → CanTake self.old count → CanTake self.new (count + 1)) }
+    {
+        self.longest = self.longest.max(u64::from(segment));
+        let closed = self.unit.take(segment);
+        self.close(closed)
+    }
+
+    /// Closes the last unit, after the last segment.
+    fn finish(&mut self) -> Result<(), NoMemory>
+        requires few { (count : ℕ) × CanTake self.old count × (count ≤ 5000) }
+        ensures units { OnOk result ((sizes : List ℕ) → IsMeasured sizes self.old → AreUnitLengths sizes self.new.units.items) }
+        ensures size { OnOk result ((sizes : List ℕ) → IsMeasured sizes self.old → self.new.size ≡ sum self.new.units.items) }
+        ensures longest { self.new.longest ≡ self.old.longest }
+    {
+        let last = self.unit.length();
+        self.close(last)
+    }
+
+    /// Keeps the length of a unit that is closed, where one is.
+    fn close(&mut self, closed: Option<u32>) -> Result<(), NoMemory>
+        requires { self.old.size < 2 ^ 63 }
+        ensures units { OnOk result (self.new.units.items ≡ self.old.units.items ++ option_to_list closed) }
+        ensures size { OnOk result (self.new.size ≡ self.old.size + sum (option_to_list closed)) }
+        ensures longest { self.new.longest ≡ self.old.longest }
+        ensures unit { self.new.unit ≡ self.old.unit }
+    {
+        if let Some(length) = closed {
+            self.units.push(length)?;
+            self.size += u64::from(length);
+        }
+        Ok(())
     }
 }
 
@@ -121,104 +216,4 @@ fn painting_of_region(epoch: &Epoch, sent: &SentRegion) -> u64
 {
     let region = region_of(epoch, sent.id);
     (u64::from(region.width) * u64::from(region.height) + 63) / 64
-}
-
-/// The bytes of the segments before the objects.
-fn leading_size(set: &PlannedSet) -> u64
-    requires shown { length set.now.shown ≤ 64 }
-    requires few_regions { length set.now.regions ≤ 64 }
-    requires regions { All (λ sent. length sent.cues ≤ 4096) set.now.regions }
-    requires few_cluts { length set.now.cluts ≤ 256 }
-    requires cluts { All (λ sent. length sent.rows ≤ 8192) set.now.cluts }
-    ensures size { result ≡ leading_size set.now }
-    ensures short { result ≤ 4294967296 }
-{
-    let page = 8 + 6 * set.shown.len() as u64;
-    display_size(set.state)
-        + page
-        + regions_size(set.regions.as_slice())
-        + cluts_size(set.cluts.as_slice())
-}
-
-/// The bytes of the display definition, which a normal set does not have.
-fn display_size(state: State) -> u64
-    ensures size { result ≡ display_size state }
-    ensures short { result ≤ 11 }
-{
-    match state {
-        State::Normal => 0,
-        State::Acquisition | State::ModeChange => 11,
-    }
-}
-
-/// The bytes of regions with their listings.
-fn regions_size(regions: &[SentRegion]) -> u64
-    requires few { length regions.now ≤ 64 }
-    requires each { All (λ sent. length sent.cues ≤ 4096) regions.now }
-    ensures size { result ≡ sum_by region_size regions.now }
-    ensures short { result ≤ 64 * 24592 }
-{
-    let mut size = 0;
-    for sent in regions {
-        size += 16 + 6 * sent.cues.len() as u64;
-    }
-    size
-}
-
-/// The bytes of CLUTs with their entries.
-fn cluts_size(cluts: &[SentClut]) -> u64
-    requires few { length cluts.now ≤ 256 }
-    requires each { All (λ sent. length sent.rows ≤ 8192) cluts.now }
-    ensures size { result ≡ sum_by clut_size cluts.now }
-    ensures short { result ≤ 256 * 49160 }
-{
-    let mut size = 0;
-    for sent in cluts {
-        size += 8 + 6 * sent.rows.len() as u64;
-    }
-    size
-}
-
-/// The bytes of the objects of cues.
-fn objects_size(script: &Script, kept: &BlockLookup<'_>, epoch: &Epoch, cues: &[u32]) -> u64
-    requires kept { AreCoded script.now.pictures kept.now.coded.now }
-    requires drawable { AreDrawable script.now.pictures epoch.now }
-    requires few { length cues.now ≤ 4096 }
-    requires each { All (HasCue epoch.now) cues.now }
-    ensures sizes { AreObjectSizes script.now.pictures epoch.now cues.now result }
-    ensures short { result ≤ 4096 * 8600000014 }
-{
-    let mut size = 0;
-    for place in cues {
-        size += object_size(script, kept, epoch, *place);
-    }
-    size
-}
-
-/// The bytes of the object of a cue.
-fn object_size(script: &Script, kept: &BlockLookup<'_>, epoch: &Epoch, place: u32) -> u64
-    requires kept { AreCoded script.now.pictures kept.now.coded.now }
-    requires drawable { AreDrawable script.now.pictures epoch.now }
-    requires cue { HasCue epoch.now place }
-    ensures size { IsObjectSize script.now.pictures epoch.now place result }
-    ensures short { result ≤ 8600000014 }
-{
-    let cue = cue_at(epoch, place);
-    let picture = &script.pictures.as_slice()[cue.picture as usize];
-    let region = region_of(epoch, cue.region);
-    let sizes = kept.field_sizes(
-        script.pictures.as_slice(),
-        picture,
-        cue.picture,
-        region.depth,
-    );
-    made_even(13 + sizes.top + sizes.bottom)
-}
-
-/// An odd number and one more; an even number as it is.
-fn made_even(size: u64) -> u64
-    requires { size ≤ 8600000013 }
-    ensures { result ≡ made_even size }
-{
-    size + size % 2
 }

@@ -11,7 +11,7 @@ use page_epoch::{PlannedSet, SentClut, SentRegion, State};
 use std::alloc::Global;
 use std::process::Abort;
 use std::test::Fail;
-use sub_base::{Colour, Depth, Items, SetLoad};
+use sub_base::{Colour, Depth, Items, SetLoad, UNIT_ROOM};
 
 /// A picture of four pixels of four bits.
 fn four_pixels(alloc: Global, codes: &[u8]) -> Result<Indexed, Fail>
@@ -227,24 +227,28 @@ fn packet_of<R: Abort>(
     requires epochs { script.now.epochs ≡ sample ∷ [] }
     requires set { (set.now.epoch ≡ 0) × IsSendableIn sample set.now }
 {
-    let size = size_of(script, set);
-    assert!(rt; size <= 65_541);
+    let load = load_of(alloc, script, set)?;
+    assert_eq!(rt; size_of(script, set), load.load.size);
+    assert!(rt; load.longest <= UNIT_ROOM);
     let mut out = Vec::new(alloc);
     write_set(script, set, 1, &mut out)?;
     let kept = KeptBlocks::of_script(alloc, script)?;
-    assert_eq!(rt; kept.load_of(script, set), load_of(script, set));
-    let mut again = Vec::new(alloc);
-    kept.write_set(script, set, 1, &mut again)?;
-    assert_eq!(rt; again.as_slice(), out.as_slice());
+    let again = kept.load_of(script, set)?;
+    assert_eq!(rt; again.load, load.load);
+    assert_eq!(rt; again.longest, load.longest);
+    assert_eq!(rt; again.units.as_slice(), load.units.as_slice());
+    let mut twice = Vec::new(alloc);
+    kept.write_set(script, set, 1, &mut twice)?;
+    assert_eq!(rt; twice.as_slice(), out.as_slice());
     Ok(out)
 }
 
 /// What a set of the script asks of a receiver.
-fn load(script: &Script, set: &PlannedSet) -> SetLoad
+fn load(alloc: Global, script: &Script, set: &PlannedSet) -> Result<SetLoad, Fail>
     requires epochs { script.now.epochs ≡ sample ∷ [] }
     requires set { (set.now.epoch ≡ 0) × IsSendableIn sample set.now }
 {
-    load_of(script, set)
+    Ok(load_of(alloc, script, set)?.load)
 }
 
 #[test]
@@ -257,7 +261,7 @@ fn a_whole_page(rt: HostRuntime) -> Result<(), Fail> {
         size: 90,
         painted: 1,
     };
-    assert_eq!(rt; load(&script, &set), wanted);
+    assert_eq!(rt; load(alloc, &script, &set)?, wanted);
     assert_eq!(rt;
         packet_of(&rt, alloc, &script, &set)?.as_slice(),
         WHOLE_PAGE.as_slice()
@@ -285,7 +289,7 @@ fn a_page_without_regions(rt: HostRuntime) -> Result<(), Fail> {
         size: 31,
         painted: 0,
     };
-    assert_eq!(rt; load(&script, &set), wanted);
+    assert_eq!(rt; load(alloc, &script, &set)?, wanted);
     assert_eq!(rt;
         packet_of(&rt, alloc, &script, &set)?.as_slice(),
         NO_REGION.as_slice()

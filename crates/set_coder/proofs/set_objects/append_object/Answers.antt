@@ -1,23 +1,16 @@
 use Rattle.std.proofs.Common.{arith}
 use Rattle.std.proofs.lemmas.Result.{on_ok_weaker}
 use Rattle.set_coder.specs.SetSegments.{object_of}
-use Rattle.set_coder.proofs.ObjectLaws.{object_named, object_is, object_sized}
+use Rattle.set_coder.proofs.ObjectLaws.{object_named, object_is}
 use Rattle.set_coder.proofs.set_objects.append_object.Goals as goal
 
-pub returns-clause-object : goal.returns-clause-object
-returns-clause-object c =
+pub returns : goal.returns
+returns c =
     let pictures = c.args.script.now.pictures in
     let epoch = c.args.epoch.now in
     let named = object_named pictures c.as_slice.result.now epoch c.args.place c.cue_at-cue.result c.index-as_slice-cue.result c.region_of-region.result c.requires.drawable c.requires.cue c.cue_at-cue.ensures c.as_slice.ensures c.index-as_slice-cue.is c.region_of-region.ensures in
-    on_ok_weaker c.append_blocks.result
-    (λ h. (object_of c.args.place c.cue_at-cue.result.see_through c.fields_of.result.0.now c.fields_of.result.1.now, object_is pictures epoch c.args.place c.cue_at-cue.result c.index-as_slice-cue.result c.region_of-region.result.depth c.fields_of.result.0.now c.fields_of.result.1.now c.cue_at-cue.ensures named.0 named.1 c.fields_of.ensures.fields c.fields_of.ensures.drawn, c.append_blocks.ensures.fits, h))
-    c.append_blocks.ensures.bytes
-
-pub returns-clause-size : goal.returns-clause-size
-returns-clause-size c =
-    let pictures = c.args.script.now.pictures in
-    let epoch = c.args.epoch.now in
-    let named = object_named pictures c.as_slice.result.now epoch c.args.place c.cue_at-cue.result c.index-as_slice-cue.result c.region_of-region.result c.requires.drawable c.requires.cue c.cue_at-cue.ensures c.as_slice.ensures c.index-as_slice-cue.is c.region_of-region.ensures in
-    on_ok_weaker c.append_blocks.result
-    (λ h size sized. omega (arith, h, object_sized pictures epoch c.args.place size c.index-as_slice-cue.result c.region_of-region.result.depth c.fields_of.result.0.now c.fields_of.result.1.now named.0 named.1 c.fields_of.ensures.fields sized))
-    c.append_blocks.ensures.size
+    record {
+      object = on_ok_weaker c.append_blocks.result
+          (λ h. (object_of c.args.place c.cue_at-cue.result.see_through c.fields_of.result.0.now c.fields_of.result.1.now, object_is pictures epoch c.args.place c.cue_at-cue.result c.index-as_slice-cue.result c.region_of-region.result.depth c.fields_of.result.0.now c.fields_of.result.1.now c.cue_at-cue.ensures named.0 named.1 c.fields_of.ensures.fields c.fields_of.ensures.drawn, c.append_blocks.ensures.fits, h))
+          c.append_blocks.ensures.bytes;
+    }

@@ -1,13 +1,8 @@
 use Rattle.std.proofs.Common.{◌∙◌, ap, map, arith}
 use Rattle.set_coder.specs.SetSegments.{listing_of}
-use Rattle.set_coder.proofs.WritableLaws.{region_writable, longer_by}
+use Rattle.set_coder.proofs.WritableLaws.{region_writable}
 use Rattle.set_coder.proofs.set_segments.append_region.Goals as goal
 
 pub write_segment-requires : goal.write_segment-requires
 write_segment-requires c =
     (region_writable c.args.epoch.now c.args.page c.args.sent.now c.region_of-region.result c.as_slice-2.result.now (omega arith) c.requires.usable c.requires.sent c.region_of-region.ensures (c.as_slice-2.ensures.value ∙ c.in_ok-listings.ensures ∙ ap (map (listing_of c.args.epoch.now)) c.as_slice.ensures)).0
-
-pub returns-clause-size : goal.returns-clause-size
-returns-clause-size c =
-    let w = region_writable c.args.epoch.now c.args.page c.args.sent.now c.region_of-region.result c.as_slice-2.result.now (omega arith) c.requires.usable c.requires.sent c.region_of-region.ensures (c.as_slice-2.ensures.value ∙ c.in_ok-listings.ensures ∙ ap (map (listing_of c.args.epoch.now)) c.as_slice.ensures) in
-    longer_by c.write_segment.result c.args.field.now.items c.write_segment.new.out.items _ _ c.write_segment.ensures.bytes w.1
