@@ -73,8 +73,8 @@ row_named epoch clut place there =
     (Contains-append_left (map (λ (row : ColourRow). row.tick) epoch.colours) (flat_map ticks_of_cue epoch.cues) (row_at epoch.colours place).tick
     (place, omega (arith, within, length-map epoch.colours (λ (row : ColourRow). row.tick)), get_or-map (λ (row : ColourRow). row.tick) epoch.colours place no_row (row_at epoch.colours place).tick within))
 
-pub rows_seen : (pictures : List Picture) (epoch : Epoch) (clut tick : ℕ) (earlier : List ℕ) → IsFairEpoch pictures epoch → AreSeen epoch tick earlier → AreSeenRows epoch.colours clut tick earlier
-rows_seen pictures epoch clut tick earlier fair seen =
+pub rows_seen : (width height : ℕ) (pictures : List Picture) (epoch : Epoch) (clut tick : ℕ) (earlier : List ℕ) → IsFairEpoch width height pictures epoch → AreSeen epoch tick earlier → AreSeenRows epoch.colours clut tick earlier
+rows_seen width height pictures epoch clut tick earlier fair seen =
     record {
       seen = λ k d within by_then. seen.all (row_at epoch.colours (get_or (rows_of_clut epoch.colours clut) k d)).tick (row_named epoch clut (get_or (rows_of_clut epoch.colours clut) k d) (All-contains_itself (rows_of_clut epoch.colours clut) k d within)) by_then;
       entries = λ k d within. fair.entries (get_or (rows_of_clut epoch.colours clut) k d) no_row (own_within epoch.colours clut k d within);
