@@ -25,3 +25,4 @@ pub mod SetFits
 pub mod SetPixels
 pub mod SetNodes
 pub mod FaultFree
+pub mod PlannedSets
