@@ -26,3 +26,4 @@ pub mod SetPixels
 pub mod SetNodes
 pub mod FaultFree
 pub mod PlannedSets
+pub mod Runs
