@@ -27,3 +27,6 @@ pub mod SetNodes
 pub mod FaultFree
 pub mod PlannedSets
 pub mod Runs
+pub mod StillPictures
+pub mod Holds
+pub mod Colours
