@@ -245,7 +245,7 @@ last_of_entries f id colour (first ∷ ids) all =
     by false true (Some c) = refl
     by false false v = refl
 
-last_mapped_entries : (g : PageEntry → Option Colour) (epoch : Epoch) (ids : List ℕ) → last_given g (map (page_entry_of epoch) ids) ≡ last_given (λ id. g (page_entry_of epoch id)) ids
+pub last_mapped_entries : (g : PageEntry → Option Colour) (epoch : Epoch) (ids : List ℕ) → last_given g (map (page_entry_of epoch) ids) ≡ last_given (λ id. g (page_entry_of epoch id)) ids
 last_mapped_entries g epoch [] = refl
 last_mapped_entries g epoch (id ∷ ids) = ap (λ found. option_or found (g (page_entry_of epoch id))) (last_mapped_entries g epoch ids)
 
@@ -270,7 +270,7 @@ live_shown epoch tick shown region are there some =
     (kept_one (λ (region : Region). has_some (live_places epoch.cues region.id tick)) are.by_y region (Contains-permutation epoch.regions are.by_y region are.ordered.same there) some))
 
 -- the entries of the page give a place the authored colour, and none where it is clear
-entries_give : (script : Script) (epoch : Epoch) (tick : ℕ) (earlier : List ℕ) (segments : List Content) (shown : List ℕ) (x y : ℕ) → IsFairEpoch script.width script.height script.pictures epoch → Keeps script epoch tick earlier segments
+pub entries_give : (script : Script) (epoch : Epoch) (tick : ℕ) (earlier : List ℕ) (segments : List Content) (shown : List ℕ) (x y : ℕ) → IsFairEpoch script.width script.height script.pictures epoch → Keeps script epoch tick earlier segments
     → AreShown epoch.cues epoch.regions tick shown → All (HasRegion epoch) shown
     → unwrap_or (last_given (λ id. colour_through (taken_of segments) (0 + (page_entry_of epoch id).x) (0 + (page_entry_of epoch id).y) x y (last_region id (taken_among segments))) shown) clear ≡ authored_in script.pictures epoch tick x y (find (lies_in x y) epoch.regions)
 entries_give script epoch tick earlier segments shown x y fair kept are has = by (find (lies_in x y) epoch.regions) refl

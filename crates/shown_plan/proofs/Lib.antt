@@ -30,3 +30,4 @@ pub mod Runs
 pub mod StillPictures
 pub mod Holds
 pub mod Colours
+pub mod Pictures
