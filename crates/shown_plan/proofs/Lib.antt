@@ -31,3 +31,4 @@ pub mod StillPictures
 pub mod Holds
 pub mod Colours
 pub mod Pictures
+pub mod InTime
