@@ -1,13 +1,13 @@
--- Units that are each the PES packet of a whole display set, with different times next to each other, are received as these
--- sets: none is refused, joined to another or left over.
-use Rattle.std.proofs.Common.{◌≡◌, ◌∙◌, ℕ, zero, suc, ◌<◌, ◌≤◌, Bool, true, false, ◌||◌, cond, eqb, ltb, List, [], ◌∷◌, ◌++◌, length, map, take, filter, Option, Some, None, Ok, refl, sym, ap, subst, arith, append-nil}
+-- Units that are the PES packets of display sets, one or several of each set, with different times in neighbouring sets, are
+-- received as these sets: none is refused, joined to another or left over.
+use Rattle.std.proofs.Common.{◌≡◌, ◌∙◌, ℕ, zero, suc, ◌<◌, ◌≤◌, Bool, true, false, ◌||◌, cond, eqb, ltb, List, [], ◌∷◌, ◌++◌, length, map, take, filter, Option, Some, None, Ok, refl, sym, ap, subst, arith, append-nil, append_assoc}
 use Rattle.std.specs.Prelude.{find, filter_map, flat_map, unwrap_or}
 use Rattle.std.specs.Bool.{if◌then◌else◌}
-use Rattle.std.specs.List.{AllByRecursion, concat, sum_by, list_any, take-map, cons_option}
+use Rattle.std.specs.List.{AllByRecursion, AllZip, concat, sum_by, list_any, take-map, cons_option}
 use Rattle.std.proofs.lemmas.List.{map-append}
 use Rattle.std.specs.Option.{option_map, option_or, is_some}
 use Rattle.std.proofs.lemmas.Bool.Decides.{nat_tests}
-use Rattle.std.proofs.lemmas.List.Sums.{sum_by-take-le, sum_by-append}
+use Rattle.std.proofs.lemmas.List.Sums.{sum_by-take-le, sum_by-append, sum_by-cons}
 use Rattle.stream_syntax.specs.Pes.{pes_of}
 use Rattle.stream_syntax.specs.Tests.{byte_at}
 use Rattle.stream_syntax.specs.Cutting.{units_behind, events_behind}
@@ -20,35 +20,82 @@ use Rattle.decoder_model.specs.Sets.{Stretch, run, sets_of, has_ended, runs_of, 
 use Rattle.decoder_model.specs.declared.set_fault.SetFault.TheVariants.{SetTooLong}
 use Rattle.decoder_model.proofs.FieldFrames.{IsHeaded, frames_of_field}
 
--- a set with its time, the size of its unit in bytes, and its segments but for the end segment, which stands last
-pub record TimedSet : Type 0 where
-  pub time : ℕ
+pub all-append : {X : Type 0} (P : X → Type 0) (xs ys : List X) → AllByRecursion P xs → AllByRecursion P ys → AllByRecursion P (xs ++ ys)
+all-append P [] ys a b = b
+all-append P (x ∷ xs) ys a b = (a.0, all-append P xs ys a.1 b)
+
+-- ---- sets and their units
+
+-- a unit of a set: how many bytes its PES packet has, and its segments
+pub record SetUnit : Type 0 where
   pub size : ℕ
   pub segments : List (List ℕ)
-  pub end : List ℕ
+
+-- a set: its time and its units
+pub record TimedSet : Type 0 where
+  pub time : ℕ
+  pub units : List SetUnit
+
+-- a unit with the time of its set
+pub record TimedUnit : Type 0 where
+  pub time : ℕ
+  pub unit : SetUnit
+
+abbrev pub timed : ℕ → SetUnit → TimedUnit
+timed set_time one = record { time = set_time; unit = one }
+
+-- the units of sets, in order, each with its set's time
+abbrev pub timed_units : List TimedSet → List TimedUnit
+timed_units sets = flat_map (λ (set : TimedSet). map (timed set.time) set.units) sets
+
+-- the segments of units, in order, and how many bytes their PES packets have
+abbrev pub segments_of_units : List SetUnit → List (List ℕ)
+segments_of_units units = flat_map (λ (one : SetUnit). one.segments) units
+
+abbrev pub size_of_units : List SetUnit → ℕ
+size_of_units units = sum_by (λ (one : SetUnit). one.size) units
 
 abbrev pub all_segments : TimedSet → List (List ℕ)
-all_segments set = set.segments ++ set.end ∷ []
+all_segments set = segments_of_units set.units
 
 -- a segment of a page that is no end segment
 pub record IsBefore (page : ℕ) (bytes : List ℕ) : Type 0 where
   pub headed : IsHeaded page bytes
   pub no_end : eqb (byte_at 1 bytes) 0x80 ≡ false
 
--- the unit is the PES packet of a set that a coded data buffer of so many bytes can hold
-pub record IsUnitOf (coded page : ℕ) (bytes : List ℕ) (set : TimedSet) : Type 0 where
-  pub each : AllByRecursion (IsBefore page) set.segments
-  pub end_headed : IsHeaded page set.end
-  pub is_end : eqb (byte_at 1 set.end) 0x80 ≡ true
+-- segments of a page, of which the last is an end segment, and no other one
+pub record DoEnd (page : ℕ) (segments : List (List ℕ)) : Type 0 where
+  pub front : List (List ℕ)
+  pub end : List ℕ
+  pub are : segments ≡ front ++ end ∷ []
+  pub each : AllByRecursion (IsBefore page) front
+  pub end_headed : IsHeaded page end
+  pub is_end : eqb (byte_at 1 end) 0x80 ≡ true
+
+-- the units of a set: the last one ends with the set's end segment, and each before it has segments
+abbrev pub AreSetUnits : ℕ → List SetUnit → Type 0
+AreSetUnits page [] = ⊥
+AreSetUnits page (one ∷ []) = DoEnd page one.segments
+AreSetUnits page (one ∷ next ∷ units) = (1 ≤ length one.segments) × AllByRecursion (IsBefore page) one.segments × AreSetUnits page (next ∷ units)
+
+-- a set that a coded data buffer of so many bytes can hold
+pub record IsTimedSet (coded page : ℕ) (set : TimedSet) : Type 0 where
+  pub units : AreSetUnits page set.units
   pub fits : sum_by length (all_segments set) ≤ coded
-  pub size : length bytes ≡ set.size
-  pub packet : pes_of bytes ≡ Ok (set.time, concat (all_segments set) ++ 0xFF ∷ [])
+
+-- the unit is a PES packet of segments of a page
+pub record IsUnitOf (page : ℕ) (bytes : List ℕ) (one : TimedUnit) : Type 0 where
+  pub each : AllByRecursion (IsHeaded page) one.unit.segments
+  pub some : 1 ≤ length one.unit.segments
+  pub size : length bytes ≡ one.unit.size
+  pub packet : pes_of bytes ≡ Ok (one.time, concat one.unit.segments ++ 0xFF ∷ [])
+
+-- these units, one after another, are those of the sets
+pub record AreUnitsOf (coded page : ℕ) (units : List (List ℕ)) (sets : List TimedSet) : Type 0 where
+  pub each : AllZip (IsUnitOf page) units (timed_units sets)
+  pub whole : AllByRecursion (IsTimedSet coded page) sets
 
 -- ---- a unit
-
-all_headed : (page : ℕ) (segments : List (List ℕ)) (end : List ℕ) → AllByRecursion (IsBefore page) segments → IsHeaded page end → AllByRecursion (IsHeaded page) (segments ++ end ∷ [])
-all_headed page [] end h e = (e, tt)
-all_headed page (bytes ∷ segments) end h e = (h.0.headed, all_headed page segments end h.1 e)
 
 -- all of its segments count for the page
 all_count : (page : ℕ) (segments : List (List ℕ)) → AllByRecursion (IsHeaded page) segments → filter (counts_for page) (map segment segments) ≡ map segment segments
@@ -57,66 +104,108 @@ all_count page (bytes ∷ segments) h =
     ap (λ counts. cond counts (segment bytes ∷ filter (counts_for page) (map segment segments)) (filter (counts_for page) (map segment segments))) h.0.of_page
     ∙ ap (λ frames. segment bytes ∷ frames) (all_count page segments h.1)
 
-some_frames : (place size time : ℕ) (segments : List (List ℕ)) (end : List ℕ)
-    → unit_with place size time (map segment (segments ++ end ∷ [])) ≡ unit (record { place = place; size = size; time = time; frames = map segment (segments ++ end ∷ []) })
-some_frames place size time [] end = refl
-some_frames place size time (bytes ∷ segments) end = refl
+-- a unit that ends with the packet of that place
+abbrev pub unit_of : ℕ → ℕ → SetUnit → PesUnit
+unit_of place set_time one = record { place = place; size = one.size; time = set_time; frames = map segment one.segments }
 
--- a set as a unit that ends with the packet of that place
-abbrev pub unit_of : ℕ → TimedSet → PesUnit
-unit_of place set = record { place = place; size = set.size; time = set.time; frames = map segment (all_segments set) }
+some_frames : (place size time : ℕ) (segments : List (List ℕ)) → 1 ≤ length segments
+    → unit_with place size time (map segment segments) ≡ unit (record { place = place; size = size; time = time; frames = map segment segments })
+some_frames place size time [] some = absurd (omega arith)
+some_frames place size time (bytes ∷ segments) some = refl
 
--- the unit arrives as its set
-pub arrives : (coded page place : ℕ) (bytes : List ℕ) (set : TimedSet) → IsUnitOf coded page bytes set → arrival_of_unit page place bytes ≡ unit (unit_of place set)
-arrives coded page place bytes set h =
-    let headed = all_headed page set.segments set.end h.each h.end_headed in
+-- the unit arrives with its segments
+pub arrives : (page place : ℕ) (bytes : List ℕ) (one : TimedUnit) → IsUnitOf page bytes one → arrival_of_unit page place bytes ≡ unit (unit_of place one.time one.unit)
+arrives page place bytes one h =
+    let segments = one.unit.segments in
     ap (unit_from page place (length bytes)) h.packet
-    ∙ ap (λ frames. unit_with place (length bytes) set.time (filter (counts_for page) frames)) (frames_of_field page (all_segments set) [] headed)
-    ∙ ap (unit_with place (length bytes) set.time) (all_count page (all_segments set) headed)
-    ∙ some_frames place (length bytes) set.time set.segments set.end
-    ∙ ap (λ size. unit (record { place = place; size = size; time = set.time; frames = map segment (all_segments set) })) h.size
+    ∙ ap (λ frames. unit_with place (length bytes) one.time (filter (counts_for page) frames)) (frames_of_field page segments [] h.each)
+    ∙ ap (unit_with place (length bytes) one.time) (all_count page segments h.each)
+    ∙ some_frames place (length bytes) one.time segments h.some
+    ∙ ap (λ size. unit (record { place = place; size = size; time = one.time; frames = map segment segments })) h.size
 
--- units one after another
-pub data AreUnitsOf (coded page : ℕ) : List (List ℕ) → List TimedSet → Type 0 where
-  no_unit : AreUnitsOf coded page [] []
-  one_more : {bytes : List ℕ} {units : List (List ℕ)} {set : TimedSet} {sets : List TimedSet} → IsUnitOf coded page bytes set → AreUnitsOf coded page units sets → AreUnitsOf coded page (bytes ∷ units) (set ∷ sets)
-
--- what arrives are the units of sets, one for each, whatever the places
-pub data HaveArrived (coded page : ℕ) : List Arrival → List TimedSet → Type 0 where
-  nothing_more : HaveArrived coded page [] []
-  arrived : {bytes : List ℕ} {place : ℕ} {arrivals : List Arrival} {set : TimedSet} {sets : List TimedSet} → IsUnitOf coded page bytes set → HaveArrived coded page arrivals sets
-      → HaveArrived coded page (unit (unit_of place set) ∷ arrivals) (set ∷ sets)
+-- what arrives is that unit, whatever its place
+abbrev pub IsArrivalOf : Arrival → TimedUnit → Type 0
+IsArrivalOf arrival one = (place : ℕ) × (arrival ≡ unit (unit_of place one.time one.unit))
 
 -- ---- runs
+
+-- the time is not that of the first set
+abbrev pub IsApart : ℕ → List TimedSet → Type 0
+IsApart time [] = Unit {0}
+IsApart time (next ∷ sets) = eqb time next.time ≡ false
 
 -- neighbours have different times
 abbrev pub HaveDifferentTimes : List TimedSet → Type 0
 HaveDifferentTimes [] = Unit {0}
-HaveDifferentTimes (set ∷ []) = Unit {0}
-HaveDifferentTimes (set ∷ next ∷ sets) = (eqb set.time next.time ≡ false) × HaveDifferentTimes (next ∷ sets)
+HaveDifferentTimes (set ∷ sets) = IsApart set.time sets × HaveDifferentTimes sets
 
--- runs of one unit each
-pub data AreOwnRuns (coded page : ℕ) : List Stretch → List TimedSet → Type 0 where
-  no_run : AreOwnRuns coded page [] []
-  own_run : {bytes : List ℕ} {place : ℕ} {rest : List Stretch} {set : TimedSet} {sets : List TimedSet} → IsUnitOf coded page bytes set → AreOwnRuns coded page rest sets
-      → AreOwnRuns coded page (run (unit_of place set) [] ∷ rest) (set ∷ sets)
+-- a unit of a set of that time, whatever its place
+abbrev pub IsPlaced : ℕ → PesUnit → SetUnit → Type 0
+IsPlaced time found one = (place : ℕ) × (found ≡ unit_of place time one)
 
-not_joined : (coded page place : ℕ) (bytes : List ℕ) (set : TimedSet) (sets : List TimedSet) (rest : List Stretch) → IsUnitOf coded page bytes set → HaveDifferentTimes (set ∷ sets)
-    → AreOwnRuns coded page rest sets → AreOwnRuns coded page (joined_to (unit_of place set) rest) (set ∷ sets)
-not_joined coded page place bytes set sets rest is h (no_run) = own_run is no_run
-not_joined coded page place bytes set sets rest is h (own_run {bytes = other} {place = at} {rest = behind} {set = next} {sets = more} one all) =
-    subst (λ (same : Bool). AreOwnRuns coded page (if same then run (unit_of place set) (unit_of at next ∷ []) ∷ behind else run (unit_of place set) [] ∷ run (unit_of at next) [] ∷ behind) (set ∷ next ∷ more)) (sym h.0)
-    (own_run is (own_run one all))
+-- a run for each set, of the units of the set
+pub data AreOwnRuns : List Stretch → List TimedSet → Type 0 where
+  no_run : AreOwnRuns [] []
+  own_run : {first : PesUnit} {more : List PesUnit} {rest : List Stretch} {set : TimedSet} {sets : List TimedSet} → AllZip (IsPlaced set.time) (first ∷ more) set.units → AreOwnRuns rest sets
+      → AreOwnRuns (run first more ∷ rest) (set ∷ sets)
 
-behind_first : (set : TimedSet) (sets : List TimedSet) → HaveDifferentTimes (set ∷ sets) → HaveDifferentTimes sets
-behind_first set [] h = tt
-behind_first set (next ∷ sets) h = h.1
+first_time : (time : ℕ) (first : PesUnit) (more : List PesUnit) (units : List SetUnit) → AllZip (IsPlaced time) (first ∷ more) units → first.time ≡ time
+first_time time first more [] h = absurd h
+first_time time first more (one ∷ units) h = ap (λ (found : PesUnit). found.time) h.0.1
 
--- then each is a run of its own
-own_runs : (coded page : ℕ) (arrivals : List Arrival) (sets : List TimedSet) → HaveArrived coded page arrivals sets → HaveDifferentTimes sets → AreOwnRuns coded page (runs_of arrivals) sets
-own_runs coded page arrivals sets (nothing_more) h = no_run
-own_runs coded page arrivals sets (arrived {bytes = bytes} {place = place} {arrivals = behind} {set = set} {sets = more} is all) h =
-    not_joined coded page place bytes set more (runs_of behind) is h (own_runs coded page behind more all (behind_first set more h))
+abbrev set_of_units : ℕ → List SetUnit → TimedSet
+set_of_units set_time its_units = record { time = set_time; units = its_units }
+
+not_joined : (time place : ℕ) (one : SetUnit) (sets : List TimedSet) (rest : List Stretch) → IsApart time sets → AreOwnRuns rest sets → AreOwnRuns (joined_to (unit_of place time one) rest) (set_of_units time (one ∷ []) ∷ sets)
+not_joined time place one sets rest h (no_run) = own_run ((place, refl), tt) no_run
+not_joined time place one sets rest h (own_run {first = first} {more = more} {rest = behind} {set = next} {sets = further} placed all) =
+    let other : eqb time first.time ≡ false = ap (eqb time) (first_time next.time first more next.units placed) ∙ h in
+    subst (λ (same : Bool). AreOwnRuns (if same then run (unit_of place time one) (first ∷ more) ∷ behind else run (unit_of place time one) [] ∷ run first more ∷ behind) (set_of_units time (one ∷ []) ∷ next ∷ further)) (sym other)
+    (own_run ((place, refl), tt) (own_run placed all))
+
+same_time : (time : ℕ) → eqb time time ≡ true
+same_time time = grind (arith, nat_tests)
+
+is_joined : (time place : ℕ) (one next : SetUnit) (units : List SetUnit) (sets : List TimedSet) (rest : List Stretch) → AreOwnRuns rest (set_of_units time (next ∷ units) ∷ sets)
+    → AreOwnRuns (joined_to (unit_of place time one) rest) (set_of_units time (one ∷ next ∷ units) ∷ sets)
+is_joined time place one next units sets rest (own_run {first = first} {more = more} {rest = behind} placed all) =
+    let same : eqb time first.time ≡ true = ap (eqb time) (first_time time first more (next ∷ units) placed) ∙ same_time time in
+    subst (λ (same : Bool). AreOwnRuns (if same then run (unit_of place time one) (first ∷ more) ∷ behind else run (unit_of place time one) [] ∷ run first more ∷ behind) (set_of_units time (one ∷ next ∷ units) ∷ sets)) (sym same)
+    (own_run ((place, refl), placed) all)
+
+-- the units of one set are a run
+one_run : (time : ℕ) (units : List SetUnit) (front rest : List Arrival) (sets : List TimedSet) → 1 ≤ length units → AllZip IsArrivalOf front (map (timed time) units) → IsApart time sets → AreOwnRuns (runs_of rest) sets
+    → AreOwnRuns (runs_of (front ++ rest)) (set_of_units time units ∷ sets)
+one_run time [] front rest sets some come apart all = absurd (omega arith)
+one_run time (one ∷ units) [] rest sets some come apart all = absurd come
+one_run time (one ∷ []) (arrival ∷ []) rest sets some come apart all =
+    subst (λ (found : Arrival). AreOwnRuns (runs_of (found ∷ rest)) (set_of_units time (one ∷ []) ∷ sets)) (sym come.0.1) (not_joined time come.0.0 one sets (runs_of rest) apart all)
+one_run time (one ∷ []) (arrival ∷ more ∷ front) rest sets some come apart all = absurd come.1
+one_run time (one ∷ next ∷ units) (arrival ∷ front) rest sets some come apart all =
+    subst (λ (found : Arrival). AreOwnRuns (runs_of (found ∷ (front ++ rest))) (set_of_units time (one ∷ next ∷ units) ∷ sets)) (sym come.0.1)
+    (is_joined time come.0.0 one next units sets (runs_of (front ++ rest)) (one_run time (next ∷ units) front rest sets (omega arith) come.1 apart all))
+
+-- a list that goes with another one in two parts has two parts
+record InTwo {A B : Type 0} (R : A → B → Type 0) (all : List A) (xs ys : List B) : Type 0 where
+  front : List A
+  rest : List A
+  are : all ≡ front ++ rest
+  first : AllZip R front xs
+  last : AllZip R rest ys
+
+in_two : {A B : Type 0} (R : A → B → Type 0) (all : List A) (xs ys : List B) → AllZip R all (xs ++ ys) → InTwo R all xs ys
+in_two R all [] ys h = record { front = []; rest = all; are = refl; first = tt; last = h }
+in_two R [] (x ∷ xs) ys h = absurd h
+in_two R (a ∷ all) (x ∷ xs) ys h = let more = in_two R all xs ys h.1 in record { front = a ∷ more.front; rest = more.rest; are = ap (λ rest. a ∷ rest) more.are; first = (h.0, more.first); last = more.last }
+
+-- with different times in neighbouring sets, each set is a run of its own
+own_runs : (arrivals : List Arrival) (sets : List TimedSet) → AllZip IsArrivalOf arrivals (timed_units sets) → AllByRecursion (λ (set : TimedSet). 1 ≤ length set.units) sets → HaveDifferentTimes sets → AreOwnRuns (runs_of arrivals) sets
+own_runs [] [] come some h = no_run
+own_runs (arrival ∷ arrivals) [] come some h = absurd come
+own_runs arrivals (set ∷ sets) come some h =
+    let parts = in_two IsArrivalOf arrivals (map (timed set.time) set.units) (timed_units sets) come in
+    subst (λ (found : List Arrival). AreOwnRuns (runs_of found) (set ∷ sets)) (sym parts.are)
+    (one_run set.time set.units parts.front parts.rest sets some.0 parts.first h.0 (own_runs parts.rest sets parts.last some.1 h.1))
 
 -- ---- the end of a set
 
@@ -137,6 +226,24 @@ whole_front test (frame ∷ frames) last h e =
     ∙ find-map test (λ (front : List Frame). frame ∷ front) (prefixes (frames ++ last ∷ []))
     ∙ ap (option_map (λ (front : List Frame). frame ∷ front)) (whole_front (λ front. test (frame ∷ front)) frames last (λ k within. h (suc k) (omega arith)) e)
 
+-- where no front before the whole passes, the first that does is the whole, or there is none
+only_whole : {X : Type 0} (test : List X → Bool) (xs : List X) → ((k : ℕ) → suc k < length xs → test (take (suc k) xs) ≡ false) → unwrap_or (find test (prefixes xs)) xs ≡ xs
+only_whole test [] h = refl
+only_whole {X} test (x ∷ []) h = by (test (x ∷ []))
+  where
+    by : (passes : Bool) → unwrap_or (cond passes (Some (x ∷ [])) None) (x ∷ []) ≡ x ∷ []
+    by true = refl
+    by false = refl
+only_whole {X} test (x ∷ y ∷ xs) h =
+    ap (λ passes. unwrap_or (cond passes (Some (x ∷ [])) (find test (map (λ (front : List X). x ∷ front) (prefixes (y ∷ xs))))) (x ∷ y ∷ xs)) (h 0 (omega arith))
+    ∙ ap (λ found. unwrap_or found (x ∷ y ∷ xs)) (find-map test (λ (front : List X). x ∷ front) (prefixes (y ∷ xs)))
+    ∙ behind (find (λ front. test (x ∷ front)) (prefixes (y ∷ xs)))
+    ∙ ap (λ (front : List X). x ∷ front) (only_whole (λ front. test (x ∷ front)) (y ∷ xs) (λ k inside. h (suc k) (omega arith)))
+  where
+    behind : (found : Option (List X)) → unwrap_or (option_map (λ (front : List X). x ∷ front) found) (x ∷ y ∷ xs) ≡ x ∷ unwrap_or found (y ∷ xs)
+    behind None = refl
+    behind (Some front) = refl
+
 segments_are : (segments : List (List ℕ)) → segments_in (map segment segments) ≡ segments
 segments_are [] = refl
 segments_are (bytes ∷ segments) = ap (λ rest. bytes ∷ rest) (segments_are segments)
@@ -148,6 +255,10 @@ no_fault (bytes ∷ segments) = no_fault segments
 no_first_fault : (segments : List (List ℕ)) → first_fault_in (map segment segments) ≡ None
 no_first_fault [] = refl
 no_first_fault (bytes ∷ segments) = no_first_fault segments
+
+no_end_among : (page : ℕ) (segments : List (List ℕ)) → AllByRecursion (IsBefore page) segments → list_any is_end (map segment segments) ≡ false
+no_end_among page [] h = refl
+no_end_among page (bytes ∷ segments) h = ap (λ end. end || list_any is_end (map segment segments)) h.0.no_end ∙ no_end_among page segments h.1
 
 no_end_in : (page : ℕ) (segments : List (List ℕ)) (k : ℕ) → AllByRecursion (IsBefore page) segments → list_any is_end (take k (map segment segments)) ≡ false
 no_end_in page segments zero h = refl
@@ -177,49 +288,116 @@ front_not_ended coded page segments k h small =
 whole_ended : (coded : ℕ) (segments : List (List ℕ)) (end : List ℕ) → eqb (byte_at 1 end) 0x80 ≡ true → is_ended coded (map segment segments ++ segment end ∷ []) ≡ true
 whole_ended coded segments end e = ap (λ ends. ends || list_any (λ frame. is_some (fault_of frame)) (map segment segments ++ segment end ∷ []) || ltb coded (bytes_in (map segment segments ++ segment end ∷ []))) (end_in segments end e)
 
+-- ---- the units of a set
+
+-- of a set, the segments before its end
+pub set_ends : (page : ℕ) (units : List SetUnit) → AreSetUnits page units → DoEnd page (segments_of_units units)
+set_ends page [] h = absurd h
+set_ends page (one ∷ []) h = record { front = h.front; end = h.end; are = append-nil one.segments ∙ h.are; each = h.each; end_headed = h.end_headed; is_end = h.is_end }
+set_ends page (one ∷ next ∷ units) h =
+    let more = set_ends page (next ∷ units) h.2 in
+    record {
+      front = one.segments ++ more.front;
+      end = more.end;
+      are = ap (λ rest. one.segments ++ rest) more.are ∙ sym (append_assoc one.segments more.front (more.end ∷ []));
+      each = all-append (IsBefore page) one.segments more.front h.1 more.each;
+      end_headed = more.end_headed;
+      is_end = more.is_end;
+    }
+
+-- before its last unit no segment ends a set
+none_ends : (page : ℕ) (units : List SetUnit) (k : ℕ) → AreSetUnits page units → k < length units → AllByRecursion (IsBefore page) (segments_of_units (take k units))
+none_ends page [] k h inside = absurd h
+none_ends page (one ∷ units) zero h inside = tt
+none_ends page (one ∷ []) (suc k) h inside = absurd (omega arith)
+none_ends page (one ∷ next ∷ units) (suc k) h inside =
+    all-append (IsBefore page) one.segments (segments_of_units (take k (next ∷ units))) h.1 (none_ends page (next ∷ units) k h.2 (omega arith))
+
+front_bytes : (units : List SetUnit) (k : ℕ) → sum_by length (segments_of_units (take k units)) ≤ sum_by length (segments_of_units units)
+front_bytes units zero = omega arith
+front_bytes [] (suc k) = omega arith
+front_bytes (one ∷ units) (suc k) =
+    omega (arith, front_bytes units k, sum_by-append length one.segments (segments_of_units (take k units)), sum_by-append length one.segments (segments_of_units units))
+
+-- the frames and the size of the units of a run
+run_frames : (time : ℕ) (found : List PesUnit) (units : List SetUnit) → AllZip (IsPlaced time) found units → frames_in found ≡ map segment (segments_of_units units)
+run_frames time [] [] h = refl
+run_frames time [] (one ∷ units) h = absurd h
+run_frames time (first ∷ found) [] h = absurd h
+run_frames time (first ∷ found) (one ∷ units) h =
+    ap (λ (unit : PesUnit). unit.frames ++ frames_in found) h.0.1
+    ∙ ap (λ rest. map segment one.segments ++ rest) (run_frames time found units h.1)
+    ∙ sym (map-append segment one.segments (segments_of_units units))
+
+run_size : (time : ℕ) (found : List PesUnit) (units : List SetUnit) → AllZip (IsPlaced time) found units → size_in found ≡ size_of_units units
+run_size time [] [] h = refl
+run_size time [] (one ∷ units) h = absurd h
+run_size time (first ∷ found) [] h = absurd h
+run_size time (first ∷ found) (one ∷ units) h =
+    omega (arith, sum_by-cons (λ (unit : PesUnit). unit.size) first found, sum_by-cons (λ (unit : SetUnit). unit.size) one units, ap (λ (unit : PesUnit). unit.size) h.0.1, run_size time found units h.1)
+
+run_front : (time : ℕ) (found : List PesUnit) (units : List SetUnit) (k : ℕ) → AllZip (IsPlaced time) found units → AllZip (IsPlaced time) (take k found) (take k units)
+run_front time found units zero h = tt
+run_front time [] [] (suc k) h = tt
+run_front time [] (one ∷ units) (suc k) h = absurd h
+run_front time (first ∷ found) [] (suc k) h = absurd h
+run_front time (first ∷ found) (one ∷ units) (suc k) h = (h.0, run_front time found units k h.1)
+
+run_length : (time : ℕ) (found : List PesUnit) (units : List SetUnit) → AllZip (IsPlaced time) found units → length found ≡ length units
+run_length time [] [] h = refl
+run_length time [] (one ∷ units) h = absurd h
+run_length time (first ∷ found) [] h = absurd h
+run_length time (first ∷ found) (one ∷ units) h = ap suc (run_length time found units h.1)
+
 -- the first ended front of the set is all of it
-set_front : (coded page : ℕ) (bytes : List ℕ) (set : TimedSet) → IsUnitOf coded page bytes set → find (is_ended coded) (prefixes (map segment (all_segments set))) ≡ Some (map segment (all_segments set))
-set_front coded page bytes set h =
+set_front : (coded page : ℕ) (set : TimedSet) → IsTimedSet coded page set → find (is_ended coded) (prefixes (map segment (all_segments set))) ≡ Some (map segment (all_segments set))
+set_front coded page set h =
+    let ends = set_ends page set.units h.units in
     let fits = h.fits in
-    let before : sum_by length set.segments ≤ coded = omega (arith, sum_by-append length set.segments (set.end ∷ [])) in
-    subst (λ (frames : List Frame). find (is_ended coded) (prefixes frames) ≡ Some frames) (sym (map-append segment set.segments (set.end ∷ [])))
-    (whole_front (is_ended coded) (map segment set.segments) (segment set.end) (λ k inside. front_not_ended coded page set.segments (suc k) h.each before) (whole_ended coded set.segments set.end h.is_end))
+    let before : sum_by length ends.front ≤ coded = omega (arith, ap (sum_by length) ends.are, sum_by-append length ends.front (ends.end ∷ [])) in
+    subst (λ (frames : List Frame). find (is_ended coded) (prefixes frames) ≡ Some frames) (sym (ap (map segment) ends.are ∙ map-append segment ends.front (ends.end ∷ [])))
+    (whole_front (is_ended coded) (map segment ends.front) (segment ends.end) (λ k inside. front_not_ended coded page ends.front (suc k) ends.each before) (whole_ended coded ends.front ends.end ends.is_end))
+
+-- the set ends with its last unit
+all_to_end : (coded page : ℕ) (set : TimedSet) (found : List PesUnit) → IsTimedSet coded page set → AllZip (IsPlaced set.time) found set.units → units_to_end coded found ≡ found
+all_to_end coded page set found h are = only_whole (λ front. is_ended coded (frames_in front)) found not_yet
+  where
+    not_yet : (k : ℕ) → suc k < length found → is_ended coded (frames_in (take (suc k) found)) ≡ false
+    not_yet k inside =
+        let fits = h.fits in
+        let front = segments_of_units (take (suc k) set.units) in
+        let none = none_ends page set.units (suc k) h.units (omega (arith, run_length set.time found set.units are)) in
+        ap (is_ended coded) (run_frames set.time (take (suc k) found) (take (suc k) set.units) (run_front set.time found set.units (suc k) are))
+        ∙ not_ended coded front (no_end_among page front none) (omega (arith, front_bytes set.units (suc k)))
 
 -- ---- sets
 
 -- what is handed on of a set
 abbrev pub delivered : TimedSet → Delivery (List ℕ)
-delivered set = whole set.time set.size (all_segments set)
+delivered set = whole set.time (size_of_units set.units) (all_segments set)
 
-only_frames : (place : ℕ) (set : TimedSet) → frames_in (unit_of place set ∷ []) ≡ map segment (all_segments set)
-only_frames place set = append-nil (map segment (all_segments set))
-
-either_way : {X : Type 0} (passes : Bool) (x : X) → unwrap_or (cond passes (Some x) None) x ≡ x
-either_way true x = refl
-either_way false x = refl
-
-only_size : (coded place : ℕ) (set : TimedSet) → size_in (units_to_end coded (unit_of place set ∷ [])) ≡ set.size
-only_size coded place set = ap size_in (either_way (is_ended coded (frames_in (unit_of place set ∷ []))) (unit_of place set ∷ [])) ∙ omega arith
-
-handed_whole : (coded page place : ℕ) (bytes : List ℕ) (set : TimedSet) (followed : Bool) → IsUnitOf coded page bytes set
-    → set_of coded set.time (unit_of place set ∷ []) followed (find (is_ended coded) (prefixes (frames_in (unit_of place set ∷ [])))) ≡ delivered set ∷ []
-handed_whole coded page place bytes set followed h =
+handed_whole : (coded page : ℕ) (set : TimedSet) (first : PesUnit) (more : List PesUnit) (followed : Bool) → IsTimedSet coded page set → AllZip (IsPlaced set.time) (first ∷ more) set.units
+    → set_of coded first.time (first ∷ more) followed (find (is_ended coded) (prefixes (frames_in (first ∷ more)))) ≡ delivered set ∷ []
+handed_whole coded page set first more followed h are =
     let fits = h.fits in
-    let bytes_are : bytes_in (map segment (all_segments set)) ≡ sum_by length (all_segments set) = ap (sum_by length) (segments_are (all_segments set)) in
-    let room : ltb coded (bytes_in (map segment (all_segments set))) ≡ false = rw bytes_are (grind (arith, nat_tests)) in
-    ap (λ frames. set_of coded set.time (unit_of place set ∷ []) followed (find (is_ended coded) (prefixes frames))) (only_frames place set)
-    ∙ ap (set_of coded set.time (unit_of place set ∷ []) followed) (set_front coded page bytes set h)
-    ∙ ap (λ size. handed set.time size (map segment (all_segments set)) (option_or (first_fault_in (map segment (all_segments set))) (excess_in coded (map segment (all_segments set)))) ∷ []) (only_size coded place set)
-    ∙ ap (λ fault. handed set.time set.size (map segment (all_segments set)) (option_or fault (excess_in coded (map segment (all_segments set)))) ∷ []) (no_first_fault (all_segments set))
-    ∙ ap (λ full. handed set.time set.size (map segment (all_segments set)) (if full then Some (SetTooLong (bytes_in (map segment (all_segments set)))) else None) ∷ []) room
-    ∙ ap (λ segments. whole set.time set.size segments ∷ []) (segments_are (all_segments set))
+    let segments = all_segments set in
+    let bytes_are : bytes_in (map segment segments) ≡ sum_by length segments = ap (sum_by length) (segments_are segments) in
+    let room : ltb coded (bytes_in (map segment segments)) ≡ false = rw bytes_are (grind (arith, nat_tests)) in
+    let size : size_in (units_to_end coded (first ∷ more)) ≡ size_of_units set.units = ap size_in (all_to_end coded page set (first ∷ more) h are) ∙ run_size set.time (first ∷ more) set.units are in
+    ap (λ frames. set_of coded first.time (first ∷ more) followed (find (is_ended coded) (prefixes frames))) (run_frames set.time (first ∷ more) set.units are)
+    ∙ ap (set_of coded first.time (first ∷ more) followed) (set_front coded page set h)
+    ∙ ap (λ time. handed time (size_in (units_to_end coded (first ∷ more))) (map segment segments) (option_or (first_fault_in (map segment segments)) (excess_in coded (map segment segments))) ∷ []) (first_time set.time first more set.units are)
+    ∙ ap (λ size. handed set.time size (map segment segments) (option_or (first_fault_in (map segment segments)) (excess_in coded (map segment segments))) ∷ []) size
+    ∙ ap (λ fault. handed set.time (size_of_units set.units) (map segment segments) (option_or fault (excess_in coded (map segment segments))) ∷ []) (no_first_fault segments)
+    ∙ ap (λ full. handed set.time (size_of_units set.units) (map segment segments) (if full then Some (SetTooLong (bytes_in (map segment segments))) else None) ∷ []) room
+    ∙ ap (λ found. whole set.time (size_of_units set.units) found ∷ []) (segments_are segments)
 
 -- the sets of these runs are all of them, whole, in order
-all_handed : (coded page : ℕ) (ended : Bool) (stretches : List Stretch) (sets : List TimedSet) → AreOwnRuns coded page stretches sets → sets_in coded ended stretches ≡ map delivered sets
-all_handed coded page ended stretches sets (no_run) = refl
-all_handed coded page ended stretches sets (own_run {bytes = bytes} {place = place} {rest = rest} {set = set} {sets = more} h all) =
-    ap (λ front. front ++ sets_in coded ended rest) (handed_whole coded page place bytes set (is_followed ended rest) h)
-    ∙ ap (λ others. delivered set ∷ others) (all_handed coded page ended rest more all)
+all_handed : (coded page : ℕ) (ended : Bool) (stretches : List Stretch) (sets : List TimedSet) → AllByRecursion (IsTimedSet coded page) sets → AreOwnRuns stretches sets → sets_in coded ended stretches ≡ map delivered sets
+all_handed coded page ended stretches sets h (no_run) = refl
+all_handed coded page ended stretches sets h (own_run {first = first} {more = more} {rest = rest} {set = set} {sets = further} are all) =
+    ap (λ front. front ++ sets_in coded ended rest) (handed_whole coded page set first more (is_followed ended rest) h.0 are)
+    ∙ ap (λ others. delivered set ∷ others) (all_handed coded page ended rest further h.1 all)
 
 -- ---- packets
 
@@ -230,33 +408,41 @@ pub record ComeWhole (pid size : ℕ) (packets units : List (List ℕ)) : Type 0
   pub units_are : filter_map (λ found. found) (units_behind pid size [] packets) ≡ units
 
 -- what arrives with a packet without a loss that ends a unit or none, and with those behind it
-one_packet : (coded page place : ℕ) (found : Option (List ℕ)) (units : List (List ℕ)) (arrivals : List Arrival) (sets : List TimedSet)
-    → ((more : List TimedSet) → AreUnitsOf coded page units more → HaveArrived coded page arrivals more)
-    → AreUnitsOf coded page (cons_option found units) sets → HaveArrived coded page (units_at page place found ++ arrivals) sets
-one_packet coded page place None units arrivals sets behind are = behind sets are
-one_packet coded page place (Some bytes) units arrivals [] behind are = elim are [ ]
-one_packet coded page place (Some bytes) units arrivals (set ∷ more) behind (one_more is all) =
-    subst (λ (first : Arrival). HaveArrived coded page (first ∷ arrivals) (set ∷ more)) (sym (arrives coded page place bytes set is)) (arrived is (behind more all))
+one_packet : (page place : ℕ) (found : Option (List ℕ)) (units : List (List ℕ)) (arrivals : List Arrival) (all : List TimedUnit)
+    → ((more : List TimedUnit) → AllZip (IsUnitOf page) units more → AllZip IsArrivalOf arrivals more)
+    → AllZip (IsUnitOf page) (cons_option found units) all → AllZip IsArrivalOf (units_at page place found ++ arrivals) all
+one_packet page place None units arrivals all behind are = behind all are
+one_packet page place (Some bytes) units arrivals [] behind are = absurd are
+one_packet page place (Some bytes) units arrivals (one ∷ more) behind are = ((place, arrives page place bytes one are.0), behind more are.1)
 
 -- what arrives with packets behind others
 all_arrive : (pid size page : ℕ) (before packets : List (List ℕ)) → AllByRecursion (λ event. is_loss event ≡ false) (events_behind pid size before packets)
-    → (sets : List TimedSet) → AreUnitsOf size page (filter_map (λ found. found) (units_behind pid size before packets)) sets
-    → HaveArrived size page (flat_map (λ (arrivals : List Arrival). arrivals) (each_after (arrivals_at size pid page) before packets)) sets
-all_arrive pid size page before [] h [] (no_unit) = nothing_more
-all_arrive pid size page before [] h (set ∷ sets) are = elim are [ ]
-all_arrive pid size page before (packet ∷ packets) h sets are =
-    subst (λ (lost : Bool). HaveArrived size page (((if lost then loss ∷ [] else []) ++ units_at page (length before) (unit_at pid size before packet))
-    ++ flat_map (λ (arrivals : List Arrival). arrivals) (each_after (arrivals_at size pid page) (before ++ packet ∷ []) packets)) sets) (sym h.0)
-    (one_packet size page (length before) (unit_at pid size before packet) (filter_map (λ found. found) (units_behind pid size (before ++ packet ∷ []) packets))
-    (flat_map (λ (arrivals : List Arrival). arrivals) (each_after (arrivals_at size pid page) (before ++ packet ∷ []) packets)) sets
-    (λ more all. all_arrive pid size page (before ++ packet ∷ []) packets h.1 more all) are)
+    → (all : List TimedUnit) → AllZip (IsUnitOf page) (filter_map (λ found. found) (units_behind pid size before packets)) all
+    → AllZip IsArrivalOf (flat_map (λ (arrivals : List Arrival). arrivals) (each_after (arrivals_at size pid page) before packets)) all
+all_arrive pid size page before [] h [] are = tt
+all_arrive pid size page before [] h (one ∷ all) are = absurd are
+all_arrive pid size page before (packet ∷ packets) h all are =
+    subst (λ (lost : Bool). AllZip IsArrivalOf (((if lost then loss ∷ [] else []) ++ units_at page (length before) (unit_at pid size before packet))
+    ++ flat_map (λ (arrivals : List Arrival). arrivals) (each_after (arrivals_at size pid page) (before ++ packet ∷ []) packets)) all) (sym h.0)
+    (one_packet page (length before) (unit_at pid size before packet) (filter_map (λ found. found) (units_behind pid size (before ++ packet ∷ []) packets))
+    (flat_map (λ (arrivals : List Arrival). arrivals) (each_after (arrivals_at size pid page) (before ++ packet ∷ []) packets)) all
+    (λ more each. all_arrive pid size page (before ++ packet ∷ []) packets h.1 more each) are)
+
+pub have_units : (coded page : ℕ) (sets : List TimedSet) → AllByRecursion (IsTimedSet coded page) sets → AllByRecursion (λ (set : TimedSet). 1 ≤ length set.units) sets
+have_units coded page [] h = tt
+have_units coded page (set ∷ sets) h = (some set.units h.0.units, have_units coded page sets h.1)
+  where
+    some : (units : List SetUnit) → AreSetUnits page units → 1 ≤ length units
+    some [] h = absurd h
+    some (one ∷ units) h = omega arith
 
 -- the sets of the packets are those of the units
 pub sets_come_whole : (coded pid page : ℕ) (ended : Bool) (packets units : List (List ℕ)) (sets : List TimedSet) → ComeWhole pid coded packets units → AreUnitsOf coded page units sets → HaveDifferentTimes sets
     → sets_of coded pid page ended packets ≡ map delivered sets
 unfolding sets_of arrivals_of
 sets_come_whole coded pid page ended packets units sets come are apart =
-    let own = subst (λ (found : List (List ℕ)). AreUnitsOf coded page found sets) (sym come.units_are) are in
+    let own = subst (λ (found : List (List ℕ)). AllZip (IsUnitOf page) found (timed_units sets)) (sym come.units_are) are.each in
+    let arrivals = flat_map (λ (arrivals : List Arrival). arrivals) (each_after (arrivals_at coded pid page) [] packets) in
     ap (λ taken. sets_in coded (has_ended ended pid packets) (runs_of (flat_map (λ (arrivals : List Arrival). arrivals) (each_after (arrivals_at coded pid page) [] taken)))) come.taken
-    ∙ all_handed coded page (has_ended ended pid packets) (runs_of (flat_map (λ (arrivals : List Arrival). arrivals) (each_after (arrivals_at coded pid page) [] packets))) sets
-    (own_runs coded page (flat_map (λ (arrivals : List Arrival). arrivals) (each_after (arrivals_at coded pid page) [] packets)) sets (all_arrive pid coded page [] packets come.no_loss sets own) apart)
+    ∙ all_handed coded page (has_ended ended pid packets) (runs_of arrivals) sets are.whole
+    (own_runs arrivals sets (all_arrive pid coded page [] packets come.no_loss (timed_units sets) own) (have_units coded page sets are.whole) apart)

@@ -1,6 +1,5 @@
--- Units that are sent in packets of a PID one after another come out whole, in order and without a loss, and with them the
--- sets that they carry.
-use Rattle.std.proofs.Common.{◌≡◌, ◌≢◌, ◌∙◌, ℕ, zero, suc, ◌+◌, ◌-◌, Bool, true, false, cond, eqb, List, [], ◌∷◌, ◌++◌, length, map, take, replicate, Option, Some, None, refl, sym, ap, subst, arith, append_assoc, append-nil}
+-- Units that are sent in packets of a PID one after another come out whole, in order and without a loss.
+use Rattle.std.proofs.Common.{◌≡◌, ◌≢◌, ◌∙◌, ℕ, zero, suc, ◌+◌, ◌-◌, Bool, true, false, cond, eqb, List, [], ◌∷◌, ◌++◌, length, take, replicate, Option, Some, None, refl, sym, ap, subst, arith, append_assoc, append-nil}
 use Rattle.std.specs.Prelude.{filter_map}
 use Rattle.std.specs.List.{AllByRecursion, concat, cons_option, prefix_len, take_while}
 use Rattle.std.specs.Option.{is_none}
@@ -10,8 +9,7 @@ use Rattle.stream_syntax.specs.TransportPackets.{pid_of, packet_fault}
 use Rattle.stream_syntax.specs.Units.{last_counter, part_after, parts_of, each_after, hand_after, unit_at, event_after, event_at, is_loss}
 use Rattle.stream_syntax.specs.declared.transport.Event.{Event}
 use Rattle.decoder_model.specs.Arrivals.{packets_taken}
-use Rattle.decoder_model.specs.Sets.{sets_of}
-use Rattle.decoder_model.proofs.SentSets.{TimedSet, AreUnitsOf, HaveDifferentTimes, delivered, sets_come_whole}
+use Rattle.decoder_model.proofs.SentSets.{all-append, ComeWhole}
 
 -- behind packets, these packets carry these units, one after another, each in pieces; other packets stand anywhere between and
 -- packets of other PIDs behind the last
@@ -36,10 +34,6 @@ given-append (Some x ∷ xs) ys = ap (λ rest. x ∷ rest) (given-append xs ys)
 nothing_given : (n : ℕ) → filter_map (λ (found : Option (List ℕ)). found) (replicate n None) ≡ []
 nothing_given zero = refl
 nothing_given (suc n) = nothing_given n
-
-pub all-append : {X : Type 0} (P : X → Type 0) (xs ys : List X) → AllByRecursion P xs → AllByRecursion P ys → AllByRecursion P (xs ++ ys)
-all-append P [] ys a b = b
-all-append P (x ∷ xs) ys a b = (a.0, all-append P xs ys a.1 b)
 
 -- ---- packets of other PIDs
 
@@ -119,15 +113,11 @@ pub no_hand : (pid size : ℕ) → hand_after pid size [] ≡ None
 unfolding hand_after parts_of
 no_hand pid size = refl
 
--- packets that carry the units of whole sets are received as these sets
-pub sets_of_sent : (coded pid page : ℕ) (ended : Bool) (packets units : List (List ℕ)) (sets : List TimedSet) → AnyCutting pid coded → NothingLost pid coded
-    → AllByRecursion (λ packet. packet_fault pid packet ≡ None) packets → AreSent pid coded [] units packets → AreUnitsOf coded page units sets → HaveDifferentTimes sets
-    → sets_of coded pid page ended packets ≡ map delivered sets
-sets_of_sent coded pid page ended packets units sets cutting lossless sound sent are apart =
-    sets_come_whole coded pid page ended packets units sets
-    (record {
-      taken = all_taken pid packets sound;
-      no_loss = none_lost pid coded [] units packets cutting lossless (no_hand pid coded) sent;
-      units_are = units_of_sent pid coded [] units packets cutting sent;
-    })
-    are apart
+-- packets that carry units hand them out whole
+pub sent_come_whole : (size pid : ℕ) (packets units : List (List ℕ)) → AnyCutting pid size → NothingLost pid size → AllByRecursion (λ packet. packet_fault pid packet ≡ None) packets → AreSent pid size [] units packets
+    → ComeWhole pid size packets units
+sent_come_whole size pid packets units cutting lossless sound sent = record {
+  taken = all_taken pid packets sound;
+  no_loss = none_lost pid size [] units packets cutting lossless (no_hand pid size) sent;
+  units_are = units_of_sent pid size [] units packets cutting sent;
+}

@@ -163,7 +163,7 @@ one_of_by v x rest false t none few =
     let here : cond {A = ℕ} (v == x.id) 1 0 ≡ 0 = ap (λ (b : Bool). cond {A = ℕ} b 1 0) t in
     omega arith
 
-one_of : (v : ℕ) (xs : List Region) → AllPairs (λ (a b : Region). a.id ≢ b.id) xs → sum_by (λ (r : Region). cond (v == r.id) 1 0) xs ≤ 1
+pub one_of : (v : ℕ) (xs : List Region) → AllPairs (λ (a b : Region). a.id ≢ b.id) xs → sum_by (λ (r : Region). cond (v == r.id) 1 0) xs ≤ 1
 one_of v [] pairs = omega arith
 one_of v (x ∷ xs) pairs =
     let total = sum_by-cons (λ (r : Region). cond (v == r.id) 1 0) x xs in

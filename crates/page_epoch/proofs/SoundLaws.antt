@@ -23,12 +23,12 @@ cue_ticks P (cue ∷ cues) all =
     let here = All-head (λ (cue : Cue). P cue.start × P cue.end) cue cues all in
     All-cons P cue.start (cue.end ∷ flat_map ticks_of_cue cues) here.0 (All-cons P cue.end (flat_map ticks_of_cue cues) here.1 (cue_ticks P cues (All-tail (λ (cue : Cue). P cue.start × P cue.end) cue cues all)))
 
-epoch_ticks : (P : ℕ → Type 0) (epoch : Epoch) → P epoch.start → All (λ (row : ColourRow). P row.tick) epoch.colours → All (λ (cue : Cue). P cue.start × P cue.end) epoch.cues → All P (ticks_of epoch)
+pub epoch_ticks : (P : ℕ → Type 0) (epoch : Epoch) → P epoch.start → All (λ (row : ColourRow). P row.tick) epoch.colours → All (λ (cue : Cue). P cue.start × P cue.end) epoch.cues → All P (ticks_of epoch)
 epoch_ticks P epoch start rows cues =
     All-cons P epoch.start (map (λ (row : ColourRow). row.tick) epoch.colours ++ flat_map ticks_of_cue epoch.cues) start
     (All-append P (map (λ (row : ColourRow). row.tick) epoch.colours) (flat_map ticks_of_cue epoch.cues) (All-map P (λ (row : ColourRow). row.tick) epoch.colours rows) (cue_ticks P epoch.cues cues))
 
-all_ticks : (P : ℕ → Type 0) (epochs : List Epoch) → All (λ (epoch : Epoch). All P (ticks_of epoch)) epochs → All P (named_ticks epochs)
+pub all_ticks : (P : ℕ → Type 0) (epochs : List Epoch) → All (λ (epoch : Epoch). All P (ticks_of epoch)) epochs → All P (named_ticks epochs)
 all_ticks P [] all = λ k d h. absurd (omega arith)
 all_ticks P (epoch ∷ epochs) all =
     All-append P (ticks_of epoch) (named_ticks epochs) (All-head (λ (epoch : Epoch). All P (ticks_of epoch)) epoch epochs all) (all_ticks P epochs (All-tail (λ (epoch : Epoch). All P (ticks_of epoch)) epoch epochs all))

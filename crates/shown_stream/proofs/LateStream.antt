@@ -8,8 +8,8 @@ use Rattle.std.proofs.lemmas.List.{drop-append-le, length-take-le, length-replic
 use Rattle.stream_syntax.specs.Cutting.{IsUnit, units_behind, events_behind}
 use Rattle.stream_syntax.specs.TransportPackets.{null_packet}
 use Rattle.stream_syntax.specs.Units.{last_counter, unit_at, event_at, is_loss}
-use Rattle.decoder_model.proofs.SentSets.{ComeWhole}
-use Rattle.decoder_model.proofs.SentUnits.{AreSent, each_after-append, given-append, all-append, all_taken, no_hand, units_of_sent, none_lost}
+use Rattle.decoder_model.proofs.SentSets.{all-append, ComeWhole}
+use Rattle.decoder_model.proofs.SentUnits.{AreSent, each_after-append, given-append, all_taken, no_hand, units_of_sent, none_lost}
 use Rattle.stream_syntax.specs.declared.transport.Event.{Event}
 use Rattle.std.proofs.Math.Seq.{drop-nil, drop-append-add}
 use Rattle.ts_packets.proofs.AnyCuttingLemmas.{any_cutting, nothing_lost}
@@ -208,7 +208,7 @@ entered_late pid size j units slots free whole same ahead =
     subst (λ (some : List (List ℕ)). ComeWhole pid size some (drop left.cut units)) (sym packets)
     (come_late pid size (0 + j) (0 + m) left.further (drop left.cut units) (drop m slots) free left.rest (drop_units size left.cut units whole) count)
 
-later_slots : (from : ℕ) (slots : List ℕ) (k : ℕ) → IsAhead from slots → k < length slots → from ≤ get_or slots k 0
+pub later_slots : (from : ℕ) (slots : List ℕ) (k : ℕ) → IsAhead from slots → k < length slots → from ≤ get_or slots k 0
 later_slots from [] k ahead inside = absurd (omega arith)
 later_slots from (slot ∷ slots) zero ahead inside = ahead.0
 later_slots from (slot ∷ slots) (suc k) ahead inside = let least = ahead.0 in let more = later_slots (slot + 1) slots k ahead.1 (omega arith) in omega arith

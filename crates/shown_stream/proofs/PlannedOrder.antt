@@ -18,7 +18,7 @@ use Rattle.shown_stream.proofs.RisingSlots.{slots_rise}
 use Rattle.shown_stream.proofs.SentOrder.{DoRise, in_order}
 use Rattle.shown_stream.proofs.SentPlaces.{times_rise, places_are_slots, has_place}
 
-rest_rises : (x : ℕ) (xs : List ℕ) → IsStrictlyIncreasing (x ∷ xs) → IsStrictlyIncreasing xs
+pub rest_rises : (x : ℕ) (xs : List ℕ) → IsStrictlyIncreasing (x ∷ xs) → IsStrictlyIncreasing xs
 rest_rises x xs rise = λ k within.
     let same : suc k + 1 ≡ suc (k + 1) = omega arith in
     subst (λ (place : ℕ). get_or xs k 0 < get_or (x ∷ xs) place 0) same (rise (suc k) (omega arith))

@@ -7,7 +7,7 @@ use Rattle.decoder_model.specs.Streams.{SentSet, is_from}
 use Rattle.shown_stream.proofs.LaidPackets.{IsAhead}
 use Rattle.shown_stream.proofs.LateTicks.{AreInOrder, no_set, set_first}
 
-sooner : (least from : ℕ) (xs : List ℕ) → least ≤ from → IsAhead from xs → IsAhead least xs
+pub sooner : (least from : ℕ) (xs : List ℕ) → least ≤ from → IsAhead from xs → IsAhead least xs
 sooner least from [] le h = tt
 sooner least from (x ∷ xs) le h = let first = h.0 in (omega arith, h.1)
 
@@ -15,7 +15,7 @@ behind_ahead : (least : ℕ) (xs ys : List ℕ) → IsAhead least (xs ++ ys) →
 behind_ahead least [] ys h = h
 behind_ahead least (x ∷ xs) ys h = let first = h.0 in sooner least (x + 1) ys (omega arith) (behind_ahead (x + 1) xs ys h.1)
 
-all_ahead : (least : ℕ) (xs : List ℕ) → IsAhead least xs → AllByRecursion (λ place. least ≤ place) xs
+pub all_ahead : (least : ℕ) (xs : List ℕ) → IsAhead least xs → AllByRecursion (λ place. least ≤ place) xs
 all_ahead least [] h = tt
 all_ahead least (x ∷ xs) h = let first = h.0 in (first, all_ahead least xs (sooner least (x + 1) xs (omega arith) h.1))
 
@@ -27,7 +27,7 @@ back_all : (P : ℕ → Type 0) (xs ys : List ℕ) → AllByRecursion P (xs ++ y
 back_all P [] ys h = h
 back_all P (x ∷ xs) ys h = back_all P xs ys h.1
 
-from_all : (j : ℕ) (places : List ℕ) → AllByRecursion (λ place. j ≤ place) places → list_all (λ at. nat_le j at) places ≡ true
+pub from_all : (j : ℕ) (places : List ℕ) → AllByRecursion (λ place. j ≤ place) places → list_all (λ at. nat_le j at) places ≡ true
 from_all j [] h = refl
 from_all j (place ∷ places) h =
     let low : j ≤ place = h.0 in

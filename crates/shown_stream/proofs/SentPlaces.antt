@@ -23,7 +23,7 @@ times_are : (table : Timetable) (k : ℕ) (sets : List PlannedSet) → map (λ (
 times_are table k [] = refl
 times_are table k (set ∷ sets) = ap (λ rest. set.pts ∷ rest) (times_are table (k + 1) sets)
 
-front_rises : (xs : List ℕ) (n : ℕ) → n ≤ length xs → IsStrictlyIncreasing xs → IsStrictlyIncreasing (take n xs)
+pub front_rises : (xs : List ℕ) (n : ℕ) → n ≤ length xs → IsStrictlyIncreasing xs → IsStrictlyIncreasing (take n xs)
 front_rises xs n within rise = λ k before.
     let size = length-take-le n xs within in
     let low : k + 1 < n = omega arith in
@@ -44,7 +44,7 @@ one_on : (k : ℕ) → k + 1 ≡ suc k
 one_on k = omega arith
 
 -- the places of a set begin with its first packet
-start_is : (loads : List WriteLoad) (n : ℕ) (pace : Pace) (table : Timetable) → IsSchedule loads n pace table → (k : ℕ) → k ≤ n → start_of table k ≡ first_packet loads k
+pub start_is : (loads : List WriteLoad) (n : ℕ) (pace : Pace) (table : Timetable) → IsSchedule loads n pace table → (k : ℕ) → k ≤ n → start_of table k ≡ first_packet loads k
 start_is loads n pace table schedule zero low = sym (sum_below-zero (packets_of loads))
 start_is loads n pace table schedule (suc k) low = schedule.ends k (omega arith) ∙ ap (first_packet loads) (one_on k)
 

@@ -6,7 +6,8 @@ use Rattle.std.proofs.lemmas.Bool.Decides.{nat_tests}
 use Rattle.std.proofs.lemmas.List.{length-take, length-take-le, drop-drop}
 use Rattle.stream_syntax.specs.Cutting.{IsUnit, HasCounter}
 use Rattle.stream_syntax.specs.Units.{last_counter}
-use Rattle.decoder_model.proofs.SentUnits.{AreSent, all-append}
+use Rattle.decoder_model.proofs.SentSets.{all-append}
+use Rattle.decoder_model.proofs.SentUnits.{AreSent}
 use Rattle.shown_stream.specs.SlotStream.{Piece, piece_count, piece_of, pieces_of, all_pieces, IsPiece}
 use Rattle.shown_stream.proofs.LaidPackets.{laid, behind}
 use Rattle.shown_stream.proofs.SentPieces.{IsFree, AreFurther, FollowsOn, cut_of_laid, gapless_laid, counter_behind, laid-append}

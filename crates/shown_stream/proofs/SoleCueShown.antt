@@ -1,17 +1,13 @@
 -- What a receiver shows of the packets of a script of one cue is what the script authors, at every tick.
-use Rattle.std.proofs.Common.{◌≡◌, ◌∙◌, ◌⊎◌, inl, inr, ℕ, ◌+◌, ◌*◌, ◌%◌, ◌<◌, ◌≤◌, ◌≢◌, ◌^◌, true, false, eqb, List, [], ◌∷◌, ◌++◌, length, map, reverse, refl, sym, ap, subst, arith}
-use Rattle.std.specs.List.{AllByRecursion}
+use Rattle.std.proofs.Common.{◌≡◌, ◌∙◌, ◌⊎◌, inl, inr, ℕ, ◌+◌, ◌*◌, ◌%◌, ◌<◌, ◌≤◌, true, List, [], ◌∷◌, ◌++◌, map, reverse, refl, sym, ap, subst, arith}
 use Rattle.std.proofs.lemmas.Bool.{cases_lt}
-use Rattle.std.proofs.lemmas.Bool.Decides.{nat_tests}
 use Rattle.std.proofs.lemmas.List.Elements.{recursion_from_All}
 use Rattle.sub_base.specs.Colour.{default_of}
 use Rattle.sub_base.specs.Picture.{Picture}
 use Rattle.sub_base.specs.Profile.{profile_of}
 use Rattle.sub_base.specs.declared.profile.Profile.{Profile}
 use Rattle.sub_base.specs.declared.profile.ProfileName.{ProfileName}
-use Rattle.stream_syntax.specs.Cutting.{IsUnit}
 use Rattle.stream_syntax.specs.PixelBlocks.{Part}
-use Rattle.stream_syntax.specs.Pes.{written_pes}
 use Rattle.stream_syntax.specs.Segments.{SegmentValue, of_display, of_page, of_region, of_object, end_of_set, spelled, IsWritable}
 use Rattle.segments.proofs.Spellings.{written_segment}
 use Rattle.cue_list.specs.declared.epoch.Cue.{Cue}
@@ -23,63 +19,55 @@ use Rattle.page_epoch.specs.SoleCue.{IsSoleCue}
 use Rattle.page_epoch.proofs.SoleCueSets.{HasRoom, first_set, last_set}
 use Rattle.page_epoch.specs.declared.planned_set.PlannedSet.{PlannedSet}
 use Rattle.page_epoch.proofs.SoleCuePlan.{sole_cue_fills, sole_cue_plan, sole_cue_room}
-use Rattle.set_coder.specs.SetSegments.{IsSetPacket, time_out_of}
+use Rattle.set_coder.specs.SetSegments.{time_out_of}
 use Rattle.decoder_model.specs.Kept.{time_round}
-use Rattle.decoder_model.specs.Readings.{AreFields, IsContent, AreReadings, AreDeliveriesRead}
-use Rattle.decoder_model.specs.Sets.{Delivery, sets_of}
+use Rattle.decoder_model.specs.Readings.{Reading, AreFields, IsContent, AreReadings, IsDeliveryRead, AreDeliveriesRead}
+use Rattle.decoder_model.specs.Sets.{Delivery, whole, sets_of}
 use Rattle.decoder_model.specs.Shown.{View, plane, IsClear, Agrees, view_at}
 use Rattle.decoder_model.proofs.Depths.{parts_in_eight, none_too_deep}
-use Rattle.decoder_model.proofs.SentSets.{TimedSet, AreUnitsOf, no_unit, one_more, IsUnitOf, all_segments}
+use Rattle.decoder_model.proofs.SentSets.{TimedSet, size_of_units, all_segments, delivered}
 use Rattle.decoder_model.proofs.SoleCue as shown
 use Rattle.decoder_model.proofs.SoleCueView.{IsDrawn, both_sets, coloured, nothing_before, picture_while, clear_after}
-use Rattle.shown_stream.specs.Compiled.{IsCompiledFor, AreUnits, IsCompiledTo}
+use Rattle.shown_stream.specs.Compiled.{IsCompiledFor, IsCompiledTo}
 use Rattle.shown_stream.specs.Shows.{authored_view, IsAnchorOf, Shows}
 use Rattle.shown_stream.proofs.AuthoredCue.{sole_cue_facts, clear_outside, picture_inside}
 use Rattle.shown_stream.proofs.CompiledPackets.{packets_in, are_packets}
 use Rattle.shown_stream.proofs.DrawnObject.{ObjectDraws}
 use Rattle.shown_stream.proofs.SentPieces.{IsFree}
-use Rattle.shown_stream.proofs.SoleCueUnits.{cue_of, first_values, last_values, FieldOf, first_field, last_field}
-use Rattle.shown_stream.proofs.WrittenSets.{set_with, written_set}
+use Rattle.shown_stream.proofs.CompiledSets.{IsSentAs, AreSentAs}
+use Rattle.shown_stream.proofs.SoleCueUnits.{cue_of, first_values, last_values, SegmentsOf, first_segments, last_segments}
 
--- ---- units
+-- ---- the two sets
 
--- two sets have two packets
-record TwoPackets (script : Script) (page : ℕ) (one two : PlannedSet) (units : List (List ℕ)) : Type 0 where
-  first : List ℕ
-  last : List ℕ
-  are : units ≡ first ∷ last ∷ []
-  first_is : IsSetPacket script page one first
-  last_is : IsSetPacket script page two last
+-- what is received of two sets of a plan
+record TwoSets (script : Script) (page : ℕ) (one two : PlannedSet) (sent : List TimedSet) : Type 0 where
+  first : TimedSet
+  last : TimedSet
+  are : sent ≡ first ∷ last ∷ []
+  first_packets : List (List ℕ)
+  last_packets : List (List ℕ)
+  first_is : IsSentAs script page one first_packets first
+  last_is : IsSentAs script page two last_packets last
 
-two_packets : (script : Script) (page : ℕ) (one two : PlannedSet) (units : List (List ℕ)) → AreUnits script page (one ∷ two ∷ []) units → TwoPackets script page one two units
-two_packets script page one two [] h = absurd h
-two_packets script page one two (first ∷ []) h = absurd h.1
-two_packets script page one two (first ∷ last ∷ []) h = record { first = first; last = last; are = refl; first_is = h.0; last_is = h.1.0 }
-two_packets script page one two (first ∷ last ∷ more ∷ units) h = absurd h.1.1
-
--- the packet of the first set is that of its segments
-first_unit : (coded page time : ℕ) (cue : shown.Cue) (field bytes : List ℕ) → FieldOf page (first_values cue) field → bytes ≡ written_pes time field → time < 2 ^ 33 → length bytes ≤ coded → length bytes ≤ 65541
-    → IsUnitOf coded page bytes (set_with page time (length bytes) (first_values cue))
-first_unit coded page time cue field bytes is packet early fits short =
-    let each = recursion_from_All (IsWritable page) (first_values cue ++ end_of_set ∷ []) is.fit in
-    written_set coded page time (first_values cue) bytes
-    ((each.0, tt), ((each.1.0, tt), ((each.1.1.0, tt), ((each.1.1.1.0, tt), tt)))) each.1.1.1.1.0 early fits short (packet ∙ ap (written_pes time) is.field)
-
-last_unit : (coded page time : ℕ) (cue : shown.Cue) (field bytes : List ℕ) → FieldOf page (last_values cue) field → bytes ≡ written_pes time field → time < 2 ^ 33 → length bytes ≤ coded → length bytes ≤ 65541
-    → IsUnitOf coded page bytes (set_with page time (length bytes) (last_values cue))
-last_unit coded page time cue field bytes is packet early fits short =
-    let each = recursion_from_All (IsWritable page) (last_values cue ++ end_of_set ∷ []) is.fit in
-    written_set coded page time (last_values cue) bytes ((each.0, tt), tt) each.1.0 early fits short (packet ∙ ap (written_pes time) is.field)
+two_sets : (script : Script) (page : ℕ) (one two : PlannedSet) (units : List (List (List ℕ))) (sent : List TimedSet) → AreSentAs script page (one ∷ two ∷ []) units sent → TwoSets script page one two sent
+two_sets script page one two [] sent h = absurd h
+two_sets script page one two (packets ∷ units) [] h = absurd h
+two_sets script page one two (packets ∷ []) (first ∷ sent) h = absurd h.1
+two_sets script page one two (packets ∷ more ∷ units) (first ∷ []) h = absurd h.1
+two_sets script page one two (packets ∷ more ∷ []) (first ∷ last ∷ []) h = record { first = first; last = last; are = refl; first_packets = packets; last_packets = more; first_is = h.0; last_is = h.1.0 }
+two_sets script page one two (packets ∷ more ∷ []) (first ∷ last ∷ next ∷ sent) h = absurd h.1.1
+two_sets script page one two (packets ∷ more ∷ others ∷ units) (first ∷ last ∷ sent) h = absurd h.1.1
 
 -- ---- what is read
 
 content_of : (page : ℕ) (value : SegmentValue) (top bottom : List Part) → IsWritable page value → AreFields value top bottom → IsContent (spelled page value) (record { value = value; top = top; bottom = bottom })
 content_of page value top bottom writable fields = record { segment = written_segment page value writable; fields = fields }
 
-first_read : (page time size : ℕ) (cue : shown.Cue) (field : List ℕ) → FieldOf page (first_values cue) field → AreFields (of_object (shown.object_for cue)) cue.top cue.bottom
-    → AreReadings (all_segments (set_with page time size (first_values cue))) (shown.first_readings cue)
-first_read page time size cue field is parts =
-    let each = recursion_from_All (IsWritable page) (first_values cue ++ end_of_set ∷ []) is.fit in (
+first_read : (page : ℕ) (cue : shown.Cue) (segments : List SegmentValue) (sent : TimedSet) → SegmentsOf page (first_values cue) segments → AreFields (of_object (shown.object_for cue)) cue.top cue.bottom
+    → all_segments sent ≡ map (spelled page) segments → AreReadings (all_segments sent) (shown.first_readings cue)
+first_read page cue segments sent is parts carried =
+    let each = recursion_from_All (IsWritable page) (first_values cue ++ end_of_set ∷ []) is.fit in
+    subst (λ (all : List (List ℕ)). AreReadings all (shown.first_readings cue)) (sym (carried ∙ ap (map (spelled page)) is.are)) (
       content_of page (of_display (shown.display_for cue)) [] [] each.0 (refl, refl),
       (
         content_of page (of_page (shown.first_page cue)) [] [] each.1.0 (refl, refl),
@@ -93,19 +81,11 @@ first_read page time size cue field is parts =
       ),
     )
 
-last_read : (page time size : ℕ) (cue : shown.Cue) (field : List ℕ) → FieldOf page (last_values cue) field → AreReadings (all_segments (set_with page time size (last_values cue))) (shown.last_readings cue)
-last_read page time size cue field is =
+last_read : (page : ℕ) (cue : shown.Cue) (segments : List SegmentValue) (sent : TimedSet) → SegmentsOf page (last_values cue) segments → all_segments sent ≡ map (spelled page) segments → AreReadings (all_segments sent) (shown.last_readings cue)
+last_read page cue segments sent is carried =
     let each = recursion_from_All (IsWritable page) (last_values cue ++ end_of_set ∷ []) is.fit in
+    subst (λ (all : List (List ℕ)). AreReadings all (shown.last_readings cue)) (sym (carried ∙ ap (map (spelled page)) is.are))
     (content_of page (of_page (shown.last_page cue)) [] [] each.0 (refl, refl), (content_of page end_of_set [] [] each.1.0 (refl, refl), tt))
-
--- ---- times
-
--- times that are near each other are told as different ones
-told_apart : (start end : ℕ) → start < end → end < start + 4294967296 → eqb (start % time_round) (end % time_round) ≡ false
-told_apart start end rising near = let differ : (start % time_round) ≢ (end % time_round) = omega arith in grind (arith, nat_tests)
-
-below_round : (time : ℕ) → time % time_round < 2 ^ 33
-below_round time = omega arith
 
 -- ---- what is shown
 
@@ -137,47 +117,42 @@ cue_fits profile script epoch region cue picture top bottom first_size last_size
       bottom_depth = none_too_deep region.depth draws.bottom_has bottom draws.bottom_whole;
     }
 
+-- a set that is read is handed on with its readings
+read_as : (page time : ℕ) (sent : TimedSet) (readings : List Reading) → sent.time ≡ time → AreReadings (all_segments sent) readings → IsDeliveryRead (delivered sent) (whole time (size_of_units sent.units) readings)
+read_as page time sent readings same are = (readings, are, ap (λ n. whole n (size_of_units sent.units) readings) (sym same))
+
 -- the two sets are handed on
 handed : (name : ProfileName) (pid page : ℕ) (script : Script) (epoch : Epoch) (region : Region) (cue : Cue) (picture : Picture) (bytes : List ℕ) → IsFree pid → IsCompiledFor name → IsSoleCue script epoch region cue picture
     → (compiled : IsCompiledTo name pid page script bytes) → Handed name pid page script region cue picture (packets_in name pid page script bytes compiled)
 handed name pid page script epoch region cue picture bytes free for_it sole compiled =
+    let known = are_packets name pid page script bytes free for_it compiled in
     let sets = sole_cue_plan script epoch region cue picture (profile_of name) compiled.sets sole compiled.planned.plan in
     by sets.0 sets.1
-    (two_packets script page (first_set region cue sets.0) (last_set cue sets.1) compiled.units (subst (λ (all : List PlannedSet). AreUnits script page all compiled.units) sets.2 compiled.carried))
+    (two_sets script page (first_set region cue sets.0) (last_set cue sets.1) compiled.units known.sent (subst (λ (all : List PlannedSet). AreSentAs script page all compiled.units known.sent) sets.2 known.are.are)) known.sets
   where
     coded : ℕ
     coded = (profile_of name).coded
 
-    by : (first_row last_row : ℕ) → TwoPackets script page (first_set region cue first_row) (last_set cue last_row) compiled.units → Handed name pid page script region cue picture (packets_in name pid page script bytes compiled)
-    by first_row last_row two =
-        let known = are_packets name pid page script bytes free for_it compiled in
-        let units : AllByRecursion (IsUnit coded) (two.first ∷ two.last ∷ []) = subst (AllByRecursion (IsUnit coded)) two.are known.units in
-        let few = for_it.few in
-        let start_time = cue.start % time_round in
-        let end_time = cue.end % time_round in
-        let facts = sole_cue_facts script epoch region cue picture sole in
-        let first_fits = units.0.fits in
-        let last_fits = units.1.0.fits in
-        let rising = (sole_cue_fills script epoch region cue picture sole).lasts in
-        let opening = first_field script epoch region cue picture page first_row two.first_is.field_bytes sole two.first_is.carried in
-        let made = sized (cue_of script region picture opening.top opening.bottom opening.draws.top_parts opening.draws.bottom_has) (length two.first) (length two.last) in
-        let closing = last_field script epoch region cue picture page last_row two.last_is.field_bytes opening.top opening.bottom opening.draws.top_parts opening.draws.bottom_has sole two.last_is.carried in
-        let timed : List TimedSet = set_with page start_time (length two.first) (first_values made) ∷ set_with page end_time (length two.last) (last_values made) ∷ [] in
-        let are : AreUnitsOf coded page (two.first ∷ two.last ∷ []) timed =
-        one_more (first_unit coded page start_time made two.first_is.field_bytes two.first opening.is two.first_is.packet (below_round cue.start) first_fits (omega arith))
-        (one_more (last_unit coded page end_time made two.last_is.field_bytes two.last closing two.last_is.packet (below_round cue.end) last_fits (omega arith)) no_unit) in
-        let apart : eqb start_time end_time ≡ false = told_apart cue.start cue.end rising facts.near in
-        let received = known.received timed (subst (λ (all : List (List ℕ)). AreUnitsOf coded page all timed) (sym two.are) are) (apart, tt) in
+    packets : List (List ℕ)
+    packets = packets_in name pid page script bytes compiled
+
+    by : {sent : List TimedSet} (first_row last_row : ℕ) → TwoSets script page (first_set region cue first_row) (last_set cue last_row) sent → sets_of coded pid page true packets ≡ map delivered sent
+        → Handed name pid page script region cue picture packets
+    by {sent} first_row last_row two come =
+        let opening = first_segments script epoch region cue picture page first_row two.first_is.segments sole two.first_is.carried in
+        let made = sized (cue_of script region picture opening.top opening.bottom opening.draws.top_parts opening.draws.bottom_has) (size_of_units two.first.units) (size_of_units two.last.units) in
+        let closing = last_segments script epoch region cue picture page last_row two.last_is.segments opening.top opening.bottom opening.draws.top_parts opening.draws.bottom_has sole two.last_is.carried in
+        let received : sets_of coded pid page true packets ≡ delivered two.first ∷ delivered two.last ∷ [] = come ∙ ap (map delivered) two.are in
         let parts : AreFields (of_object (shown.object_for made)) made.top made.bottom = (parts_in_eight region.depth opening.draws.top_parts opening.top opening.draws.top_whole, parts_in_eight region.depth opening.draws.bottom_has opening.bottom opening.draws.bottom_whole) in
         record {
           top = opening.top;
           bottom = opening.bottom;
-          first_size = length two.first;
-          last_size = length two.last;
+          first_size = size_of_units two.first.units;
+          last_size = size_of_units two.last.units;
           draws = opening.draws;
           are_read = subst (λ (all : List (Delivery (List ℕ))). AreDeliveriesRead (reverse all) (both_sets made cue.start cue.end)) (sym received) (
-            (shown.last_readings made, last_read page end_time (length two.last) made two.last_is.field_bytes closing, refl),
-            ((shown.first_readings made, first_read page start_time (length two.first) made two.first_is.field_bytes opening.is parts, refl), tt),
+            read_as page (cue.end % time_round) two.last (shown.last_readings made) two.last_is.time (last_read page made two.last_is.segments two.last closing two.last_is.are),
+            (read_as page (cue.start % time_round) two.first (shown.first_readings made) two.first_is.time (first_read page made two.first_is.segments two.first opening.is parts two.first_is.are), tt),
           );
         }
 

@@ -1,4 +1,4 @@
--- The PES packets of the two sets of a script of one cue, as a receiver reads them.
+-- The segments of the two sets of a script of one cue, as a receiver reads them.
 use Rattle.std.proofs.Common.{◌≡◌, ◌∙◌, ℕ, true, false, eqb, cond, List, [], ◌∷◌, ◌++◌, Some, None, refl, sym, ap, subst, All}
 use Rattle.std.specs.Prelude.{slice_get, find}
 use Rattle.sub_base.specs.Picture.{Picture}
@@ -16,7 +16,7 @@ use Rattle.page_epoch.specs.Live.{cue_at}
 use Rattle.page_epoch.specs.SoleCue.{IsSoleCue}
 use Rattle.page_epoch.proofs.SoleCueSets.{FillsDisplay, first_set, last_set}
 use Rattle.page_epoch.proofs.SoleCuePlan.{sole_cue_fills}
-use Rattle.set_coder.specs.SetSegments.{region_of, region_or_none, picture_of_cue, depth_of_cue, leading_segments, object_of, time_out_of, IsObjectOf, AreObjectsOf, IsSetField, data_field}
+use Rattle.set_coder.specs.SetSegments.{region_of, region_or_none, picture_of_cue, depth_of_cue, leading_segments, object_of, time_out_of, IsObjectOf, AreObjectsOf, AreSetSegments}
 use Rattle.decoder_model.proofs.SoleCue as shown
 use Rattle.shown_stream.proofs.DrawnObject.{ObjectDraws, object_draws}
 use Rattle.shown_stream.proofs.AuthoredCue.{sole_cue_facts}
@@ -134,29 +134,29 @@ no_object : (script : Script) (epoch : Epoch) (objects : List SegmentValue) → 
 no_object script epoch [] h = refl
 no_object script epoch (segment ∷ more) h = absurd h
 
--- ---- the data fields
+-- ---- the segments of the sets
 
--- the data field of a set: these segments and an end of set, each of which can be written
-pub record FieldOf (page : ℕ) (values : List SegmentValue) (bytes : List ℕ) : Type 0 where
+-- the segments of a set: these and an end of set, each of which can be written
+pub record SegmentsOf (page : ℕ) (values segments : List SegmentValue) : Type 0 where
   pub fit : All (IsWritable page) (values ++ end_of_set ∷ [])
-  pub field : bytes ≡ data_field page (values ++ end_of_set ∷ [])
+  pub are : segments ≡ values ++ end_of_set ∷ []
 
 -- the first set's: the cue of which it is made, whose object draws the picture
-pub record FirstField (script : Script) (page : ℕ) (region : Region) (picture : Picture) (bytes : List ℕ) : Type 0 where
+pub record FirstSegments (script : Script) (page : ℕ) (region : Region) (picture : Picture) (segments : List SegmentValue) : Type 0 where
   pub top : List ℕ
   pub bottom : List ℕ
   pub draws : ObjectDraws picture region.depth top bottom
-  pub is : FieldOf page (first_values (cue_of script region picture top bottom draws.top_parts draws.bottom_has)) bytes
+  pub is : SegmentsOf page (first_values (cue_of script region picture top bottom draws.top_parts draws.bottom_has)) segments
 
-pub first_field : (script : Script) (epoch : Epoch) (region : Region) (cue : Cue) (picture : Picture) (page row : ℕ) (bytes : List ℕ) → IsSoleCue script epoch region cue picture
-    → IsSetField script page (first_set region cue row) bytes → FirstField script page region picture bytes
-first_field script epoch region cue picture page row bytes sole carried = by carried.epoch (only_epoch script epoch carried.epoch sole.epochs carried.found) carried.objects carried.drawn carried.fit carried.field
+pub first_segments : (script : Script) (epoch : Epoch) (region : Region) (cue : Cue) (picture : Picture) (page row : ℕ) (segments : List SegmentValue) → IsSoleCue script epoch region cue picture
+    → AreSetSegments script page (first_set region cue row) segments → FirstSegments script page region picture segments
+first_segments script epoch region cue picture page row segments sole carried = by carried.epoch (only_epoch script epoch carried.epoch sole.epochs carried.found) carried.objects carried.drawn carried.whole
   where
     Segments : Epoch → List SegmentValue → List SegmentValue
     Segments found objects = leading_segments script found (first_set region cue row) ++ (objects ++ end_of_set ∷ [])
 
-    with_object : (objects : List SegmentValue) → OneObject script epoch objects → All (IsWritable page) (Segments epoch objects) → bytes ≡ data_field page (Segments epoch objects) → FirstField script page region picture bytes
-    with_object objects one fit field =
+    with_object : (objects : List SegmentValue) → OneObject script epoch objects → segments ≡ Segments epoch objects → FirstSegments script page region picture segments
+    with_object objects one whole =
         let drawn = its_object script epoch region cue picture one.segment sole one.is in
         let made = cue_of script region picture drawn.top drawn.bottom drawn.draws.top_parts drawn.draws.bottom_has in
         let fills = sole_cue_fills script epoch region cue picture sole in
@@ -167,20 +167,18 @@ first_field script epoch region cue picture page row bytes sole carried = by car
           top = drawn.top;
           bottom = drawn.bottom;
           draws = drawn.draws;
-          is = record { fit = subst (All (IsWritable page)) same fit; field = field ∙ ap (data_field page) same };
+          is = record { fit = subst (All (IsWritable page)) (whole ∙ same) carried.fit; are = whole ∙ same };
         }
 
-    by : (found : Epoch) → found ≡ epoch → (objects : List SegmentValue) → AreObjectsOf script.pictures found (0 ∷ []) objects → All (IsWritable page) (Segments found objects) → bytes ≡ data_field page (Segments found objects)
-        → FirstField script page region picture bytes
-    by found same objects drawn fit field =
-        with_object objects (one_object script epoch objects (subst (λ (e : Epoch). AreObjectsOf script.pictures e (0 ∷ []) objects) same drawn))
-        (subst (λ (e : Epoch). All (IsWritable page) (Segments e objects)) same fit) (field ∙ ap (λ e. data_field page (Segments e objects)) same)
+    by : (found : Epoch) → found ≡ epoch → (objects : List SegmentValue) → AreObjectsOf script.pictures found (0 ∷ []) objects → segments ≡ Segments found objects → FirstSegments script page region picture segments
+    by found same objects drawn whole =
+        with_object objects (one_object script epoch objects (subst (λ (e : Epoch). AreObjectsOf script.pictures e (0 ∷ []) objects) same drawn)) (whole ∙ ap (λ e. Segments e objects) same)
 
 -- the last set's: a page without regions
-pub last_field : (script : Script) (epoch : Epoch) (region : Region) (cue : Cue) (picture : Picture) (page row : ℕ) (bytes top bottom : List ℕ) (top_parts bottom_has : List Part) → IsSoleCue script epoch region cue picture
-    → IsSetField script page (last_set cue row) bytes → FieldOf page (last_values (cue_of script region picture top bottom top_parts bottom_has)) bytes
-last_field script epoch region cue picture page row bytes top bottom top_parts bottom_has sole carried =
+pub last_segments : (script : Script) (epoch : Epoch) (region : Region) (cue : Cue) (picture : Picture) (page row : ℕ) (segments : List SegmentValue) (top bottom : List ℕ) (top_parts bottom_has : List Part) → IsSoleCue script epoch region cue picture
+    → AreSetSegments script page (last_set cue row) segments → SegmentsOf page (last_values (cue_of script region picture top bottom top_parts bottom_has)) segments
+last_segments script epoch region cue picture page row segments top bottom top_parts bottom_has sole carried =
     let none = no_object script carried.epoch carried.objects carried.drawn in
-    let same : leading_segments script carried.epoch (last_set cue row) ++ (carried.objects ++ end_of_set ∷ []) ≡ last_values (cue_of script region picture top bottom top_parts bottom_has) ++ end_of_set ∷ []
-    = ap (λ objects. leading_segments script carried.epoch (last_set cue row) ++ (objects ++ end_of_set ∷ [])) none in
-    record { fit = subst (All (IsWritable page)) same carried.fit; field = carried.field ∙ ap (data_field page) same }
+    let same : segments ≡ last_values (cue_of script region picture top bottom top_parts bottom_has) ++ end_of_set ∷ []
+    = carried.whole ∙ ap (λ objects. leading_segments script carried.epoch (last_set cue row) ++ (objects ++ end_of_set ∷ [])) none in
+    record { fit = subst (All (IsWritable page)) same carried.fit; are = same }

@@ -1,6 +1,6 @@
 -- The packets that a script is compiled to.
-use Rattle.std.specs.Prelude.{◌≡◌, ℕ, List, length, map, IsSome}
-use Rattle.std.specs.List.{AllZip, concat}
+use Rattle.std.specs.Prelude.{◌≡◌, ℕ, List, length, map, flat_map, IsSome}
+use Rattle.std.specs.List.{AllZip}
 use Rattle.cue_list.specs.declared.script.Script.{Script}
 use Rattle.page_epoch.specs.Plan.{IsPlan}
 use Rattle.page_epoch.specs.declared.planned_set.PlannedSet.{PlannedSet}
@@ -29,6 +29,10 @@ AreLoads script sets loads = AllZip (IsSetLoad script) sets loads
 abbrev pub AreSizedAs : List WriteLoad → List (List (List ℕ)) → Type 0
 AreSizedAs loads units = AllZip (λ load set_units. map length set_units ≡ load.units) loads units
 
+-- the PES packets of all sets, in order
+abbrev pub all_units : List (List (List ℕ)) → List (List ℕ)
+all_units units = flat_map (λ set_units. set_units) units
+
 -- the sets of the script's plan, and what sending them takes
 pub record IsPlanned (profile : ProfileName) (script : Script) (sets : List PlannedSet) (loads : List WriteLoad) : Type 0 where
   pub plan : IsPlan script (profile_of profile) sets
@@ -46,4 +50,4 @@ pub record IsCompiledTo (profile : ProfileName) (pid page : ℕ) (script : Scrip
   pub table : Timetable
   pub schedule : IsSchedule loads (length loads) (pace_of script.origin (profile_of profile)) table
   pub on_time : IsOnTime loads (length loads) (pace_of script.origin (profile_of profile)) table
-  pub sent : packets ≡ stream_of pid (all_pieces (concat units)) table.slots
+  pub sent : packets ≡ stream_of pid (all_pieces (all_units units)) table.slots
