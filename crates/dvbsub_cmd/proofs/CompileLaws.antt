@@ -1,6 +1,5 @@
 -- The packets of a plan's sets, and the refusals of a schedule.
 use Rattle.std.proofs.Common.{◌≡◌, ◌∙◌, sym, ap, subst, ℕ, ◌<◌, ◌≤◌, ◌^◌, Option, List, [], ◌∷◌, length, get_or, map, All, arith}
-use Rattle.std.specs.List.{AllByRecursion}
 use Rattle.std.specs.Io.KnownBytes.{Keeps}
 use Rattle.std.proofs.lemmas.List.{length-map, get_or_default}
 use Rattle.cue_list.specs.declared.script.Script.{Script}
@@ -9,32 +8,31 @@ use Rattle.page_epoch.specs.Refusals.{IsCause as IsPlanCause}
 use Rattle.page_epoch.specs.declared.fault.PlanFault.{PlanFault}
 use Rattle.page_epoch.specs.declared.fault.PlanFault.TheVariants as plan
 use Rattle.page_epoch.specs.declared.planned_set.PlannedSet.{PlannedSet}
-use Rattle.schedule.specs.Packets.{first_packet, size_of}
+use Rattle.schedule.specs.Packets.{first_packet, no_load}
 use Rattle.schedule.specs.Refusals.{IsCause}
 use Rattle.sub_base.specs.Pace.{pace_of}
-use Rattle.schedule.specs.Slots.{Timetable, IsSchedule, IsOnTime, IsLoad}
-use Rattle.schedule.proofs.PacketLaws.{bytes_at}
+use Rattle.schedule.specs.Slots.{Timetable, IsSchedule, IsOnTime}
 use Rattle.schedule.specs.declared.fault.ScheduleFault.{ScheduleFault}
 use Rattle.schedule.specs.declared.fault.ScheduleFault.TheVariants as schedule
 use Rattle.sub_base.specs.declared.pace.Pace.{Pace}
-use Rattle.set_coder.specs.SetSizes.{FitsPacket}
+use Rattle.set_coder.specs.SetSizes.{FitsPackets, IsSetLoad}
 use Rattle.sub_base.specs.Counts.{HasRisen}
 use Rattle.sub_base.specs.Endpoints.{AppendsPrefix}
 use Rattle.sub_base.specs.Profile.{profile_of}
 use Rattle.sub_base.specs.declared.load.WriteLoad.{WriteLoad}
 use Rattle.sub_base.specs.declared.profile.Profile.{Profile}
 use Rattle.sub_base.specs.declared.profile.ProfileName.{ProfileName}
-use Rattle.shown_stream.specs.Compiled.{IsCompiledFor, IsLoadOf, AreLoads, AreUnits, IsCompiledTo, IsPlanned}
+use Rattle.shown_stream.specs.Compiled.{AreLoads, all_units, IsCompiledTo, IsPlanned}
 use Rattle.dvbsub_cmd.specs.CompileRefused.{IsPlanRefused, IsScheduleRefused}
 use Rattle.dvbsub_cmd.specs.PieceView.{plain}
 use Rattle.dvbsub_cmd.specs.Sending.{IsAmong, IsRefusal, IsScheduleRefusal, plan_refusal}
 use Rattle.shown_stream.specs.SlotStream.{all_pieces, slot_count, stream_of}
-use Rattle.dvbsub_cmd.specs.UnitSizes.{AreSized}
+use Rattle.dvbsub_cmd.specs.SetUnits.{AreWritten, AreCut}
 use Rattle.dvbsub_cmd.specs.declared.compile.SendFault.{SendFault}
 use Rattle.dvbsub_cmd.specs.declared.compile.SendFault.TheVariants as fault
 use Rattle.dvbsub_cmd.specs.declared.slot_stream.Piece.{Piece as Lent}
-use Rattle.shown_stream.proofs.CompiledPackets.{IsSingle, count_pieces, singles}
-use Rattle.dvbsub_cmd.proofs.UnitLaws.{AllZip-length, AreShort, all_fit, sized_as}
+use Rattle.shown_stream.proofs.CompiledPackets.{count_pieces}
+use Rattle.dvbsub_cmd.proofs.UnitLaws.{AllZip-at, AllZip-length, cut_many, written_cut}
 
 -- there are fewer than 2 ^ 64 slots up to the last one
 pub slot_count-small : (slots all : List ℕ) → all ≡ slots → All (λ slot. slot < 2 ^ 56) slots → slot_count all < 2 ^ 64
@@ -44,40 +42,36 @@ slot_count-small slots all same small = subst (λ (s : List ℕ). slot_count s <
     below [] small = omega arith
     below (slot ∷ slots) small = let last : get_or (slot ∷ slots) (length slots) 0 < 2 ^ 56 = small (length slots) 0 (omega arith) in omega arith
 
--- loads that are on time are short enough for a packet whose length is told
-are_short : (name : ProfileName) (receiver : Profile) (origin : ℕ) (loads given : List WriteLoad) (table : Timetable) → receiver ≡ profile_of name → IsCompiledFor name → given ≡ loads → All IsLoad given →
-    IsOnTime given (length given) (pace_of origin receiver) table → AreShort given
-are_short name receiver origin loads given table is_profile made same each on_time k d below =
-    let fits : size_of given k ≤ receiver.coded = on_time.fits k below in
-    let few : receiver.coded ≤ 65541 = subst (λ (p : Profile). p.coded ≤ 65541) (sym is_profile) made.few in
-    let bytes = bytes_at given k d each below in
-    omega arith
+-- sets that are on time fit their packets
+pub sets_fit : (script : Script) (sets : List PlannedSet) (loads given : List WriteLoad) (pace : Pace) (table : Timetable) → AreLoads script sets loads → given ≡ loads → IsOnTime given (length given) pace table → All (FitsPackets script) sets
+sets_fit script sets loads given pace table asked same on_time k d below =
+    let own : AreLoads script sets given = subst (AreLoads script sets) (sym same) asked in
+    let within : k < length given = omega (arith, below, AllZip-length (IsSetLoad script) sets given own) in
+    let load : IsSetLoad script (get_or sets k d) (get_or given k no_load) = AllZip-at (IsSetLoad script) sets given k d no_load below own in
+    record { longest = (get_or given k no_load).longest; is_longest = load.longest; few = on_time.short k within }
 
--- sets that are on time fit packets whose length is told
-pub sets_fit : (name : ProfileName) (script : Script) (sets : List PlannedSet) (receiver : Profile) (origin : ℕ) (loads given : List WriteLoad) (table : Timetable) → receiver ≡ profile_of name → IsCompiledFor name →
-    AreLoads script sets loads → given ≡ loads → All IsLoad loads → IsOnTime given (length given) (pace_of origin receiver) table → All (FitsPacket script) sets
-sets_fit name script sets receiver origin loads given table is_profile made asked same each on_time =
-    all_fit script sets given (subst (AreLoads script sets) (sym same) asked) (are_short name receiver origin loads given table is_profile made same (subst (All IsLoad) (sym same) each) on_time)
+-- what is written can be cut by the loads that are asked
+pub cut_as_asked : (script : Script) (page : ℕ) (sets : List PlannedSet) (loads given : List WriteLoad) (written lent : List (List ℕ)) (units : List (List (List ℕ))) → AreLoads script sets loads → given ≡ loads → lent ≡ written
+    → AreWritten script page sets written units → AreCut given lent units
+cut_as_asked script page sets loads given written lent units asked same is w =
+    subst (λ (all : List (List ℕ)). AreCut given all units) (sym is) (written_cut script page sets given written units (subst (AreLoads script sets) (sym same) asked) w)
 
--- sets that are on time are sent in one PES packet each
-pub sent_singly : (name : ProfileName) (script : Script) (sets : List PlannedSet) (receiver : Profile) (origin : ℕ) (loads given : List WriteLoad) (table : Timetable) → receiver ≡ profile_of name → IsCompiledFor name →
-    AreLoads script sets loads → given ≡ loads → IsOnTime given (length given) (pace_of origin receiver) table → AllByRecursion IsSingle given
-sent_singly name script sets receiver origin loads given table is_profile made asked same on_time =
-    singles receiver.coded script sets given (subst (λ (p : Profile). p.coded ≤ 65541) (sym is_profile) made.few) (subst (AreLoads script sets) (sym same) asked) on_time.fits
+-- there are as many loads as sets that are written
+pub loads_pair : (given : List WriteLoad) (lent : List (List ℕ)) (units : List (List (List ℕ))) → AreCut given lent units → length given ≡ length lent
+loads_pair given lent units cut = (cut_many given lent units cut).0
 
 -- one slot a piece
-pub slots_pair : (script : Script) (sets : List PlannedSet) (loads given : List WriteLoad) (units : List (List ℕ)) (slots all : List ℕ) (pieces lent : List Lent) → AreLoads script sets loads → given ≡ loads → all ≡ slots → lent ≡ pieces →
-    length slots ≡ first_packet given (length given) → AreSized script sets units → AllByRecursion IsSingle given → map plain pieces ≡ all_pieces units → length all ≡ length lent
-slots_pair script sets loads given units slots all pieces lent asked same all_is lent_is packets sized single are =
-    let counted : first_packet given (length given) ≡ length (all_pieces units) = count_pieces given units (sized_as script sets given units (subst (AreLoads script sets) (sym same) asked) sized) single in
-    ap length all_is ∙ packets ∙ counted ∙ ap length (sym are) ∙ length-map pieces plain ∙ ap length (sym lent_is)
+pub slots_pair : (given : List WriteLoad) (written : List (List ℕ)) (units : List (List (List ℕ))) (slots all : List ℕ) (pieces lent : List Lent) → all ≡ slots → lent ≡ pieces →
+    length slots ≡ first_packet given (length given) → AreCut given written units → map plain pieces ≡ all_pieces (all_units units) → length all ≡ length lent
+slots_pair given written units slots all pieces lent all_is lent_is packets cut are =
+    ap length all_is ∙ packets ∙ count_pieces given units cut.sized ∙ ap length (sym are) ∙ length-map pieces plain ∙ ap length (sym lent_is)
 
 -- the set of a schedule's fault is one of the plan
 pub among : (script : Script) (sets : List PlannedSet) (loads given : List WriteLoad) (pace : Pace) (refused : ScheduleFault) → AreLoads script sets loads → given ≡ loads → IsCause given pace refused → IsAmong sets refused
 among script sets loads given pace schedule.Memory asked same cause = tt
-among script sets loads given pace (schedule.CodedFull set size) asked same cause = omega (arith, AllZip-length (IsLoadOf script) sets loads asked, ap length same, cause.among)
-among script sets loads given pace (schedule.Late set done pts) asked same cause = omega (arith, AllZip-length (IsLoadOf script) sets loads asked, ap length same, cause.among)
-among script sets loads given pace (schedule.SegmentFull set longest) asked same cause = omega (arith, AllZip-length (IsLoadOf script) sets loads asked, ap length same, cause.among)
+among script sets loads given pace (schedule.CodedFull set size) asked same cause = omega (arith, AllZip-length (IsSetLoad script) sets loads asked, ap length same, cause.among)
+among script sets loads given pace (schedule.Late set done pts) asked same cause = omega (arith, AllZip-length (IsSetLoad script) sets loads asked, ap length same, cause.among)
+among script sets loads given pace (schedule.SegmentFull set longest) asked same cause = omega (arith, AllZip-length (IsSetLoad script) sets loads asked, ap length same, cause.among)
 
 -- the sets of a plan, and what they ask
 planned_by : (name : ProfileName) (script : Script) (sets own : List PlannedSet) (loads given : List WriteLoad) (receiver : Profile) → receiver ≡ profile_of name → IsPlan script receiver own → sets ≡ own →
@@ -88,18 +82,18 @@ planned_by name script sets own loads given receiver is_profile plan same_sets a
 }
 
 -- the packets of the plan's sets in the slots of their schedule are those that the script is compiled to
-pub compiled : (name : ProfileName) (pid page : ℕ) (script : Script) (sets own : List PlannedSet) (loads given : List WriteLoad) (receiver : Profile) (table : Timetable) (units : List (List ℕ)) (pieces lent : List Lent) (all : List ℕ) →
-    receiver ≡ profile_of name → IsPlan script receiver own → sets ≡ own → AreLoads script sets loads → given ≡ loads → AreUnits script page sets units → AreSized script sets units →
+pub compiled : (name : ProfileName) (pid page : ℕ) (script : Script) (sets own : List PlannedSet) (loads given : List WriteLoad) (receiver : Profile) (table : Timetable) (written lent_bytes : List (List ℕ)) (units : List (List (List ℕ)))
+    (pieces lent : List Lent) (all : List ℕ) → receiver ≡ profile_of name → IsPlan script receiver own → sets ≡ own → AreLoads script sets loads → given ≡ loads → AreWritten script page sets written units → AreCut given lent_bytes units →
     IsSchedule given (length given) (pace_of script.origin receiver) table → IsOnTime given (length given) (pace_of script.origin receiver) table →
-    map plain pieces ≡ all_pieces units → lent ≡ pieces → all ≡ table.slots → IsCompiledTo name pid page script (stream_of pid (map plain lent) all)
-compiled name pid page script sets own loads given receiver table units pieces lent all is_profile plan same_sets asked same_loads carried sized schedule on_time are lent_is all_is =
+    map plain pieces ≡ all_pieces (all_units units) → lent ≡ pieces → all ≡ table.slots → IsCompiledTo name pid page script (stream_of pid (map plain lent) all)
+compiled name pid page script sets own loads given receiver table written lent_bytes units pieces lent all is_profile plan same_sets asked same_loads w cut schedule on_time are lent_is all_is =
     record {
       sets = sets;
       loads = given;
       planned = planned_by name script sets own loads given receiver is_profile plan same_sets asked same_loads;
       units = units;
-      carried = carried;
-      sized = sized_as script sets given units (subst (AreLoads script sets) (sym same_loads) asked) sized;
+      carried = w.carried;
+      sized = cut.sized;
       table = table;
       schedule = subst (λ (p : Profile). IsSchedule given (length given) (pace_of script.origin p) table) is_profile schedule;
       on_time = subst (λ (p : Profile). IsOnTime given (length given) (pace_of script.origin p) table) is_profile on_time;

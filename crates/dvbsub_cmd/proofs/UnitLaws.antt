@@ -1,22 +1,19 @@
 -- Laws of the packets of several sets, one set after the other.
-use Rattle.std.proofs.Common.{◌≡◌, ◌∙◌, refl, sym, ap, subst, zero, suc, ℕ, ◌+◌, ◌<◌, ◌≤◌, List, [], ◌∷◌, ◌++◌, length, get_or, take, All, append-nil, arith}
-use Rattle.std.specs.List.{AllZip}
-use Rattle.std.proofs.lemmas.List.{take_more}
+use Rattle.std.proofs.Common.{◌≡◌, ◌∙◌, refl, sym, ap, subst, zero, suc, ℕ, ◌+◌, ◌<◌, ◌≤◌, List, [], ◌∷◌, ◌++◌, length, get_or, take, drop, map, All, append_assoc, length-append, arith}
+use Rattle.std.specs.List.{AllZip, concat}
+use Rattle.std.proofs.Math.Seq.{take-append_seam, drop-append_seam}
+use Rattle.std.proofs.lemmas.List.{append-nil, get_or_default, length-map, map-append, take_more}
 use Rattle.std.proofs.lemmas.List.Concat.{flat_map-append}
 use Rattle.std.proofs.lemmas.List.Elements.{All-push}
-use Rattle.schedule.specs.Packets.{no_load}
 use Rattle.cue_list.specs.declared.script.Script.{Script}
 use Rattle.page_epoch.specs.declared.planned_set.PlannedSet.{PlannedSet}
-use Rattle.set_coder.specs.SetSizes.{FitsPacket, IsSetSize}
-use Rattle.set_coder.proofs.SetSizeLaws.{one_set_size}
+use Rattle.set_coder.specs.SetSegments.{AreSetPackets}
+use Rattle.set_coder.specs.SetSizes.{AreUnitSizes, IsSetLoad}
+use Rattle.set_coder.proofs.SetSizeLaws.{one_unit_sizes}
 use Rattle.sub_base.specs.declared.load.WriteLoad.{WriteLoad}
-use Rattle.shown_stream.specs.Compiled.{AreSizedAs, IsLoadOf}
-use Rattle.shown_stream.specs.SlotStream.{all_pieces, pieces_of}
-use Rattle.dvbsub_cmd.specs.UnitSizes.{AreSized}
-
--- each fits a PES packet whose length is told
-abbrev pub AreShort : List WriteLoad → Type 0
-AreShort loads = All (λ (load : WriteLoad). load.load.size ≤ 65541) loads
+use Rattle.shown_stream.specs.Compiled.{AreSizedAs, all_units}
+use Rattle.shown_stream.specs.SlotStream.{Piece, all_pieces, pieces_of}
+use Rattle.dvbsub_cmd.specs.SetUnits.{AreSized, AreWritten, AreUnitsOf, AreCut}
 
 module _ {A B : Type 0} (R : A → B → Type 0) where
   -- one more at the end of both
@@ -50,35 +47,103 @@ module _ {A B : Type 0} (R : A → B → Type 0) where
   AllZip-at (a ∷ xs) (b ∷ ys) zero d e inside all = all.0
   AllZip-at (a ∷ xs) (b ∷ ys) (suc k) d e inside all = AllZip-at xs ys k d e (omega arith) all.1
 
--- the pieces of one more unit
-pub all_pieces-more : (units : List (List ℕ)) (k : ℕ) (d : List ℕ) → k < length units → all_pieces (take (k + 1) units) ≡ all_pieces (take k units) ++ pieces_of (get_or units k d)
-all_pieces-more units k d inside =
-    ap all_pieces (take_more units k d inside) ∙ flat_map-append pieces_of (take k units) (get_or units k d ∷ [])
-    ∙ ap (λ (end : List _). all_pieces (take k units) ++ end) (append-nil (pieces_of (get_or units k d)))
+-- ---- the units of one set
 
--- the size of a set's packet is the one of what was written
-pub unit_size : (script : Script) (set : PlannedSet) (unit written before bytes : List ℕ) → unit ≡ written → written ≡ before ++ bytes → before ≡ [] →
-    IsSetSize script set (length bytes) → IsSetSize script set (length unit)
-unit_size script set unit written before bytes is_unit appended none sized =
-    let same : unit ≡ bytes = is_unit ∙ appended ∙ ap (λ (front : List ℕ). front ++ bytes) none in
-    subst (λ (all : List ℕ). IsSetSize script set (length all)) (sym same) sized
+-- the first unit, and those behind it
+pub record IsFirstUnit (lengths bytes : List ℕ) (size : ℕ) (units : List (List ℕ)) : Type 0 where
+  pub unit : List ℕ
+  pub rest : List (List ℕ)
+  pub are : units ≡ unit ∷ rest
+  pub size_is : size ≡ length unit
+  pub whole : bytes ≡ unit ++ concat rest
+  pub behind : AreUnitsOf lengths (concat rest) rest
 
--- the packets have the sizes that the loads of their sets say
-pub sized_as : (script : Script) (sets : List PlannedSet) (loads : List WriteLoad) (units : List (List ℕ)) → AllZip (IsLoadOf script) sets loads → AreSized script sets units → AreSizedAs loads units
+pub first_unit : (lengths bytes : List ℕ) (size : ℕ) (units : List (List ℕ)) → AreUnitsOf (size ∷ lengths) bytes units → IsFirstUnit lengths bytes size units
+first_unit lengths bytes size [] u = absurd (let e : [] ≡ size ∷ lengths = u.sized in cc)
+first_unit lengths bytes size (unit ∷ rest) u = record {
+  unit = unit;
+  rest = rest;
+  are = refl;
+  size_is = sym (ap (λ xs. get_or xs 0 0) u.sized);
+  whole = sym u.whole;
+  behind = record { whole = refl; sized = ap (drop 1) u.sized };
+}
+
+pub no_unit : (bytes : List ℕ) (units : List (List ℕ)) → AreUnitsOf [] bytes units → units ≡ []
+no_unit bytes [] u = refl
+no_unit bytes (unit ∷ rest) u = absurd (let e : length unit ∷ map length rest ≡ [] = u.sized in cc)
+
+-- what stands once the pieces of the first unit are put behind: the others are left, and all pieces are as before
+pub next_unit : (lengths left unit behind : List ℕ) (size : ℕ) (units : List (List ℕ)) (start held now : List Piece) → AreUnitsOf (size ∷ lengths) left units → unit ≡ take size left → behind ≡ drop size left
+    → now ≡ held ++ pieces_of unit → start ≡ held ++ all_pieces units → (rest : List (List ℕ)) × AreUnitsOf lengths behind rest × (start ≡ now ++ all_pieces rest)
+next_unit lengths left unit behind size units start held now u is_unit is_behind put so_far =
+    let first = first_unit lengths left size units u in
+    let unit_is : unit ≡ first.unit = is_unit ∙ ap (λ (k : ℕ). take k left) first.size_is ∙ ap (take (length first.unit)) first.whole ∙ take-append_seam first.unit (concat first.rest) in
+    let behind_is : behind ≡ concat first.rest = is_behind ∙ ap (λ (k : ℕ). drop k left) first.size_is ∙ ap (drop (length first.unit)) first.whole ∙ drop-append_seam first.unit (concat first.rest) in
+    let others = all_pieces first.rest in (
+      first.rest,
+      subst (λ (bytes : List ℕ). AreUnitsOf lengths bytes first.rest) (sym behind_is) first.behind,
+      so_far ∙ ap (λ (us : List (List ℕ)). held ++ all_pieces us) first.are ∙ sym (append_assoc held (pieces_of first.unit) others)
+          ∙ ap (λ (ps : List Piece). ps ++ others) (sym (put ∙ ap (λ (bytes : List ℕ). held ++ pieces_of bytes) unit_is)),
+    )
+
+-- ---- the units of several sets
+
+-- as many sets are written as there are loads, and as there are lists of units
+pub cut_many : (loads : List WriteLoad) (written : List (List ℕ)) (units : List (List (List ℕ))) → AreCut loads written units → (length loads ≡ length written) × (length units ≡ length written)
+cut_many loads written units cut =
+    let all = sym (length-map units concat) ∙ ap length cut.whole in
+    (AllZip-length (λ (load : WriteLoad) (set_units : List (List ℕ)). map length set_units ≡ load.units) loads units cut.sized ∙ all, all)
+
+concat_at : (units : List (List (List ℕ))) (k : ℕ) → concat (get_or units k []) ≡ get_or (map concat units) k []
+concat_at [] k = refl
+concat_at (one ∷ units) zero = refl
+concat_at (one ∷ units) (suc k) = concat_at units k
+
+-- the units of a set among several
+pub units_at : (loads : List WriteLoad) (written : List (List ℕ)) (units : List (List (List ℕ))) (k : ℕ) (d : WriteLoad) (bytes : List ℕ) → k < length written → bytes ≡ get_or written k bytes
+    → AreCut loads written units → AreUnitsOf (get_or loads k d).units bytes (get_or units k [])
+units_at loads written units k d bytes inside is_bytes cut = record {
+  whole = concat_at units k ∙ ap (λ (all : List (List ℕ)). get_or all k []) cut.whole ∙ get_or_default written k [] bytes inside ∙ sym is_bytes;
+  sized = AllZip-at (λ (load : WriteLoad) (set_units : List (List ℕ)). map length set_units ≡ load.units) loads units k d [] (omega (arith, inside, (cut_many loads written units cut).0)) cut.sized;
+}
+
+-- they are the same, where lengths and bytes are lent
+pub lent_units : (lengths seen bytes lent : List ℕ) (units : List (List ℕ)) → seen ≡ lengths → lent ≡ bytes → AreUnitsOf lengths bytes units → AreUnitsOf seen lent units
+lent_units lengths seen bytes lent units l b are =
+    subst (λ (ns : List ℕ). AreUnitsOf ns lent units) (sym l) (subst (λ (xs : List ℕ). AreUnitsOf lengths xs units) (sym b) are)
+
+-- the pieces of the units of one more set
+pub all_pieces-more : (units : List (List (List ℕ))) (k : ℕ) → k < length units → all_pieces (all_units (take (k + 1) units)) ≡ all_pieces (all_units (take k units)) ++ all_pieces (get_or units k [])
+all_pieces-more units k inside =
+    let one = get_or units k [] in
+    let joined : all_units (take (k + 1) units) ≡ all_units (take k units) ++ one =
+    ap all_units (take_more units k [] inside) ∙ flat_map-append (λ (set_units : List (List ℕ)). set_units) (take k units) (one ∷ []) ∙ ap (λ (us : List (List ℕ)). all_units (take k units) ++ us) (append-nil one) in
+    ap all_pieces joined ∙ flat_map-append pieces_of (all_units (take k units)) one
+
+-- the packets of one more set are written
+pub written_more : (script : Script) (page : ℕ) (sets : List PlannedSet) (k : ℕ) (set : PlannedSet) (bytes : List ℕ) (packets : List (List ℕ)) (written new : List (List ℕ)) (units : List (List (List ℕ))) → k < length sets → set ≡ get_or sets k set
+    → AreWritten script page (take k sets) written units → bytes ≡ concat packets → AreSetPackets script page set packets → AreUnitSizes script set (map length packets) → new ≡ written ++ bytes ∷ []
+    → AreWritten script page (take (k + 1) sets) new (units ++ packets ∷ [])
+written_more script page sets k set bytes packets written new units inside is so_far joined carried sized put = record {
+  carried = AllZip-step (AreSetPackets script page) sets units (units ++ packets ∷ []) k set packets inside so_far.carried is refl carried;
+  sized = AllZip-step (λ (one : PlannedSet) (set_units : List (List ℕ)). AreUnitSizes script one (map length set_units)) sets units (units ++ packets ∷ []) k set packets inside so_far.sized is refl sized;
+  whole = map-append concat units (packets ∷ []) ∙ ap (λ (all : List (List ℕ)). all ++ concat packets ∷ []) so_far.whole ∙ ap (λ (one : List ℕ). written ++ one ∷ []) (sym joined) ∙ sym put;
+}
+
+-- they have the lengths that the loads of their sets say
+sized_as : (script : Script) (sets : List PlannedSet) (loads : List WriteLoad) (units : List (List (List ℕ))) → AllZip (IsSetLoad script) sets loads → AreSized script sets units → AreSizedAs loads units
 sized_as script [] [] [] asked sized = tt
-sized_as script [] [] (unit ∷ units) asked sized = absurd sized
+sized_as script [] [] (packets ∷ units) asked sized = absurd sized
 sized_as script [] (load ∷ loads) units asked sized = absurd asked
 sized_as script (set ∷ sets) [] units asked sized = absurd asked
 sized_as script (set ∷ sets) (load ∷ loads) [] asked sized = absurd sized
-sized_as script (set ∷ sets) (load ∷ loads) (unit ∷ units) asked sized =
-    (one_set_size script set (length unit) load.load.size sized.0 asked.0.asked.size, sized_as script sets loads units asked.1 sized.1)
+sized_as script (set ∷ sets) (load ∷ loads) (packets ∷ units) asked sized =
+    (one_unit_sizes script set (map length packets) load.units sized.0 asked.0.units, sized_as script sets loads units asked.1 sized.1)
 
--- sets whose loads are short fit packets whose length is told
-pub all_fit : (script : Script) (sets : List PlannedSet) (loads : List WriteLoad) → AllZip (IsLoadOf script) sets loads → AreShort loads → All (FitsPacket script) sets
-all_fit script sets loads asked short k d below =
-    let within : k < length loads = omega (arith, AllZip-length (IsLoadOf script) sets loads asked) in
-    let load : IsLoadOf script (get_or sets k d) (get_or loads k no_load) = AllZip-at (IsLoadOf script) sets loads k d no_load below asked in
-    record { size = (get_or loads k no_load).load.size; sized = load.asked.size; few = short k no_load within }
+-- what is written can be cut by the loads
+pub written_cut : (script : Script) (page : ℕ) (sets : List PlannedSet) (loads : List WriteLoad) (written : List (List ℕ)) (units : List (List (List ℕ))) → AllZip (IsSetLoad script) sets loads → AreWritten script page sets written units → AreCut loads written units
+written_cut script page sets loads written units asked w = record { whole = w.whole; sized = sized_as script sets loads units asked w.sized }
 
 -- one more that P holds of
 pub All-step : {X : Type 0} (P : X → Type 0) (xs new : List X) (x : X) → All P xs → new ≡ xs ++ x ∷ [] → P x → All P new

@@ -6,7 +6,7 @@ use Rattle.std.specs.Str.{bytes_eq}
 use Rattle.cue_list.specs.Cells.{◌>>=◌}
 use Rattle.sub_base.specs.Number.{number_in}
 use Rattle.sub_base.specs.declared.profile.ProfileName.{ProfileName}
-use Rattle.sub_base.specs.declared.profile.ProfileName.TheVariants.{Sd, Hd}
+use Rattle.sub_base.specs.declared.profile.ProfileName.TheVariants.{Sd, Hd, Large}
 use Rattle.shown_stream.specs.Compiled.{IsCompiledFor}
 use Rattle.dvbsub_cmd.specs.declared.command.TheConstants.{GREATEST_PAGE, GREATEST_PID, LATEST_TICK, LEAST_PID}
 use Rattle.dvbsub_cmd.specs.declared.command.Command.{Command}
@@ -27,7 +27,11 @@ has_word words place text = bytes_eq (word_at words place) text
 
 -- the profile of that name, of those for which scripts are compiled
 abbrev pub sending_profile : List ℕ → Option ProfileName
-sending_profile word = if bytes_eq word (codes "sd") then Some Sd else if bytes_eq word (codes "hd") then Some Hd else None
+sending_profile word =
+    if bytes_eq word (codes "sd") then Some Sd
+    else if bytes_eq word (codes "hd") then Some Hd
+    else if bytes_eq word (codes "large") then Some Large
+    else None
 
 -- the word names a font, and is not that for no font
 abbrev pub names_font : List ℕ → Bool

@@ -19,4 +19,4 @@ pub mod StatusText
 pub mod Walking
 pub mod ReadScript
 pub mod ExpectOutcome
-pub mod UnitSizes
+pub mod SetUnits

@@ -148,6 +148,8 @@ fn sending_profile(word: &str) -> Option<ProfileName>
         Some(ProfileName::Sd)
     } else if word == "hd" {
         Some(ProfileName::Hd)
+    } else if word == "large" {
+        Some(ProfileName::Large)
     } else {
         None
     }

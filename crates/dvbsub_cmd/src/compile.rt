@@ -93,10 +93,10 @@ fn send<K: Sink>(
         Ok(schedule) => schedule,
         Err(fault) => return Err(schedule_refused(sets, fault)),
     };
-    let Ok(units) = units_of(alloc, script, &kept, sets, page) else {
+    let Ok(written) = units_of(alloc, script, &kept, sets, page) else {
         return Err(SendFault::Memory);
     };
-    let Ok(pieces) = pieces_of(alloc, units.as_slice()) else {
+    let Ok(pieces) = pieces_of(alloc, asked, written.as_slice()) else {
         return Err(SendFault::Memory);
     };
     match write_stream(alloc, out, pid, pieces.as_slice(), schedule.all_slots()) {

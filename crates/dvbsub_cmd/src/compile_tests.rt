@@ -212,3 +212,59 @@ fn plans_and_schedules_that_are_refused(rt: HostRuntime) -> Result<(), Fail> {
     }
     Ok(())
 }
+
+/// A script of full high definition that shows a picture of that height at each of these columns. The picture's two codes
+/// change from pixel to pixel, so that each of its rows of 196 pixels has 200 bytes.
+fn script_of_large_pictures(alloc: Global, height: u16, columns: &[u16]) -> Result<String, Fail> {
+    let mut script = String::from_str(
+        alloc,
+        "origin,0\ndisplay,1920,1080\nrefresh,5\nepoch,500000\nregion,0,0,0,1920,1080,8,0\n",
+    )?;
+    script.push_str(&format!(in alloc; "picture,a,8,196,{height},")?)?;
+    for y in 0..height {
+        for x in 0..196u16 {
+            script.push_str(if x % 2 == y % 2 { "01" } else { "02" })?;
+        }
+    }
+    script.push_str("\n")?;
+    for x in columns {
+        script.push_str(&format!(in alloc; "place,500000,900000,0,{x},0,solid,a\n")?)?;
+    }
+    Ok(script)
+}
+
+/// The slots of the packets of a stream with which units of the PID 256 start.
+fn unit_starts(alloc: Global, packets: &[u8]) -> Result<Vec<usize>, Fail> {
+    let mut starts = Vec::new(alloc);
+    for slot in 0..packets.len() / 188 {
+        if packets[slot * 188 + 1] == 0x41 {
+            starts.push(slot)?;
+        }
+    }
+    Ok(starts)
+}
+
+/// Three objects of 60,014 bytes are sent in three PES packets of 327 packets each, and one of 65,614 bytes in none.
+#[test]
+fn sets_of_several_packets(rt: HostRuntime) -> Result<(), Fail> {
+    let alloc = rt.alloc();
+    let line = "compile large 256 1 script.csv none out.ts";
+    let script = script_of_large_pictures(alloc, 300, &[0, 200, 400])?;
+    let sent = run(&rt, alloc, line, &script, "")?;
+    assert_eq!(rt; sent.status, Status::Done { cut: 0 });
+    assert_eq!(rt; sent.out.written().len(), 5_001 * 188);
+    assert_eq!(rt;
+        unit_starts(alloc, sent.out.written())?.as_slice(),
+        [556, 883, 1_210, 5_000].as_slice()
+    );
+
+    let script = script_of_large_pictures(alloc, 328, &[0])?;
+    let refused = run(&rt, alloc, line, &script, "")?;
+    assert_eq!(rt;
+        refused.notes.written(),
+        b"schedule SegmentFull 4 65614\n".as_slice()
+    );
+    assert!(rt; refused.out.written().is_empty());
+    assert_eq!(rt; refused.status.code(), 3);
+    Ok(())
+}

@@ -1,6 +1,7 @@
-ghost use Rattle.std.specs.Prelude.{◌≡◌, ◌++◌, ◌*◌, ◌<◌, ◌≤◌, length, take, drop, map, OnOk, All};
+ghost use Rattle.std.specs.Prelude.{◌≡◌, ℕ, List, ◌++◌, ◌*◌, ◌<◌, ◌≤◌, length, take, drop, map, OnOk, All};
 ghost use Rattle.dvbsub_cmd.specs.PieceView.{plain};
-ghost use Rattle.shown_stream.specs.SlotStream.{IsPiece, pieces_of, piece_of, piece_count};
+ghost use Rattle.dvbsub_cmd.specs.SetUnits.{AreUnitsOf};
+ghost use Rattle.shown_stream.specs.SlotStream.{IsPiece, all_pieces, pieces_of, piece_of, piece_count};
 
 use crate::slot_stream::Piece;
 use sub_base::NoMemory;
@@ -8,8 +9,28 @@ use sub_base::NoMemory;
 /// The most bytes of a piece.
 const PIECE: usize = 184;
 
+/// Puts the pieces of units of these lengths, which stand one after the other, behind the others.
+pub fn push_units<'a>(
+    lengths: &[u32],
+    bytes: &'a [u8],
+    pieces: &mut Vec<Piece<'a>>,
+) -> Result<(), NoMemory>
+    requires units { (units : List (List ℕ)) × AreUnitsOf lengths.now bytes.now units }
+    requires each { All (λ piece. IsPiece (plain piece)) pieces.old.items }
+    ensures pieces { OnOk result ((units : List (List ℕ)) → AreUnitsOf lengths.now bytes.now units → map plain pieces.new.items ≡ map plain pieces.old.items ++ all_pieces units) }
+    ensures each { All (λ piece. IsPiece (plain piece)) pieces.new.items }
+{
+    let mut left = bytes;
+    for length in lengths {
+        let (unit, behind) = left.split_at(*length as usize);
+        push_pieces(unit, pieces)?;
+        left = behind;
+    }
+    Ok(())
+}
+
 /// Puts the pieces of a unit behind the others.
-pub fn push_pieces<'a>(unit: &'a [u8], pieces: &mut Vec<Piece<'a>>) -> Result<(), NoMemory>
+fn push_pieces<'a>(unit: &'a [u8], pieces: &mut Vec<Piece<'a>>) -> Result<(), NoMemory>
     requires { All (λ piece. IsPiece (plain piece)) pieces.old.items }
     ensures pieces { OnOk result (map plain pieces.new.items ≡ map plain pieces.old.items ++ pieces_of unit.now) }
     ensures each { All (λ piece. IsPiece (plain piece)) pieces.new.items }

@@ -1,20 +1,24 @@
-ghost use Rattle.std.specs.Prelude.{◌≡◌, All, length, map, IfOk};
+ghost use Rattle.std.specs.Prelude.{◌≡◌, ℕ, List, All, length, map, IfOk};
+ghost use Rattle.std.specs.List.{concat};
 ghost use Rattle.page_epoch.specs.Sendable.{IsSendable};
-ghost use Rattle.set_coder.specs.SetSizes.{FitsPacket, IsSetSize};
-ghost use Rattle.set_coder.specs.SetSegments.{IsSetPacket};
 ghost use Rattle.set_coder.specs.KeptBlocks.{AreCoded};
-ghost use Rattle.shown_stream.specs.Compiled.{AreUnits};
-ghost use Rattle.dvbsub_cmd.specs.PieceView.{plain};
+ghost use Rattle.set_coder.specs.SetSegments.{AreSetPackets};
+ghost use Rattle.set_coder.specs.SetSizes.{AreUnitSizes, FitsPackets};
+ghost use Rattle.shown_stream.specs.Compiled.{all_units};
 ghost use Rattle.shown_stream.specs.SlotStream.{IsPiece, all_pieces};
-ghost use Rattle.dvbsub_cmd.specs.UnitSizes.{AreSized};
+ghost use Rattle.dvbsub_cmd.specs.PieceView.{plain};
+ghost use Rattle.dvbsub_cmd.specs.SetUnits.{AreCut, AreWritten};
 
-use crate::pieces::push_pieces;
+use crate::pieces::push_units;
 use crate::slot_stream::Piece;
 use cue_list::Script;
 use page_epoch::PlannedSet;
 use set_coder::KeptBlocks;
 use std::alloc::Global;
-use sub_base::{Items, NoMemory};
+use sub_base::{Items, NoMemory, WriteLoad};
+
+/// The PES packets of a set, one after the other.
+pub type SetUnits = Items<u8>;
 
 /// The PES packets of the sets of a plan, whose segments are of that page.
 pub fn units_of(
@@ -23,50 +27,56 @@ pub fn units_of(
     kept: &KeptBlocks,
     sets: &[PlannedSet],
     page: u16,
-) -> Result<Vec<Unit>, NoMemory>
+) -> Result<Vec<SetUnits>, NoMemory>
     requires kept { AreCoded script.now.pictures kept.now.coded.items }
     requires sendable { All (IsSendable script.now) sets.now }
-    requires fit { All (FitsPacket script.now) sets.now }
-    ensures units { IfOk result (λ units. AreUnits script.now page sets.now units.items) }
-    ensures sizes { IfOk result (λ units. AreSized script.now sets.now units.items) }
+    requires fit { All (FitsPackets script.now) sets.now }
+    ensures { IfOk result (λ written. (units : List (List (List ℕ))) × AreWritten script.now page sets.now written.items units) }
 {
-    let mut units = Vec::new(alloc);
+    let mut written = Vec::new(alloc);
     for set in sets {
-        units.push(unit_of(alloc, script, kept, set, page)?)?;
+        written.push(set_units(alloc, script, kept, set, page)?)?;
     }
-    Ok(units)
+    Ok(written)
 }
 
-/// The bytes of a PES packet.
-pub type Unit = Items<u8>;
-
-/// The PES packet of a set.
-fn unit_of(
+/// The PES packets of a set.
+fn set_units(
     alloc: Global,
     script: &Script,
     kept: &KeptBlocks,
     set: &PlannedSet,
     page: u16,
-) -> Result<Unit, NoMemory>
+) -> Result<SetUnits, NoMemory>
     requires kept { AreCoded script.now.pictures kept.now.coded.items }
     requires sendable { IsSendable script.now set.now }
-    requires fits { FitsPacket script.now set.now }
-    ensures packet { IfOk result (IsSetPacket script.now page set.now) }
-    ensures size { IfOk result (λ unit. IsSetSize script.now set.now (length unit)) }
+    requires fits { FitsPackets script.now set.now }
+    ensures { IfOk result (λ bytes. (packets : List (List ℕ)) × (bytes ≡ concat packets)
+        × AreSetPackets script.now page set.now packets × AreUnitSizes script.now set.now (map length packets)) }
 {
     let mut bytes = Vec::new(alloc);
     kept.write_set(script, set, page, &mut bytes)?;
     Ok(Items::new(alloc, bytes))
 }
 
-/// The pieces of all PES packets, in order.
-pub fn pieces_of<'a>(alloc: Global, units: &'a [Unit]) -> Result<Vec<Piece<'a>>, NoMemory>
-    ensures pieces { IfOk result (λ pieces. map plain pieces.items ≡ all_pieces units.now) }
+/// The pieces of all PES packets of all sets, in order, where each set has as many packets of such lengths as its load says.
+pub fn pieces_of<'a>(
+    alloc: Global,
+    loads: &[WriteLoad],
+    written: &'a [SetUnits],
+) -> Result<Vec<Piece<'a>>, NoMemory>
+    requires many { length loads.now ≡ length written.now }
+    requires cut { (units : List (List (List ℕ))) × AreCut loads.now written.now units }
+    ensures pieces { IfOk result (λ pieces. (units : List (List (List ℕ))) → AreCut loads.now written.now units → map plain pieces.items ≡ all_pieces (all_units units)) }
     ensures each { IfOk result (λ pieces. All (λ piece. IsPiece (plain piece)) pieces.items) }
 {
     let mut pieces = Vec::new(alloc);
-    for unit in units {
-        push_pieces(unit.as_slice(), &mut pieces)?;
+    for i in 0..written.len() {
+        push_units(
+            loads[i].units.as_slice(),
+            written[i].as_slice(),
+            &mut pieces,
+        )?;
     }
     Ok(pieces)
 }

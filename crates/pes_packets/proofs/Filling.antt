@@ -1,10 +1,10 @@
 -- Segments are put into units one after the other.
-use Rattle.std.proofs.Common.{◌≡◌, ℕ, ◌+◌, ◌<◌, ◌≤◌, inl, inr, List, [], ◌∷◌, ◌++◌, map, sum_by, refl, ap, sym, subst, ◌∙◌, arith, append_assoc}
+use Rattle.std.proofs.Common.{◌≡◌, ℕ, ◌+◌, ◌<◌, ◌≤◌, inl, inr, List, [], ◌∷◌, ◌++◌, sum_by, refl, ap, sym, ◌∙◌, arith, append_assoc}
 use Rattle.std.specs.List.{flat_map}
 use Rattle.std.proofs.lemmas.Grind.{flat_map-append}
 use Rattle.std.proofs.lemmas.List.{map-append, append-nil}
 use Rattle.std.proofs.lemmas.List.Sums.{sum_by_push, sum_by-cons}
-use Rattle.pes_packets.specs.Units.{IsClosed, AreUnits, IsSharedOut, IsOpenAfter, no_segment, some_segments, AreUnitLengths, unit_length}
+use Rattle.pes_packets.specs.Units.{IsClosed, AreUnits, IsOpenAfter, no_segment, some_segments, AreUnitLengths, unit_length}
 use Rattle.sub_base.specs.declared.load.TheConstants.{UNIT_ROOM}
 use Rattle.pes_packets.specs.declared.units.TheConstants.{OTHER_BYTES}
 

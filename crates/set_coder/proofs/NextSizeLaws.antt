@@ -1,5 +1,5 @@
 -- The segments of a set are measured one after the other: each is the first of those that are left.
-use Rattle.std.proofs.Common.{◌≡◌, ℕ, ◌+◌, ◌≤◌, List, [], ◌∷◌, ◌++◌, length, map, Option, Some, None, Bor, refl, sym, ap, subst, ◌∙◌, arith}
+use Rattle.std.proofs.Common.{◌≡◌, ℕ, ◌≤◌, List, ◌∷◌, ◌++◌, length, map, Option, Some, None, Bor, sym, ap, subst, ◌∙◌, arith}
 use Rattle.std.specs.Prelude.{All, IfSome, option_to_list}
 use Rattle.std.proofs.lemmas.List.{nil_from_length}
 use Rattle.std.proofs.lemmas.List.Elements.{All-head, All-tail}
@@ -8,7 +8,7 @@ use Rattle.page_epoch.specs.Sendable.{HasCue}
 use Rattle.page_epoch.specs.declared.planned_set.SentClut.{SentClut}
 use Rattle.page_epoch.specs.declared.planned_set.SentRegion.{SentRegion}
 use Rattle.set_coder.specs.SetSizes.{region_size, clut_size, IsObjectSize, AreObjectSizes}
-use Rattle.set_coder.specs.SizesLeft.{AreSizesLeft, IsMeasurable, IsNextSize}
+use Rattle.set_coder.specs.SizesLeft.{IsMeasurable, IsNextSize}
 use Rattle.set_coder.specs.declared.segment_sizes.SegmentSizes.{SegmentSizes}
 
 -- those that are left, by what they are

@@ -11,7 +11,7 @@ use Rattle.pes_packets.proofs.SharingLaws.{shared_back, same_lengths}
 use Rattle.cue_list.specs.declared.epoch.Epoch.{Epoch}
 use Rattle.cue_list.specs.declared.script.Script.{Script}
 use Rattle.page_epoch.specs.declared.planned_set.PlannedSet.{PlannedSet}
-use Rattle.set_coder.specs.SetSegments.{segment_bytes, unit_packet, AreSetSegments, AreSetPackets}
+use Rattle.set_coder.specs.SetSegments.{segment_bytes, AreSetSegments, AreSetPackets}
 use Rattle.set_coder.specs.SetSizes.{leading_sizes, AreObjectSizes, AreSegmentSizes, AreUnitSizes, FitsPackets}
 use Rattle.set_coder.specs.UnitParts.{AreUnitParts, part_packet}
 use Rattle.set_coder.proofs.SetSizeLaws.{one_epoch, one_segment_sizes}

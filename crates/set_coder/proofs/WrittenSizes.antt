@@ -1,10 +1,10 @@
 -- The segments of a set that are written have the sizes that are measured.
-use Rattle.std.proofs.Common.{◌≡◌, ℕ, ◌+◌, ◌*◌, ◌<◌, ◌≤◌, List, [], ◌∷◌, ◌++◌, length, map, None, refl, sym, ap, subst, ◌∙◌, arith}
+use Rattle.std.proofs.Common.{◌≡◌, ℕ, List, [], ◌∷◌, ◌++◌, length, map, None, refl, ap, subst, ◌∙◌, arith}
 use Rattle.std.specs.Prelude.{All}
 use Rattle.std.proofs.lemmas.List.{length-map, map-append}
 use Rattle.std.proofs.lemmas.List.Elements.{All-head, All-tail, All-cons, All-nil}
 use Rattle.sub_base.specs.Picture.{Picture}
-use Rattle.stream_syntax.specs.Segments.{SegmentValue, end_of_set, of_display, spelled, IsWritable}
+use Rattle.stream_syntax.specs.Segments.{SegmentValue, end_of_set, of_display, IsWritable}
 use Rattle.stream_syntax.specs.declared.page.State.{State}
 use Rattle.stream_syntax.specs.declared.page.State.TheVariants.{Normal, Acquisition, ModeChange}
 use Rattle.segments.proofs.Sizes.{page_entries_size, listings_size, clut_entries_size}
@@ -15,7 +15,7 @@ use Rattle.page_epoch.specs.declared.planned_set.PlannedSet.{PlannedSet}
 use Rattle.page_epoch.specs.declared.planned_set.SentClut.{SentClut}
 use Rattle.page_epoch.specs.declared.planned_set.SentRegion.{SentRegion}
 use Rattle.set_coder.specs.SetSegments.{picture_of_cue, depth_of_cue, display_of, page_entry_of, page_of, listing_of, region_segment_of, clut_entry_of, clut_segment_of, leading_segments, object_of, IsObjectOf, AreObjectsOf, segment_bytes, AreSetSegments}
-use Rattle.set_coder.specs.SetSizes.{display_sizes, page_size, region_size, clut_size, leading_sizes, made_even, IsObjectSize, AreObjectSizes, AreSegmentSizes}
+use Rattle.set_coder.specs.SetSizes.{display_sizes, page_size, region_size, clut_size, leading_sizes, IsObjectSize, AreObjectSizes, AreSegmentSizes}
 use Rattle.set_coder.proofs.ObjectLaws.{object_length, block_sizes}
 use Rattle.set_coder.proofs.WritableLaws.{spelled_length}
 

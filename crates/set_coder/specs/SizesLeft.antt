@@ -1,5 +1,5 @@
 -- Segments of a set that are not measured yet.
-use Rattle.std.specs.Prelude.{◌≡◌, ℕ, ◌+◌, ◌≤◌, List, [], ◌∷◌, ◌++◌, length, map, All, IfSome, option_to_list}
+use Rattle.std.specs.Prelude.{◌≡◌, ℕ, ◌+◌, ◌≤◌, List, ◌∷◌, ◌++◌, length, map, All, IfSome, option_to_list}
 use Rattle.pes_packets.specs.Units.{IsSegmentLength}
 use Rattle.page_epoch.specs.Sendable.{HasCue}
 use Rattle.set_coder.specs.KeptBlocks.{AreCoded}

@@ -1,15 +1,11 @@
-use Rattle.std.proofs.Common.{ℕ, List, length}
-use Rattle.page_epoch.specs.declared.planned_set.PlannedSet.{PlannedSet}
-use Rattle.set_coder.specs.SetSizes.{IsSetSize}
-use Rattle.set_coder.specs.SetSegments.{IsSetPacket}
-use Rattle.dvbsub_cmd.proofs.UnitLaws.{AllZip-step}
+use Rattle.std.proofs.Common.{◌∷◌, [], ◌++◌}
+use Rattle.dvbsub_cmd.proofs.UnitLaws.{written_more}
 use Rattle.dvbsub_cmd.proofs.units.units_of.Goals as goal
 
 pub loop-set-preserved : goal.loop-set-preserved
 loop-set-preserved c =
-    let unit = c.in_ok-unit_of.field-0 in (
-      AllZip-step (IsSetPacket c.args.script.now c.args.page) c.args.sets.now c.loop-set.units.items c.push.new.self.items c.loop-set.set-index c.set-item.result unit c.loop-set-test.true
-          c.loop-set.invariant.0 c.set-item.is c.in_ok-push.ensures.items c.in_ok-unit_of.ensures.packet,
-      AllZip-step (λ (set : PlannedSet) (one : List ℕ). IsSetSize c.args.script.now set (length one)) c.args.sets.now c.loop-set.units.items c.push.new.self.items c.loop-set.set-index c.set-item.result unit c.loop-set-test.true
-          c.loop-set.invariant.1 c.set-item.is c.in_ok-push.ensures.items c.in_ok-unit_of.ensures.size,
+    let so_far = c.loop-set.invariant in
+    let one = c.in_ok-set_units.ensures in (
+      so_far.0 ++ one.0 ∷ [],
+      written_more c.args.script.now c.args.page c.args.sets.now c.loop-set.set-index c.set-item.result c.in_ok-set_units.field-0 one.0 c.loop-set.written.items c.push.new.self.items so_far.0 c.loop-set-test.true c.set-item.is so_far.1 one.1 one.2 one.3 c.in_ok-push.ensures.items,
     )

@@ -1,5 +1,5 @@
-use Rattle.std.proofs.Common.{◌≡◌, ℕ, ◌+◌, ◌-◌, ◌<◌, ◌≤◌, ◌∷◌, [], ◌++◌, List, min, take, length, length-append, arith, sym, subst, ap, ◌∙◌, append_assoc}
-use Rattle.std.specs.Prelude.{slice_index, option_to_list, Option, Some, None, IfSome}
+use Rattle.std.proofs.Common.{◌≡◌, ℕ, ◌+◌, ◌<◌, ◌≤◌, ◌++◌, List, min, take, length, length-append, arith, sym, subst, ap, ◌∙◌, append_assoc}
+use Rattle.std.specs.Prelude.{option_to_list, Option, Some, None, IfSome}
 use Rattle.std.proofs.lemmas.List.{take_more, take_all}
 use Rattle.pes_packets.specs.Units.{IsOpenAfter, AreUnitLengths}
 use Rattle.pes_packets.proofs.units.append_lengths.Goals as goal

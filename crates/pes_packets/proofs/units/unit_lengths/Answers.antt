@@ -1,4 +1,4 @@
-use Rattle.std.proofs.Common.{◌≡◌, ℕ, ◌++◌, List, map, ap, ◌∙◌}
+use Rattle.std.proofs.Common.{ℕ, ◌++◌, List, map, ap, ◌∙◌}
 use Rattle.pes_packets.specs.Units.{unit_length}
 use Rattle.pes_packets.proofs.Filling.{own}
 use Rattle.pes_packets.proofs.OneSharing.{units_same}

@@ -1,4 +1,3 @@
-use Rattle.std.proofs.Common.{arith}
 use Rattle.std.proofs.lemmas.Result.{on_ok_weaker}
 use Rattle.set_coder.specs.SetSegments.{object_of}
 use Rattle.set_coder.proofs.ObjectLaws.{object_named, object_is}

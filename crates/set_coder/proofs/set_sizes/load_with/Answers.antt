@@ -1,4 +1,4 @@
-use Rattle.std.proofs.Common.{◌≡◌, ℕ, List, sum, ap, sym, subst, ◌∙◌, All, ◌≤◌, arith, refl}
+use Rattle.std.proofs.Common.{sum, ap, sym, subst, ◌∙◌, All, ◌≤◌, arith, refl}
 use Rattle.set_coder.specs.SetSizes.{AreUnitSizes}
 use Rattle.set_coder.proofs.MeasureLaws.{some_units, each_unit}
 use Rattle.set_coder.proofs.SetSizeLaws.{one_load}

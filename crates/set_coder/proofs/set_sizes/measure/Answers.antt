@@ -1,5 +1,5 @@
 use Rattle.std.proofs.Common.{◌∷◌, [], ◌++◌, ◌+◌, arith}
-use Rattle.set_coder.proofs.MeasureLaws.{first_more, first_all, units_are, longest_is}
+use Rattle.set_coder.proofs.MeasureLaws.{first_more}
 use Rattle.set_coder.proofs.set_sizes.measure.Goals as goal
 
 pub loop-segment-preserved : goal.loop-segment-preserved

@@ -1,6 +1,5 @@
-use Rattle.std.proofs.Common.{◌≡◌, ◌∷◌, [], ◌++◌, ◌+◌, ◌∙◌, arith}
+use Rattle.std.proofs.Common.{◌∷◌, [], ◌++◌, ◌+◌, ◌∙◌, arith}
 use Rattle.std.specs.Prelude.{option_to_list}
-use Rattle.set_coder.specs.SetSizes.{IsSetSize}
 use Rattle.set_coder.proofs.MeasureLaws.{first_more, first_all, sum_more, sized, some_size}
 use Rattle.set_coder.proofs.SetSizeLaws.{one_set_size}
 use Rattle.set_coder.proofs.set_sizes.size_of.Goals as goal
