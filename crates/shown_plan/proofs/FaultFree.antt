@@ -37,8 +37,9 @@ use Rattle.decoder_model.proofs.Searches.{first_given-append, first_given-all_no
 use Rattle.decoder_model.proofs.SoleCue.{six_none}
 use Rattle.decoder_model.proofs.TakenLaws.{taken_region_version}
 use Rattle.decoder_model.proofs.TakenSets.{taken_all}
+use Rattle.shown_plan.proofs.Fair.{IsFairEpoch}
 use Rattle.shown_plan.proofs.Keeps.{IsSent, KeepsRegion, KeepsClut, Keeps}
-use Rattle.shown_plan.proofs.KeepsOn.{rows_seen}
+use Rattle.shown_plan.proofs.KeepsOn.{IsPlannedIn, rows_seen}
 use Rattle.shown_plan.proofs.KeepsStep.{IsReadIn}
 use Rattle.shown_plan.proofs.Lists.{all_at, sum_ones}
 use Rattle.shown_plan.proofs.Ordered.{IsKind, displays_in, page_content, region_content, clut_content, objects_are, contents_are}
@@ -126,10 +127,10 @@ regions_known script epoch tick earlier segments (id ∷ shown) kept has =
     known : unknown_region segments (page_entry_of epoch id) ≡ None
     known = ap (λ b. cond b (Some (NoSuchRegion id)) None) (there (last_region id segments) (taken_region_version id segments))
 
-nodes_fit : (script : Script) (epoch : Epoch) (set : PlannedSet) (earlier : List ℕ) (contents : List Content) (segments : List Content) (page : Page) (profile : Profile) → IsReadIn script epoch set earlier contents → Keeps script epoch set.pts earlier segments
-    → page ≡ page_value script epoch set → node_need epoch (set.pts ∷ earlier) (length set.shown) ≤ profile.nodes → composition_fault profile (taken_of segments) page ≡ None
-nodes_fit script epoch set earlier contents segments page profile is kept page_of_set enough =
-    ap (λ b. cond b (Some (CompositionFull (nodes_of (taken_of segments) page))) None) (let test : nat_lt profile.nodes (nodes_of (taken_of segments) page) ≡ false = (let low = most in grind (arith, nat_tests)) in test)
+-- the nodes that a receiver has behind a set are no more than the plan counts
+pub nodes_within : (script : Script) (epoch : Epoch) (set : PlannedSet) (earlier : List ℕ) (segments : List Content) (page : Page) → IsFairEpoch script.width script.height script.pictures epoch → IsPlannedIn epoch set earlier
+    → Keeps script epoch set.pts earlier segments → page ≡ page_value script epoch set → nodes_of (taken_of segments) page ≤ node_need epoch (set.pts ∷ earlier) (length set.shown)
+nodes_within script epoch set earlier segments page is_fair planned kept page_of_set = omega (arith, entries, regions, listings, cluts, in_tables)
   where
     taken : List Content
     taken = taken_among segments
@@ -150,13 +151,17 @@ nodes_fit script epoch set earlier contents segments page profile is kept page_o
     listings = listings_within script.pictures epoch set.pts earlier taken are kept.regions
 
     cluts : length (clut_ids (taken_of segments)) ≤ length (sent_cluts epoch.colours true (set.pts ∷ earlier))
-    cluts = cluts_within epoch set.pts earlier taken is.fair.cluts (λ clut. rows_seen script.width script.height script.pictures epoch clut set.pts earlier is.fair is.planned.seen) kept.cluts
+    cluts = cluts_within epoch set.pts earlier taken is_fair.cluts (λ clut. rows_seen script.width script.height script.pictures epoch clut set.pts earlier is_fair planned.seen) kept.cluts
 
     in_tables : length (table_entries (taken_of segments)) ≤ sum_by (λ (sent : SentClut). length sent.rows) (sent_cluts epoch.colours true (set.pts ∷ earlier))
-    in_tables = entries_within epoch set.pts earlier taken is.fair.cluts (λ clut. rows_seen script.width script.height script.pictures epoch clut set.pts earlier is.fair is.planned.seen) sent
+    in_tables = entries_within epoch set.pts earlier taken is_fair.cluts (λ clut. rows_seen script.width script.height script.pictures epoch clut set.pts earlier is_fair planned.seen) sent
 
-    most : nodes_of (taken_of segments) page ≤ profile.nodes
-    most = omega (arith, enough, entries, regions, listings, cluts, in_tables)
+nodes_fit : (script : Script) (epoch : Epoch) (set : PlannedSet) (earlier : List ℕ) (contents : List Content) (segments : List Content) (page : Page) (profile : Profile) → IsReadIn script epoch set earlier contents → Keeps script epoch set.pts earlier segments
+    → page ≡ page_value script epoch set → node_need epoch (set.pts ∷ earlier) (length set.shown) ≤ profile.nodes → composition_fault profile (taken_of segments) page ≡ None
+nodes_fit script epoch set earlier contents segments page profile is kept page_of_set enough =
+    let within = nodes_within script epoch set earlier segments page is.fair is.planned kept page_of_set in
+    let test : nat_lt profile.nodes (nodes_of (taken_of segments) page) ≡ false = (let low : nodes_of (taken_of segments) page ≤ profile.nodes = omega (arith, within, enough) in grind (arith, nat_tests)) in
+    ap (λ b. cond b (Some (CompositionFull (nodes_of (taken_of segments) page))) None) test
 
 -- ---- all of them
 
