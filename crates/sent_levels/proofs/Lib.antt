@@ -1,0 +1,2 @@
+pub mod EnteredCalls
+pub mod EnteredSums
