@@ -45,7 +45,7 @@ pub in_order : (loads : List WriteLoad) (slots : List ℕ) (i j k m : ℕ) → A
 in_order loads slots i j k m are before inside first second =
     rising slots (first_packet loads i + k) (first_packet loads j + m) are.rise (omega (arith, first, later_packets loads i j before)) (within_slots loads slots j m are inside second)
 
-last_packet : (loads : List WriteLoad) (slots : List ℕ) (i : ℕ) → AreSlots loads slots → i < length loads → packets_of loads i - 1 < packets_of loads i
+pub last_packet : (loads : List WriteLoad) (slots : List ℕ) (i : ℕ) → AreSlots loads slots → i < length loads → packets_of loads i - 1 < packets_of loads i
 last_packet loads slots i are inside = omega (arith, some_packets loads i (some_bytes loads i are.each inside))
 
 -- ---- packets

@@ -1,2 +1,3 @@
 pub mod EnteredCalls
 pub mod EnteredSums
+pub mod EnteredLevels
