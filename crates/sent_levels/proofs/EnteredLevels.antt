@@ -34,7 +34,7 @@ abbrev pub heard_done : List WriteLoad → Pace → List ℕ → (ℕ → ℕ) �
 heard_done loads pace slots painted entry i =
     done_tick (tick_of pace (slot_of loads slots i (packets_of loads i - 1))) (heard_before loads entry i) (heard_load loads painted entry i)
 
-from_within : (loads : List WriteLoad) (slots : List ℕ) (painted : ℕ → ℕ) (entry : Entry) (i : ℕ) → IsEntry loads slots painted entry → i < length loads → from_of entry i < packets_of loads i
+pub from_within : (loads : List WriteLoad) (slots : List ℕ) (painted : ℕ → ℕ) (entry : Entry) (i : ℕ) → IsEntry loads slots painted entry → i < length loads → from_of entry i < packets_of loads i
 from_within loads slots painted entry i is inside = by (i == entry.set) refl
   where
     by : (b : Bool) → (i == entry.set) ≡ b → cond (i == entry.set) entry.packet 0 < packets_of loads i

@@ -93,7 +93,7 @@ packets_shown loads slots bound entry i (suc k) past = by (counts loads slots bo
 -- ---- a set that is whole
 
 -- where its last packet stands below the bound, all of its packets do
-all_below : (loads : List WriteLoad) (slots : List ℕ) (bound i k : ℕ) → AreSlots loads slots → i < length loads → is_whole loads slots bound i ≡ true → k < packets_of loads i → nat_lt (slot_of loads slots i k) bound ≡ true
+pub all_below : (loads : List WriteLoad) (slots : List ℕ) (bound i k : ℕ) → AreSlots loads slots → i < length loads → is_whole loads slots bound i ≡ true → k < packets_of loads i → nat_lt (slot_of loads slots i k) bound ≡ true
 all_below loads slots bound i k are inside whole within = by (grind arith)
   where
     last : slot_of loads slots i (packets_of loads i - 1) < bound

@@ -1,3 +1,4 @@
 pub mod EnteredCalls
 pub mod EnteredSums
 pub mod EnteredLevels
+pub mod EnteredLess
