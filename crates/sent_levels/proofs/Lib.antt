@@ -2,3 +2,4 @@ pub mod EnteredCalls
 pub mod EnteredSums
 pub mod EnteredLevels
 pub mod EnteredLess
+pub mod EnteredWithin
