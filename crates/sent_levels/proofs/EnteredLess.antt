@@ -41,7 +41,7 @@ done_no_later loads pace slots painted entry i is inside =
 -- ---- no level is higher
 
 -- a set whose bytes have left by the tick of a slot has come by then
-done_is_whole : (loads : List WriteLoad) (pace : Pace) (slots : List ℕ) (i slot : ℕ) → AreSlots loads slots → i < length loads → scheduled_done loads pace slots i ≤ tick_of pace slot → is_whole loads slots (suc slot) i ≡ true
+pub done_is_whole : (loads : List WriteLoad) (pace : Pace) (slots : List ℕ) (i slot : ℕ) → AreSlots loads slots → i < length loads → scheduled_done loads pace slots i ≤ tick_of pace slot → is_whole loads slots (suc slot) i ≡ true
 done_is_whole loads pace slots i slot are inside done = 
     let last : ℕ = tick_of pace (slot_of loads slots i (packets_of loads i - 1)) in
     let low = tick_of-before pace (slot_of loads slots i (packets_of loads i - 1)) slot (last_before last (shown_before loads i) (load_of loads i).size (load_of loads i).painted (tick_of pace slot) (load_at loads i are.each inside).some done) in

@@ -3,3 +3,4 @@ pub mod EnteredSums
 pub mod EnteredLevels
 pub mod EnteredLess
 pub mod EnteredWithin
+pub mod WholeLevels
