@@ -1,19 +1,19 @@
 -- Entering a scheduled stream later makes no level higher and no set later, set by set.
-use Rattle.std.proofs.Common.{◌≡◌, ◌≢◌, ◌∙◌, ◌⊎◌, inl, inr, ℕ, zero, suc, ◌+◌, ◌-◌, ◌*◌, ◌==◌, ◌&&◌, ◌<◌, ◌≤◌, max, nat_le, nat_lt, Bool, true, false, cond, List, [], ◌∷◌, length, refl, sym, ap, subst, arith}
+use Rattle.std.proofs.Common.{◌≡◌, ◌∙◌, ℕ, zero, suc, ◌+◌, ◌-◌, ◌&&◌, ◌<◌, ◌≤◌, max, nat_le, nat_lt, Bool, true, false, cond, List, length, refl, ap, subst, arith}
 use Rattle.std.proofs.Math.Nat.{le-max_left}
 use Rattle.std.specs.Prelude.{slice_index}
 use Rattle.std.proofs.lemmas.Bool.Decides.{nat_tests}
-use Rattle.sub_base.specs.Pace.{tick_of, done_tick, left_by}
+use Rattle.sub_base.specs.Pace.{tick_of}
 use Rattle.sub_base.specs.declared.load.WriteLoad.{WriteLoad}
 use Rattle.sub_base.specs.declared.pace.Pace.{Pace}
 use Rattle.schedule.proofs.BufferLaws.{tick_of-before, left_of-yes, left_of-no}
-use Rattle.schedule.proofs.PacketLaws.{payloads, payloads-most, load_at}
+use Rattle.schedule.proofs.PacketLaws.{payloads, load_at}
 use Rattle.schedule.proofs.SumLaws.{sum_below-le, sum_below-same}
 use Rattle.schedule.specs.Arrivals.{payload_by, arrived_of}
 use Rattle.schedule.specs.Packets.{sum_below, load_of, size_of, packets_of, payload_of}
 use Rattle.schedule.specs.Slots.{slot_of, left_of, shown_before, done_of as scheduled_done}
-use Rattle.sent_levels.proofs.EnteredCalls.{Entry, from_of, counts, heard_load, is_whole}
-use Rattle.sent_levels.proofs.EnteredSums.{AreSlots, in_set, last_packet, heard_of, heard_size, all_below}
+use Rattle.sent_levels.proofs.EnteredCalls.{Entry, from_of, heard_load, is_whole}
+use Rattle.sent_levels.proofs.EnteredSums.{AreSlots, heard_of, heard_size, all_below}
 use Rattle.sent_levels.proofs.EnteredLevels.{IsEntry, heard_before, heard_done, from_within, gone_of, came_of}
 
 -- ---- no set is later

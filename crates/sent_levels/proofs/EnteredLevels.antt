@@ -1,20 +1,15 @@
 -- Entering a scheduled stream later makes no level higher and no set later, and the whole stream gives the schedule's levels.
-use Rattle.std.proofs.Common.{◌≡◌, ◌≢◌, ◌∙◌, ◌⊎◌, inl, inr, ℕ, zero, suc, ◌+◌, ◌-◌, ◌*◌, ◌==◌, ◌&&◌, ◌<◌, ◌≤◌, max, nat_le, nat_lt, Bool, true, false, cond, List, [], ◌∷◌, length, refl, sym, ap, subst, arith, mul-le-mul_right}
-use Rattle.std.specs.Prelude.{All, slice_index}
+use Rattle.std.proofs.Common.{◌≡◌, ◌∙◌, ℕ, zero, suc, ◌+◌, ◌-◌, ◌==◌, ◌&&◌, ◌<◌, ◌≤◌, nat_le, nat_lt, Bool, true, false, cond, List, [], ◌∷◌, length, refl, sym, ap, subst, arith}
 use Rattle.std.proofs.lemmas.Bool.Decides.{nat_tests}
 use Rattle.sub_base.specs.Pace.{tick_of, done_tick, left_by}
-use Rattle.sub_base.specs.declared.load.SetLoad.{SetLoad}
 use Rattle.sub_base.specs.declared.load.WriteLoad.{WriteLoad}
 use Rattle.sub_base.specs.declared.pace.Pace.{Pace}
-use Rattle.buffer_model.specs.Calls.{Call, Arrived, SetWhole, Dropped, last_slot, last_shown, arrived, unassigned, left, done_of, level_at}
-use Rattle.schedule.proofs.BufferLaws.{tick_of-rises}
-use Rattle.schedule.proofs.PacketLaws.{payloads, payloads-most, some_packets, some_bytes, load_at}
-use Rattle.schedule.proofs.SumLaws.{sum_below-zero, sum_below-suc, sum_below-rises, sum_below-le, sum_below-same, sum_below-ends}
-use Rattle.schedule.specs.Arrivals.{payload_by, arrived_of, level_at as scheduled_level}
-use Rattle.schedule.specs.Packets.{sum_below, load_of, size_of, packets_of, first_packet, payload_of, bytes_with}
-use Rattle.schedule.specs.Slots.{Timetable, slot_of, left_of, shown_before, done_of as scheduled_done, IsLoad}
-use Rattle.sent_levels.proofs.EnteredCalls.{Entry, from_of, counts, packet_calls, heard_load, is_whole, set_calls, calls_of_set, entered_calls, whole_entry, planned_painting}
-use Rattle.sent_levels.proofs.EnteredSums.{AreSlots, in_set, in_order, last_packet, heard_of, packets_arrived, packets_unassigned, packets_left, packets_shown, heard_size}
+use Rattle.buffer_model.specs.Calls.{Call, Arrived, SetWhole, last_slot, last_shown, arrived, unassigned, left, done_of}
+use Rattle.schedule.proofs.SumLaws.{sum_below-zero, sum_below-suc, sum_below-ends}
+use Rattle.schedule.specs.Packets.{sum_below, load_of, packets_of, payload_of}
+use Rattle.schedule.specs.Slots.{slot_of}
+use Rattle.sent_levels.proofs.EnteredCalls.{Entry, from_of, counts, packet_calls, heard_load, is_whole, calls_of_set, entered_calls}
+use Rattle.sent_levels.proofs.EnteredSums.{AreSlots, in_order, last_packet, heard_of, packets_arrived, packets_unassigned, packets_left, packets_shown, heard_size}
 
 -- ---- where a stream is entered
 

@@ -1,19 +1,17 @@
 -- The bytes that arrive and leave, set by set.
-use Rattle.std.proofs.Common.{◌≡◌, ◌≢◌, ◌∙◌, ◌⊎◌, inl, inr, ℕ, zero, suc, ◌+◌, ◌-◌, ◌*◌, ◌==◌, ◌&&◌, ◌<◌, ◌≤◌, max, nat_le, nat_lt, Bool, true, false, cond, List, [], ◌∷◌, length, refl, sym, ap, subst, arith}
+use Rattle.std.proofs.Common.{◌≡◌, ◌∙◌, ◌⊎◌, inl, inr, ℕ, zero, suc, ◌+◌, ◌-◌, ◌<◌, ◌≤◌, nat_le, nat_lt, Bool, true, false, cond, List, ◌∷◌, length, refl, ap, arith}
 use Rattle.std.specs.Prelude.{All, slice_index}
 use Rattle.std.specs.List.Sorted.{IsStrictlyIncreasing}
 use Rattle.std.proofs.lemmas.Bool.Decides.{nat_tests}
 use Rattle.std.proofs.lemmas.List.Kept.{AllPairs-from_increasing}
-use Rattle.sub_base.specs.Pace.{tick_of, done_tick, left_by}
-use Rattle.sub_base.specs.declared.load.SetLoad.{SetLoad}
 use Rattle.sub_base.specs.declared.load.WriteLoad.{WriteLoad}
 use Rattle.sub_base.specs.declared.pace.Pace.{Pace}
-use Rattle.buffer_model.specs.Calls.{Call, Arrived, SetWhole, Dropped, last_slot, last_shown, arrived, unassigned, left, done_of}
-use Rattle.schedule.proofs.PacketLaws.{payloads, payloads-most, some_packets, some_bytes}
-use Rattle.schedule.proofs.SumLaws.{sum_below-zero, sum_below-suc, sum_below-more, sum_below-rises, sum_below-le, sum_below-same, sum_below-ends}
-use Rattle.schedule.specs.Packets.{sum_below, load_of, size_of, packets_of, first_packet, payload_of}
+use Rattle.buffer_model.specs.Calls.{Call, Arrived, last_shown, arrived, unassigned, left}
+use Rattle.schedule.proofs.PacketLaws.{payloads, some_packets, some_bytes}
+use Rattle.schedule.proofs.SumLaws.{sum_below-zero, sum_below-suc, sum_below-rises}
+use Rattle.schedule.specs.Packets.{sum_below, size_of, packets_of, first_packet, payload_of}
 use Rattle.schedule.specs.Slots.{slot_of, IsLoad}
-use Rattle.sent_levels.proofs.EnteredCalls.{Entry, from_of, counts, packet_calls, heard_load, is_whole, set_calls, calls_of_set, entered_calls}
+use Rattle.sent_levels.proofs.EnteredCalls.{Entry, from_of, counts, packet_calls, is_whole}
 
 -- ---- the order of slots
 

@@ -1,22 +1,22 @@
 -- Wherever a scheduled stream is entered, the coded data buffer holds and every set is in time; no level is higher than that of
 -- the whole stream.
-use Rattle.std.proofs.Common.{◌≡◌, ◌≢◌, ◌∙◌, ◌⊎◌, inl, inr, ℕ, zero, suc, ◌+◌, ◌-◌, ◌*◌, ◌==◌, ◌&&◌, ◌<◌, ◌≤◌, max, nat_le, nat_lt, Bool, true, false, cond, List, [], ◌∷◌, length, refl, sym, ap, subst, arith, mul-le-mul_right}
+use Rattle.std.proofs.Common.{◌≡◌, ◌∙◌, ℕ, zero, suc, ◌+◌, ◌-◌, ◌&&◌, ◌<◌, ◌≤◌, nat_le, nat_lt, Bool, true, false, cond, List, [], ◌∷◌, length, refl, sym, ap, subst, arith}
 use Rattle.std.specs.Prelude.{slice_index}
 use Rattle.std.proofs.lemmas.Bool.Decides.{nat_tests}
-use Rattle.sub_base.specs.Pace.{tick_of, done_tick, left_by}
+use Rattle.sub_base.specs.Pace.{tick_of, left_by}
 use Rattle.sub_base.specs.declared.load.WriteLoad.{WriteLoad}
 use Rattle.sub_base.specs.declared.pace.Pace.{Pace}
-use Rattle.buffer_model.specs.Calls.{Call, Arrived, SetWhole, Dropped, arrived, left, done_of, level_at}
+use Rattle.buffer_model.specs.Calls.{Call, Arrived, SetWhole, arrived, left, level_at}
 use Rattle.buffer_model.specs.Within.{AreWithin}
 use Rattle.schedule.proofs.BufferLaws.{tick_of-rises}
-use Rattle.schedule.proofs.PacketLaws.{payloads, payloads-most}
+use Rattle.schedule.proofs.PacketLaws.{payloads}
 use Rattle.schedule.proofs.SumLaws.{sum_below-zero, sum_below-suc, sum_below-more, sum_below-le, sum_below-same}
 use Rattle.schedule.specs.Arrivals.{payload_by, arrived_of, level_at as scheduled_level}
-use Rattle.schedule.specs.Packets.{sum_below, load_of, size_of, packets_of, first_packet, payload_of, bytes_with}
-use Rattle.schedule.specs.Slots.{Timetable, slot_of, left_of, CanStand, shown_before, done_of as scheduled_done}
+use Rattle.schedule.specs.Packets.{sum_below, load_of, size_of, packets_of, payload_of, bytes_with}
+use Rattle.schedule.specs.Slots.{Timetable, slot_of, left_of, done_of as scheduled_done}
 use Rattle.sent_levels.proofs.EnteredCalls.{Entry, from_of, counts, packet_calls, heard_load, is_whole, calls_of_set, entered_calls}
-use Rattle.sent_levels.proofs.EnteredSums.{AreSlots, in_set, in_order, last_packet, heard_of, packets_arrived, packets_left}
-use Rattle.sent_levels.proofs.EnteredLevels.{IsEntry, heard_before, heard_done, from_within, gone_of, came_of, set_done, all_arrived, all_left}
+use Rattle.sent_levels.proofs.EnteredSums.{AreSlots, in_order, last_packet, heard_of, packets_arrived, packets_left}
+use Rattle.sent_levels.proofs.EnteredLevels.{IsEntry, heard_done, gone_of, came_of, set_done, all_arrived, all_left}
 use Rattle.sent_levels.proofs.EnteredLess.{done_no_later, each_set}
 
 -- ---- a schedule that holds

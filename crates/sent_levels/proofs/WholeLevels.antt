@@ -1,18 +1,18 @@
 -- The whole stream, received from its first packet on, gives the schedule's levels and its done ticks.
-use Rattle.std.proofs.Common.{◌≡◌, ◌∙◌, ◌⊎◌, inl, inr, ℕ, zero, suc, ◌+◌, ◌-◌, ◌*◌, ◌==◌, ◌&&◌, ◌<◌, ◌≤◌, max, nat_le, nat_lt, Bool, true, false, cond, List, [], ◌∷◌, length, refl, sym, ap, subst, arith}
+use Rattle.std.proofs.Common.{◌≡◌, ◌∙◌, ℕ, zero, suc, ◌+◌, ◌-◌, ◌==◌, ◌&&◌, ◌<◌, ◌≤◌, max, nat_le, nat_lt, Bool, true, false, cond, List, length, refl, sym, ap, subst, arith}
 use Rattle.std.specs.Prelude.{slice_index}
 use Rattle.std.proofs.lemmas.Bool.Decides.{nat_tests}
-use Rattle.sub_base.specs.Pace.{tick_of, done_tick, left_by}
+use Rattle.sub_base.specs.Pace.{tick_of, left_by}
 use Rattle.sub_base.specs.declared.load.WriteLoad.{WriteLoad}
 use Rattle.sub_base.specs.declared.pace.Pace.{Pace}
-use Rattle.buffer_model.specs.Calls.{arrived, left, level_at}
+use Rattle.buffer_model.specs.Calls.{level_at}
 use Rattle.schedule.proofs.BufferLaws.{left_of-no}
 use Rattle.schedule.proofs.PacketLaws.{load_at}
 use Rattle.schedule.proofs.SumLaws.{sum_below-zero, sum_below-same}
 use Rattle.schedule.specs.Arrivals.{payload_by, arrived_of, level_at as scheduled_level}
 use Rattle.schedule.specs.Packets.{sum_below, load_of, size_of, packets_of, payload_of}
 use Rattle.schedule.specs.Slots.{Timetable, slot_of, left_of, shown_before, done_of as scheduled_done}
-use Rattle.sent_levels.proofs.EnteredCalls.{Entry, from_of, heard_load, is_whole, entered_calls, whole_entry, planned_painting}
+use Rattle.sent_levels.proofs.EnteredCalls.{from_of, heard_load, is_whole, entered_calls, whole_entry, planned_painting}
 use Rattle.sent_levels.proofs.EnteredSums.{AreSlots, last_packet, heard_of}
 use Rattle.sent_levels.proofs.EnteredLevels.{IsEntry, heard_before, heard_done, gone_of, came_of, all_arrived, all_left}
 use Rattle.sent_levels.proofs.EnteredLess.{done_is_whole}

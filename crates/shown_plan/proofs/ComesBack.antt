@@ -1,11 +1,11 @@
 -- Two receivers may differ in a region that the page does not list. A region that was left empty and has cues again is drawn anew by whatever set shows it, with a version that every receiver
 -- takes, whatever it has in the region.
-use Rattle.std.proofs.Common.{◌≡◌, ◌≢◌, ◌∙◌, ℕ, ◌+◌, ◌%◌, ◌<◌, Bool, true, false, not, ◌&&◌, cond, eqb, List, [], ◌∷◌, Some, refl, sym, ap, arith}
+use Rattle.std.proofs.Common.{◌≡◌, ◌≢◌, ◌∙◌, ℕ, ◌+◌, ◌%◌, Bool, true, false, not, ◌&&◌, cond, eqb, List, [], ◌∷◌, Some, refl, sym, ap, arith}
 use Rattle.std.proofs.lemmas.Bool.Decides.{nat_tests}
 use Rattle.cue_list.specs.declared.epoch.Cue.{Cue}
 use Rattle.page_epoch.proofs.RegionLaws.{version-more}
 use Rattle.page_epoch.specs.Live.{has_some, live_places}
-use Rattle.page_epoch.specs.SentRegions.{is_risen, is_extended, region_version, filled, region_from, sent_region}
+use Rattle.page_epoch.specs.SentRegions.{is_risen, region_version, filled, region_from, sent_region}
 use Rattle.sub_base.specs.declared.depth.Depth.TheVariants.{Two}
 use Rattle.stream_syntax.specs.PixelBlocks.{string, line_end}
 use Rattle.stream_syntax.specs.PixelCodes.{pixel}

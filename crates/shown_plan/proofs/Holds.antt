@@ -1,9 +1,8 @@
 -- Behind a run the page memory of a receiver holds the script.
-use Rattle.std.proofs.Common.{◌≡◌, ◌∙◌, ℕ, zero, suc, ◌+◌, ◌<◌, ◌≤◌, true, List, [], ◌∷◌, length, map, filter, get_or, Some, refl, sym, ap, subst, arith, unwrap_or}
+use Rattle.std.proofs.Common.{◌≡◌, ◌∙◌, ℕ, zero, suc, ◌<◌, ◌≤◌, true, List, [], ◌∷◌, length, map, filter, get_or, Some, refl, sym, ap, subst, arith, unwrap_or}
 use Rattle.std.specs.Prelude.{All}
 use Rattle.std.specs.List.{Contains}
 use Rattle.std.proofs.lemmas.List.Elements.{All-contains_itself}
-use Rattle.std.proofs.lemmas.List.Sorted.{Contains-permutation}
 use Rattle.sub_base.specs.Colour.{default_of}
 use Rattle.sub_base.specs.Depth.{code_count}
 use Rattle.sub_base.specs.declared.depth.Depth.{Depth}
@@ -29,12 +28,12 @@ use Rattle.decoder_model.specs.Taken.{segments_of, taken_among, taken_of}
 use Rattle.decoder_model.proofs.TakenSets.{taken_all}
 use Rattle.shown_plan.proofs.ColourRows.{authored_by_place}
 use Rattle.shown_plan.proofs.FaultFree.{page_value, page_is, nodes_within}
-use Rattle.shown_plan.proofs.Keeps.{IsSent, KeepsRegion, KeepsClut, Keeps}
-use Rattle.shown_plan.proofs.Lists.{all_at, kept_pass, mapped_there}
+use Rattle.shown_plan.proofs.Keeps.{IsSent, KeepsRegion, KeepsClut}
+use Rattle.shown_plan.proofs.Lists.{all_at, kept_pass}
 use Rattle.shown_plan.proofs.PlannedSets.{IsInEpoch}
 use Rattle.shown_plan.proofs.Runs.{RunKeeps}
 use Rattle.shown_plan.proofs.SetFits.{last_sent}
-use Rattle.shown_plan.proofs.SetPixels.{ids_of, pixels_within, authored_itself, known_ids, known_contains}
+use Rattle.shown_plan.proofs.SetPixels.{pixels_within, authored_itself, known_ids, known_contains}
 use Rattle.shown_plan.specs.HoldsScript.{IsKnownRegion, HoldsScript}
 
 -- the colour of an entry is the authored one
