@@ -1,5 +1,10 @@
 mod UsualEncoder
 pub mod Searches
+pub mod TakenLaws
+pub mod TakenSets
+pub mod IdleSegments
+pub mod Epochs
+pub mod NoFaults
 pub mod DrawnLines
 pub mod DrawnPictures
 pub mod Depths

@@ -139,7 +139,7 @@ fits_depth profile cue h =
     ap (λ found. option_or found None)
     (first_given-none (fault_in_region (before_object cue) (drawn_object cue) (object_for cue)) (fits_region cue h.top_depth h.bottom_depth) all_region_ids)
 
-six_none : (a b c d e f : Option SetFault) → a ≡ None → b ≡ None → c ≡ None → d ≡ None → e ≡ None → f ≡ None → first_given (λ (found : Option SetFault). found) (a ∷ b ∷ c ∷ d ∷ e ∷ f ∷ []) ≡ None
+pub six_none : (a b c d e f : Option SetFault) → a ≡ None → b ≡ None → c ≡ None → d ≡ None → e ≡ None → f ≡ None → first_given (λ (found : Option SetFault). found) (a ∷ b ∷ c ∷ d ∷ e ∷ f ∷ []) ≡ None
 six_none a b c d e f ha hb hc hd he hf = rw (ha, hb, hc, hd, he, hf) refl
 
 first_epoch_fault : (profile : Profile) (cue : Cue) → Fits profile cue → epoch_fault profile [] (first_contents cue) (first_page cue) ≡ None
