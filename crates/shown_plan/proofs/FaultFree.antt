@@ -150,10 +150,10 @@ nodes_fit script epoch set earlier contents segments page profile is kept page_o
     listings = listings_within script.pictures epoch set.pts earlier taken are kept.regions
 
     cluts : length (clut_ids (taken_of segments)) ≤ length (sent_cluts epoch.colours true (set.pts ∷ earlier))
-    cluts = cluts_within epoch set.pts earlier taken is.fair.cluts (λ clut. rows_seen script.pictures epoch clut set.pts earlier is.fair is.planned.seen) kept.cluts
+    cluts = cluts_within epoch set.pts earlier taken is.fair.cluts (λ clut. rows_seen script.width script.height script.pictures epoch clut set.pts earlier is.fair is.planned.seen) kept.cluts
 
     in_tables : length (table_entries (taken_of segments)) ≤ sum_by (λ (sent : SentClut). length sent.rows) (sent_cluts epoch.colours true (set.pts ∷ earlier))
-    in_tables = entries_within epoch set.pts earlier taken is.fair.cluts (λ clut. rows_seen script.pictures epoch clut set.pts earlier is.fair is.planned.seen) sent
+    in_tables = entries_within epoch set.pts earlier taken is.fair.cluts (λ clut. rows_seen script.width script.height script.pictures epoch clut set.pts earlier is.fair is.planned.seen) sent
 
     most : nodes_of (taken_of segments) page ≤ profile.nodes
     most = omega (arith, enough, entries, regions, listings, cluts, in_tables)

@@ -39,6 +39,7 @@ use Rattle.shown_plan.proofs.ClutChanges.{AreBetween}
 use Rattle.shown_plan.proofs.ClutNext.{clut_view}
 use Rattle.shown_plan.proofs.ClutRows.{AreSeenRows, defined_own}
 use Rattle.shown_plan.proofs.ClutSteps.{clut_first, clut_next}
+use Rattle.shown_plan.proofs.Fair.{IsFairEpoch}
 use Rattle.shown_plan.proofs.Keeps.{IsSentRegion, IsSentEntry, IsSentObject, IsSentBy, IsSent, KeepsRegion, KeepsClut, Keeps, KeepsBefore}
 use Rattle.shown_plan.proofs.Lists.{all_at, kept_pass}
 use Rattle.shown_plan.proofs.Ordered.{IsKind, displays_in, page_content, region_content, clut_content, objects_are}
@@ -51,13 +52,6 @@ use Rattle.shown_plan.proofs.SetView.{newest, newest_first, reversed_all, revers
 use Rattle.shown_plan.specs.HoldsScript.{display_of_script}
 
 -- ---- what is used of a script and its plan
-
--- an epoch: its regions have their own ids, its colour rows numbers that their depths have, and its cues pictures
-pub record IsFairEpoch (pictures : List Picture) (epoch : Epoch) : Type 0 where
-  pub apart : HaveOwnIds epoch.regions
-  pub cluts : All (λ (row : ColourRow). row.clut < 256) epoch.colours
-  pub entries : All (λ (row : ColourRow). row.entry < code_count row.depth) epoch.colours
-  pub drawn : (place : ℕ) → place < length epoch.cues → IsPicture (picture_of_cue pictures epoch place)
 
 -- the instants of an epoch up to a tick, the latest first: all of its named ticks up to there are among them
 pub record AreSeen (epoch : Epoch) (tick : ℕ) (earlier : List ℕ) : Type 0 where
@@ -79,8 +73,8 @@ row_named epoch clut place there =
     (Contains-append_left (map (λ (row : ColourRow). row.tick) epoch.colours) (flat_map ticks_of_cue epoch.cues) (row_at epoch.colours place).tick
     (place, omega (arith, within, length-map epoch.colours (λ (row : ColourRow). row.tick)), get_or-map (λ (row : ColourRow). row.tick) epoch.colours place no_row (row_at epoch.colours place).tick within))
 
-pub rows_seen : (pictures : List Picture) (epoch : Epoch) (clut tick : ℕ) (earlier : List ℕ) → IsFairEpoch pictures epoch → AreSeen epoch tick earlier → AreSeenRows epoch.colours clut tick earlier
-rows_seen pictures epoch clut tick earlier fair seen =
+pub rows_seen : (width height : ℕ) (pictures : List Picture) (epoch : Epoch) (clut tick : ℕ) (earlier : List ℕ) → IsFairEpoch width height pictures epoch → AreSeen epoch tick earlier → AreSeenRows epoch.colours clut tick earlier
+rows_seen width height pictures epoch clut tick earlier fair seen =
     record {
       seen = λ k d within by_then. seen.all (row_at epoch.colours (get_or (rows_of_clut epoch.colours clut) k d)).tick (row_named epoch clut (get_or (rows_of_clut epoch.colours clut) k d) (All-contains_itself (rows_of_clut epoch.colours clut) k d within)) by_then;
       entries = λ k d within. fair.entries (get_or (rows_of_clut epoch.colours clut) k d) no_row (own_within epoch.colours clut k d within);

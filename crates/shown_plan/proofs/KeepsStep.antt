@@ -13,6 +13,7 @@ use Rattle.stream_syntax.specs.declared.page.State.TheVariants.{Normal, Acquisit
 use Rattle.cue_list.specs.declared.epoch.Epoch.{Epoch}
 use Rattle.cue_list.specs.declared.epoch.Region.{Region}
 use Rattle.cue_list.specs.declared.script.Script.{Script}
+use Rattle.page_epoch.specs.Live.{no_cue}
 use Rattle.page_epoch.specs.SentCluts.{sent_clut}
 use Rattle.page_epoch.specs.SentRegions.{sent_region}
 use Rattle.page_epoch.specs.States.{is_whole}
@@ -29,8 +30,9 @@ use Rattle.decoder_model.proofs.TakenSets.{taken_display, taken_all}
 use Rattle.shown_plan.proofs.CarriedSets.{regions_single, cluts_single, clut_part, own_listed}
 use Rattle.shown_plan.proofs.ClutNext.{IsClutView, clut_view}
 use Rattle.shown_plan.proofs.ClutSteps.{clut_first, clut_next}
+use Rattle.shown_plan.proofs.Fair.{IsFairEpoch}
 use Rattle.shown_plan.proofs.Keeps.{IsSent, IsSentBy, KeepsRegion, KeepsClut, Keeps, KeepsBefore}
-use Rattle.shown_plan.proofs.KeepsOn.{IsFairEpoch, AreSeen, IsPlannedIn, rows_seen, rows_between, later_sent, newest_sent}
+use Rattle.shown_plan.proofs.KeepsOn.{AreSeen, IsPlannedIn, rows_seen, rows_between, later_sent, newest_sent}
 use Rattle.shown_plan.proofs.Ordered.{IsKind, displays_in, page_content, region_content, clut_content, objects_are}
 use Rattle.shown_plan.proofs.OwnIds.{AreSingle}
 use Rattle.shown_plan.proofs.Parts.{HasPart, region_part}
@@ -93,7 +95,7 @@ zero_sent epoch tick content sent object is = by content.value refl sent
 
 -- a set of the plan, read, in its epoch
 pub record IsReadIn (script : Script) (epoch : Epoch) (set : PlannedSet) (earlier : List ℕ) (contents : List Content) : Type 0 where
-  pub fair : IsFairEpoch script.pictures epoch
+  pub fair : IsFairEpoch script.width script.height script.pictures epoch
   pub planned : IsPlannedIn epoch set earlier
   pub read : IsReadSet script epoch set contents
 
@@ -102,7 +104,7 @@ drawn_for : (script : Script) (epoch : Epoch) (set : PlannedSet) (earlier : List
 drawn_for script epoch set earlier contents is region there =
     record {
       drawn = is.read.drawn;
-      are = λ k d within. is.fair.drawn (get_or set.cues k d) (is.planned.sendable.cues k d within);
+      are = λ k d within. (is.fair.cues (get_or set.cues k d) no_cue (is.planned.sendable.cues k d within)).drawn;
       listed = own_listed epoch (is_whole set.state) (set.pts ∷ earlier) set.regions set.cues region is.fair.apart is.planned.carried.regions is.planned.carried.cues is.planned.carried.in_order there;
     }
 
@@ -133,7 +135,7 @@ keeps_first script epoch set earlier contents is whole =
           region_first script.pictures epoch (get_or epoch.regions k d) set.pts earlier set.cues is.read.objects (taken_among (segments_of [])) (taken_among (segments_of (contents ∷ [])))
           (view (get_or epoch.regions k d) (All-contains_itself epoch.regions k d within)) (draws (get_or epoch.regions k d) (All-contains_itself epoch.regions k d within)) (ap (λ taken. last_region (get_or epoch.regions k d).id taken) nothing);
       cluts = λ clut.
-          clut_first epoch clut set.pts earlier (taken_among (segments_of (contents ∷ []))) (rows_seen script.pictures epoch clut set.pts earlier is.fair is.planned.seen)
+          clut_first epoch clut set.pts earlier (taken_among (segments_of (contents ∷ []))) (rows_seen script.width script.height script.pictures epoch clut set.pts earlier is.fair is.planned.seen)
           (subst (λ (taken : List Content). IsClutView epoch clut (sent_clut epoch.colours true (set.pts ∷ earlier) clut) taken (taken_among (segments_of (contents ∷ [])))) nothing
           (subst (λ b. IsClutView epoch clut (sent_clut epoch.colours b (set.pts ∷ earlier) clut) (taken_among (segments_of [])) (taken_among (segments_of (contents ∷ [])))) whole
           (clut_view script epoch set contents [] is.read (single_regions script epoch set earlier contents is) (single_cluts script epoch set earlier contents is) clut (sent_clut epoch.colours (is_whole set.state) (set.pts ∷ earlier) clut) (own_clut script epoch set earlier contents is clut))));
@@ -176,7 +178,7 @@ keeps_next script epoch set before more contents sets is kept =
           (kept.regions k d within);
       cluts = λ clut.
           clut_next epoch (is_whole set.state) clut set.pts before more (taken_among (segments_of sets)) (taken_among (segments_of (contents ∷ sets))) rise (rows_between epoch clut set.pts before more is.planned.seen)
-          (rows_seen script.pictures epoch clut set.pts (before ∷ more) is.fair is.planned.seen)
+          (rows_seen script.width script.height script.pictures epoch clut set.pts (before ∷ more) is.fair is.planned.seen)
           (clut_view script epoch set contents sets is.read (single_regions script epoch set (before ∷ more) contents is) (single_cluts script epoch set (before ∷ more) contents is) clut (sent_clut epoch.colours (is_whole set.state) (set.pts ∷ before ∷ more) clut) (own_clut script epoch set (before ∷ more) contents is clut))
           (kept.cluts clut);
     }

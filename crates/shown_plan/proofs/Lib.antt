@@ -1,3 +1,4 @@
+pub mod Fair
 pub mod ReadSets
 pub mod Painted
 pub mod Keeps
