@@ -11,6 +11,7 @@ pub mod LateStream
 pub mod LateSets
 pub mod LateSegments
 pub mod LateRest
+pub mod ReadSegments
 pub mod LatePlaces
 pub mod PlannedRegions
 pub mod SetPackets
