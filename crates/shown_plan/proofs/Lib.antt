@@ -25,3 +25,5 @@ pub mod SetFits
 pub mod SetPixels
 pub mod SetNodes
 pub mod FaultFree
+pub mod PlannedSets
+pub mod Runs

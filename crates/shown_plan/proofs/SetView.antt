@@ -74,7 +74,7 @@ anonymous_first a b none id = (inl (none id).0, inl (none id).1)
 anonymous_second : (a b : Content) → IsAnonymous b → IsOther a b
 anonymous_second a b none id = (inr (none id).0, inr (none id).1)
 
-pairs_append : {X : Type 0} (R : X → X → Type 0) (xs ys : List X) → AllPairs R xs → AllPairs R ys → All (λ x. All (R x) ys) xs → AllPairs R (xs ++ ys)
+pub pairs_append : {X : Type 0} (R : X → X → Type 0) (xs ys : List X) → AllPairs R xs → AllPairs R ys → All (λ x. All (R x) ys) xs → AllPairs R (xs ++ ys)
 pairs_append R [] ys first second across = second
 pairs_append R (x ∷ xs) ys first second across =
     AllPairs-cons R x (xs ++ ys) (All-append (R x) xs ys (λ k d within. first 0 (suc k) d (omega arith) (omega arith)) (All-head (λ x. All (R x) ys) x xs across))
