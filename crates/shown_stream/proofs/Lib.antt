@@ -12,6 +12,8 @@ pub mod LateSets
 pub mod LateSegments
 pub mod LateRest
 pub mod ReadSegments
+pub mod ComingSets
+pub mod ShownSets
 pub mod LatePlaces
 pub mod PlannedRegions
 pub mod SetPackets
