@@ -14,6 +14,7 @@ pub mod LateRest
 pub mod ReadSegments
 pub mod ComingSets
 pub mod ShownSets
+pub mod EnteredRuns
 pub mod LatePlaces
 pub mod PlannedRegions
 pub mod SetPackets
