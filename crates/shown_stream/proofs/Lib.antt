@@ -15,7 +15,10 @@ pub mod ReadSegments
 pub mod ComingSets
 pub mod ShownSets
 pub mod EnteredRuns
+pub mod EnteredTimes
+pub mod CompiledShown
 pub mod LatePlaces
+pub mod LateAnchors
 pub mod PlannedRegions
 pub mod SetPackets
 pub mod LateCompiled
