@@ -18,7 +18,7 @@ along_places {X} f g (x ∷ xs) from h =
     ∙ ap {B = List X} (λ rest. g x ∷ rest) (along_places f g xs (from + 1) (λ i within. ap f (omega arith) ∙ h (suc i) (omega arith)))
 
 -- rows that are the same one by one
-same_rows : (f g : ℕ → List Colour) (from count : ℕ) → ((i : ℕ) → i < count → f (from + i) ≡ g (from + i)) → flat_map f (range_with_len from count) ≡ flat_map g (range_with_len from count)
+pub same_rows : (f g : ℕ → List Colour) (from count : ℕ) → ((i : ℕ) → i < count → f (from + i) ≡ g (from + i)) → flat_map f (range_with_len from count) ≡ flat_map g (range_with_len from count)
 same_rows f g from zero h = refl
 same_rows f g from (suc count) h =
     ap (λ first. first ++ flat_map f (range_with_len (from + 1) count)) (ap f (omega arith) ∙ h 0 (omega arith) ∙ ap g (omega arith))

@@ -27,3 +27,8 @@ pub mod SetNodes
 pub mod FaultFree
 pub mod PlannedSets
 pub mod Runs
+pub mod StillPictures
+pub mod Holds
+pub mod Colours
+pub mod Pictures
+pub mod InTime

@@ -110,7 +110,7 @@ find_behind {X} p (first ∷ xs) x = one (p first) (find_behind p xs x)
     one false again = again
 
 -- the first of a list that is turned round is the last of it
-find_turned : {X : Type 0} (p : X → Bool) (xs : List X) → find p (reverse xs) ≡ last_given (λ x. cond (p x) (Some x) None) xs
+pub find_turned : {X : Type 0} (p : X → Bool) (xs : List X) → find p (reverse xs) ≡ last_given (λ x. cond (p x) (Some x) None) xs
 find_turned p [] = refl
 find_turned {X} p (x ∷ xs) =
     ap (find p) (reverse-append (x ∷ []) xs) ∙ find_behind p (reverse xs) x ∙ ap (λ found. option_or found (cond (p x) (Some x) None)) (find_turned p xs)

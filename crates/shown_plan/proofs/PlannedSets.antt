@@ -201,7 +201,7 @@ pub record IsInEpoch (script : Script) (profile : Profile) (past : List PlannedS
 some_same : {X : Type 0} {a b : X} → Some a ≡ Some b → a ≡ b
 some_same e = cc
 
-there_at : {X : Type 0} (xs : List X) (k : ℕ) (x : X) → slice_get xs k ≡ Some x → Contains xs x
+pub there_at : {X : Type 0} (xs : List X) (k : ℕ) (x : X) → slice_get xs k ≡ Some x → Contains xs x
 there_at [] k x is = absurd (cc)
 there_at (y ∷ xs) zero x is = (0, omega arith, some_same is)
 there_at (y ∷ xs) (suc k) x is = (let rest = there_at xs k x is in (suc rest.0, omega (arith, rest.1), rest.2))

@@ -114,7 +114,7 @@ known_ids epoch tick taken sent =
     }
 
 -- a known id is one of the epoch's
-known_contains : (epoch : Epoch) (taken : List Content) (id : ℕ) → IsKnownId epoch taken id → Contains (ids_of epoch) id
+pub known_contains : (epoch : Epoch) (taken : List Content) (id : ℕ) → IsKnownId epoch taken id → Contains (ids_of epoch) id
 known_contains epoch taken id known =
     let region = own_region epoch.regions known.0.head.region known.2.own in
     subst (Contains (ids_of epoch)) (region.2 ∙ known.3) (mapped_there (λ (r : AuthoredRegion). r.id) epoch.regions region.0 region.1)
