@@ -43,6 +43,7 @@ use Rattle.shown_stream.proofs.LateRest.{IsBrokenFirst}
 use Rattle.shown_stream.proofs.LateSets.{IsRest, none_left, some_left, zip_behind}
 use Rattle.shown_stream.proofs.PlannedRegions.{planned_well}
 use Rattle.shown_stream.proofs.PlannedTimes.{pts_of, times_in_span, pts_rise}
+use Rattle.shown_stream.proofs.RunViews.{runs_show}
 use Rattle.shown_stream.proofs.SentPieces.{IsFree}
 use Rattle.shown_stream.proofs.SentPlaces.{has_place}
 use Rattle.shown_stream.proofs.ShownSets.{IsAheadOf, AreAheadOf, IsIdle, lifted_at}
@@ -234,3 +235,10 @@ entered_shown name pid page script bytes free made compiled runs missed anchor t
 
     behind : entry_set missed (sent_sets compiled.table sets) ≡ entry_set missed (sent_from compiled.table late.first (drop late.first sets))
     behind = entry_behind missed compiled.table late.first 0 sets (λ i set inside found. ap (λ n. is_from missed (sent_set compiled.table n set)) (omega arith) ∙ (late.whole i set (slice_get_within sets i set found)).0 inside) ∙ ap (λ n. entry_set missed (sent_from compiled.table n (drop late.first sets))) (omega arith)
+
+-- so it shows what is authored
+pub compiled_shown : (name : ProfileName) (pid page : ℕ) (script : Script) (bytes : List ℕ) → IsFree pid → IsCompiledFor name → (compiled : IsCompiledTo name pid page script bytes)
+    → (missed anchor tick : ℕ) → IsAnchorOf (times_from missed (sent_sets compiled.table compiled.sets)) anchor
+    → ShowsFrom (profile_of name) pid page anchor (entered_at missed (packets_in name pid page script bytes compiled)) (entry_set missed (sent_sets compiled.table compiled.sets)) tick (authored_view script tick)
+compiled_shown name pid page script bytes free made compiled missed anchor tick suits =
+    entered_shown name pid page script bytes free made compiled (runs_show script (profile_of name) compiled.sets compiled.planned.plan) missed anchor tick suits

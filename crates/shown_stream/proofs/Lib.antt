@@ -15,6 +15,7 @@ pub mod ReadSegments
 pub mod ComingSets
 pub mod ShownSets
 pub mod EnteredRuns
+pub mod RunViews
 pub mod EnteredTimes
 pub mod CompiledShown
 pub mod LatePlaces

@@ -3,4 +3,4 @@ pub mod Compiled
 pub mod Shows
 pub mod SentSets
 pub mod StreamCalls
-pub mod HoldsScript
+pub mod HoldsWhole
