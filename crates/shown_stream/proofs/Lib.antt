@@ -14,6 +14,7 @@ pub mod LateRest
 pub mod ReadSegments
 pub mod ComingSets
 pub mod ShownSets
+pub mod HeldSets
 pub mod EnteredRuns
 pub mod RunViews
 pub mod EnteredTimes
