@@ -32,6 +32,7 @@ use Rattle.decoder_model.proofs.SentSets.{SetUnit, TimedSet, segments_of_units, 
 use Rattle.shown_plan.proofs.Fair.{fair}
 use Rattle.shown_plan.proofs.PlannedSets.{in_epoch}
 use Rattle.shown_stream.specs.Compiled.{IsCompiledFor, IsCompiledTo}
+use Rattle.shown_stream.specs.Entered.{IsEnteredRightly}
 use Rattle.shown_stream.specs.HoldsWhole.{HoldsWhole}
 use Rattle.shown_stream.specs.SentSets.{sent_set, sent_from, sent_sets, times_from}
 use Rattle.shown_stream.specs.Shows.{authored_view, IsAnchorOf, ShowsFrom}
@@ -273,3 +274,11 @@ compiled_held name pid page script bytes free made compiled missed anchor suits 
     let late = received_late name pid page script bytes free made compiled missed anchor suits in
     let same = same_past (reverse (sets_of (profile_of name).coded pid page true (entered_at missed (packets_in name pid page script bytes compiled)))) late.past past late.received received in
     late.holds later before delivery (same ∙ placed) front back set parts tt lifted known is
+
+-- so every compiled stream is entered rightly, behind any number of its packets
+pub compiled_entered : (name : ProfileName) (pid page : ℕ) (script : Script) (bytes : List ℕ) → IsFree pid → IsCompiledFor name → (compiled : IsCompiledTo name pid page script bytes)
+    → (missed : ℕ) → IsEnteredRightly name pid page script compiled.sets compiled.table (packets_in name pid page script bytes compiled) missed
+compiled_entered name pid page script bytes free made compiled missed = record {
+  shown = λ anchor suits tick. compiled_shown name pid page script bytes free made compiled missed anchor tick suits;
+  held = λ anchor suits past received. compiled_held name pid page script bytes free made compiled missed anchor suits past received;
+}

@@ -146,7 +146,7 @@ first_entered script profile anchor sets past last plan left set entry is_plan p
     shows tick early = (
       λ soon. (let sooner : tick < set.pts = omega (arith, soon, time) in subst IsClear (sym (shown.before tick sooner)) (idle.clear tick)),
       λ from. (let later : set.pts ≤ tick = omega (arith, from, time) in
-      subst (λ (view : View). Agrees view (authored_view script tick)) (sym (shown.from tick later)) (run_shows script profile sets plan left set comes.contents (sets_since profile anchor past) is_plan whole kept tick later early)),
+          subst (λ (view : View). Agrees view (authored_view script tick)) (sym (shown.from tick later)) (run_shows script profile sets plan left set comes.contents (sets_since profile anchor past) is_plan whole kept tick later early)),
     )
 
 -- where no epoch is known none is

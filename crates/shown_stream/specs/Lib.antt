@@ -4,3 +4,4 @@ pub mod Shows
 pub mod SentSets
 pub mod StreamCalls
 pub mod HoldsWhole
+pub mod Entered
