@@ -19,6 +19,7 @@ pub mod EnteredRuns
 pub mod RunViews
 pub mod EnteredTimes
 pub mod CompiledShown
+pub mod LostPieces
 pub mod LatePlaces
 pub mod LateAnchors
 pub mod PlannedRegions
