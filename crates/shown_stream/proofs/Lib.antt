@@ -20,6 +20,7 @@ pub mod RunViews
 pub mod EnteredTimes
 pub mod CompiledShown
 pub mod LostPieces
+pub mod LostUnits
 pub mod LatePlaces
 pub mod LateAnchors
 pub mod PlannedRegions
