@@ -35,7 +35,7 @@ use Rattle.shown_stream.proofs.UnitSizes.{all_short}
 -- ---- how many packets there are
 
 -- how many pieces a unit has
-length-pieces_of : (unit : List ℕ) → length (pieces_of unit) ≡ piece_count unit
+pub length-pieces_of : (unit : List ℕ) → length (pieces_of unit) ≡ piece_count unit
 length-pieces_of unit = length-map-range_with_len (piece_of unit) 0 (piece_count unit)
 
 -- the packets of the first load, and of the others

@@ -1,8 +1,8 @@
 -- A compiled stream that is entered late gives all sets whose packets all come, whole; before them at most the later units of a
 -- set, which lies before the entry set, is broken, and of which nothing is shown.
-use Rattle.std.proofs.Common.{◌≡◌, ◌∙◌, ℕ, zero, suc, ◌+◌, ◌-◌, ◌<◌, ◌≤◌, inl, inr, Bool, true, false, ◌&&◌, not, cond, List, [], ◌∷◌, ◌++◌, length, map, take, drop, get_or, Some, refl, sym, ap, subst, arith}
+use Rattle.std.proofs.Common.{◌≡◌, ◌∙◌, ℕ, zero, suc, ◌+◌, ◌-◌, ◌<◌, ◌≤◌, inl, inr, Bool, true, false, ◌&&◌, not, cond, List, [], ◌∷◌, ◌++◌, length, map, take, drop, get_or, Some, refl, sym, ap, subst, arith, length-append}
 use Rattle.std.specs.Prelude.{nat_le}
-use Rattle.std.specs.List.{AllByRecursion, list_all, slice_get}
+use Rattle.std.specs.List.{AllByRecursion, list_all, list_any, slice_get}
 use Rattle.std.specs.List.Sorted.{IsStrictlyIncreasing}
 use Rattle.std.proofs.lemmas.Bool.{cases_lt}
 use Rattle.std.proofs.lemmas.Option.{slice_get_within}
@@ -25,9 +25,10 @@ use Rattle.shown_stream.specs.SlotStream.{all_pieces}
 use Rattle.shown_stream.proofs.CompiledPackets.{packets_in, ArePackets, as_many, count_pieces}
 use Rattle.shown_stream.proofs.CompiledSets.{IsSentAs, AreSentAs}
 use Rattle.shown_stream.proofs.LaidPackets.{IsAhead}
+use Rattle.shown_stream.proofs.LateAnchors.{pieces_rise, next_piece, some_from}
 use Rattle.shown_stream.proofs.LatePlaces.{HavePackets, same_many, count_units, count_sets, unit_inside, first_of_set, some_bytes, places_from}
 use Rattle.shown_stream.proofs.LateRest.{IsBrokenFirst, rest_comes_first}
-use Rattle.shown_stream.proofs.LateSets.{rest_of_set, IsRest, none_left, some_left, SetsLeft, sets_left, late_sets}
+use Rattle.shown_stream.proofs.LateSets.{rest_of_set, units_before, IsRest, none_left, some_left, SetsLeft, sets_left, late_sets}
 use Rattle.shown_stream.proofs.LateStream.{passed, pieces_left, first_number, units_that_come}
 use Rattle.shown_stream.proofs.PlannedRegions.{planned_well}
 use Rattle.shown_stream.proofs.RisingSlots.{slots_rise}
@@ -120,8 +121,9 @@ length_sent table number (set ∷ sets) = ap suc (length_sent table (number + 1)
 
 -- what comes of a set of which the first packets do not: later units of it. They have no page, lie before the entry set, and are
 -- broken and clear, as no set comes before them
-pub record IsCutSet (page : ℕ) (script : Script) (table : Timetable) (sets : List PlannedSet) (missed : ℕ) (rest : TimedSet) : Type 0 where
+pub record IsCutSet (page : ℕ) (script : Script) (table : Timetable) (sets : List PlannedSet) (missed first : ℕ) (rest : TimedSet) : Type 0 where
   pub number : ℕ
+  pub next : first ≡ suc number
   pub set : PlannedSet
   pub found : slice_get sets number ≡ Some set
   pub packets : List (List ℕ)
@@ -132,6 +134,7 @@ pub record IsCutSet (page : ℕ) (script : Script) (table : Timetable) (sets : L
   pub few : later < length whole.units
   pub is : rest ≡ rest_of_set later whole
   pub cut : is_from missed (sent_set table number set) ≡ false
+  pub come : list_any (λ at. nat_le missed at) (slots_of table number) ≡ true
   pub earlier : (entry : SentSet) → entry_set missed (sent_sets table sets) ≡ Some entry → set.pts < entry.time
   pub broken : (profile : Profile) (anchor : ℕ) (first : Delivery Reading) → IsDeliveryRead (delivered rest) first → IsBrokenFirst profile anchor first
 
@@ -144,7 +147,7 @@ pub record IsEnteredLate (name : ProfileName) (pid page : ℕ) (script : Script)
   pub come : sets_of (profile_of name).coded pid page true (entered_at missed (packets_in name pid page script bytes compiled)) ≡ map delivered (rest ++ drop first sent)
   pub whole : (i : ℕ) (set : PlannedSet) → i < length compiled.sets
       → (i < first → is_from missed (sent_set compiled.table i set) ≡ false) × (first ≤ i → is_from missed (sent_set compiled.table i set) ≡ true)
-  pub cut : AllByRecursion (IsCutSet page script compiled.table compiled.sets missed) rest
+  pub cut : AllByRecursion (IsCutSet page script compiled.table compiled.sets missed first) rest
 
 -- a set of which the first packet does not come lies before the entry set
 before_entry : (script : Script) (profile : Profile) (table : Timetable) (sets : List PlannedSet) (missed first number : ℕ) (set : PlannedSet) → IsPlan script profile sets → slice_get sets number ≡ Some set → number < first
@@ -166,6 +169,17 @@ before_entry script profile table sets missed first number set plan found before
           omega arith
     ]
 
+-- a set has units, and no more than all
+units_rise : (i : ℕ) (sent : List TimedSet) → AllByRecursion (λ (one : TimedSet). 1 ≤ length one.units) sent → i < length sent → units_before i sent < units_before (suc i) sent
+units_rise i [] some inside = absurd (omega arith)
+units_rise zero (one ∷ sent) some inside = omega (arith, some.0)
+units_rise (suc i) (one ∷ sent) some inside = omega (arith, units_rise i sent some.1 (omega arith))
+
+later_units : (i : ℕ) (units : List (List (List ℕ))) → length (all_units (take i units)) ≤ length (all_units units)
+later_units zero units = omega arith
+later_units (suc i) [] = omega arith
+later_units (suc i) (packets ∷ units) = omega (arith, later_units i units, length-append packets (all_units (take i units)), length-append packets (all_units units))
+
 pub compiled_late : (name : ProfileName) (pid page : ℕ) (script : Script) (bytes : List ℕ) → IsFree pid → (compiled : IsCompiledTo name pid page script bytes) → (known : ArePackets name pid page script bytes compiled)
     → (missed : ℕ) → IsEnteredLate name pid page script bytes compiled known.sent missed
 compiled_late name pid page script bytes free compiled known missed = record {
@@ -174,7 +188,7 @@ compiled_late name pid page script bytes free compiled known missed = record {
   is_rest = left.is_rest;
   come = late_sets coded pid page missed units sent slots free known.units known.are.carry known.apart same ahead ∙ ap (map delivered) left.are;
   whole = λ i set inside. whole_by i inside;
-  cut = cut_by left.first left.rest left.is_rest (λ i inside. (whole_by i inside).0);
+  cut = cut_by left.first left.rest left.is_rest left.ends (λ i inside. (whole_by i inside).0);
 }
   where
     coded : ℕ
@@ -221,14 +235,37 @@ compiled_late name pid page script bytes free compiled known missed = record {
           λ late. places.1 (subst (λ (k : ℕ). missed ≤ get_or slots k 0) begins (come.1 (omega (arith, count, begun.1 late)))),
         )
 
-    cut_by : (first : ℕ) (rest : List TimedSet) → IsRest sent first rest → ((i : ℕ) → i < length compiled.sets → i < first → list_all (λ at. nat_le missed at) (slots_of compiled.table i) ≡ false)
-        → AllByRecursion (IsCutSet page script compiled.table compiled.sets missed) rest
-    cut_by first rest (none_left) none = tt
-    cut_by first rest (some_left {n = number} {set = one} {k = k} found some few) none =
+    cut : ℕ
+    cut = (pieces_left coded (passed (0 + missed) slots) units known.units).cut
+
+    -- the last unit of a set comes, where not all units up to there are missed
+    some_come : (number : ℕ) → number < length compiled.sets → cut < units_before (suc number) sent → list_any (λ at. nat_le missed at) (slots_of compiled.table number) ≡ true
+    some_come number inside behind =
+        let loads = as_many compiled.loads compiled.units compiled.sized in
+        let before = count_units script page compiled.sets compiled.units sent known.are.are number in
+        let after = count_units script page compiled.sets compiled.units sent known.are.are (suc number) in
+        let most = later_units (suc number) compiled.units in
+        let last = units_before (suc number) sent - 1 in
+        let more = units_rise number sent some_units (omega (arith, many.0)) in
+        let here : last < length units = omega arith in
+        let comes = (units_that_come coded missed units slots known.units same ahead last here).1 (omega arith) in
+        let begins : first_number units (units_before number sent) ≡ first_packet compiled.loads number = ap (first_number units) before ∙ first_of_set number compiled.loads compiled.units (omega (arith, loads, many.1)) compiled.sized in
+        let ends : first_number units (units_before (suc number) sent) ≡ first_packet compiled.loads (suc number) = ap (first_number units) after ∙ first_of_set (suc number) compiled.loads compiled.units (omega (arith, loads, many.1)) compiled.sized in
+        let low = pieces_rise (units_before number sent) last units (omega arith) in
+        let high = next_piece coded last units known.units here in
+        let same_unit : suc last ≡ units_before (suc number) sent = omega arith in
+        let next : first_number units (suc last) ≡ first_number units (units_before (suc number) sent) = ap (first_number units) same_unit in
+        some_from compiled.loads (length compiled.loads) (pace_of script.origin (profile_of name)) compiled.table compiled.schedule missed number (first_number units last) (omega (arith, loads, many.1)) (omega (arith, begins, low)) (omega (arith, ends, next, high)) comes
+
+    cut_by : (first : ℕ) (rest : List TimedSet) → IsRest sent first rest → (1 ≤ length rest → cut < units_before first sent) → ((i : ℕ) → i < length compiled.sets → i < first → list_all (λ at. nat_le missed at) (slots_of compiled.table i) ≡ false)
+        → AllByRecursion (IsCutSet page script compiled.table compiled.sets missed first) rest
+    cut_by first rest (none_left) ends none = tt
+    cut_by first rest (some_left {n = number} {set = one} {k = k} found some few) ends none =
         let at = sent_at script page number compiled.sets compiled.units sent one known.are.are found in
         let well = planned_well script (profile_of name) compiled.sets number at.set compiled.planned.plan at.found in (
           record {
             number = number;
+            next = refl;
             set = at.set;
             found = at.found;
             packets = at.packets;
@@ -239,6 +276,7 @@ compiled_late name pid page script bytes free compiled known missed = record {
             few = few;
             is = refl;
             cut = none number (slice_get_within compiled.sets number at.set at.found) (omega arith);
+            come = some_come number (slice_get_within compiled.sets number at.set at.found) (ends (omega arith));
             earlier = before_entry script (profile_of name) compiled.table compiled.sets missed (suc number) number at.set compiled.planned.plan at.found (omega arith) none;
             broken = λ profile anchor delivery come. rest_comes_first profile anchor script page at.set at.packets one at.is well k some delivery come;
           },

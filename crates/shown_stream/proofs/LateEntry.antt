@@ -25,7 +25,7 @@ same_pid_is a b h = grind (arith, nat_tests)
 
 -- ---- a packet of another PID
 
-other_part : (pid : ℕ) (before : List (List ℕ)) (packet : List ℕ) → pid_of packet ≢ pid → part_of pid before packet ≡ None
+pub other_part : (pid : ℕ) (before : List (List ℕ)) (packet : List ℕ) → pid_of packet ≢ pid → part_of pid before packet ≡ None
 unfolding part_after
 other_part pid before packet h = rw (other_number (pid_of packet) pid h) refl
 

@@ -74,23 +74,23 @@ not_twice before end_of_set later other = refl
 not_twice before passed_over later other = refl
 
 -- what is read of a segment that is written is its value, and no fault
-same_value : (page : ℕ) (value : SegmentValue) (content : Content) → IsWritable page value → IsContent (spelled page value) content → value ≡ content.value
+pub same_value : (page : ℕ) (value : SegmentValue) (content : Content) → IsWritable page value → IsContent (spelled page value) content → value ≡ content.value
 same_value page value content writable is = (one_reading (spelled page value) (spelled page value) [] [] value content.value (written_segment page value writable) is.segment refl).1
 
-not_faulty : (page : ℕ) (value : SegmentValue) (found : SegmentFault) → IsWritable page value → IsSegmentFault (spelled page value) found → ⊥
+pub not_faulty : (page : ℕ) (value : SegmentValue) (found : SegmentFault) → IsWritable page value → IsSegmentFault (spelled page value) found → ⊥
 not_faulty page value found writable bad =
     every_segment (spelled page value) (Err found) tt bad value (length (spelled page value)) (omega arith) (subst (λ (all : List ℕ). IsSegment all value) (sym (take-length (spelled page value))) (written_segment page value writable))
 
 -- all of these are other than an earlier one
-abbrev AreOther : List Reading → List SegmentValue → Type 0
+abbrev pub AreOther : List Reading → List SegmentValue → Type 0
 AreOther before values = AllByRecursion (λ (value : SegmentValue). AllByRecursion (λ (content : Content). IsOther content.value value) (contents_in before)) values
 
-one_earlier : (content : Content) (before : List Reading) (values : List SegmentValue) → AllByRecursion (IsOther content.value) values → AreOther before values → AreOther (read content ∷ before) values
+pub one_earlier : (content : Content) (before : List Reading) (values : List SegmentValue) → AllByRecursion (IsOther content.value) values → AreOther before values → AreOther (read content ∷ before) values
 one_earlier content before [] h k = tt
 one_earlier content before (value ∷ values) h k = ((h.0, k.0), one_earlier content before values h.1 k.1)
 
 -- segments without a display and a page, of which no two regions have one id, are read without a fault
-no_fault_read : (page : ℕ) (before : List Reading) (values : List SegmentValue) (readings : List Reading) → AllByRecursion (λ value. IsWritable page value × IsLater value) values → HaveOtherRegions values → AreOther before values
+pub no_fault_read : (page : ℕ) (before : List Reading) (values : List SegmentValue) (readings : List Reading) → AllByRecursion (λ value. IsWritable page value × IsLater value) values → HaveOtherRegions values → AreOther before values
     → AreReadings (map (spelled page) values) readings → first_given (λ (placed : Reading × List Reading). fault_of_segment placed.1 placed.0) (with_earlier before readings) ≡ None
 no_fault_read page before [] [] h others earlier are = refl
 no_fault_read page before [] (reading ∷ readings) h others earlier are = absurd are
@@ -122,7 +122,7 @@ no_page_read page (value ∷ values) (faulty found ∷ readings) h are = no_page
 no_page_read page (value ∷ values) (read content ∷ readings) h are =
     ap (λ found. option_or found (page_in_set (contents_in readings))) (ap page_in (sym (same_value page value content h.0.0 are.0)) ∙ later_no_page value h.0.1) ∙ no_page_read page values readings h.1 are.1
 
-none_earlier : (values : List SegmentValue) → AreOther [] values
+pub none_earlier : (values : List SegmentValue) → AreOther [] values
 none_earlier [] = tt
 none_earlier (value ∷ values) = (tt, none_earlier values)
 
@@ -136,7 +136,7 @@ numbers_behind : (one : SentRegion) (sent : List SentRegion) → HaveNumbers (on
 numbers_behind one sent h = λ id. omega (arith, h id, sum_by-cons (λ (other : SentRegion). cond (eqb id other.id) 1 0) one sent)
 
 -- what stands behind regions has no region
-abbrev IsNoRegion : SegmentValue → Type 0
+abbrev pub IsNoRegion : SegmentValue → Type 0
 IsNoRegion value = region_in value ≡ None
 
 no_region_other : (earlier value : SegmentValue) → IsNoRegion value → IsOther earlier value
@@ -187,20 +187,20 @@ other_numbers epoch one (other ∷ sent) behind h none =
     by true is none_here = absurd (let one_here : cond {A = ℕ} (eqb one.id other.id) 1 0 ≡ 1 = ap (λ (b : Bool). cond {A = ℕ} b 1 0) is in omega arith)
     by false is none_here = ap (λ (b : Bool). is_some (if b then Some (region_with epoch one) else None)) is
 
-regions_other : (epoch : Epoch) (sent : List SentRegion) (behind : List SegmentValue) → HaveNumbers sent → AllByRecursion IsNoRegion behind → HaveOtherRegions (map (planned.region_segment_of epoch) sent ++ behind)
+pub regions_other : (epoch : Epoch) (sent : List SentRegion) (behind : List SegmentValue) → HaveNumbers sent → AllByRecursion IsNoRegion behind → HaveOtherRegions (map (planned.region_segment_of epoch) sent ++ behind)
 regions_other epoch [] behind h none = none_of_regions behind none
 regions_other epoch (one ∷ sent) behind h none =
     let here : cond {A = ℕ} (eqb one.id one.id) 1 0 ≡ 1 = ap (λ (b : Bool). cond {A = ℕ} b 1 0) (same_number one.id) in
     let total = sum_by-cons (λ (other : SentRegion). cond (eqb one.id other.id) 1 0) one sent in
     (other_numbers epoch one sent behind (omega (arith, h one.id, total, here)) none, regions_other epoch sent behind (numbers_behind one sent h) none)
 
-objects_no_region : (pictures : List Picture) (epoch : Epoch) (places : List ℕ) (segments : List SegmentValue) → planned.AreObjectsOf pictures epoch places segments → AllByRecursion IsNoRegion (segments ++ end_of_set ∷ [])
+pub objects_no_region : (pictures : List Picture) (epoch : Epoch) (places : List ℕ) (segments : List SegmentValue) → planned.AreObjectsOf pictures epoch places segments → AllByRecursion IsNoRegion (segments ++ end_of_set ∷ [])
 objects_no_region pictures epoch [] [] h = (refl, tt)
 objects_no_region pictures epoch [] (segment ∷ segments) h = absurd h
 objects_no_region pictures epoch (place ∷ places) [] h = absurd h
 objects_no_region pictures epoch (place ∷ places) (segment ∷ segments) h = (ap region_in h.0.value, objects_no_region pictures epoch places segments h.1)
 
-cluts_no_region : (epoch : Epoch) (sent : List SentClut) (behind : List SegmentValue) → AllByRecursion IsNoRegion behind → AllByRecursion IsNoRegion (map (planned.clut_segment_of epoch) sent ++ behind)
+pub cluts_no_region : (epoch : Epoch) (sent : List SentClut) (behind : List SegmentValue) → AllByRecursion IsNoRegion behind → AllByRecursion IsNoRegion (map (planned.clut_segment_of epoch) sent ++ behind)
 cluts_no_region epoch [] behind h = h
 cluts_no_region epoch (one ∷ sent) behind h = (refl, cluts_no_region epoch sent behind h)
 

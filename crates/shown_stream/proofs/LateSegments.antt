@@ -110,12 +110,12 @@ both_small script page epoch set few display writable =
 abbrev pub behind_page : Epoch → PlannedSet → List SegmentValue → List SegmentValue
 behind_page epoch set objects = map (planned.region_segment_of epoch) set.regions ++ (map (planned.clut_segment_of epoch) set.cluts ++ (objects ++ end_of_set ∷ []))
 
-later_behind_page : (script : Script) (epoch : Epoch) (set : PlannedSet) (objects : List SegmentValue) → planned.AreObjectsOf script.pictures epoch set.cues objects → AllByRecursion IsLater (behind_page epoch set objects)
+pub later_behind_page : (script : Script) (epoch : Epoch) (set : PlannedSet) (objects : List SegmentValue) → planned.AreObjectsOf script.pictures epoch set.cues objects → AllByRecursion IsLater (behind_page epoch set objects)
 later_behind_page script epoch set objects drawn =
     regions_later epoch set.regions (map (planned.clut_segment_of epoch) set.cluts ++ (objects ++ end_of_set ∷ []))
     (cluts_later epoch set.cluts (objects ++ end_of_set ∷ []) (objects_later script.pictures epoch set.cues objects drawn))
 
-regrouped : (xs ys zs : List SegmentValue) (x : SegmentValue) → (x ∷ (xs ++ ys)) ++ zs ≡ x ∷ (xs ++ (ys ++ zs))
+pub regrouped : (xs ys zs : List SegmentValue) (x : SegmentValue) → (x ∷ (xs ++ ys)) ++ zs ≡ x ∷ (xs ++ (ys ++ zs))
 regrouped xs ys zs x = ap (λ rest. x ∷ rest) (append_assoc xs ys zs)
 
 -- the first unit of a set has its display and its page, as both have room in it: the later units have what comes behind
@@ -165,7 +165,7 @@ later_segments script page set packets sent is few k = by is.units is.shared.eac
         let fit = recursion_from_All (IsWritable page) is.segments is.carried.fit in
         ends_behind k (behind_page epoch set objects) units (first_has_page script page set set.state epoch objects first units few each (joined ∙ all) (subst (AllByRecursion (IsWritable page)) all fit))
 
-both_hold : (P Q : SegmentValue → Type 0) (values : List SegmentValue) → AllByRecursion P values → AllByRecursion Q values → AllByRecursion (λ value. P value × Q value) values
+pub both_hold : (P Q : SegmentValue → Type 0) (values : List SegmentValue) → AllByRecursion P values → AllByRecursion Q values → AllByRecursion (λ value. P value × Q value) values
 both_hold P Q [] h k = tt
 both_hold P Q (value ∷ values) h k = ((h.0, k.0), both_hold P Q values h.1 k.1)
 

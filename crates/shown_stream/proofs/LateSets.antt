@@ -80,7 +80,7 @@ apart_behind n (set ∷ sets) h = by (ltb n (length set.units)) (apart_behind (n
     by true rest = (h.0, h.1)
     by false rest = rest
 
-zip_behind : {A B : Type 0} (R : A → B → Type 0) (n : ℕ) (xs : List A) (ys : List B) → AllZip R xs ys → AllZip R (drop n xs) (drop n ys)
+pub zip_behind : {A B : Type 0} (R : A → B → Type 0) (n : ℕ) (xs : List A) (ys : List B) → AllZip R xs ys → AllZip R (drop n xs) (drop n ys)
 zip_behind R zero xs ys h = h
 zip_behind R (suc n) [] [] h = tt
 zip_behind R (suc n) [] (y ∷ ys) h = absurd h
@@ -117,10 +117,11 @@ pub record SetsLeft (n : ℕ) (sets : List TimedSet) : Type 0 where
   pub rest : List TimedSet
   pub is_rest : IsRest sets first rest
   pub are : sets_behind n sets ≡ rest ++ drop first sets
+  pub ends : 1 ≤ length rest → n < units_before first sets
   pub begun : (i : ℕ) → i < length sets → (i < first → units_before i sets < n) × (first ≤ i → n ≤ units_before i sets)
 
 pub sets_left : (n : ℕ) (sets : List TimedSet) → AllByRecursion (λ (set : TimedSet). 1 ≤ length set.units) sets → SetsLeft n sets
-sets_left n [] some = record { first = 0; rest = []; is_rest = none_left; are = refl; begun = λ i inside. absurd (omega arith) }
+sets_left n [] some = record { first = 0; rest = []; is_rest = none_left; are = refl; ends = λ some. absurd (omega arith); begun = λ i inside. absurd (omega arith) }
 sets_left zero (set ∷ sets) some =
     let any = some.0 in
     let test : ltb 0 (length set.units) ≡ true = grind (arith, nat_tests) in
@@ -129,6 +130,7 @@ sets_left zero (set ∷ sets) some =
       rest = [];
       is_rest = none_left;
       are = ap (λ b. cond b (rest_of_set 0 set ∷ sets) (sets_behind (0 - length set.units) sets)) test;
+      ends = λ some. absurd (omega arith);
       begun = λ i inside. (λ before. absurd (omega arith), λ behind. omega arith);
     }
 sets_left (suc n) (set ∷ sets) some = by (cases_lt (suc n) (length set.units)) (sets_left (suc n - length set.units) sets some.1)
@@ -151,6 +153,7 @@ sets_left (suc n) (set ∷ sets) some = by (cases_lt (suc n) (length set.units))
           rest = rest_of_set (suc n) set ∷ [];
           is_rest = some_left refl (omega arith) within;
           are = ap (λ b. cond b (rest_of_set (suc n) set ∷ sets) (sets_behind (suc n - length set.units) sets)) test;
+          ends = λ some. omega arith;
           begun = begun_within within;
         }
     by (inr past) left =
@@ -160,6 +163,7 @@ sets_left (suc n) (set ∷ sets) some = by (cases_lt (suc n) (length set.units))
           rest = left.rest;
           is_rest = one_more set sets left.first left.rest left.is_rest;
           are = ap (λ b. cond b (rest_of_set (suc n) set ∷ sets) (sets_behind (suc n - length set.units) sets)) test ∙ left.are;
+          ends = λ some. let less = left.ends some in omega arith;
           begun = begun_past left past;
         }
 

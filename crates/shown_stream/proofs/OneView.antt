@@ -26,7 +26,7 @@ same_delivery lost one other h k = h ∙ sym k
 same_delivery (whole time size segments) one other h k = h.2 ∙ ap (whole time size) (same_readings segments h.0 k.0 h.1 k.1) ∙ sym k.2
 same_delivery (refused time size fault) one other h k = h ∙ sym k
 
-same_past : (deliveries : List (Delivery (List ℕ))) (one other : List (Delivery Reading)) → AreDeliveriesRead deliveries one → AreDeliveriesRead deliveries other → one ≡ other
+pub same_past : (deliveries : List (Delivery (List ℕ))) (one other : List (Delivery Reading)) → AreDeliveriesRead deliveries one → AreDeliveriesRead deliveries other → one ≡ other
 same_past [] [] [] h k = refl
 same_past [] [] (reading ∷ other) h k = absurd k
 same_past [] (reading ∷ one) other h k = absurd h

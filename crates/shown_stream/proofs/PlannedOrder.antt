@@ -27,7 +27,7 @@ weaker : (x y : ℕ) (xs : List ℕ) → x ≤ y → AllByRecursion (λ z. y ≤
 weaker x y [] le h = tt
 weaker x y (z ∷ xs) le h = let first = h.0 in (omega arith, weaker x y xs le h.1)
 
-all_above : (x : ℕ) (xs : List ℕ) → IsStrictlyIncreasing (x ∷ xs) → AllByRecursion (λ y. x ≤ y) xs
+pub all_above : (x : ℕ) (xs : List ℕ) → IsStrictlyIncreasing (x ∷ xs) → AllByRecursion (λ y. x ≤ y) xs
 all_above x [] rise = tt
 all_above x (y ∷ ys) rise =
     let first : x < y = rise 0 (omega arith) in

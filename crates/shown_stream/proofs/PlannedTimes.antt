@@ -54,7 +54,7 @@ instant_in_span origin epochs refresh tick span (inr refreshed) =
 
 -- ---- the sets of a plan
 
-abbrev pts_of : List PlannedSet → List ℕ
+abbrev pub pts_of : List PlannedSet → List ℕ
 pts_of sets = map (λ (set : PlannedSet). set.pts) sets
 
 take_all_by : (P : ℕ → Type 0) (n : ℕ) (xs : List ℕ) → AllByRecursion P xs → AllByRecursion P (take n xs)
@@ -62,7 +62,7 @@ take_all_by P zero xs h = tt
 take_all_by P (suc n) [] h = tt
 take_all_by P (suc n) (x ∷ xs) h = (h.0, take_all_by P n xs h.1)
 
-times_in_span : (script : Script) (profile : Profile) (sets : List PlannedSet) → IsPlan script profile sets → AllByRecursion (IsTick script.origin) (pts_of sets)
+pub times_in_span : (script : Script) (profile : Profile) (sets : List PlannedSet) → IsPlan script profile sets → AllByRecursion (IsTick script.origin) (pts_of sets)
 times_in_span script profile sets plan =
     let planned = plan.planned in
     let span = in_span script in
@@ -70,7 +70,7 @@ times_in_span script profile sets plan =
     (λ tick is. instant_in_span script.origin script.epochs script.refresh tick span is) planned.instants planned.are_instants.each in
     subst (AllByRecursion (IsTick script.origin)) (sym planned.first.times) (take_all_by (IsTick script.origin) (length sets) planned.instants (recursion_from_All (IsTick script.origin) planned.instants all))
 
-pts_rise : (script : Script) (profile : Profile) (sets : List PlannedSet) → IsPlan script profile sets → IsStrictlyIncreasing (pts_of sets)
+pub pts_rise : (script : Script) (profile : Profile) (sets : List PlannedSet) → IsPlan script profile sets → IsStrictlyIncreasing (pts_of sets)
 pts_rise script profile sets plan =
     let planned = plan.planned in
     subst IsStrictlyIncreasing (sym planned.first.times) (front_rises planned.instants (length sets) planned.first.few planned.are_instants.rise)

@@ -47,7 +47,7 @@ pub its_pieces : (unit : List ℕ) → 1 ≤ length unit → pieces_of unit ≡ 
 its_pieces unit some = let count : piece_count unit ≡ suc (piece_count unit - 1) = omega arith in ap (λ n. map (piece_of unit) (range_with_len 0 n)) count
 
 -- joined they are the unit
-its_bytes : (unit : List ℕ) → 1 ≤ length unit → unit ≡ concat (map (λ (piece : Piece). piece.bytes) (first_piece unit ∷ further_of unit))
+pub its_bytes : (unit : List ℕ) → 1 ≤ length unit → unit ≡ concat (map (λ (piece : Piece). piece.bytes) (first_piece unit ∷ further_of unit))
 its_bytes unit some =
     let enough : length unit ≤ 184 * piece_count unit = omega arith in
     sym (ap (λ pieces. concat (map (λ (piece : Piece). piece.bytes) pieces)) (sym (its_pieces unit some)) ∙ joined_pieces unit 0 (piece_count unit) ∙ take_all (184 * piece_count unit) unit enough)

@@ -3,4 +3,5 @@ pub mod Compiled
 pub mod Shows
 pub mod SentSets
 pub mod StreamCalls
-pub mod HoldsScript
+pub mod HoldsWhole
+pub mod Entered

@@ -1,9 +1,10 @@
 -- Packets that show what is authored.
-use Rattle.std.specs.Prelude.{ℕ, ◌+◌, ◌≤◌, ◌<◌, true, List, All}
+use Rattle.std.specs.Prelude.{ℕ, ◌+◌, ◌≤◌, ◌<◌, true, List, All, Option}
 use Rattle.sub_base.specs.declared.profile.Profile.{Profile}
 use Rattle.cue_list.specs.Authored.{authored_picture}
 use Rattle.cue_list.specs.declared.script.Script.{Script}
 use Rattle.decoder_model.specs.Shown.{View, plane, IsShown, Agrees}
+use Rattle.decoder_model.specs.Streams.{SentSet, IsShownFrom}
 
 -- the authored picture at a tick
 abbrev pub authored_view : Script → ℕ → View
@@ -23,3 +24,10 @@ pub record Shows (profile : Profile) (pid page anchor : ℕ) (packets : List (Li
   pub shown : View
   pub is_shown : IsShown profile pid page anchor true packets tick shown
   pub agrees : Agrees shown wanted
+
+-- a receiver of the profile with that anchor that gets these packets, with which the stream ends, shows at a tick, by the set
+-- with which it enters: nothing without one and before its time, and from then on what agrees with that view
+pub record ShowsFrom (profile : Profile) (pid page anchor : ℕ) (packets : List (List ℕ)) (entry : Option SentSet) (tick : ℕ) (wanted : View) : Type 0 where
+  pub shown : View
+  pub is_shown : IsShown profile pid page anchor true packets tick shown
+  pub from_entry : IsShownFrom entry tick shown wanted

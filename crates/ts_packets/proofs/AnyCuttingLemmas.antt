@@ -42,7 +42,7 @@ waits_long size bytes long prefix bounded fits short =
     fourth (nat_lt (length bytes) 6) (is_unbounded bytes) (nat_lt size (need_of bytes)) (nat_lt (length bytes) (need_of bytes)) _ _ _ _ _
     (le-ltb (length bytes) 6 long) (is_bounded bytes prefix bounded) (le-ltb size (need_of bytes) fits) (lt-ltb (length bytes) (need_of bytes) short)
 
-front_waits : (size : ℕ) (front rest : List ℕ) → IsUnit size (front ++ rest) → 1 ≤ length rest → fate_of size front ≡ Waits
+pub front_waits : (size : ℕ) (front rest : List ℕ) → IsUnit size (front ++ rest) → 1 ≤ length rest → fate_of size front ≡ Waits
 front_waits size front rest unit more =
     let lengths = length-append front rest in
     elim (cases_lt (length front) 6) [
@@ -53,7 +53,7 @@ front_waits size front rest unit more =
           waits_long size front long (sym head.0 ∙ unit.prefix) (omega (arith, unit.bounded)) (omega (arith, unit.fits)) (omega arith)
     ]
 
-unit_is_whole : (size : ℕ) (unit : List ℕ) → IsUnit size unit → fate_of size unit ≡ Whole unit
+pub unit_is_whole : (size : ℕ) (unit : List ℕ) → IsUnit size unit → fate_of size unit ≡ Whole unit
 unfolding fate_of
 unit_is_whole size unit is =
     none (nat_lt (length unit) 6) (is_unbounded unit) (nat_lt size (need_of unit)) (nat_lt (length unit) (need_of unit)) _ _ _ _ _

@@ -1,0 +1,194 @@
+-- What a receiver shows while the sets of a plan come to it, one after another without a hole: nothing until one comes that is not
+-- normal, and from its time on what is authored.
+use Rattle.std.proofs.Common.{◌≡◌, ◌∙◌, ℕ, ◌+◌, ◌<◌, ◌≤◌, ◌⊎◌, inl, inr, Bool, true, false, ◌&&◌, not, cond, List, [], ◌∷◌, ◌++◌, map, reverse, Option, Some, None, refl, sym, ap, subst, arith, append_assoc}
+use Rattle.std.specs.Prelude.{slice_get}
+use Rattle.std.specs.List.{AllZip}
+use Rattle.std.proofs.lemmas.Bool.{cases_lt}
+use Rattle.std.proofs.lemmas.List.{reverse-append}
+use Rattle.sub_base.specs.declared.profile.Profile.{Profile}
+use Rattle.cue_list.specs.declared.script.Script.{Script}
+use Rattle.page_epoch.specs.Plan.{IsPlan}
+use Rattle.page_epoch.specs.States.{is_whole}
+use Rattle.page_epoch.specs.declared.planned_set.PlannedSet.{PlannedSet}
+use Rattle.schedule.specs.Slots.{Timetable}
+use Rattle.decoder_model.specs.Kept.{lifted_time, last_time}
+use Rattle.decoder_model.specs.Readings.{Content, Reading, AreDeliveriesRead}
+use Rattle.decoder_model.specs.Sets.{Delivery}
+use Rattle.decoder_model.specs.Shown.{View, IsClear, Agrees, view_of, view_at}
+use Rattle.decoder_model.specs.Streams.{SentSet, is_from, entry_set, IsShownFrom}
+use Rattle.decoder_model.specs.Verdict.{sets_since, known_epoch}
+use Rattle.decoder_model.proofs.SentSets.{TimedSet, delivered}
+use Rattle.shown_plan.proofs.Fair.{fair}
+use Rattle.shown_plan.proofs.Runs.{IsRun, begins, goes_on, RunKeeps, run_keeps}
+use Rattle.shown_stream.specs.SentSets.{sent_set, sent_from}
+use Rattle.shown_stream.specs.Shows.{authored_view}
+use Rattle.shown_stream.proofs.ComingSets.{SetComes, reading_of, is_read, turned_more}
+use Rattle.shown_stream.proofs.HeldSets.{HoldsEach, holds_next, kept_holds}
+use Rattle.shown_stream.proofs.RunViews.{IsBefore, run_shows}
+use Rattle.shown_stream.proofs.ShownSets.{AreAheadOf, kept_at, last_is, IsIdle, still_idle, page_behind, IsShownSet, shown_set}
+
+-- ---- lists turned
+
+-- these, in order, on top of what stands there, the latest first
+abbrev pub turned : {X : Type 0} → List X → List X → List X
+turned [] there = there
+turned (x ∷ xs) there = turned xs (x ∷ there)
+
+pub turned_is : {X : Type 0} (xs there : List X) → turned xs there ≡ reverse xs ++ there
+turned_is [] there = refl
+turned_is (x ∷ xs) there = turned_is xs (x ∷ there) ∙ sym (ap (λ front. front ++ there) (reverse-append (x ∷ []) xs) ∙ append_assoc (reverse xs) (x ∷ []) there)
+
+-- ---- behind a set that is not normal
+
+-- a receiver behind a run of sets of the plan that began with an entry set
+pub record IsEntered (script : Script) (profile : Profile) (anchor : ℕ) (sets : List PlannedSet) (past : List (Delivery Reading)) (plan left : List PlannedSet) (set : PlannedSet) (entry : SentSet) : Type 0 where
+  pub latest : List Content
+  pub older : List (List Content)
+  pub are : sets_since profile anchor past ≡ latest ∷ older
+  pub run : IsRun script (set ∷ plan) (latest ∷ older)
+  pub last : last_time anchor past ≡ Some set.pts
+  pub come : entry.time ≤ set.pts
+  pub shows : (tick : ℕ) → IsBefore tick left → IsShownFrom (Some entry) tick (view_at profile anchor tick past) (authored_view script tick)
+  pub holds : HoldsEach script profile anchor sets past
+
+-- what is received in the end, and what is shown of it
+pub record IsReceivedSo (script : Script) (profile : Profile) (anchor : ℕ) (sets : List PlannedSet) (deliveries : List (Delivery (List ℕ))) (entry : Option SentSet) : Type 0 where
+  pub past : List (Delivery Reading)
+  pub read : AreDeliveriesRead deliveries past
+  pub shows : (tick : ℕ) → IsShownFrom entry tick (view_at profile anchor tick past) (authored_view script tick)
+  pub holds : HoldsEach script profile anchor sets past
+
+-- one set more
+next_entered : {sent : TimedSet} (script : Script) (profile : Profile) (anchor : ℕ) (sets : List PlannedSet) (past : List (Delivery Reading)) (plan left : List PlannedSet) (before set : PlannedSet) (entry : SentSet) → IsPlan script profile sets
+    → sets ≡ reverse (before ∷ plan) ++ (set ∷ left) → AreAheadOf anchor (Some before.pts) (set ∷ left) → (comes : SetComes script set sent) → IsEntered script profile anchor sets past plan (set ∷ left) before entry
+    → IsEntered script profile anchor sets (reading_of comes ∷ past) (before ∷ plan) left set entry
+next_entered script profile anchor sets past plan left before set entry is_plan parts ahead comes entered = record {
+  latest = comes.contents;
+  older = entered.latest ∷ entered.older;
+  are = shown.sets ∙ ap (λ known. comes.contents ∷ known) entered.are;
+  run = run;
+  last = last_is anchor past comes lifted;
+  come = let rise = ahead.0.0 in let come = entered.come in omega arith;
+  shows = shows;
+  holds = holds_next script profile anchor sets past (before ∷ plan) left set (reading_of comes) is_plan parts lifted (kept_holds profile anchor past (before ∷ plan) set comes.contents (reading_of comes) kept shown) entered.holds;
+}
+  where
+    lifted : lifted_time anchor past (reading_of comes) ≡ Some set.pts
+    lifted = kept_at anchor (Some before.pts) past comes entered.last ahead.0 ahead.1
+
+    run : IsRun script (set ∷ before ∷ plan) (comes.contents ∷ entered.latest ∷ entered.older)
+    run = goes_on comes.epoch comes.found entered.run comes.is
+
+    whole : sets ≡ reverse (set ∷ before ∷ plan) ++ left
+    whole = parts ∙ sym (turned_more (before ∷ plan) left set)
+
+    kept : RunKeeps script profile (before ∷ plan) set comes.contents (sets_since profile anchor past)
+    kept = subst (RunKeeps script profile (before ∷ plan) set comes.contents) (sym entered.are)
+        (run_keeps script profile sets (fair script) is_plan (set ∷ before ∷ plan) (comes.contents ∷ entered.latest ∷ entered.older) run left whole)
+
+    shown : IsShownSet script profile anchor past (before ∷ plan) set comes.contents (reading_of comes) kept
+    shown = shown_set profile anchor past (before ∷ plan) comes kept lifted
+
+    shows : (tick : ℕ) → IsBefore tick left → IsShownFrom (Some entry) tick (view_at profile anchor tick (reading_of comes ∷ past)) (authored_view script tick)
+    shows tick early = by (cases_lt tick set.pts)
+      where
+        by : (tick < set.pts) ⊎ (set.pts ≤ tick) → IsShownFrom (Some entry) tick (view_at profile anchor tick (reading_of comes ∷ past)) (authored_view script tick)
+        by (inl sooner) = subst (λ (view : View). IsShownFrom (Some entry) tick view (authored_view script tick)) (sym (shown.before tick sooner)) (entered.shows tick sooner)
+        by (inr later) = (
+          λ soon. absurd (let rise = ahead.0.0 in let come = entered.come in omega arith),
+          λ from. subst (λ (view : View). Agrees view (authored_view script tick)) (sym (shown.from tick later)) (run_shows script profile sets (before ∷ plan) left set comes.contents (sets_since profile anchor past) is_plan whole kept tick later early),
+        )
+
+-- all that are left
+pub go_on : (script : Script) (profile : Profile) (anchor : ℕ) (sets : List PlannedSet) (taken : List (Delivery (List ℕ))) (past : List (Delivery Reading)) (plan left : List PlannedSet) (sent : List TimedSet) (before : PlannedSet) (entry : SentSet)
+    → IsPlan script profile sets → sets ≡ reverse (before ∷ plan) ++ left → AreAheadOf anchor (Some before.pts) left → AllZip (SetComes script) left sent → AreDeliveriesRead taken past
+    → IsEntered script profile anchor sets past plan left before entry → IsReceivedSo script profile anchor sets (turned (map delivered sent) taken) (Some entry)
+go_on script profile anchor sets taken past plan [] [] before entry is_plan parts ahead come read entered = record { past = past; read = read; shows = λ tick. entered.shows tick tt; holds = entered.holds }
+go_on script profile anchor sets taken past plan [] (one ∷ sent) before entry is_plan parts ahead come read entered = absurd come
+go_on script profile anchor sets taken past plan (set ∷ left) [] before entry is_plan parts ahead come read entered = absurd come
+go_on script profile anchor sets taken past plan (set ∷ left) (one ∷ sent) before entry is_plan parts ahead come read entered =
+    go_on script profile anchor sets (delivered one ∷ taken) (reading_of come.0 ∷ past) (before ∷ plan) left sent set entry is_plan (parts ∙ sym (turned_more (before ∷ plan) left set)) ahead.2 come.1 (is_read come.0, read)
+    (next_entered script profile anchor sets past plan left before set entry is_plan parts ahead come.0 entered)
+
+-- ---- until such a set comes
+
+-- the first one that is not normal
+first_entered : {sent : TimedSet} (script : Script) (profile : Profile) (anchor : ℕ) (sets : List PlannedSet) (past : List (Delivery Reading)) (last : Option ℕ) (plan left : List PlannedSet) (set : PlannedSet) (entry : SentSet) → IsPlan script profile sets
+    → sets ≡ reverse plan ++ (set ∷ left) → last_time anchor past ≡ last → AreAheadOf anchor last (set ∷ left) → (comes : SetComes script set sent) → IsIdle profile anchor past → HoldsEach script profile anchor sets past → is_whole set.state ≡ true
+    → entry.time ≡ set.pts → IsEntered script profile anchor sets (reading_of comes ∷ past) plan left set entry
+first_entered script profile anchor sets past last plan left set entry is_plan parts before ahead comes idle holds whole_state time = record {
+  latest = comes.contents;
+  older = sets_since profile anchor past;
+  are = shown.sets;
+  run = run;
+  last = last_is anchor past comes lifted;
+  come = omega (arith, time);
+  shows = shows;
+  holds = holds_next script profile anchor sets past plan left set (reading_of comes) is_plan parts lifted (kept_holds profile anchor past plan set comes.contents (reading_of comes) kept shown) holds;
+}
+  where
+    lifted : lifted_time anchor past (reading_of comes) ≡ Some set.pts
+    lifted = kept_at anchor last past comes before ahead.0 ahead.1
+
+    run : IsRun script (set ∷ plan) (comes.contents ∷ sets_since profile anchor past)
+    run = begins comes.epoch comes.found whole_state (inr idle.unknown) comes.is
+
+    whole : sets ≡ reverse (set ∷ plan) ++ left
+    whole = parts ∙ sym (turned_more plan left set)
+
+    kept : RunKeeps script profile plan set comes.contents (sets_since profile anchor past)
+    kept = run_keeps script profile sets (fair script) is_plan (set ∷ plan) (comes.contents ∷ sets_since profile anchor past) run left whole
+
+    shown : IsShownSet script profile anchor past plan set comes.contents (reading_of comes) kept
+    shown = shown_set profile anchor past plan comes kept lifted
+
+    shows : (tick : ℕ) → IsBefore tick left → IsShownFrom (Some entry) tick (view_at profile anchor tick (reading_of comes ∷ past)) (authored_view script tick)
+    shows tick early = (
+      λ soon. (let sooner : tick < set.pts = omega (arith, soon, time) in subst IsClear (sym (shown.before tick sooner)) (idle.clear tick)),
+      λ from. (let later : set.pts ≤ tick = omega (arith, from, time) in
+          subst (λ (view : View). Agrees view (authored_view script tick)) (sym (shown.from tick later)) (run_shows script profile sets plan left set comes.contents (sets_since profile anchor past) is_plan whole kept tick later early)),
+    )
+
+-- where no epoch is known none is
+pub none_with : {profile : Profile} {anchor : ℕ} {past : List (Delivery Reading)} → IsIdle profile anchor past → (known : List (List Content)) → known_epoch profile anchor past ≡ Some known → ⊥
+none_with idle known found = let unknown = idle.unknown in cc
+
+-- the packets of all of these sets come
+abbrev pub AreFrom : ℕ → Timetable → ℕ → List PlannedSet → Type 0
+AreFrom missed table number [] = Unit {0}
+AreFrom missed table number (set ∷ sets) = (is_from missed (sent_set table number set) ≡ true) × AreFrom missed table (number + 1) sets
+
+-- the sets of a plan that are left, where no epoch is known
+pub wait_for : (script : Script) (profile : Profile) (anchor missed : ℕ) (table : Timetable) (number : ℕ) (sets : List PlannedSet) (taken : List (Delivery (List ℕ))) (past : List (Delivery Reading)) (last : Option ℕ) (plan left : List PlannedSet) (sent : List TimedSet)
+    → IsPlan script profile sets → sets ≡ reverse plan ++ left → last_time anchor past ≡ last → AreAheadOf anchor last left → AreFrom missed table number left → AllZip (SetComes script) left sent → AreDeliveriesRead taken past
+    → IsIdle profile anchor past → HoldsEach script profile anchor sets past → IsReceivedSo script profile anchor sets (turned (map delivered sent) taken) (entry_set missed (sent_from table number left))
+wait_for script profile anchor missed table number sets taken past last plan [] [] is_plan parts before ahead from come read idle holds = record { past = past; read = read; shows = λ tick. idle.clear tick; holds = holds }
+wait_for script profile anchor missed table number sets taken past last plan [] (one ∷ sent) is_plan parts before ahead from come read idle holds = absurd come
+wait_for script profile anchor missed table number sets taken past last plan (set ∷ left) [] is_plan parts before ahead from come read idle holds = absurd come
+wait_for script profile anchor missed table number sets taken past last plan (set ∷ left) (one ∷ sent) is_plan parts before ahead from come read idle holds =
+    by (is_whole set.state) refl
+    (λ normal. wait_for script profile anchor missed table (number + 1) sets (delivered one ∷ taken) (reading_of come.0 ∷ past) (Some set.pts) (set ∷ plan) left sent is_plan whole (last_is anchor past come.0 lifted) ahead.2 from.1 come.1 (is_read come.0, read)
+    (still_idle profile anchor past come.0 idle lifted normal)
+    (holds_next script profile anchor sets past plan left set (reading_of come.0) is_plan parts lifted (λ known found. absurd (none_with (still_idle profile anchor past come.0 idle lifted normal) known found)) holds))
+  where
+    lifted : lifted_time anchor past (reading_of come.0) ≡ Some set.pts
+    lifted = kept_at anchor last past come.0 before ahead.0 ahead.1
+
+    whole : sets ≡ reverse (set ∷ plan) ++ left
+    whole = parts ∙ sym (turned_more plan left set)
+
+    Behind : Option SentSet → Type 0
+    Behind entry = IsReceivedSo script profile anchor sets (turned (map delivered sent) (delivered one ∷ taken)) entry
+
+    by : (state : Bool) → is_whole set.state ≡ state → (is_whole set.state ≡ false → Behind (entry_set missed (sent_from table (number + 1) left))) → Behind (entry_set missed (sent_from table number (set ∷ left)))
+    by false is behind =
+        let entry : entry_set missed (sent_from table number (set ∷ left)) ≡ entry_set missed (sent_from table (number + 1) left) =
+        ap (λ b. cond (not (not b) && is_from missed (sent_set table number set)) (Some (sent_set table number set)) (entry_set missed (sent_from table (number + 1) left))) is in
+        subst Behind (sym entry) (behind is)
+    by true is behind =
+        let entry : entry_set missed (sent_from table number (set ∷ left)) ≡ Some (sent_set table number set) =
+        ap (λ b. cond (not (not b) && is_from missed (sent_set table number set)) (Some (sent_set table number set)) (entry_set missed (sent_from table (number + 1) left))) is
+        ∙ ap (λ b. cond b (Some (sent_set table number set)) (entry_set missed (sent_from table (number + 1) left))) from.0 in
+        subst Behind (sym entry)
+        (go_on script profile anchor sets (delivered one ∷ taken) (reading_of come.0 ∷ past) plan left sent set (sent_set table number set) is_plan whole ahead.2 come.1 (is_read come.0, read)
+        (first_entered script profile anchor sets past last plan left set (sent_set table number set) is_plan parts before ahead come.0 idle holds is refl))
