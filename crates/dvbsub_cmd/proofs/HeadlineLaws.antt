@@ -5,8 +5,8 @@ use Rattle.std.specs.Io.KnownBytes.{Appends}
 use Rattle.cue_list.specs.declared.script.Script.{Script}
 use Rattle.shown_stream.specs.Compiled.{IsCompiledFor, IsCompiledTo}
 use Rattle.shown_stream.proofs.CompiledPackets.{packets_in, are_packets}
+use Rattle.shown_stream.proofs.CompiledShown.{compiled_entered}
 use Rattle.shown_stream.proofs.SentPieces.{IsFree}
-use Rattle.shown_stream.proofs.SoleCueShown.{sole_cue_shown}
 use Rattle.sub_base.specs.Profile.{profile_of}
 use Rattle.sub_base.specs.declared.profile.ProfileName.{ProfileName}
 use Rattle.dvbsub_cmd.specs.Headline.{ShowsScript, OnDone, IsShownBy}
@@ -51,7 +51,7 @@ shows_script profile pid page has_font before now script bytes below made reads 
       whole = known.whole;
       compiled = compiled_to profile pid page script bytes (concat (packets_in profile pid page script bytes compiled)) known.joined compiled;
       written = subst (λ (all : List ℕ). Appends before.out.written now.out.written all) known.joined written;
-      shown = λ epoch region cue picture sole anchor fits tick. sole_cue_shown profile pid page script epoch region cue picture bytes free made sole compiled anchor fits tick;
+      entered = compiled_entered profile pid page script bytes free made compiled;
     }
 
 -- a status whose line could not be written is not that a command was done

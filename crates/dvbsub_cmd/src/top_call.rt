@@ -43,8 +43,8 @@ where
         (seen (A.supplied first.new) (B.supplied second.new) (K.received out.new))
         (N.received notes.old) (N.received notes.new) result }
 
-    // Where a script was compiled that is one cue that fills the display, a receiver that gets the packets from the first on
-    // shows the authored picture at every tick.
+    // Where a script was compiled, a receiver that enters the packets anywhere shows nothing before its entry point, and from
+    // then on the authored picture at every tick.
     ensures shown { IsShownBy (command_of_words words.now)
         (seen (A.supplied first.old) (B.supplied second.old) (K.received out.old))
         (seen (A.supplied first.new) (B.supplied second.new) (K.received out.new))

@@ -10,8 +10,6 @@ pub mod PlanLaws
 pub mod RegionLaws
 pub mod RowLaws
 pub mod SendLaws
-pub mod SoleCuePlan
-pub mod SoleCueSets
 pub mod ShowLaws
 pub mod SoundLaws
 pub mod SweepLaws

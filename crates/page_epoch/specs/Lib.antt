@@ -7,7 +7,6 @@ pub mod Rows
 pub mod Sendable
 pub mod SentCluts
 pub mod SentRegions
-pub mod SoleCue
 pub mod States
 pub mod Changes
 pub mod Courses

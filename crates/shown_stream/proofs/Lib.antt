@@ -32,10 +32,7 @@ pub mod OneView
 pub mod CompiledSets
 pub mod PlannedTimes
 pub mod CompiledPackets
-pub mod AuthoredCue
-pub mod SoleCueUnits
-pub mod SoleCueShown
-pub mod SoleCueExample
+pub mod ScriptExample
 pub mod SentPlaces
 pub mod LateCuts
 pub mod LateTicks

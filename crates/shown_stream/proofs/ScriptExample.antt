@@ -1,4 +1,4 @@
--- A script of one cue that fills the display: there are such scripts, and what one of them authors is computed.
+-- A script of one cue that fills the display: what it authors is computed.
 use Rattle.std.proofs.Common.{◌≡◌, ℕ, ◌<◌, ◌≤◌, false, [], ◌∷◌, inl, inr, refl, arith}
 use Rattle.std.specs.Prelude.{AllPairs}
 use Rattle.std.proofs.lemmas.List.Elements.{All-nil, All-cons, All-from_recursion}
@@ -13,7 +13,6 @@ use Rattle.cue_list.specs.declared.epoch.Epoch.{Epoch}
 use Rattle.cue_list.specs.declared.epoch.Region.{Region}
 use Rattle.cue_list.specs.declared.script.Script.{Script}
 use Rattle.page_epoch.proofs.ListLaws.{All-one}
-use Rattle.page_epoch.specs.SoleCue.{IsSoleCue}
 
 one_pair : {X : Type 0} (R : X → X → Type 0) (x : X) → AllPairs R (x ∷ [])
 one_pair R x = AllPairs-cons R x [] (All-nil (R x)) (λ i j d h l. absurd (omega arith))
@@ -78,23 +77,6 @@ is_sound = record {
 
 abbrev pub script : Script
 script = record { origin = 0; width = 4; height = 2; refresh = 450000; epochs = epoch ∷ []; pictures = picture ∷ []; sound = ∣ is_sound ∣₁ }
-
--- it is a script of one cue that fills the display
-pub is_sole_cue : IsSoleCue script epoch region cue picture
-is_sole_cue = record {
-  epochs = refl;
-  regions = refl;
-  colours = refl;
-  cues = refl;
-  wide = refl;
-  high = refl;
-  solid = refl;
-  start = refl;
-  short = omega arith;
-  picture_is = refl;
-  picture_wide = refl;
-  picture_high = refl;
-}
 
 -- a place of it is clear before the cue, has the default colour of its code while it is shown, and is clear again
 pub clear_before : authored_at script.epochs script.pictures 89999 0 0 ≡ clear
