@@ -1,13 +1,12 @@
 -- What a receiver shows of a compiled script.
 use Rattle.std.specs.List.{concat}
-use Rattle.std.proofs.Common.{◌≡◌, ◌∙◌, ℕ, ◌<◌, Bool, List, Option, Some, None, IsSome, inl, inr, sym, subst, arith}
+use Rattle.std.proofs.Common.{◌≡◌, ◌∙◌, ℕ, ◌<◌, Bool, List, Option, Some, None, inl, inr, sym, subst, arith}
 use Rattle.std.specs.Io.KnownBytes.{Appends}
 use Rattle.cue_list.specs.declared.script.Script.{Script}
 use Rattle.shown_stream.specs.Compiled.{IsCompiledFor, IsCompiledTo}
 use Rattle.shown_stream.proofs.CompiledPackets.{packets_in, are_packets}
 use Rattle.shown_stream.proofs.CompiledShown.{compiled_entered}
 use Rattle.shown_stream.proofs.SentPieces.{IsFree}
-use Rattle.sub_base.specs.Profile.{profile_of}
 use Rattle.sub_base.specs.declared.profile.ProfileName.{ProfileName}
 use Rattle.dvbsub_cmd.specs.Headline.{ShowsScript, OnDone, IsShownBy}
 use Rattle.dvbsub_cmd.specs.Outcome.{Tells, untold}

@@ -1,5 +1,5 @@
 -- What a schedule asks of the load of a set.
-use Rattle.std.proofs.Common.{ℕ, ◌^◌, ◌<◌, ◌≤◌, arith}
+use Rattle.std.proofs.Common.{◌^◌, ◌<◌, ◌≤◌, arith}
 use Rattle.sub_base.specs.declared.load.WriteLoad.{WriteLoad}
 use Rattle.schedule.specs.Slots.{IsLoad}
 use Rattle.cue_list.specs.declared.script.Script.{Script}

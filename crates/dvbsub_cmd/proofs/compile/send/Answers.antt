@@ -1,4 +1,4 @@
-use Rattle.std.proofs.Common.{ap, map}
+use Rattle.std.proofs.Common.{map}
 use Rattle.shown_stream.specs.SlotStream.{stream_of}
 use Rattle.dvbsub_cmd.specs.PieceView.{plain}
 use Rattle.dvbsub_cmd.proofs.CompileLaws.{among, compiled, cut_as_asked, loads_pair, sets_fit, slot_count-small, slots_pair}
