@@ -21,6 +21,7 @@ pub mod EnteredTimes
 pub mod CompiledShown
 pub mod LostPieces
 pub mod LostUnits
+pub mod LostSets
 pub mod LatePlaces
 pub mod LateAnchors
 pub mod PlannedRegions
