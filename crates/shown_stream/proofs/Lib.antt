@@ -22,6 +22,7 @@ pub mod CompiledShown
 pub mod LostPieces
 pub mod LostUnits
 pub mod LostSets
+pub mod LostSteps
 pub mod LatePlaces
 pub mod LateAnchors
 pub mod PlannedRegions

@@ -105,22 +105,22 @@ gap_led (false ∷ come) arrivals (one_missed {next = Apart} (suc count) steps r
 
 -- ---- what is handed of a set of which a unit is missing
 
+-- later units of a set, which come with its end
+abbrev pub IsMiddle : Kind → TimedSet → List TimedSet → Type 0
+IsMiddle next set [] = Unit {0}
+IsMiddle next set (one ∷ []) = (k : ℕ) × (next ≡ Joined) × (1 ≤ k) × (k < length set.units) × (one ≡ rest_of_set k set)
+IsMiddle next set (one ∷ two ∷ more) = ⊥
+
+-- units of a set without its end
+abbrev pub part_of_set : ℕ → ℕ → TimedSet → TimedSet
+part_of_set k p set = record { time = set.time; units = take p (drop k set.units) }
+
 module _ (coded page : ℕ) where
   -- what is handed of the sets behind one
   pub record Bound (kind : Kind) (sets : List TimedSet) (come : List Bool) (left : List (Delivery (List ℕ))) : Type 0 where
     arrivals : List Arrival
     arrive : Arrive kind (timed_units sets) come arrivals
     are : left ≡ sets_in coded true (runs_of arrivals)
-
-  -- later units of a set, which come with its end
-  abbrev pub IsMiddle : Kind → TimedSet → List TimedSet → Type 0
-  IsMiddle next set [] = Unit {0}
-  IsMiddle next set (one ∷ []) = (k : ℕ) × (next ≡ Joined) × (1 ≤ k) × (k < length set.units) × (one ≡ rest_of_set k set)
-  IsMiddle next set (one ∷ two ∷ more) = ⊥
-
-  -- units of a set without its end
-  abbrev pub part_of_set : ℕ → ℕ → TimedSet → TimedSet
-  part_of_set k p set = record { time = set.time; units = take p (drop k set.units) }
 
   -- of a set that does not come whole so many losses are handed, and perhaps its later units; or, at the end of the stream, some
   -- of its units
