@@ -4,7 +4,7 @@ use Rattle.std.specs.Prelude.{find}
 use Rattle.std.specs.Bool.{if◌then◌else◌}
 use Rattle.std.specs.List.{AllByRecursion, AllZip, list_all, list_any, sum_by}
 use Rattle.std.specs.Option.{option_map}
-use Rattle.std.proofs.lemmas.List.{drop-drop}
+use Rattle.std.proofs.lemmas.List.{drop-drop, length-map}
 use Rattle.sub_base.specs.Lists.{prefixes}
 use Rattle.stream_syntax.specs.DataField.{Frame, segment}
 use Rattle.decoder_model.specs.Arrivals.{PesUnit, Arrival, loss, unit}
@@ -12,7 +12,7 @@ use Rattle.decoder_model.specs.Frames.{segments_in}
 use Rattle.decoder_model.specs.Sets.{Stretch, loss_between, run, runs_of, joined_to, Delivery, lost, whole, is_ended, frames_in, size_in, is_followed, set_of, sets_in}
 use Rattle.decoder_model.proofs.SentSets.{SetUnit, TimedSet, TimedUnit, timed, timed_units, segments_of_units, size_of_units, all_segments, IsBefore, AreSetUnits, IsTimedSet, IsApart, HaveDifferentTimes, IsPlaced, unit_of, delivered, handed_whole, first_time, same_time, run_frames, run_size, no_end_among, not_ended, none_ends, front_bytes, front_not_ended, segments_are, find-map}
 use Rattle.shown_stream.proofs.LateSets.{rest_of_set, rest_is_set}
-use Rattle.shown_stream.proofs.LostUnits.{Kind, Fresh, Joined, Apart, Steps, missed_from, losses, Arrive, none_arrive, one_arrives, one_missed, lost_before}
+use Rattle.shown_stream.proofs.LostUnits.{Kind, Fresh, Joined, Apart, Steps, missed_from, losses, losses-add, Arrive, none_arrive, one_arrives, one_missed, lost_before}
 
 -- ---- steps
 
@@ -115,6 +115,24 @@ IsMiddle next set (one ∷ two ∷ more) = ⊥
 abbrev pub part_of_set : ℕ → ℕ → TimedSet → TimedSet
 part_of_set k p set = record { time = set.time; units = take p (drop k set.units) }
 
+-- all of the first so many come, and some of them do
+abbrev pub all_come : ℕ → List Bool → Bool
+all_come n come = list_all (λ b. b) (take n come)
+
+abbrev pub some_come : ℕ → List Bool → Bool
+some_come n come = list_any (λ b. b) (take n come)
+
+-- where nothing arrives of units behind missing pieces, nothing does of the later ones
+none_left : (units more : List TimedUnit) (come : List Bool) (arrivals : List Arrival) → Arrive Apart (units ++ more) come arrivals → arrivals ≡ [] → Arrive Apart more (drop (length units) come) []
+none_left [] more come arrivals arrive e = subst (Arrive Apart more come) e arrive
+none_left (one ∷ units) more [] arrivals arrive e = elim arrive [ ]
+none_left (one ∷ units) more (true ∷ come) arrivals (one_arrives place rest) e = absurd (omega (arith, ap length e))
+none_left (one ∷ units) more (false ∷ come) arrivals (one_missed {next = Fresh} count steps rest) e = absurd steps
+none_left (one ∷ units) more (false ∷ come) arrivals (one_missed {next = Joined} zero steps rest) e = absurd (omega (arith, steps))
+none_left (one ∷ units) more (false ∷ come) arrivals (one_missed {next = Joined} (suc count) steps rest) e = absurd (omega (arith, ap length e))
+none_left (one ∷ units) more (false ∷ come) arrivals (one_missed {next = Apart} {arrivals = left} zero steps rest) e = none_left units more come left rest e
+none_left (one ∷ units) more (false ∷ come) arrivals (one_missed {next = Apart} (suc count) steps rest) e = absurd (omega (arith, ap length e))
+
 module _ (coded page : ℕ) where
   -- what is handed of the sets behind one
   pub record Bound (kind : Kind) (sets : List TimedSet) (come : List Bool) (left : List (Delivery (List ℕ))) : Type 0 where
@@ -126,7 +144,7 @@ module _ (coded page : ℕ) where
   -- of its units
   pub data MissedOut (kind : Kind) (set : TimedSet) (sets : List TimedSet) (come : List Bool) (deliveries : List (Delivery (List ℕ))) : Type 0 where
     goes_by : (next : Kind) (n : ℕ) (middle : List TimedSet) (left : List (Delivery (List ℕ))) → Steps kind n next → IsMiddle next set middle → Bound next sets come left → deliveries ≡ losts n ++ (map delivered middle ++ left) → MissedOut kind set sets come deliveries
-    stays_open : (n k p : ℕ) → AllFalse come → deliveries ≡ losts n ++ delivered (part_of_set k p set) ∷ [] → MissedOut kind set sets come deliveries
+    stays_open : (n k p : ℕ) → Arrive Apart (timed_units sets) come [] → deliveries ≡ losts n ++ delivered (part_of_set k p set) ∷ [] → MissedOut kind set sets come deliveries
 
   lose_more : (kind first : Kind) (count : ℕ) (set : TimedSet) (sets : List TimedSet) (come : List Bool) (deliveries : List (Delivery (List ℕ))) → Steps kind count first → MissedOut first set sets come deliveries → MissedOut kind set sets come (losts count ++ deliveries)
   lose_more kind first count set sets come deliveries step (goes_by next n middle left steps is bound are) =
@@ -140,11 +158,6 @@ module _ (coded page : ℕ) where
   weaken : (kind : Kind) (set : TimedSet) (sets : List TimedSet) (come : List Bool) (deliveries : List (Delivery (List ℕ))) → MissedOut (missed_from kind) set sets come deliveries → MissedOut kind set sets come deliveries
   weaken kind set sets come deliveries (goes_by next n middle left steps is bound are) = goes_by next n middle left (missed_step kind next n steps) is bound are
   weaken kind set sets come deliveries (stays_open n k p none are) = stays_open n k p none are
-
-  drop_false : (n : ℕ) (come : List Bool) → AllFalse come → AllFalse (drop n come)
-  drop_false zero come h = h
-  drop_false (suc n) [] h = tt
-  drop_false (suc n) (b ∷ come) h = drop_false n come h.1
 
   -- ---- runs
 
@@ -199,13 +212,10 @@ module _ (coded page : ℕ) where
 
   -- ---- the units of a set in a row
 
-  abbrev all_come : ℕ → List Bool → Bool
-  all_come n come = list_all (λ b. b) (take n come)
-
   -- the units of a set that come in a row up to its end, or up to one that is missing
   data GroupEnds (set : TimedSet) (units : List SetUnit) (sets : List TimedSet) (come : List Bool) (found : List PesUnit) (behind : List Stretch) : Type 0 where
     group_all : all_come (length units) come ≡ true → AllZip (IsPlaced set.time) found units → Bound Joined sets (drop (length units) come) (sets_in coded true behind) → GroupEnds set units sets come found behind
-    group_part : (p : ℕ) → p < length units → all_come (length units) come ≡ false → AllZip (IsPlaced set.time) found (take p units) → ((behind ≡ []) × AllFalse (drop (length units) come)) ⊎ ((rest : List Stretch) × (behind ≡ loss_between ∷ rest))
+    group_part : (p : ℕ) → p < length units → all_come (length units) come ≡ false → AllZip (IsPlaced set.time) found (take p units) → ((behind ≡ []) × Arrive Apart (timed_units sets) (drop (length units) come) []) ⊎ ((rest : List Stretch) × (behind ≡ loss_between ∷ rest))
         → MissedOut Apart set sets (drop (length units) come) (sets_in coded true behind) → GroupEnds set units sets come found behind
 
   record Group (set : TimedSet) (units : List SetUnit) (sets : List TimedSet) (come : List Bool) (stretches : List Stretch) : Type 0 where
@@ -248,7 +258,7 @@ module _ (coded page : ℕ) where
 
   -- what is handed on of a run of units of a set without its end, and of what stands behind it
   open_out : (kind : Kind) (set : TimedSet) (k p : ℕ) (sets : List TimedSet) (come : List Bool) (first : PesUnit) (more : List PesUnit) (behind : List Stretch) → IsTimedSet coded page set → k + p < length set.units → AllZip (IsPlaced set.time) (first ∷ more) (take p (drop k set.units))
-      → ((behind ≡ []) × AllFalse come) ⊎ ((rest : List Stretch) × (behind ≡ loss_between ∷ rest)) → MissedOut Apart set sets come (sets_in coded true behind) → MissedOut (missed_from kind) set sets come (sets_in coded true (run first more ∷ behind))
+      → ((behind ≡ []) × Arrive Apart (timed_units sets) come []) ⊎ ((rest : List Stretch) × (behind ≡ loss_between ∷ rest)) → MissedOut Apart set sets come (sets_in coded true behind) → MissedOut (missed_from kind) set sets come (sets_in coded true (run first more ∷ behind))
   open_out kind set k p sets come first more behind is within placed (inl none) out =
       stays_open 0 k p none.1 (
         ap (λ front. front ++ sets_in coded true behind) (handed_open set k p first more (is_followed true behind) is within placed)
@@ -331,11 +341,13 @@ module _ (coded page : ℕ) where
           out kind arrivals arrive = weaken kind set sets (drop (length units) more) (sets_in coded true (runs_of arrivals)) (missed kind arrivals arrive)
 
           led : (arrivals : List Arrival) → Arrive Joined (timed set.time one ∷ (map (timed set.time) units ++ timed_units sets)) (false ∷ more) arrivals
-              → ((runs_of arrivals ≡ []) × AllFalse (drop (length units) more)) ⊎ ((rest : List Stretch) × (runs_of arrivals ≡ loss_between ∷ rest))
+              → ((runs_of arrivals ≡ []) × Arrive Apart (timed_units sets) (drop (length units) more) []) ⊎ ((rest : List Stretch) × (runs_of arrivals ≡ loss_between ∷ rest))
           led arrivals (one_missed {arrivals = left} count steps rest) = told (gap_led (false ∷ more) (losses count ++ left) (one_missed {one = timed set.time one} count steps rest))
             where
-              told : ((losses count ++ left ≡ []) × AllFalse (false ∷ more)) ⊎ ((rest : List Arrival) × (losses count ++ left ≡ loss ∷ rest)) → ((runs_of (losses count ++ left) ≡ []) × AllFalse (drop (length units) more)) ⊎ ((rest : List Stretch) × (runs_of (losses count ++ left) ≡ loss_between ∷ rest))
-              told (inl none) = inl (ap runs_of none.0, drop_false (length units) more none.1.1)
+              told : ((losses count ++ left ≡ []) × AllFalse (false ∷ more)) ⊎ ((rest : List Arrival) × (losses count ++ left ≡ loss ∷ rest)) → ((runs_of (losses count ++ left) ≡ []) × Arrive Apart (timed_units sets) (drop (length units) more) []) ⊎ ((rest : List Stretch) × (runs_of (losses count ++ left) ≡ loss_between ∷ rest))
+              told (inl none) =
+                  let same : length (map (timed set.time) units) ≡ length units = length-map units (timed set.time) in
+                  inl (ap runs_of none.0, subst (λ (n : ℕ). Arrive Apart (timed_units sets) (drop n more) []) same (none_left (timed set.time one ∷ map (timed set.time) units) (timed_units sets) (false ∷ more) (losses count ++ left) (one_missed {one = timed set.time one} count steps rest) none.0))
               told (inr more_of) = inr (runs_of more_of.0, ap runs_of more_of.1)
 
           grouped : (arrivals : List Arrival) → Arrive Joined (timed set.time one ∷ (map (timed set.time) units ++ timed_units sets)) (false ∷ more) arrivals → Group set (one ∷ units) sets (false ∷ more) (runs_of arrivals)
@@ -345,7 +357,7 @@ module _ (coded page : ℕ) where
             ends = group_part 0 (omega arith) refl tt (led arrivals arrive) (missed Joined arrivals arrive);
           }
             where
-              led_is : ((runs_of arrivals ≡ []) × AllFalse (drop (length units) more)) ⊎ ((rest : List Stretch) × (runs_of arrivals ≡ loss_between ∷ rest)) → IsOther set.time (runs_of arrivals)
+              led_is : ((runs_of arrivals ≡ []) × Arrive Apart (timed_units sets) (drop (length units) more) []) ⊎ ((rest : List Stretch) × (runs_of arrivals ≡ loss_between ∷ rest)) → IsOther set.time (runs_of arrivals)
               led_is (inl none) = subst (IsOther set.time) (sym none.0) tt
               led_is (inr some) = subst (IsOther set.time) (sym some.1) tt
 
@@ -402,3 +414,50 @@ module _ (coded page : ℕ) where
               subst (SetOut kind set sets (drop (length units) more) (sets_in coded true (runs_of (lost_before kind ++ unit first ∷ left)))) (sym all)
               (set_missed (subst (MissedOut (missed_from kind) set sets (drop (length units) more)) (sym (lost_first ∙ ap (λ rest. losts (count_before kind) ++ rest) (ap (sets_in coded true) runs)))
               (lost_out kind (sets_in coded true (run first group.found ∷ group.behind)) (open_out Joined set 0 (suc p) sets (drop (length units) more) first group.found group.behind is (omega (arith, many, within)) mine led out))))
+
+  -- ---- sets of which nothing comes
+
+  -- of units of which none comes whole there are losses alone
+  record NoneOut (kind : Kind) (more : List TimedUnit) (come : List Bool) (arrivals : List Arrival) : Type 0 where
+    next : Kind
+    count : ℕ
+    left : List Arrival
+    steps : Steps kind count next
+    arrive : Arrive next more come left
+    are : arrivals ≡ losses count ++ left
+
+  none_out : (kind : Kind) (time : ℕ) (units : List SetUnit) (more : List TimedUnit) (come : List Bool) (arrivals : List Arrival) → some_come (length units) come ≡ false → Arrive kind (map (timed time) units ++ more) come arrivals → NoneOut kind more (drop (length units) come) arrivals
+  none_out kind time [] more come arrivals none arrive = record { next = kind; count = 0; left = arrivals; steps = no_step kind; arrive = arrive; are = refl }
+  none_out kind time (one ∷ units) more [] arrivals none arrive = elim arrive [ ]
+  none_out kind time (one ∷ units) more (true ∷ come) arrivals none (one_arrives place rest) = absurd (let no : true ≡ false = none in cc)
+  none_out kind time (one ∷ units) more (false ∷ come) arrivals none (one_missed {next = next} {arrivals = left} count steps rest) =
+      let behind = none_out next time units more come left none rest in
+      record {
+        next = behind.next;
+        count = count + behind.count;
+        left = behind.left;
+        steps = more_steps kind next behind.next count behind.count (missed_step kind next count steps) behind.steps;
+        arrive = behind.arrive;
+        are = ap (λ all. losses count ++ all) behind.are ∙ losses-add count behind.count behind.left;
+      }
+
+  -- what is handed of a set of which no unit comes whole
+  pub record NothingOut (kind : Kind) (sets : List TimedSet) (come : List Bool) (deliveries : List (Delivery (List ℕ))) : Type 0 where
+    next : Kind
+    n : ℕ
+    left : List (Delivery (List ℕ))
+    steps : Steps kind n next
+    bound : Bound next sets come left
+    are : deliveries ≡ losts n ++ left
+
+  pub nothing_out : (kind : Kind) (set : TimedSet) (sets : List TimedSet) (come : List Bool) (left : List (Delivery (List ℕ))) → some_come (length set.units) come ≡ false → Bound kind (set ∷ sets) come left → NothingOut kind sets (drop (length set.units) come) left
+  nothing_out kind set sets come left none bound =
+      let out = none_out kind set.time set.units (timed_units sets) come bound.arrivals none bound.arrive in
+      record {
+        next = out.next;
+        n = out.count;
+        left = sets_in coded true (runs_of out.left);
+        steps = out.steps;
+        bound = record { arrivals = out.left; arrive = out.arrive; are = refl };
+        are = bound.are ∙ ap (λ all. sets_in coded true (runs_of all)) out.are ∙ lose_first coded out.count out.left;
+      }

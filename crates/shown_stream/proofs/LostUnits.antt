@@ -97,7 +97,7 @@ missed_from Apart = Apart
 abbrev pub losses : ℕ → List Arrival
 losses n = replicate n loss
 
-losses-add : (n k : ℕ) (rest : List Arrival) → losses n ++ (losses k ++ rest) ≡ losses (n + k) ++ rest
+pub losses-add : (n k : ℕ) (rest : List Arrival) → losses n ++ (losses k ++ rest) ≡ losses (n + k) ++ rest
 losses-add zero k rest = ap (λ count. losses count ++ rest) (omega arith)
 losses-add (suc n) k rest = let same : suc (n + k) ≡ suc n + k = omega arith in ap (λ all. loss ∷ all) (losses-add n k rest) ∙ ap (λ count. losses count ++ rest) same
 
