@@ -23,6 +23,7 @@ pub mod LostPieces
 pub mod LostUnits
 pub mod LostSets
 pub mod LostSteps
+pub mod LostRuns
 pub mod LatePlaces
 pub mod LateAnchors
 pub mod PlannedRegions

@@ -442,22 +442,32 @@ module _ (coded page : ℕ) where
       }
 
   -- what is handed of a set of which no unit comes whole
-  pub record NothingOut (kind : Kind) (sets : List TimedSet) (come : List Bool) (deliveries : List (Delivery (List ℕ))) : Type 0 where
+  pub record NothingOut (kind : Kind) (set : TimedSet) (sets : List TimedSet) (come : List Bool) (deliveries : List (Delivery (List ℕ))) : Type 0 where
     next : Kind
     n : ℕ
     left : List (Delivery (List ℕ))
-    steps : Steps kind n next
-    bound : Bound next sets come left
+    steps : Steps (missed_from kind) n next
+    bound : Bound next sets (drop (length set.units) come) left
     are : deliveries ≡ losts n ++ left
+    not_all : all_come (length set.units) come ≡ false
 
-  pub nothing_out : (kind : Kind) (set : TimedSet) (sets : List TimedSet) (come : List Bool) (left : List (Delivery (List ℕ))) → some_come (length set.units) come ≡ false → Bound kind (set ∷ sets) come left → NothingOut kind sets (drop (length set.units) come) left
-  nothing_out kind set sets come left none bound =
-      let out = none_out kind set.time set.units (timed_units sets) come bound.arrivals none bound.arrive in
-      record {
-        next = out.next;
-        n = out.count;
-        left = sets_in coded true (runs_of out.left);
-        steps = out.steps;
-        bound = record { arrivals = out.left; arrive = out.arrive; are = refl };
-        are = bound.are ∙ ap (λ all. sets_in coded true (runs_of all)) out.are ∙ lose_first coded out.count out.left;
-      }
+  pub nothing_out : (kind : Kind) (set : TimedSet) (sets : List TimedSet) (come : List Bool) (left : List (Delivery (List ℕ))) → 1 ≤ length set.units → some_come (length set.units) come ≡ false → Bound kind (set ∷ sets) come left → NothingOut kind set sets come left
+  nothing_out kind set sets come left any none bound = by set.units refl any come bound.arrivals none bound.arrive bound.are
+    where
+      by : (units : List SetUnit) → set.units ≡ units → 1 ≤ length units → (come : List Bool) (arrivals : List Arrival) → some_come (length units) come ≡ false → Arrive kind (map (timed set.time) units ++ timed_units sets) come arrivals
+          → left ≡ sets_in coded true (runs_of arrivals) → NothingOut kind set sets come left
+      by [] same any come arrivals none arrive are = absurd (omega arith)
+      by (one ∷ units) same any [] arrivals none arrive are = elim arrive [ ]
+      by (one ∷ units) same any (true ∷ come) arrivals none arrive are = absurd (let no : true ≡ false = none in cc)
+      by (one ∷ units) same any (false ∷ come) arrivals none (one_missed {next = next} {arrivals = rest} count steps arrive) are =
+          let out = none_out next set.time units (timed_units sets) come rest none arrive in
+          let many : length set.units ≡ suc (length units) = ap length same in
+          record {
+            next = out.next;
+            n = count + out.count;
+            left = sets_in coded true (runs_of out.left);
+            steps = more_steps (missed_from kind) next out.next count out.count steps out.steps;
+            bound = subst (λ (n : ℕ). Bound out.next sets (drop n (false ∷ come)) (sets_in coded true (runs_of out.left))) (sym many) (record { arrivals = out.left; arrive = out.arrive; are = refl });
+            are = are ∙ lose_first coded count rest ∙ ap (λ all. losts count ++ sets_in coded true (runs_of all)) out.are ∙ ap (λ all. losts count ++ all) (lose_first coded out.count out.left) ∙ losts-add count out.count (sets_in coded true (runs_of out.left));
+            not_all = ap (λ n. all_come n (false ∷ come)) many;
+          }

@@ -107,7 +107,7 @@ pub none_known : epoch_of [] ≡ None
 unfolding epoch_of
 none_known = refl
 
-unknown_with : (sets : List (List Content)) (time size : ℕ) (readings : List Reading) (verdict : SetEnd) → IsNormal (contents_in readings) → epoch_of sets ≡ None → epoch_of (sets_with sets (whole time size readings) (Some verdict)) ≡ None
+pub unknown_with : (sets : List (List Content)) (time size : ℕ) (readings : List Reading) (verdict : SetEnd) → IsNormal (contents_in readings) → epoch_of sets ≡ None → epoch_of (sets_with sets (whole time size readings) (Some verdict)) ≡ None
 unknown_with sets time size readings Shown normal unknown = still_unknown (contents_in readings) sets normal unknown
 unknown_with sets time size readings Waiting normal unknown = still_unknown (contents_in readings) sets normal unknown
 unknown_with sets time size readings (Broken fault) normal unknown = none_known
