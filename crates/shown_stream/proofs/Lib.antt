@@ -24,6 +24,7 @@ pub mod LostUnits
 pub mod LostSets
 pub mod LostSteps
 pub mod LostRuns
+pub mod LostWalk
 pub mod LatePlaces
 pub mod LateAnchors
 pub mod PlannedRegions

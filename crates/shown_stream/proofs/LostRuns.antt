@@ -56,10 +56,10 @@ KnownBy script profile anchor Joined past plan = IsUnknown profile anchor past �
 KnownBy script profile anchor Apart past plan = Unit {0}
 
 -- with a set that comes whole a run goes on or begins, and its page is shown
-record RunsOn (script : Script) (profile : Profile) (anchor : ℕ) (sets : List PlannedSet) (past : List (Delivery Reading)) (plan left : List PlannedSet) (set : PlannedSet) (delivery : Delivery Reading) : Type 0 where
-  running : IsRunning script profile anchor (delivery ∷ past) (set ∷ plan)
-  shows : (tick : ℕ) → set.pts ≤ tick → IsBefore tick left → Agrees (view_at profile anchor tick (delivery ∷ past)) (authored_view script tick)
-  held : (known : List (List Content)) → known_epoch profile anchor (delivery ∷ past) ≡ Some known → HoldsSet script plan set known
+pub record RunsOn (script : Script) (profile : Profile) (anchor : ℕ) (sets : List PlannedSet) (past : List (Delivery Reading)) (plan left : List PlannedSet) (set : PlannedSet) (delivery : Delivery Reading) : Type 0 where
+  pub running : IsRunning script profile anchor (delivery ∷ past) (set ∷ plan)
+  pub shows : (tick : ℕ) → set.pts ≤ tick → IsBefore tick left → Agrees (view_at profile anchor tick (delivery ∷ past)) (authored_view script tick)
+  pub held : (known : List (List Content)) → known_epoch profile anchor (delivery ∷ past) ≡ Some known → HoldsSet script plan set known
 
 runs_with : {sent : TimedSet} (script : Script) (profile : Profile) (anchor : ℕ) (sets : List PlannedSet) (past : List (Delivery Reading)) (plan left : List PlannedSet) (set : PlannedSet) → IsPlan script profile sets → sets ≡ reverse plan ++ (set ∷ left)
     → (comes : SetComes script set sent) → lifted_time anchor past (reading_of comes) ≡ Some set.pts → IsRun script (set ∷ plan) (comes.contents ∷ sets_since profile anchor past) → RunsOn script profile anchor sets past plan left set (reading_of comes)
@@ -105,15 +105,15 @@ unknown_on {set = set} {sent = sent} profile anchor past comes lifted unknown no
 -- ---- a set that comes whole
 
 -- what is so behind a set that has come whole
-record WholeAfter (script : Script) (profile : Profile) (anchor : ℕ) (sets : List PlannedSet) (past : List (Delivery Reading)) (plan left : List PlannedSet) (set : PlannedSet) (delivery : Delivery Reading) : Type 0 where
-  known : IsUnknown profile anchor (delivery ∷ past) ⊎ IsRunning script profile anchor (delivery ∷ past) (set ∷ plan)
-  held : (epoch : List (List Content)) → known_epoch profile anchor (delivery ∷ past) ≡ Some epoch → HoldsSet script plan set epoch
-  runs : IsRunning script profile anchor past plan ⊎ (is_whole set.state ≡ true) → RunsOn script profile anchor sets past plan left set delivery
+pub record WholeAfter (script : Script) (profile : Profile) (anchor : ℕ) (sets : List PlannedSet) (past : List (Delivery Reading)) (plan left : List PlannedSet) (set : PlannedSet) (delivery : Delivery Reading) : Type 0 where
+  pub known : IsUnknown profile anchor (delivery ∷ past) ⊎ IsRunning script profile anchor (delivery ∷ past) (set ∷ plan)
+  pub held : (epoch : List (List Content)) → known_epoch profile anchor (delivery ∷ past) ≡ Some epoch → HoldsSet script plan set epoch
+  pub runs : IsRunning script profile anchor past plan ⊎ (is_whole set.state ≡ true) → RunsOn script profile anchor sets past plan left set delivery
 
-none_known_of : (profile : Profile) (anchor : ℕ) (past : List (Delivery Reading)) → IsUnknown profile anchor past → (known : List (List Content)) → known_epoch profile anchor past ≡ Some known → ⊥
+pub none_known_of : (profile : Profile) (anchor : ℕ) (past : List (Delivery Reading)) → IsUnknown profile anchor past → (known : List (List Content)) → known_epoch profile anchor past ≡ Some known → ⊥
 none_known_of profile anchor past unknown known found = cc
 
-whole_after : {sent : TimedSet} (script : Script) (profile : Profile) (anchor : ℕ) (sets : List PlannedSet) (past : List (Delivery Reading)) (plan left : List PlannedSet) (set : PlannedSet) → IsPlan script profile sets → sets ≡ reverse plan ++ (set ∷ left)
+pub whole_after : {sent : TimedSet} (script : Script) (profile : Profile) (anchor : ℕ) (sets : List PlannedSet) (past : List (Delivery Reading)) (plan left : List PlannedSet) (set : PlannedSet) → IsPlan script profile sets → sets ≡ reverse plan ++ (set ∷ left)
     → (comes : SetComes script set sent) → lifted_time anchor past (reading_of comes) ≡ Some set.pts → IsUnknown profile anchor past ⊎ IsRunning script profile anchor past plan → WholeAfter script profile anchor sets past plan left set (reading_of comes)
 whole_after script profile anchor sets past plan left set is_plan parts comes lifted (inr running) =
     let on = runs_on script profile anchor sets past plan left set is_plan parts comes lifted running in
@@ -142,25 +142,25 @@ whole_after script profile anchor sets past plan left set is_plan parts comes li
 abbrev pub LastBy : ℕ → ℕ → List (Delivery Reading) → List PlannedSet → Type 0
 LastBy origin anchor past left = (last_time anchor past ≡ None) ⊎ ((m : ℕ) × (last_time anchor past ≡ Some m) × IsTick origin m × AllByRecursion (λ time. m < time) (pts_of left))
 
-record Ahead (anchor : ℕ) (past : List (Delivery Reading)) (time : ℕ) : Type 0 where
-  last : Option ℕ
-  is_last : last_time anchor past ≡ last
-  ahead : IsAheadOf anchor last time
+pub record Ahead (anchor : ℕ) (past : List (Delivery Reading)) (time : ℕ) : Type 0 where
+  pub last : Option ℕ
+  pub is_last : last_time anchor past ≡ last
+  pub ahead : IsAheadOf anchor last time
 
-ahead_by : (origin anchor : ℕ) (past : List (Delivery Reading)) (set : PlannedSet) (left : List PlannedSet) → LastBy origin anchor past (set ∷ left) → IsTick origin set.pts → IsAheadOf anchor None set.pts → Ahead anchor past set.pts
+pub ahead_by : (origin anchor : ℕ) (past : List (Delivery Reading)) (set : PlannedSet) (left : List PlannedSet) → LastBy origin anchor past (set ∷ left) → IsTick origin set.pts → IsAheadOf anchor None set.pts → Ahead anchor past set.pts
 ahead_by origin anchor past set left (inl none) within suits = record { last = None; is_last = none; ahead = suits }
 ahead_by origin anchor past set left (inr some) within suits =
     let late = some.2.late in
     let early = within.early in
     record { last = Some some.0; is_last = some.1; ahead = (some.3.0, omega arith) }
 
-last_passed : (origin anchor : ℕ) (past now : List (Delivery Reading)) (set : PlannedSet) (left : List PlannedSet) → last_time anchor now ≡ last_time anchor past → LastBy origin anchor past (set ∷ left) → LastBy origin anchor now left
+pub last_passed : (origin anchor : ℕ) (past now : List (Delivery Reading)) (set : PlannedSet) (left : List PlannedSet) → last_time anchor now ≡ last_time anchor past → LastBy origin anchor past (set ∷ left) → LastBy origin anchor now left
 last_passed origin anchor past now set left same (inl none) = inl (same ∙ none)
 last_passed origin anchor past now set left same (inr some) = inr (some.0, same ∙ some.1, some.2, some.3.1)
 
 -- ---- what is known behind losses
 
-known_pushed : (script : Script) (profile : Profile) (anchor n : ℕ) (kind next : Kind) (past now : List (Delivery Reading)) (plan more : List PlannedSet) → KnownBy script profile anchor kind past plan → Steps (missed_from kind) n next → (n ≡ 0 → now ≡ past) → (1 ≤ n → IsUnknown profile anchor now)
+pub known_pushed : (script : Script) (profile : Profile) (anchor n : ℕ) (kind next : Kind) (past now : List (Delivery Reading)) (plan more : List PlannedSet) → KnownBy script profile anchor kind past plan → Steps (missed_from kind) n next → (n ≡ 0 → now ≡ past) → (1 ≤ n → IsUnknown profile anchor now)
     → KnownBy script profile anchor next now more
 known_pushed script profile anchor n Fresh Fresh past now plan more known steps none some = ap (known_epoch profile anchor) (none steps) ∙ known
 known_pushed script profile anchor zero Fresh Joined past now plan more known steps none some = inl (ap (known_epoch profile anchor) (none refl) ∙ known)
@@ -171,7 +171,7 @@ known_pushed script profile anchor n Joined Joined past now plan more known step
 known_pushed script profile anchor n Apart Fresh past now plan more known steps none some = absurd steps
 known_pushed script profile anchor n Apart Joined past now plan more known steps none some = inl (some steps)
 
-known_before : (script : Script) (profile : Profile) (anchor : ℕ) (kind : Kind) (past now : List (Delivery Reading)) (plan : List PlannedSet) → KnownBy script profile anchor kind past plan → (count_before kind ≡ 0 → now ≡ past) → (1 ≤ count_before kind → IsUnknown profile anchor now)
+pub known_before : (script : Script) (profile : Profile) (anchor : ℕ) (kind : Kind) (past now : List (Delivery Reading)) (plan : List PlannedSet) → KnownBy script profile anchor kind past plan → (count_before kind ≡ 0 → now ≡ past) → (1 ≤ count_before kind → IsUnknown profile anchor now)
     → IsUnknown profile anchor now ⊎ IsRunning script profile anchor now plan
 known_before script profile anchor Fresh past now plan known none some = inl (ap (known_epoch profile anchor) (none refl) ∙ known)
 known_before script profile anchor Joined past now plan known none some = subst (λ (all : List (Delivery Reading)). IsUnknown profile anchor all ⊎ IsRunning script profile anchor all plan) (sym (none refl)) known

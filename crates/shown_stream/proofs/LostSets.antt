@@ -136,9 +136,9 @@ none_left (one ∷ units) more (false ∷ come) arrivals (one_missed {next = Apa
 module _ (coded page : ℕ) where
   -- what is handed of the sets behind one
   pub record Bound (kind : Kind) (sets : List TimedSet) (come : List Bool) (left : List (Delivery (List ℕ))) : Type 0 where
-    arrivals : List Arrival
-    arrive : Arrive kind (timed_units sets) come arrivals
-    are : left ≡ sets_in coded true (runs_of arrivals)
+    pub arrivals : List Arrival
+    pub arrive : Arrive kind (timed_units sets) come arrivals
+    pub are : left ≡ sets_in coded true (runs_of arrivals)
 
   -- of a set that does not come whole so many losses are handed, and perhaps its later units; or, at the end of the stream, some
   -- of its units
@@ -443,13 +443,13 @@ module _ (coded page : ℕ) where
 
   -- what is handed of a set of which no unit comes whole
   pub record NothingOut (kind : Kind) (set : TimedSet) (sets : List TimedSet) (come : List Bool) (deliveries : List (Delivery (List ℕ))) : Type 0 where
-    next : Kind
-    n : ℕ
-    left : List (Delivery (List ℕ))
-    steps : Steps (missed_from kind) n next
-    bound : Bound next sets (drop (length set.units) come) left
-    are : deliveries ≡ losts n ++ left
-    not_all : all_come (length set.units) come ≡ false
+    pub next : Kind
+    pub n : ℕ
+    pub left : List (Delivery (List ℕ))
+    pub steps : Steps (missed_from kind) n next
+    pub bound : Bound next sets (drop (length set.units) come) left
+    pub are : deliveries ≡ losts n ++ left
+    pub not_all : all_come (length set.units) come ≡ false
 
   pub nothing_out : (kind : Kind) (set : TimedSet) (sets : List TimedSet) (come : List Bool) (left : List (Delivery (List ℕ))) → 1 ≤ length set.units → some_come (length set.units) come ≡ false → Bound kind (set ∷ sets) come left → NothingOut kind set sets come left
   nothing_out kind set sets come left any none bound = by set.units refl any come bound.arrivals none bound.arrive bound.are

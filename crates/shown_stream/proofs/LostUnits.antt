@@ -119,26 +119,26 @@ pub data Arrive : Kind → List TimedUnit → List Bool → List Arrival → Typ
 module _ (size page : ℕ) where
   -- how the pieces behind some stand, and what comes of them
   pub record Walking (kind : Kind) (number : ℕ) (rest : List Piece) (come : List Bool) (arrivals : List Arrival) : Type 0 where
-    last : Option ℕ
-    hand : Option (List ℕ)
-    since : Option ℕ
-    stands : StandsAt kind last hand number since
-    near : AreNear since come
-    walk : Walk size page last hand number rest come arrivals
+    pub last : Option ℕ
+    pub hand : Option (List ℕ)
+    pub since : Option ℕ
+    pub stands : StandsAt kind last hand number since
+    pub near : AreNear since come
+    pub walk : Walk size page last hand number rest come arrivals
 
   -- behind pieces: so many losses, and what comes of those behind
   pub record WalksOn (kind : Kind) (number : ℕ) (rest : List Piece) (come : List Bool) (arrivals : List Arrival) : Type 0 where
-    next : Kind
-    last : Option ℕ
-    hand : Option (List ℕ)
-    since : Option ℕ
-    count : ℕ
-    behind : List Arrival
-    are : arrivals ≡ losses count ++ behind
-    steps : Steps kind count next
-    stands : StandsAt next last hand number since
-    near : AreNear since come
-    walk : Walk size page last hand number rest come behind
+    pub next : Kind
+    pub last : Option ℕ
+    pub hand : Option (List ℕ)
+    pub since : Option ℕ
+    pub count : ℕ
+    pub behind : List Arrival
+    pub are : arrivals ≡ losses count ++ behind
+    pub steps : Steps kind count next
+    pub stands : StandsAt next last hand number since
+    pub near : AreNear since come
+    pub walk : Walk size page last hand number rest come behind
 
   -- a piece that does not come
   passed_on : (kind : Kind) (last : Option ℕ) (hand : Option (List ℕ)) (number : ℕ) (since : Option ℕ) (rest : List Piece) (come : List Bool) (arrivals : List Arrival) → StandsAt kind last hand number since → AreNear since (false ∷ come)
