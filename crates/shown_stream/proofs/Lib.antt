@@ -25,6 +25,7 @@ pub mod LostSets
 pub mod LostSteps
 pub mod LostRuns
 pub mod LostWalk
+pub mod LostViews
 pub mod LatePlaces
 pub mod LateAnchors
 pub mod PlannedRegions

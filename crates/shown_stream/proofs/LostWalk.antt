@@ -63,7 +63,7 @@ module _ (script : Script) (profile : Profile) (anchor origin page : ℕ) (sets 
     pub runs : all_come (length one.units) come ≡ true → ((kind ≡ Joined) × IsRunning script profile anchor past plan) ⊎ (is_whole set.state ≡ true)
         → (next ≡ Joined) × IsRunning script profile anchor now (set ∷ plan) × ((tick : ℕ) → set.pts ≤ tick → IsBefore tick left → Agrees (view_at profile anchor tick now) (authored_view script tick))
 
-  turned-both : {X : Type 0} (xs ys there : List X) → turned (xs ++ ys) there ≡ turned ys (turned xs there)
+  pub turned-both : {X : Type 0} (xs ys there : List X) → turned (xs ++ ys) there ≡ turned ys (turned xs there)
   turned-both [] ys there = refl
   turned-both (x ∷ xs) ys there = turned-both xs ys (x ∷ there)
 
