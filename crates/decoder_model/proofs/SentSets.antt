@@ -149,7 +149,7 @@ pub data AreOwnRuns : List Stretch → List TimedSet → Type 0 where
   own_run : {first : PesUnit} {more : List PesUnit} {rest : List Stretch} {set : TimedSet} {sets : List TimedSet} → AllZip (IsPlaced set.time) (first ∷ more) set.units → AreOwnRuns rest sets
       → AreOwnRuns (run first more ∷ rest) (set ∷ sets)
 
-first_time : (time : ℕ) (first : PesUnit) (more : List PesUnit) (units : List SetUnit) → AllZip (IsPlaced time) (first ∷ more) units → first.time ≡ time
+pub first_time : (time : ℕ) (first : PesUnit) (more : List PesUnit) (units : List SetUnit) → AllZip (IsPlaced time) (first ∷ more) units → first.time ≡ time
 first_time time first more [] h = absurd h
 first_time time first more (one ∷ units) h = ap (λ (found : PesUnit). found.time) h.0.1
 
@@ -163,7 +163,7 @@ not_joined time place one sets rest h (own_run {first = first} {more = more} {re
     subst (λ (same : Bool). AreOwnRuns (if same then run (unit_of place time one) (first ∷ more) ∷ behind else run (unit_of place time one) [] ∷ run first more ∷ behind) (set_of_units time (one ∷ []) ∷ next ∷ further)) (sym other)
     (own_run ((place, refl), tt) (own_run placed all))
 
-same_time : (time : ℕ) → eqb time time ≡ true
+pub same_time : (time : ℕ) → eqb time time ≡ true
 same_time time = grind (arith, nat_tests)
 
 is_joined : (time place : ℕ) (one next : SetUnit) (units : List SetUnit) (sets : List TimedSet) (rest : List Stretch) → AreOwnRuns rest (set_of_units time (next ∷ units) ∷ sets)
@@ -244,7 +244,7 @@ only_whole {X} test (x ∷ y ∷ xs) h =
     behind None = refl
     behind (Some front) = refl
 
-segments_are : (segments : List (List ℕ)) → segments_in (map segment segments) ≡ segments
+pub segments_are : (segments : List (List ℕ)) → segments_in (map segment segments) ≡ segments
 segments_are [] = refl
 segments_are (bytes ∷ segments) = ap (λ rest. bytes ∷ rest) (segments_are segments)
 
@@ -256,7 +256,7 @@ no_first_fault : (segments : List (List ℕ)) → first_fault_in (map segment se
 no_first_fault [] = refl
 no_first_fault (bytes ∷ segments) = no_first_fault segments
 
-no_end_among : (page : ℕ) (segments : List (List ℕ)) → AllByRecursion (IsBefore page) segments → list_any is_end (map segment segments) ≡ false
+pub no_end_among : (page : ℕ) (segments : List (List ℕ)) → AllByRecursion (IsBefore page) segments → list_any is_end (map segment segments) ≡ false
 no_end_among page [] h = refl
 no_end_among page (bytes ∷ segments) h = ap (λ end. end || list_any is_end (map segment segments)) h.0.no_end ∙ no_end_among page segments h.1
 
@@ -274,13 +274,13 @@ end_in (bytes ∷ segments) end e = by (eqb (byte_at 1 bytes) 0x80) (end_in segm
     by false e = e
 
 -- so many segments without an end among them, and within the buffer, are no ended set
-not_ended : (coded : ℕ) (segments : List (List ℕ)) → list_any is_end (map segment segments) ≡ false → sum_by length segments ≤ coded → is_ended coded (map segment segments) ≡ false
+pub not_ended : (coded : ℕ) (segments : List (List ℕ)) → list_any is_end (map segment segments) ≡ false → sum_by length segments ≤ coded → is_ended coded (map segment segments) ≡ false
 not_ended coded segments e small =
     let bytes : bytes_in (map segment segments) ≡ sum_by length segments = ap (sum_by length) (segments_are segments) in
     let room : ltb coded (bytes_in (map segment segments)) ≡ false = rw bytes (grind (arith, nat_tests)) in
     rw (e, no_fault segments, room) refl
 
-front_not_ended : (coded page : ℕ) (segments : List (List ℕ)) (k : ℕ) → AllByRecursion (IsBefore page) segments → sum_by length segments ≤ coded → is_ended coded (take k (map segment segments)) ≡ false
+pub front_not_ended : (coded page : ℕ) (segments : List (List ℕ)) (k : ℕ) → AllByRecursion (IsBefore page) segments → sum_by length segments ≤ coded → is_ended coded (take k (map segment segments)) ≡ false
 front_not_ended coded page segments k h small =
     ap (is_ended coded) (take-map segment k segments)
     ∙ not_ended coded (take k segments) (ap (list_any is_end) (sym (take-map segment k segments)) ∙ no_end_in page segments k h) (omega (arith, sum_by-take-le length segments k))
@@ -306,21 +306,21 @@ set_ends page (one ∷ next ∷ units) h =
     }
 
 -- before its last unit no segment ends a set
-none_ends : (page : ℕ) (units : List SetUnit) (k : ℕ) → AreSetUnits page units → k < length units → AllByRecursion (IsBefore page) (segments_of_units (take k units))
+pub none_ends : (page : ℕ) (units : List SetUnit) (k : ℕ) → AreSetUnits page units → k < length units → AllByRecursion (IsBefore page) (segments_of_units (take k units))
 none_ends page [] k h inside = absurd h
 none_ends page (one ∷ units) zero h inside = tt
 none_ends page (one ∷ []) (suc k) h inside = absurd (omega arith)
 none_ends page (one ∷ next ∷ units) (suc k) h inside =
     all-append (IsBefore page) one.segments (segments_of_units (take k (next ∷ units))) h.1 (none_ends page (next ∷ units) k h.2 (omega arith))
 
-front_bytes : (units : List SetUnit) (k : ℕ) → sum_by length (segments_of_units (take k units)) ≤ sum_by length (segments_of_units units)
+pub front_bytes : (units : List SetUnit) (k : ℕ) → sum_by length (segments_of_units (take k units)) ≤ sum_by length (segments_of_units units)
 front_bytes units zero = omega arith
 front_bytes [] (suc k) = omega arith
 front_bytes (one ∷ units) (suc k) =
     omega (arith, front_bytes units k, sum_by-append length one.segments (segments_of_units (take k units)), sum_by-append length one.segments (segments_of_units units))
 
 -- the frames and the size of the units of a run
-run_frames : (time : ℕ) (found : List PesUnit) (units : List SetUnit) → AllZip (IsPlaced time) found units → frames_in found ≡ map segment (segments_of_units units)
+pub run_frames : (time : ℕ) (found : List PesUnit) (units : List SetUnit) → AllZip (IsPlaced time) found units → frames_in found ≡ map segment (segments_of_units units)
 run_frames time [] [] h = refl
 run_frames time [] (one ∷ units) h = absurd h
 run_frames time (first ∷ found) [] h = absurd h
@@ -329,7 +329,7 @@ run_frames time (first ∷ found) (one ∷ units) h =
     ∙ ap (λ rest. map segment one.segments ++ rest) (run_frames time found units h.1)
     ∙ sym (map-append segment one.segments (segments_of_units units))
 
-run_size : (time : ℕ) (found : List PesUnit) (units : List SetUnit) → AllZip (IsPlaced time) found units → size_in found ≡ size_of_units units
+pub run_size : (time : ℕ) (found : List PesUnit) (units : List SetUnit) → AllZip (IsPlaced time) found units → size_in found ≡ size_of_units units
 run_size time [] [] h = refl
 run_size time [] (one ∷ units) h = absurd h
 run_size time (first ∷ found) [] h = absurd h
@@ -376,7 +376,7 @@ all_to_end coded page set found h are = only_whole (λ front. is_ended coded (fr
 abbrev pub delivered : TimedSet → Delivery (List ℕ)
 delivered set = whole set.time (size_of_units set.units) (all_segments set)
 
-handed_whole : (coded page : ℕ) (set : TimedSet) (first : PesUnit) (more : List PesUnit) (followed : Bool) → IsTimedSet coded page set → AllZip (IsPlaced set.time) (first ∷ more) set.units
+pub handed_whole : (coded page : ℕ) (set : TimedSet) (first : PesUnit) (more : List PesUnit) (followed : Bool) → IsTimedSet coded page set → AllZip (IsPlaced set.time) (first ∷ more) set.units
     → set_of coded first.time (first ∷ more) followed (find (is_ended coded) (prefixes (frames_in (first ∷ more)))) ≡ delivered set ∷ []
 handed_whole coded page set first more followed h are =
     let fits = h.fits in

@@ -55,12 +55,12 @@ use Rattle.shown_stream.proofs.ShownSets.{IsAheadOf, AreAheadOf, IsIdle, lifted_
 -- ---- what comes before the sets that come whole
 
 -- a part of segments that are read is read
-part_read : (xs ys : List (List ℕ)) (readings : List Reading) → AreReadings (xs ++ ys) readings → (more : List Reading) × AreReadings ys more
+pub part_read : (xs ys : List (List ℕ)) (readings : List Reading) → AreReadings (xs ++ ys) readings → (more : List Reading) × AreReadings ys more
 part_read [] ys readings are = (readings, are)
 part_read (x ∷ xs) ys [] are = absurd are
 part_read (x ∷ xs) ys (reading ∷ readings) are = part_read xs ys readings are.1
 
-rest_read : (k : ℕ) (units : List SetUnit) (readings : List Reading) → AreReadings (segments_of_units units) readings → (more : List Reading) × AreReadings (segments_of_units (drop k units)) more
+pub rest_read : (k : ℕ) (units : List SetUnit) (readings : List Reading) → AreReadings (segments_of_units units) readings → (more : List Reading) × AreReadings (segments_of_units (drop k units)) more
 rest_read zero units readings are = (readings, are)
 rest_read (suc k) [] readings are = (readings, are)
 rest_read (suc k) (one ∷ units) readings are = let part = part_read one.segments (segments_of_units units) readings are in rest_read k units part.0 part.1
@@ -124,7 +124,7 @@ none_begun script profile table sets missed anchor first entry from = record {
   last = None;
   is_last = no_time anchor;
   ahead = first_ahead script profile table sets missed anchor first entry from;
-  holds = holds_none script profile anchor sets;
+  holds = holds_none script profile anchor sets (λ number set. Unit {0});
 }
 
 -- later units of a set are read
@@ -168,7 +168,7 @@ rest_begun script profile page table sets missed anchor first one entry cut =
       last = Some cut.set.pts;
       is_last = one_time anchor cut.set.pts delivery kept;
       ahead = near_all anchor script.origin cut.set.pts (drop first sets) (omega arith) its.0 its.1 (subst (λ (left : List PlannedSet). IsStrictlyIncreasing (pts_of left)) behind rise);
-      holds = holds_next script profile anchor sets [] plan (drop (suc cut.number) sets) cut.set delivery entry.plan parts kept (λ known found. absurd (none_with idle known found)) (holds_none script profile anchor sets);
+      holds = holds_next script profile anchor sets (λ number set. Unit {0}) [] plan (drop (suc cut.number) sets) cut.set delivery entry.plan parts kept (λ come known found. absurd (none_with idle known found)) (holds_none script profile anchor sets (λ number set. Unit {0}));
     }
 
 -- ---- the theorem

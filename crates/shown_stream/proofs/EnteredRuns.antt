@@ -70,7 +70,7 @@ next_entered script profile anchor sets past plan left before set entry is_plan 
   last = last_is anchor past comes lifted;
   come = let rise = ahead.0.0 in let come = entered.come in omega arith;
   shows = shows;
-  holds = holds_next script profile anchor sets past (before ∷ plan) left set (reading_of comes) is_plan parts lifted (kept_holds profile anchor past (before ∷ plan) set comes.contents (reading_of comes) kept shown) entered.holds;
+  holds = holds_next script profile anchor sets (λ number set. Unit {0}) past (before ∷ plan) left set (reading_of comes) is_plan parts lifted (λ come. kept_holds profile anchor past (before ∷ plan) set comes.contents (reading_of comes) kept shown) entered.holds;
 }
   where
     lifted : lifted_time anchor past (reading_of comes) ≡ Some set.pts
@@ -124,7 +124,7 @@ first_entered script profile anchor sets past last plan left set entry is_plan p
   last = last_is anchor past comes lifted;
   come = omega (arith, time);
   shows = shows;
-  holds = holds_next script profile anchor sets past plan left set (reading_of comes) is_plan parts lifted (kept_holds profile anchor past plan set comes.contents (reading_of comes) kept shown) holds;
+  holds = holds_next script profile anchor sets (λ number set. Unit {0}) past plan left set (reading_of comes) is_plan parts lifted (λ come. kept_holds profile anchor past plan set comes.contents (reading_of comes) kept shown) holds;
 }
   where
     lifted : lifted_time anchor past (reading_of comes) ≡ Some set.pts
@@ -169,7 +169,7 @@ wait_for script profile anchor missed table number sets taken past last plan (se
     by (is_whole set.state) refl
     (λ normal. wait_for script profile anchor missed table (number + 1) sets (delivered one ∷ taken) (reading_of come.0 ∷ past) (Some set.pts) (set ∷ plan) left sent is_plan whole (last_is anchor past come.0 lifted) ahead.2 from.1 come.1 (is_read come.0, read)
     (still_idle profile anchor past come.0 idle lifted normal)
-    (holds_next script profile anchor sets past plan left set (reading_of come.0) is_plan parts lifted (λ known found. absurd (none_with (still_idle profile anchor past come.0 idle lifted normal) known found)) holds))
+    (holds_next script profile anchor sets (λ number set. Unit {0}) past plan left set (reading_of come.0) is_plan parts lifted (λ own known found. absurd (none_with (still_idle profile anchor past come.0 idle lifted normal) known found)) holds))
   where
     lifted : lifted_time anchor past (reading_of come.0) ≡ Some set.pts
     lifted = kept_at anchor last past come.0 before ahead.0 ahead.1

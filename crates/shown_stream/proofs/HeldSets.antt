@@ -62,16 +62,17 @@ HoldsEach script profile anchor sets past = HoldsWhole script profile anchor set
 no_more : {X : Type 0} (later before : List X) (x : X) → [] ≡ later ++ x ∷ before → ⊥
 no_more later before x e = omega (arith, ap length e, length-append later (x ∷ before))
 
-pub holds_none : (script : Script) (profile : Profile) (anchor : ℕ) (sets : List PlannedSet) → HoldsEach script profile anchor sets []
-holds_none script profile anchor sets later before delivery e front back set parts come lifted known is = absurd (no_more later before delivery e)
+pub holds_none : (script : Script) (profile : Profile) (anchor : ℕ) (sets : List PlannedSet) (ComesWhole : ℕ → PlannedSet → Type 0) → HoldsWhole script profile anchor sets ComesWhole []
+holds_none script profile anchor sets ComesWhole later before delivery e front back set parts come lifted known is = absurd (no_more later before delivery e)
 
 same_some : (a b : ℕ) → Some a ≡ Some b → a ≡ b
 same_some a b e = cc
 
-pub holds_next : (script : Script) (profile : Profile) (anchor : ℕ) (sets : List PlannedSet) (past : List (Delivery Reading)) (plan left : List PlannedSet) (set : PlannedSet) (delivery : Delivery Reading) → IsPlan script profile sets → sets ≡ reverse plan ++ (set ∷ left)
-    → lifted_time anchor past delivery ≡ Some set.pts → ((known : List (List Content)) → known_epoch profile anchor (delivery ∷ past) ≡ Some known → HoldsSet script plan set known) → HoldsEach script profile anchor sets past
-    → HoldsEach script profile anchor sets (delivery ∷ past)
-holds_next script profile anchor sets past plan left set delivery is_plan parts lifted here holds later before other e front back one parts_too come lifted_too known is = by later e
+pub holds_next : (script : Script) (profile : Profile) (anchor : ℕ) (sets : List PlannedSet) (ComesWhole : ℕ → PlannedSet → Type 0) (past : List (Delivery Reading)) (plan left : List PlannedSet) (set : PlannedSet) (delivery : Delivery Reading) → IsPlan script profile sets → sets ≡ reverse plan ++ (set ∷ left)
+    → lifted_time anchor past delivery ≡ Some set.pts
+    → (ComesWhole (length (reverse plan)) set → (known : List (List Content)) → known_epoch profile anchor (delivery ∷ past) ≡ Some known → HoldsSet script plan set known) → HoldsWhole script profile anchor sets ComesWhole past
+    → HoldsWhole script profile anchor sets ComesWhole (delivery ∷ past)
+holds_next script profile anchor sets ComesWhole past plan left set delivery is_plan parts lifted here holds later before other e front back one parts_too come lifted_too known is = by later e
   where
     by : (later : List (Delivery Reading)) → delivery ∷ past ≡ later ++ other ∷ before → HoldsSet script (reverse front) one known
     by [] whole =
@@ -82,8 +83,9 @@ holds_next script profile anchor sets past plan left set delivery is_plan parts 
         let rise : IsStrictlyIncreasing (pts_of (reverse plan ++ (set ∷ left))) = subst (λ (all : List PlannedSet). IsStrictlyIncreasing (pts_of all)) parts (pts_rise script profile sets is_plan) in
         let both = one_of_time (reverse plan) front left back set one (sym parts ∙ parts_too) rise time in
         let earlier : plan ≡ reverse front = sym (reverse-reverse plan) ∙ ap reverse both.0 in
+        let mine : ComesWhole (length (reverse plan)) set = subst (λ (one : PlannedSet). ComesWhole (length (reverse plan)) one) (sym both.1) (subst (λ (n : ℕ). ComesWhole n one) (sym (ap length both.0)) come) in
         let found : known_epoch profile anchor (delivery ∷ past) ≡ Some known = ap (λ all. known_epoch profile anchor all) whole ∙ is in
-        subst (λ (found_set : PlannedSet). HoldsSet script (reverse front) found_set known) both.1 (subst (λ (before_it : List PlannedSet). HoldsSet script before_it set known) earlier (here known found))
+        subst (λ (found_set : PlannedSet). HoldsSet script (reverse front) found_set known) both.1 (subst (λ (before_it : List PlannedSet). HoldsSet script before_it set known) earlier (here mine known found))
     by (first ∷ more) whole = let rest : past ≡ more ++ other ∷ before = cc in holds more before other rest front back one parts_too come lifted_too known is
 
 -- behind a run it is held

@@ -21,6 +21,11 @@ pub mod EnteredTimes
 pub mod CompiledShown
 pub mod LostPieces
 pub mod LostUnits
+pub mod LostSets
+pub mod LostSteps
+pub mod LostRuns
+pub mod LostWalk
+pub mod LostViews
 pub mod LatePlaces
 pub mod LateAnchors
 pub mod PlannedRegions

@@ -97,35 +97,48 @@ missed_from Apart = Apart
 abbrev pub losses : ℕ → List Arrival
 losses n = replicate n loss
 
-losses-add : (n k : ℕ) (rest : List Arrival) → losses n ++ (losses k ++ rest) ≡ losses (n + k) ++ rest
+pub losses-add : (n k : ℕ) (rest : List Arrival) → losses n ++ (losses k ++ rest) ≡ losses (n + k) ++ rest
 losses-add zero k rest = ap (λ count. losses count ++ rest) (omega arith)
 losses-add (suc n) k rest = let same : suc (n + k) ≡ suc n + k = omega arith in ap (λ all. loss ∷ all) (losses-add n k rest) ∙ ap (λ count. losses count ++ rest) same
+
+-- the loss before what comes behind missing pieces
+abbrev pub lost_before : Kind → List Arrival
+lost_before Fresh = []
+lost_before Joined = []
+lost_before Apart = loss ∷ []
+
+-- what arrives of units: those that come whole, with a loss before each behind missing pieces; and where one is missed so many
+-- losses
+pub data Arrive : Kind → List TimedUnit → List Bool → List Arrival → Type 0 where
+  none_arrive : {kind : Kind} → Arrive kind [] [] []
+  one_arrives : {kind : Kind} {one : TimedUnit} {units : List TimedUnit} {whole : List Bool} {arrivals : List Arrival} (place : ℕ) → Arrive Joined units whole arrivals → Arrive kind (one ∷ units) (true ∷ whole) (lost_before kind ++ unit (unit_of place one.time one.unit) ∷ arrivals)
+  one_missed : {kind next : Kind} {one : TimedUnit} {units : List TimedUnit} {whole : List Bool} {arrivals : List Arrival} (count : ℕ) → Steps (missed_from kind) count next → Arrive next units whole arrivals → Arrive kind (one ∷ units) (false ∷ whole) (losses count ++ arrivals)
 
 -- ---- pieces of a unit of which one is missing
 
 module _ (size page : ℕ) where
   -- how the pieces behind some stand, and what comes of them
   pub record Walking (kind : Kind) (number : ℕ) (rest : List Piece) (come : List Bool) (arrivals : List Arrival) : Type 0 where
-    last : Option ℕ
-    hand : Option (List ℕ)
-    since : Option ℕ
-    stands : StandsAt kind last hand number since
-    near : AreNear since come
-    walk : Walk size page last hand number rest come arrivals
+    pub last : Option ℕ
+    pub hand : Option (List ℕ)
+    pub since : Option ℕ
+    pub stands : StandsAt kind last hand number since
+    pub near : AreNear since come
+    pub walk : Walk size page last hand number rest come arrivals
 
   -- behind pieces: so many losses, and what comes of those behind
   pub record WalksOn (kind : Kind) (number : ℕ) (rest : List Piece) (come : List Bool) (arrivals : List Arrival) : Type 0 where
-    next : Kind
-    last : Option ℕ
-    hand : Option (List ℕ)
-    since : Option ℕ
-    count : ℕ
-    behind : List Arrival
-    are : arrivals ≡ losses count ++ behind
-    steps : Steps kind count next
-    stands : StandsAt next last hand number since
-    near : AreNear since come
-    walk : Walk size page last hand number rest come behind
+    pub next : Kind
+    pub last : Option ℕ
+    pub hand : Option (List ℕ)
+    pub since : Option ℕ
+    pub count : ℕ
+    pub behind : List Arrival
+    pub are : arrivals ≡ losses count ++ behind
+    pub steps : Steps kind count next
+    pub stands : StandsAt next last hand number since
+    pub near : AreNear since come
+    pub walk : Walk size page last hand number rest come behind
 
   -- a piece that does not come
   passed_on : (kind : Kind) (last : Option ℕ) (hand : Option (List ℕ)) (number : ℕ) (since : Option ℕ) (rest : List Piece) (come : List Bool) (arrivals : List Arrival) → StandsAt kind last hand number since → AreNear since (false ∷ come)
@@ -295,12 +308,6 @@ module _ (size page : ℕ) where
       subst (GoesTo bytes (number + suc (suc (length further))) rest (drop (suc (length further)) come) (all_true (suc (length further)) come)) (sym (ap (λ first. first ++ left) front_is))
       (subst (λ (n : ℕ). GoesTo bytes n rest (drop (suc (length further)) come) (all_true (suc (length further)) come) left) same on)
 
-  -- the loss before what comes behind missing pieces
-  abbrev pub lost_before : Kind → List Arrival
-  lost_before Fresh = []
-  lost_before Joined = []
-  lost_before Apart = loss ∷ []
-
   -- a piece with which a unit begins, by what becomes of the unit
   record IsBegun (kind : Kind) (last : Option ℕ) (hand : Option (List ℕ)) (number : ℕ) (piece : Piece) (come : List Bool) (place : ℕ) (fate : Fate) : Type 0 where
     brings : brought hand (succession last (number % 16)) piece.starts piece.bytes place ≡ lost_before kind ++ units_at page place (handed_out (Some fate))
@@ -389,13 +396,6 @@ module _ (size page : ℕ) where
   abbrev pub come_whole : List (List ℕ) → List Bool → List Bool
   come_whole [] come = []
   come_whole (one ∷ units) come = all_true (piece_count one) come ∷ come_whole units (drop (piece_count one) come)
-
-  -- what arrives of units: those that come whole, with a loss before each behind missing pieces; and where one is missed so many
-  -- losses
-  pub data Arrive : Kind → List TimedUnit → List Bool → List Arrival → Type 0 where
-    none_arrive : {kind : Kind} → Arrive kind [] [] []
-    one_arrives : {kind : Kind} {one : TimedUnit} {units : List TimedUnit} {whole : List Bool} {arrivals : List Arrival} (place : ℕ) → Arrive Joined units whole arrivals → Arrive kind (one ∷ units) (true ∷ whole) (lost_before kind ++ unit (unit_of place one.time one.unit) ∷ arrivals)
-    one_missed : {kind next : Kind} {one : TimedUnit} {units : List TimedUnit} {whole : List Bool} {arrivals : List Arrival} (count : ℕ) → Steps (missed_from kind) count next → Arrive next units whole arrivals → Arrive kind (one ∷ units) (false ∷ whole) (losses count ++ arrivals)
 
   -- all units
   pub units_arrive : (kind : Kind) (number : ℕ) (units : List (List ℕ)) (timed : List TimedUnit) (come : List Bool) (arrivals : List Arrival) → AllByRecursion (IsUnit size) units → AllZip (IsUnitOf page) units timed

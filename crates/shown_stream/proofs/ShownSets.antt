@@ -80,12 +80,12 @@ pub record IsIdle (profile : Profile) (anchor : ℕ) (past : List (Delivery Read
   pub clear : (tick : ℕ) → IsClear (view_at profile anchor tick past)
 
 -- what is known behind a set that is kept, by its verdict
-verdict_is : (profile : Profile) (anchor lifted : ℕ) (past : List (Delivery Reading)) (time size : ℕ) (readings : List Reading) (verdict : SetEnd) → lifted_time anchor past (whole time size readings) ≡ Some lifted
+pub verdict_is : (profile : Profile) (anchor lifted : ℕ) (past : List (Delivery Reading)) (time size : ℕ) (readings : List Reading) (verdict : SetEnd) → lifted_time anchor past (whole time size readings) ≡ Some lifted
     → verdict_on_kept profile (sets_since profile anchor past) readings ≡ verdict → verdict_of profile anchor past (whole time size readings) ≡ Some verdict
 verdict_is profile anchor lifted past time size readings verdict kept is =
     ap (λ found. Some (if_kept found (last_time anchor past) (verdict_on_kept profile (sets_since profile anchor past) readings))) kept ∙ ap Some is
 
-sets_are : (profile : Profile) (anchor : ℕ) (past : List (Delivery Reading)) (delivery : Delivery Reading) (verdict : SetEnd) → verdict_of profile anchor past delivery ≡ Some verdict
+pub sets_are : (profile : Profile) (anchor : ℕ) (past : List (Delivery Reading)) (delivery : Delivery Reading) (verdict : SetEnd) → verdict_of profile anchor past delivery ≡ Some verdict
     → sets_since profile anchor (delivery ∷ past) ≡ sets_with (sets_since profile anchor past) delivery (Some verdict)
 unfolding sets_since
 sets_are profile anchor past delivery verdict is = ap (sets_with (sets_since profile anchor past) delivery) is
@@ -103,11 +103,11 @@ stands_not sets lifted time size readings Waiting before waits = refl
 stands_not sets lifted time size readings (Broken fault) before waits = refl
 stands_not sets lifted time size readings (NotLater last) before waits = absurd waits
 
-none_known : epoch_of [] ≡ None
+pub none_known : epoch_of [] ≡ None
 unfolding epoch_of
 none_known = refl
 
-unknown_with : (sets : List (List Content)) (time size : ℕ) (readings : List Reading) (verdict : SetEnd) → IsNormal (contents_in readings) → epoch_of sets ≡ None → epoch_of (sets_with sets (whole time size readings) (Some verdict)) ≡ None
+pub unknown_with : (sets : List (List Content)) (time size : ℕ) (readings : List Reading) (verdict : SetEnd) → IsNormal (contents_in readings) → epoch_of sets ≡ None → epoch_of (sets_with sets (whole time size readings) (Some verdict)) ≡ None
 unknown_with sets time size readings Shown normal unknown = still_unknown (contents_in readings) sets normal unknown
 unknown_with sets time size readings Waiting normal unknown = still_unknown (contents_in readings) sets normal unknown
 unknown_with sets time size readings (Broken fault) normal unknown = none_known
