@@ -1,1 +1,2 @@
 pub mod HoldsScript
+pub mod WithinNeed

@@ -1,5 +1,5 @@
 -- Behind each set of the plan that is in a run the page memory holds the script.
-use Rattle.std.proofs.Common.{◌≡◌, ◌∙◌, ℕ, suc, ◌+◌, ◌<◌, ◌≤◌, List, [], ◌∷◌, ◌++◌, length, map, reverse, get_or, Some, None, refl, sym, ap, subst, arith, length-append}
+use Rattle.std.proofs.Common.{◌≡◌, ◌∙◌, ℕ, ◌<◌, ◌≤◌, List, [], ◌∷◌, ◌++◌, length, reverse, Some, refl, sym, ap, subst, arith, length-append}
 use Rattle.std.specs.List.{AllByRecursion}
 use Rattle.std.specs.List.Sorted.{IsStrictlyIncreasing}
 use Rattle.std.proofs.lemmas.List.{reverse-reverse}
@@ -14,9 +14,10 @@ use Rattle.decoder_model.specs.Sets.{Delivery}
 use Rattle.decoder_model.specs.Taken.{segments_of, taken_of}
 use Rattle.decoder_model.specs.Verdict.{sets_since, known_epoch}
 use Rattle.shown_plan.proofs.FaultFree.{page_value, page_is}
-use Rattle.shown_plan.proofs.Holds.{keeps_holds}
+use Rattle.shown_plan.proofs.Holds.{keeps_holds, memory_within}
 use Rattle.shown_plan.proofs.Runs.{RunKeeps}
 use Rattle.shown_plan.specs.HoldsScript.{HoldsScript}
+use Rattle.shown_plan.specs.WithinNeed.{IsWithinNeed}
 use Rattle.shown_stream.specs.HoldsWhole.{HoldsSet, HoldsWhole}
 use Rattle.shown_stream.proofs.PlannedOrder.{rest_rises, all_above}
 use Rattle.shown_stream.proofs.PlannedTimes.{pts_of, pts_rise}
@@ -108,4 +109,6 @@ kept_holds {script = script} profile anchor past plan set latest delivery kept s
       holds = subst (λ (sets : List (List Content)). HoldsScript script epoch (seen_of epoch.start plan set.pts) set (page_value script epoch set) (taken_of (segments_of sets))) (sym are)
           (subst (λ (times : List ℕ). HoldsScript script epoch times set (page_value script epoch set) (taken_of (segments_of (latest ∷ kept.older)))) seen
           (keeps_holds script profile plan set latest (sets_since profile anchor past) kept (page_value script epoch set) page));
+      within = subst (λ (sets : List (List Content)). IsWithinNeed epoch (seen_of epoch.start plan set.pts) set sets) (sym are)
+          (subst (λ (times : List ℕ). IsWithinNeed epoch times set (latest ∷ kept.older)) seen (memory_within script profile plan set latest (sets_since profile anchor past) kept));
     }

@@ -1,5 +1,5 @@
 -- The sets of a stream of which some packets are lost: those that come whole, later units of others, and losses.
-use Rattle.std.proofs.Common.{◌≡◌, ◌∙◌, ℕ, zero, suc, ◌+◌, ◌<◌, ◌≤◌, ◌⊎◌, inl, inr, Bool, true, false, ◌&&◌, ◌||◌, eqb, ltb, cond, List, [], ◌∷◌, ◌++◌, length, map, take, drop, replicate, Option, Some, None, refl, sym, ap, subst, arith, append-nil, append_assoc, length-drop}
+use Rattle.std.proofs.Common.{◌≡◌, ◌∙◌, ℕ, zero, suc, ◌+◌, ◌<◌, ◌≤◌, ◌⊎◌, inl, inr, Bool, true, false, eqb, cond, List, [], ◌∷◌, ◌++◌, length, map, take, drop, replicate, Some, None, refl, sym, ap, subst, arith, length-drop}
 use Rattle.std.specs.Prelude.{find}
 use Rattle.std.specs.Bool.{if◌then◌else◌}
 use Rattle.std.specs.List.{AllByRecursion, AllZip, list_all, list_any, sum_by}
@@ -10,7 +10,7 @@ use Rattle.stream_syntax.specs.DataField.{Frame, segment}
 use Rattle.decoder_model.specs.Arrivals.{PesUnit, Arrival, loss, unit}
 use Rattle.decoder_model.specs.Frames.{segments_in}
 use Rattle.decoder_model.specs.Sets.{Stretch, loss_between, run, runs_of, joined_to, Delivery, lost, whole, is_ended, frames_in, size_in, is_followed, set_of, sets_in}
-use Rattle.decoder_model.proofs.SentSets.{SetUnit, TimedSet, TimedUnit, timed, timed_units, segments_of_units, size_of_units, all_segments, IsBefore, AreSetUnits, IsTimedSet, IsApart, HaveDifferentTimes, IsPlaced, unit_of, delivered, handed_whole, first_time, same_time, run_frames, run_size, no_end_among, not_ended, none_ends, front_bytes, front_not_ended, segments_are, find-map}
+use Rattle.decoder_model.proofs.SentSets.{SetUnit, TimedSet, TimedUnit, timed, timed_units, segments_of_units, IsTimedSet, IsApart, IsPlaced, unit_of, delivered, handed_whole, first_time, same_time, run_frames, run_size, none_ends, front_bytes, front_not_ended, segments_are, find-map}
 use Rattle.shown_stream.proofs.LateSets.{rest_of_set, rest_is_set}
 use Rattle.shown_stream.proofs.LostUnits.{Kind, Fresh, Joined, Apart, Steps, missed_from, losses, losses-add, Arrive, none_arrive, one_arrives, one_missed, lost_before}
 

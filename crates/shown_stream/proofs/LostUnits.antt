@@ -1,17 +1,16 @@
 -- Of a stream of which some packets are lost exactly the units arrive whose packets all come, and a loss before each packet that
 -- others are missing before.
-use Rattle.std.proofs.Common.{◌≡◌, ◌≢◌, ◌∙◌, ℕ, zero, suc, ◌+◌, ◌-◌, ◌%◌, ◌<◌, ◌≤◌, Bool, true, false, ◌&&◌, eqb, cond, List, [], ◌∷◌, ◌++◌, length, map, take, drop, replicate, Option, Some, None, ◌⊎◌, inl, inr, refl, sym, ap, subst, arith, append_assoc, append-nil, length-append}
-use Rattle.std.specs.Prelude.{option_map}
+use Rattle.std.proofs.Common.{◌≡◌, ◌≢◌, ◌∙◌, ℕ, zero, suc, ◌+◌, ◌%◌, ◌≤◌, Bool, true, false, eqb, List, [], ◌∷◌, ◌++◌, length, map, take, drop, replicate, Option, Some, None, refl, sym, ap, subst, arith, append_assoc, append-nil, length-append}
 use Rattle.std.specs.Bool.{if◌then◌else◌}
 use Rattle.std.specs.List.{AllByRecursion, AllZip, concat, list_all}
 use Rattle.std.proofs.lemmas.Bool.Decides.{nat_tests}
 use Rattle.stream_syntax.specs.Cutting.{IsUnit}
-use Rattle.stream_syntax.specs.Units.{Succession, Next, Again, Missing, succession, payload_part, Fate, Waits, Whole, Over, fate_of, is_waiting, handed_out, followed, unit_after, payload_event, is_loss}
+use Rattle.stream_syntax.specs.Units.{Succession, Next, Missing, succession, payload_part, Fate, Waits, Whole, fate_of, is_waiting, handed_out, followed, unit_after, payload_event, is_loss}
 use Rattle.ts_packets.specs.Demuxing.{kept, next_hand}
 use Rattle.ts_packets.proofs.AnyCuttingLemmas.{front_waits, unit_is_whole}
 use Rattle.decoder_model.specs.Arrivals.{Arrival, loss, unit, arrival_of_unit, losses_at, units_at}
 use Rattle.decoder_model.proofs.SentSets.{TimedUnit, IsUnitOf, unit_of, arrives}
-use Rattle.shown_stream.specs.SlotStream.{Piece, pieces_of, all_pieces, piece_count}
+use Rattle.shown_stream.specs.SlotStream.{Piece, all_pieces, piece_count}
 use Rattle.shown_stream.proofs.CompiledPackets.{length-pieces_of}
 use Rattle.shown_stream.proofs.LostPieces.{Walk, no_piece_left, passes_by, comes_in}
 use Rattle.shown_stream.proofs.SentPieces.{AreFurther}

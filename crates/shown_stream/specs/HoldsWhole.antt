@@ -13,9 +13,10 @@ use Rattle.decoder_model.specs.Sets.{Delivery}
 use Rattle.decoder_model.specs.Taken.{segments_of, taken_of}
 use Rattle.decoder_model.specs.Verdict.{known_epoch}
 use Rattle.shown_plan.specs.HoldsScript.{HoldsScript}
+use Rattle.shown_plan.specs.WithinNeed.{IsWithinNeed}
 
--- the sets of a known epoch, the latest first, are those of the epoch of a set of the plan, behind these sets of the plan, and with
--- the page of the latest the page memory holds the script
+-- the sets of a known epoch, the latest first, are those of the epoch of a set of the plan, behind these sets of the plan; with the
+-- page of the latest the page memory holds the script, in at most the bytes of regions and the nodes that the plan needs for the set
 pub record HoldsSet (script : Script) (earlier : List PlannedSet) (set : PlannedSet) (known : List (List Content)) : Type 0 where
   pub epoch : Epoch
   pub found : slice_get script.epochs set.epoch ≡ Some epoch
@@ -25,6 +26,7 @@ pub record HoldsSet (script : Script) (earlier : List PlannedSet) (set : Planned
   pub page : Page
   pub is_page : page_in_set latest ≡ Some page
   pub holds : HoldsScript script epoch (seen_of epoch.start earlier set.pts) set page (taken_of (segments_of known))
+  pub within : IsWithinNeed epoch (seen_of epoch.start earlier set.pts) set known
 
 -- of the sets of a plan some come whole: with each of them that a receiver has got, at the set's time, and whose epoch is known, the
 -- page memory holds the script
