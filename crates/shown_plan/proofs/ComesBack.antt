@@ -1,20 +1,27 @@
--- Two receivers may differ in a region that the page does not list. A region that was left empty and has cues again is drawn anew by whatever set shows it, with a version that every receiver
--- takes, whatever it has in the region.
-use Rattle.std.proofs.Common.{◌≡◌, ◌≢◌, ◌∙◌, ℕ, ◌+◌, ◌%◌, Bool, true, false, not, ◌&&◌, cond, eqb, List, [], ◌∷◌, Some, refl, sym, ap, arith}
+-- Two receivers may differ in a region that the page does not list. A region that was left empty and has cues again is drawn anew
+-- by whatever set shows it, with a version that every receiver takes, whatever it has in the region.
+use Rattle.std.proofs.Common.{◌≡◌, ◌≢◌, ◌∙◌, ℕ, ◌+◌, ◌%◌, Bool, true, false, not, ◌&&◌, cond, eqb, ◌==◌, List, [], ◌∷◌, Some, refl, sym, ap, arith}
+use Rattle.std.specs.List.{list_any}
 use Rattle.std.proofs.lemmas.Bool.Decides.{nat_tests}
 use Rattle.cue_list.specs.declared.epoch.Cue.{Cue}
+use Rattle.cue_list.specs.declared.epoch.Epoch.{Epoch}
+use Rattle.cue_list.specs.declared.epoch.Region.{Region}
 use Rattle.page_epoch.proofs.RegionLaws.{version-more}
 use Rattle.page_epoch.specs.Live.{has_some, live_places}
 use Rattle.page_epoch.specs.SentRegions.{is_risen, region_version, filled, region_from, sent_region}
 use Rattle.sub_base.specs.declared.depth.Depth.TheVariants.{Two}
 use Rattle.stream_syntax.specs.PixelBlocks.{string, line_end}
 use Rattle.stream_syntax.specs.PixelCodes.{pixel}
-use Rattle.stream_syntax.specs.Segments.{SegmentValue, of_page, of_region, of_object, end_of_set}
+use Rattle.stream_syntax.specs.Segments.{Page, SegmentValue, of_page, of_region, of_object, end_of_set}
+use Rattle.stream_syntax.specs.declared.page.PageEntry.{PageEntry}
 use Rattle.stream_syntax.specs.declared.page.State.TheVariants.{Acquisition, ModeChange}
 use Rattle.stream_syntax.specs.declared.region.Listing.{Listing}
+use Rattle.decoder_model.specs.Contents.{page_in_set}
+use Rattle.decoder_model.specs.Kept.{epoch_of}
 use Rattle.decoder_model.specs.Pixels.{painted_listings, pixel_of}
 use Rattle.decoder_model.specs.Readings.{Content}
-use Rattle.decoder_model.specs.Taken.{has_new_version, segments_of, taken_among, taken_of}
+use Rattle.decoder_model.specs.Taken.{Taken, has_new_version, region_version as known_version, segments_of, taken_among, taken_of, taken_region}
+use Rattle.shown_plan.specs.HoldsScript.{IsKnownRegion}
 
 -- the next listing of a region that had no live cue comes with a fill and all live cues, and with the next version
 pub comes_back : (cues : List Cue) (whole : Bool) (id tick before : ℕ) (earlier : List ℕ) → live_places cues id before ≡ [] → has_some (live_places cues id tick) ≡ true
@@ -33,11 +40,31 @@ comes_back cues whole id tick before earlier empty some =
     next [] has = absurd (let no : false ≡ true = has in cc)
     next (place ∷ new) has = ap (λ (old : List ℕ). cond (not false && is_risen old (place ∷ new)) ((region_version cues id (before ∷ earlier) + 1) % 16) (region_version cues id (before ∷ earlier))) empty
 
--- a receiver that knows the region with the version before takes it
-pub taken_again : (cues : List Cue) (id before : ℕ) (earlier : List ℕ) → has_new_version ((region_version cues id (before ∷ earlier) + 1) % 16) (Some (region_version cues id (before ∷ earlier))) ≡ true
-taken_again cues id before earlier =
-    let differ : region_version cues id (before ∷ earlier) ≢ (region_version cues id (before ∷ earlier) + 1) % 16 = (λ e. omega (arith, e)) in
-    ap not (let other : eqb (region_version cues id (before ∷ earlier)) ((region_version cues id (before ∷ earlier) + 1) % 16) ≡ false = grind (arith, nat_tests) in other)
+-- a region is drawn anew: the set at a tick sends it with a fill and with all of its live cues, in a version that a receiver with
+-- these taken segments takes
+pub record IsDrawnAnew (epoch : Epoch) (whole : Bool) (seen : List ℕ) (tick : ℕ) (taken : Taken) (region : Region) : Type 0 where
+  pub version : ℕ
+  pub sent : sent_region epoch.cues whole (tick ∷ seen) region.id ≡ filled region.id version (live_places epoch.cues region.id tick) ∷ []
+  pub takes : has_new_version version (known_version (taken_region region.id taken)) ≡ true
+
+next_version_differs : (version : ℕ) → has_new_version ((version + 1) % 16) (Some version) ≡ true
+next_version_differs version =
+    let differ : version ≢ (version + 1) % 16 = (λ e. omega (arith, e)) in
+    ap not (let other : eqb version ((version + 1) % 16) ≡ false = grind (arith, nat_tests) in other)
+
+-- whoever knows a region that has no live cue, as it does where its page memory holds the script, takes it anew once it has one
+pub taken_anew : (epoch : Epoch) (whole : Bool) (tick before : ℕ) (earlier : List ℕ) (taken : Taken) (region : Region) → IsKnownRegion epoch (before ∷ earlier) taken region
+    → live_places epoch.cues region.id before ≡ [] → has_some (live_places epoch.cues region.id tick) ≡ true → IsDrawnAnew epoch whole (before ∷ earlier) tick taken region
+taken_anew epoch whole tick before earlier taken region known empty some = record {
+  version = (version + 1) % 16;
+  sent = comes_back epoch.cues whole region.id tick before earlier empty some;
+  takes = ap (λ last. has_new_version ((version + 1) % 16) (known_version last)) known.known
+      ∙ ap (λ last. has_new_version ((version + 1) % 16) (Some last)) known.version
+      ∙ next_version_differs version;
+}
+  where
+    version : ℕ
+    version = region_version epoch.cues region.id (before ∷ earlier)
 
 -- ---- an example
 
@@ -74,7 +101,30 @@ enters_hidden : pixel_of (taken_of (segments_of (hiding_set ∷ []))) 1 0 0 ≡ 
 unfolding hiding_set small_region plain pixel_of segments_of taken_among painted_listings
 enters_hidden = refl
 
--- two receivers that know the epoch may differ in a region that the page does not list
-pub hidden_regions_differ : (first : List (List Content)) × (second : List (List Content)) × (set : List Content)
-    × (pixel_of (taken_of (segments_of (set ∷ first))) 1 0 0 ≢ pixel_of (taken_of (segments_of (set ∷ second))) 1 0 0)
-hidden_regions_differ = (showing_set ∷ [], [], hiding_set, λ e. (let no : 2 ≡ 0 = sym keeps_hidden ∙ e ∙ enters_hidden in absurd (omega (arith, no))))
+-- two receivers know the epoch, by the same set last, whose page does not list a region; they know the region in one version, and have
+-- different codes at one of its places
+pub record AreHiddenOtherwise (first second : List (List Content)) (set : List Content) (region x y : ℕ) : Type 0 where
+  pub knows_first : epoch_of (set ∷ first) ≡ Some (set ∷ first)
+  pub knows_second : epoch_of (set ∷ second) ≡ Some (set ∷ second)
+  pub page : Page
+  pub is_page : page_in_set set ≡ Some page
+  pub hidden : list_any (λ (entry : PageEntry). entry.region == region) page.entries ≡ false
+  pub version : ℕ
+  pub version_first : known_version (taken_region region (taken_of (segments_of (set ∷ first)))) ≡ Some version
+  pub version_second : known_version (taken_region region (taken_of (segments_of (set ∷ second)))) ≡ Some version
+  pub differ : pixel_of (taken_of (segments_of (set ∷ first))) region x y ≢ pixel_of (taken_of (segments_of (set ∷ second))) region x y
+
+-- so two receivers that know one epoch may differ in a region that the page does not list
+pub hidden_regions_differ : (first : List (List Content)) × (second : List (List Content)) × (set : List Content) × AreHiddenOtherwise first second set 1 0 0
+unfolding epoch_of hiding_set showing_set small_region plain segments_of taken_among
+hidden_regions_differ = (showing_set ∷ [], [], hiding_set, record {
+  knows_first = refl;
+  knows_second = refl;
+  page = record { time_out = 10; version = 1; state = Acquisition; entries = [] };
+  is_page = refl;
+  hidden = refl;
+  version = 0;
+  version_first = refl;
+  version_second = refl;
+  differ = λ e. (let no : 2 ≡ 0 = sym keeps_hidden ∙ e ∙ enters_hidden in absurd (omega (arith, no)));
+})
