@@ -6,6 +6,7 @@ pub mod WrittenSets
 pub mod BlockSizes
 pub mod UnitSizes
 pub mod RisingSlots
+pub mod ScheduledLevels
 pub mod LateEntry
 pub mod LateStream
 pub mod LateSets
