@@ -29,6 +29,7 @@ pub mod LostViews
 pub mod LostCuts
 pub mod LostPlaces
 pub mod LostFits
+pub mod LostCompiled
 pub mod LatePlaces
 pub mod LateAnchors
 pub mod PlannedRegions
