@@ -30,6 +30,7 @@ pub mod LostCuts
 pub mod LostPlaces
 pub mod LostFits
 pub mod LostCompiled
+pub mod LostShown
 pub mod LatePlaces
 pub mod LateAnchors
 pub mod PlannedRegions

@@ -40,13 +40,13 @@ use Rattle.shown_stream.proofs.ShownSets.{IsAheadOf}
 
 -- ---- flags and places
 
-all_there : (sendings : List Sending) (places : List ℕ) → AllByRecursion (λ place. is_received_at sendings place ≡ true) places → all_of (there_at sendings 0 places) ≡ true
+pub all_there : (sendings : List Sending) (places : List ℕ) → AllByRecursion (λ place. is_received_at sendings place ≡ true) places → all_of (there_at sendings 0 places) ≡ true
 all_there sendings [] h = refl
 all_there sendings (place ∷ places) h =
     let same : place - 0 ≡ place = omega arith in
     ap (λ b. b && all_of (there_at sendings 0 places)) (ap (is_there sendings) same ∙ h.0) ∙ all_there sendings places h.1
 
-some_there : (sendings : List Sending) (places : List ℕ) → some_of (there_at sendings 0 places) ≡ true → list_any (is_received_at sendings) places ≡ true
+pub some_there : (sendings : List Sending) (places : List ℕ) → some_of (there_at sendings 0 places) ≡ true → list_any (is_received_at sendings) places ≡ true
 some_there sendings [] e = absurd (cc)
 some_there sendings (place ∷ places) e =
     let same : place - 0 ≡ place = omega arith in
@@ -57,17 +57,17 @@ some_there sendings (place ∷ places) e =
     by true is e more same = ap (λ b. b || list_any (is_received_at sendings) places) (sym same ∙ is)
     by false is e more same = ap (λ b. b || list_any (is_received_at sendings) places) (sym same ∙ is) ∙ more (sym (ap (λ b. b || some_of (there_at sendings 0 places)) is) ∙ e)
 
-there-take : (sendings : List Sending) (n : ℕ) (slots : List ℕ) → take n (there_at sendings 0 slots) ≡ there_at sendings 0 (take n slots)
+pub there-take : (sendings : List Sending) (n : ℕ) (slots : List ℕ) → take n (there_at sendings 0 slots) ≡ there_at sendings 0 (take n slots)
 there-take sendings zero slots = refl
 there-take sendings (suc n) [] = refl
 there-take sendings (suc n) (slot ∷ slots) = ap (λ rest. is_there sendings (slot - 0) ∷ rest) (there-take sendings n slots)
 
-there-drop : (sendings : List Sending) (n : ℕ) (slots : List ℕ) → drop n (there_at sendings 0 slots) ≡ there_at sendings 0 (drop n slots)
+pub there-drop : (sendings : List Sending) (n : ℕ) (slots : List ℕ) → drop n (there_at sendings 0 slots) ≡ there_at sendings 0 (drop n slots)
 there-drop sendings zero slots = refl
 there-drop sendings (suc n) [] = refl
 there-drop sendings (suc n) (slot ∷ slots) = there-drop sendings n slots
 
-length-there : (sendings : List Sending) (from : ℕ) (slots : List ℕ) → length (there_at sendings from slots) ≡ length slots
+pub length-there : (sendings : List Sending) (from : ℕ) (slots : List ℕ) → length (there_at sendings from slots) ≡ length slots
 length-there sendings from [] = refl
 length-there sendings from (slot ∷ slots) = ap suc (length-there sendings from slots)
 
@@ -77,7 +77,7 @@ abbrev Suits : ℕ → ℕ → Type 0
 Suits anchor time = (anchor ≤ time) × (time < anchor + 8589934592)
 
 -- the anchor suits a set of which a packet is received
-suits_received : (anchor number place : ℕ) (sendings : List Sending) (table : Timetable) (sets : List PlannedSet) (set : PlannedSet) → AllByRecursion (Suits anchor) (times_received sendings (sent_from table number sets)) → slice_get sets place ≡ Some set
+pub suits_received : (anchor number place : ℕ) (sendings : List Sending) (table : Timetable) (sets : List PlannedSet) (set : PlannedSet) → AllByRecursion (Suits anchor) (times_received sendings (sent_from table number sets)) → slice_get sets place ≡ Some set
     → list_any (is_received_at sendings) (slots_of table (number + place)) ≡ true → Suits anchor set.pts
 suits_received anchor number place sendings table [] set suits found there = absurd (cc)
 suits_received anchor number zero sendings table (first ∷ sets) set suits found there =
@@ -171,7 +171,7 @@ module _ (script : Script) (profile : Profile) (anchor origin page tick : ℕ) (
 
 -- ---- packets that are taken
 
-received_sound : (pid : ℕ) (sendings : List Sending) → AllByRecursion (λ packet. packet_fault pid packet ≡ None) (map (λ (sending : Sending). sending.packet) sendings) → AllByRecursion (λ packet. packet_fault pid packet ≡ None) (received_of sendings)
+pub received_sound : (pid : ℕ) (sendings : List Sending) → AllByRecursion (λ packet. packet_fault pid packet ≡ None) (map (λ (sending : Sending). sending.packet) sendings) → AllByRecursion (λ packet. packet_fault pid packet ≡ None) (received_of sendings)
 received_sound pid [] h = tt
 received_sound pid (one ∷ sendings) h = by one.received (received_sound pid sendings h.1)
   where
@@ -184,7 +184,7 @@ none_faulty : (pid : ℕ) (packets : List (List ℕ)) → AllByRecursion (λ pac
 none_faulty pid [] h = refl
 none_faulty pid (packet ∷ packets) h = ap (λ found. is_none found && list_all (λ packet. is_none (packet_fault pid packet)) packets) h.0 ∙ none_faulty pid packets h.1
 
-sets_by_flow : (coded pid page : ℕ) (packets : List (List ℕ)) → AllByRecursion (λ packet. packet_fault pid packet ≡ None) packets → sets_of coded pid page true packets ≡ sets_in coded true (runs_of (flow coded pid page [] packets))
+pub sets_by_flow : (coded pid page : ℕ) (packets : List (List ℕ)) → AllByRecursion (λ packet. packet_fault pid packet ≡ None) packets → sets_of coded pid page true packets ≡ sets_in coded true (runs_of (flow coded pid page [] packets))
 unfolding sets_of has_ended arrivals_of
 sets_by_flow coded pid page packets sound =
     ap (λ taken. sets_in coded (true && list_all (λ packet. is_none (packet_fault pid packet)) packets) (runs_of (flow coded pid page [] taken))) (all_taken pid packets sound)
