@@ -149,7 +149,7 @@ parted (sending ∷ sendings) (suc count) packet packets e =
     let head : null_packet ≡ sending.packet = cc in
     let tail : replicate count null_packet ++ packet ∷ packets ≡ map (λ (sending : Sending). sending.packet) sendings = cc in
     let more = parted sendings count packet packets tail in
-    record { nulls = sending ∷ more.nulls; one = more.one; rest = more.rest; are = ap (λ all. sending ∷ all) more.are; many = ap suc more.many; all_null = (sym head, more.all_null); is = more.is; others = more.others }
+    record { nulls = sending ∷ more.nulls; one = more.one; rest = more.rest; are = ap (λ all. sending ∷ all) {y = more.nulls ++ more.one ∷ more.rest} more.are; many = ap suc more.many; all_null = (sym head, more.all_null); is = more.is; others = more.others }
 
 -- whether the packet at a place is received
 abbrev pub is_there : List Sending → ℕ → Bool

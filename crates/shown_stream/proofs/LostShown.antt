@@ -26,6 +26,7 @@ use Rattle.decoder_model.specs.Streams.{Sending, SentSet, IsReceived, IsGoodTick
 use Rattle.decoder_model.proofs.SentSets.{TimedSet, timed_units, have_units}
 use Rattle.decoder_model.proofs.SentUnits.{no_hand}
 use Rattle.shown_stream.specs.Compiled.{IsCompiledFor, IsCompiledTo, all_units}
+use Rattle.shown_stream.specs.Entered.{IsCutRightly}
 use Rattle.shown_stream.specs.HoldsWhole.{HoldsWhole}
 use Rattle.shown_stream.specs.SentSets.{sent_set, sent_sets, is_received_at, times_received}
 use Rattle.shown_stream.specs.Shows.{authored_view, IsAnchorOf, Shows}
@@ -213,3 +214,12 @@ cut_held name pid page script bytes free made compiled sendings received cut anc
     let got = received_cut name pid page script bytes free made compiled sendings received cut anchor suits 0 in
     let same = same_past (reverse (sets_of (profile_of name).coded pid page true received)) got.past past got.has_received has_received in
     subst (HoldsWhole script (profile_of name) anchor compiled.sets (λ number set. IsReceived sendings (sent_set compiled.table number set))) same got.holds
+
+-- so every compiled stream is shown rightly, whatever packets of it are lost, between two that come at most 14
+pub compiled_cut : (name : ProfileName) (pid page : ℕ) (script : Script) (bytes : List ℕ) → IsFree pid → IsCompiledFor name → (compiled : IsCompiledTo name pid page script bytes)
+    → (sendings : List Sending) (received : List (List ℕ)) → IsCutTo pid (packets_in name pid page script bytes compiled) sendings received
+    → IsCutRightly name pid page script compiled.sets compiled.table sendings received
+compiled_cut name pid page script bytes free made compiled sendings received cut = record {
+  shown = λ anchor suits tick good. cut_shown name pid page script bytes free made compiled sendings received cut anchor suits tick good;
+  held = λ anchor suits past has_received. cut_held name pid page script bytes free made compiled sendings received cut anchor suits past has_received;
+}
