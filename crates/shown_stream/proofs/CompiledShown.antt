@@ -70,11 +70,11 @@ unfolding epoch_of
 nothing_known = refl
 
 -- a receiver that has got nothing knows no epoch and shows nothing
-new_receiver : (profile : Profile) (anchor : ℕ) → IsIdle profile anchor []
+pub new_receiver : (profile : Profile) (anchor : ℕ) → IsIdle profile anchor []
 unfolding sets_since view_at
 new_receiver profile anchor = record { unknown = nothing_known; clear = λ tick. tt }
 
-no_time : (anchor : ℕ) → last_time {S = Reading} anchor [] ≡ None
+pub no_time : (anchor : ℕ) → last_time {S = Reading} anchor [] ≡ None
 unfolding last_time
 no_time anchor = refl
 
@@ -99,7 +99,7 @@ record IsBegun (script : Script) (profile : Profile) (anchor : ℕ) (sets : List
 low_prop : (origin : ℕ) → IsProp (origin ≤ LATEST_ORIGIN)
 low_prop origin = hlevel props
 
-low_origin : (script : Script) → script.origin ≤ LATEST_ORIGIN
+pub low_origin : (script : Script) → script.origin ≤ LATEST_ORIGIN
 low_origin script = ∥∥₁_elim script.sound (low_prop script.origin) (λ (sound : IsSound script.origin script.width script.height script.refresh script.epochs script.pictures). sound.early)
 
 -- the sets of a plan, and where a receiver enters it

@@ -93,7 +93,7 @@ good_from_entry j tick stream sets entry (set_first {set = set} {sets = later} w
     by true true normal from e behind = let good = behind e in record { before = set ∷ good.before; entry = good.entry; after = good.after; placed = ap (λ rest. set ∷ rest) good.placed; not_normal = good.not_normal; come = good.come; whole = good.whole }
     by true false normal from e behind = let good = behind e in record { before = set ∷ good.before; entry = good.entry; after = good.after; placed = ap (λ rest. set ∷ rest) good.placed; not_normal = good.not_normal; come = good.come; whole = good.whole }
 
-at_seam : {X : Type 0} (P : X → Type 0) (xs : List X) (x : X) (ys : List X) → AllByRecursion P (xs ++ x ∷ ys) → P x
+pub at_seam : {X : Type 0} (P : X → Type 0) (xs : List X) (x : X) (ys : List X) → AllByRecursion P (xs ++ x ∷ ys) → P x
 at_seam P [] x ys all = all.0
 at_seam P (first ∷ xs) x ys all = at_seam P xs x ys all.1
 

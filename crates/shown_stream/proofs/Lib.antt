@@ -27,6 +27,11 @@ pub mod LostSteps
 pub mod LostRuns
 pub mod LostWalk
 pub mod LostViews
+pub mod LostCuts
+pub mod LostPlaces
+pub mod LostFits
+pub mod LostCompiled
+pub mod LostShown
 pub mod LatePlaces
 pub mod LateAnchors
 pub mod PlannedRegions

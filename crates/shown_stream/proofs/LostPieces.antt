@@ -128,17 +128,17 @@ come_in pid size page number piece pieces come behind rest packet last hand told
 -- ---- a stream
 
 -- of a list of sendings whose packets begin with null packets and one more, these, that one and the rest
-record IsParted (sendings : List Sending) (count : ℕ) (packet : List ℕ) (packets : List (List ℕ)) : Type 0 where
-  nulls : List Sending
-  one : Sending
-  rest : List Sending
-  are : sendings ≡ nulls ++ one ∷ rest
-  many : length nulls ≡ count
-  all_null : AllByRecursion (λ (sending : Sending). sending.packet ≡ null_packet) nulls
-  is : one.packet ≡ packet
-  others : packets ≡ map (λ (sending : Sending). sending.packet) rest
+pub record IsParted (sendings : List Sending) (count : ℕ) (packet : List ℕ) (packets : List (List ℕ)) : Type 0 where
+  pub nulls : List Sending
+  pub one : Sending
+  pub rest : List Sending
+  pub are : sendings ≡ nulls ++ one ∷ rest
+  pub many : length nulls ≡ count
+  pub all_null : AllByRecursion (λ (sending : Sending). sending.packet ≡ null_packet) nulls
+  pub is : one.packet ≡ packet
+  pub others : packets ≡ map (λ (sending : Sending). sending.packet) rest
 
-parted : (sendings : List Sending) (count : ℕ) (packet : List ℕ) (packets : List (List ℕ)) → replicate count null_packet ++ packet ∷ packets ≡ map (λ (sending : Sending). sending.packet) sendings → IsParted sendings count packet packets
+pub parted : (sendings : List Sending) (count : ℕ) (packet : List ℕ) (packets : List (List ℕ)) → replicate count null_packet ++ packet ∷ packets ≡ map (λ (sending : Sending). sending.packet) sendings → IsParted sendings count packet packets
 parted [] zero packet packets e = absurd (omega (arith, ap length e))
 parted [] (suc count) packet packets e = absurd (omega (arith, ap length e))
 parted (sending ∷ sendings) zero packet packets e =
@@ -149,7 +149,7 @@ parted (sending ∷ sendings) (suc count) packet packets e =
     let head : null_packet ≡ sending.packet = cc in
     let tail : replicate count null_packet ++ packet ∷ packets ≡ map (λ (sending : Sending). sending.packet) sendings = cc in
     let more = parted sendings count packet packets tail in
-    record { nulls = sending ∷ more.nulls; one = more.one; rest = more.rest; are = ap (λ all. sending ∷ all) more.are; many = ap suc more.many; all_null = (sym head, more.all_null); is = more.is; others = more.others }
+    record { nulls = sending ∷ more.nulls; one = more.one; rest = more.rest; are = ap (λ all. sending ∷ all) {y = more.nulls ++ more.one ∷ more.rest} more.are; many = ap suc more.many; all_null = (sym head, more.all_null); is = more.is; others = more.others }
 
 -- whether the packet at a place is received
 abbrev pub is_there : List Sending → ℕ → Bool
@@ -176,6 +176,17 @@ there_after front rest from next (slot ∷ slots) e ahead =
 received-append : (xs ys : List Sending) → received_of (xs ++ ys) ≡ received_of xs ++ received_of ys
 received-append xs ys = ap (map (λ (sending : Sending). sending.packet)) (filter-append (λ (sending : Sending). sending.received) xs ys) ∙ map-append (λ (sending : Sending). sending.packet) (filter (λ (sending : Sending). sending.received) xs) (filter (λ (sending : Sending). sending.received) ys)
 
+-- the first slot's packet and the others
+pub there_parts : (from slot : ℕ) (slots : List ℕ) (sendings : List Sending) (packet : List ℕ) (packets : List (List ℕ)) (parts : IsParted sendings (slot - from) packet packets) → IsAhead from (slot ∷ slots)
+    → there_at sendings from (slot ∷ slots) ≡ parts.one.received ∷ there_at parts.rest (slot + 1) slots
+there_parts from slot slots sendings packet packets parts ahead =
+    let least = ahead.0 in
+    let whole : sendings ≡ (parts.nulls ++ parts.one ∷ []) ++ parts.rest = parts.are ∙ sym (append_assoc parts.nulls (parts.one ∷ []) parts.rest) in
+    let count : from + length (parts.nulls ++ parts.one ∷ []) ≡ slot + 1 = omega (arith, length-append parts.nulls (parts.one ∷ []), parts.many, least) in
+    let at_slot : slot - from ≡ length parts.nulls + 0 = omega (arith, parts.many) in
+    ap (λ b. b ∷ there_at sendings from slots) (ap (λ all. is_there all (slot - from)) parts.are ∙ ap (is_there (parts.nulls ++ parts.one ∷ parts.rest)) at_slot ∙ there_behind parts.nulls (parts.one ∷ parts.rest) 0)
+    ∙ ap (λ more. parts.one.received ∷ more) (ap (λ all. there_at all from slots) whole ∙ there_after (parts.nulls ++ parts.one ∷ []) parts.rest from (slot + 1) slots count ahead.1)
+
 -- what arrives of a stream is what its pieces bring
 pub walked : (pid size page from number : ℕ) (pieces : List Piece) (slots : List ℕ) (sendings : List Sending) (before : List (List ℕ)) → IsFree pid → AllByRecursion IsPiece pieces → length pieces ≡ length slots → IsAhead from slots
     → laid pid from number pieces slots ≡ map (λ (sending : Sending). sending.packet) sendings
@@ -198,22 +209,8 @@ walked pid size page from number (piece ∷ pieces) (slot ∷ slots) sendings be
         (subst (λ (packets : List (List ℕ)). Walk size page (last_counter pid before) (hand_after pid size before) number (piece ∷ pieces) (parts.one.received ∷ there_at parts.rest (slot + 1) slots) (flow size pid page before packets)) (sym (received-append parts.nulls (parts.one ∷ parts.rest)))
         (behind_nulls pid size page number (piece ∷ pieces) (parts.one.received ∷ there_at parts.rest (slot + 1) slots) parts.nulls before (received_of (parts.one ∷ parts.rest)) free parts.all_null (λ behind counter hand. here parts.one.received refl behind counter hand))))
       where
-        least : from ≤ slot
-        least = ahead.0
-
-        whole : sendings ≡ (parts.nulls ++ parts.one ∷ []) ++ parts.rest
-        whole = parts.are ∙ sym (append_assoc parts.nulls (parts.one ∷ []) parts.rest)
-
-        count : from + length (parts.nulls ++ parts.one ∷ []) ≡ slot + 1
-        count = omega (arith, length-append parts.nulls (parts.one ∷ []), parts.many, least)
-
-        at_slot : slot - from ≡ length parts.nulls + 0
-        at_slot = omega (arith, parts.many)
-
         flags : there_at sendings from (slot ∷ slots) ≡ parts.one.received ∷ there_at parts.rest (slot + 1) slots
-        flags =
-            ap (λ b. b ∷ there_at sendings from slots) (ap (λ all. is_there all (slot - from)) parts.are ∙ ap (is_there (parts.nulls ++ parts.one ∷ parts.rest)) at_slot ∙ there_behind parts.nulls (parts.one ∷ parts.rest) 0)
-            ∙ ap (λ more. parts.one.received ∷ more) (ap (λ all. there_at all from slots) whole ∙ there_after (parts.nulls ++ parts.one ∷ []) parts.rest from (slot + 1) slots count ahead.1)
+        flags = there_parts from slot slots sendings (packet_of pid number piece) (laid pid (slot + 1) (number + 1) pieces slots) parts ahead
 
         Here : Bool → List (List ℕ) → Type 0
         Here come packets = Walk size page (last_counter pid before) (hand_after pid size before) number (piece ∷ pieces) (come ∷ there_at parts.rest (slot + 1) slots) (flow size pid page packets

@@ -12,27 +12,9 @@ use Rattle.decoder_model.specs.Frames.{segments_in}
 use Rattle.decoder_model.specs.Sets.{Stretch, loss_between, run, runs_of, joined_to, Delivery, lost, whole, is_ended, frames_in, size_in, is_followed, set_of, sets_in}
 use Rattle.decoder_model.proofs.SentSets.{SetUnit, TimedSet, TimedUnit, timed, timed_units, segments_of_units, IsTimedSet, IsApart, IsPlaced, unit_of, delivered, handed_whole, first_time, same_time, run_frames, run_size, none_ends, front_bytes, front_not_ended, segments_are, find-map}
 use Rattle.shown_stream.proofs.LateSets.{rest_of_set, rest_is_set}
-use Rattle.shown_stream.proofs.LostUnits.{Kind, Fresh, Joined, Apart, Steps, missed_from, losses, losses-add, Arrive, none_arrive, one_arrives, one_missed, lost_before}
+use Rattle.shown_stream.proofs.LostUnits.{Kind, Fresh, Joined, Apart, Steps, no_step, more_steps, missed_from, losses, losses-add, Arrive, none_arrive, one_arrives, one_missed, lost_before}
 
 -- ---- steps
-
-pub more_steps : (a b c : Kind) (n k : ℕ) → Steps a n b → Steps b k c → Steps a (n + k) c
-more_steps Fresh Fresh Fresh n k h g = omega (arith, h, g)
-more_steps Fresh b Joined n k h g = tt
-more_steps Fresh b Apart n k h g = tt
-more_steps Fresh Joined Fresh n k h g = absurd g
-more_steps Fresh Apart Fresh n k h g = absurd g
-more_steps Joined Fresh c n k h g = absurd h
-more_steps Joined Joined Fresh n k h g = absurd g
-more_steps Joined Apart Fresh n k h g = absurd g
-more_steps Joined b Joined n k h g = tt
-more_steps Joined b Apart n k h g = tt
-more_steps Apart Fresh c n k h g = absurd h
-more_steps Apart Joined Fresh n k h g = absurd g
-more_steps Apart Apart Fresh n k h g = absurd g
-more_steps Apart Joined Joined n k h g = omega (arith, h)
-more_steps Apart Apart Joined n k h g = omega (arith, g)
-more_steps Apart b Apart n k h g = tt
 
 missed_step : (kind next : Kind) (n : ℕ) → Steps (missed_from kind) n next → Steps kind n next
 missed_step Fresh next n h = h
@@ -48,11 +30,6 @@ apart_step Fresh Joined n h = tt
 apart_step Fresh Apart n h = tt
 apart_step Joined next n h = h
 apart_step Apart next n h = h
-
-no_step : (kind : Kind) → Steps kind 0 kind
-no_step Fresh = refl
-no_step Joined = tt
-no_step Apart = tt
 
 -- how many losses stand before what comes
 abbrev pub count_before : Kind → ℕ

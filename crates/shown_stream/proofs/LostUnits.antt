@@ -64,12 +64,12 @@ Steps Apart n Fresh = ⊥
 Steps Apart n Joined = 1 ≤ n
 Steps Apart n Apart = Unit {0}
 
-no_step : (kind : Kind) → Steps kind 0 kind
+pub no_step : (kind : Kind) → Steps kind 0 kind
 no_step Fresh = refl
 no_step Joined = tt
 no_step Apart = tt
 
-more_steps : (a b c : Kind) (n k : ℕ) → Steps a n b → Steps b k c → Steps a (n + k) c
+pub more_steps : (a b c : Kind) (n k : ℕ) → Steps a n b → Steps b k c → Steps a (n + k) c
 more_steps Fresh Fresh Fresh n k h g = omega (arith, h, g)
 more_steps Fresh b Joined n k h g = tt
 more_steps Fresh b Apart n k h g = tt

@@ -63,7 +63,7 @@ FollowsOn last number = (last ≡ None) ⊎ ((before : ℕ) × (last ≡ Some be
 pub null_is_no_payload : (pid : ℕ) → IsFree pid → is_payload pid null_packet ≡ false
 null_is_no_payload pid free = let no_null = free.no_null in let other : eqb 0x1FFF pid ≡ false = grind (arith, nat_tests) in ap (λ same. same && true) other
 
-written_is_payload : (pid counter : ℕ) (start : Bool) (piece packet : List ℕ) → SaysWhatWasWritten pid start counter piece packet → is_payload pid packet ≡ true
+pub written_is_payload : (pid counter : ℕ) (start : Bool) (piece packet : List ℕ) → SaysWhatWasWritten pid start counter piece packet → is_payload pid packet ≡ true
 written_is_payload pid counter start piece packet told =
     let same_pid = told.carries.same_pid in
     let same : eqb (pid_of packet) pid ≡ true = grind (arith, nat_tests) in

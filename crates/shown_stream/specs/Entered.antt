@@ -1,4 +1,5 @@
--- What a receiver that enters a compiled stream late shows of it, and what its page memory holds (EN 300 743, clause 5.1.1).
+-- What a receiver shows of a compiled stream that it enters late, or of which packets are lost, and what its page memory holds
+-- (EN 300 743, clause 5.1.1).
 use Rattle.std.specs.Prelude.{◌≡◌, ℕ, true, List}
 use Rattle.sub_base.specs.Profile.{profile_of}
 use Rattle.sub_base.specs.declared.profile.ProfileName.{ProfileName}
@@ -8,10 +9,10 @@ use Rattle.schedule.specs.Slots.{Timetable}
 use Rattle.decoder_model.specs.Readings.{Reading}
 use Rattle.decoder_model.specs.Received.{HasReceived}
 use Rattle.decoder_model.specs.Sets.{Delivery}
-use Rattle.decoder_model.specs.Streams.{entered_at, entry_set, is_from}
+use Rattle.decoder_model.specs.Streams.{entered_at, entry_set, is_from, Sending, IsReceived, IsGoodTick}
 use Rattle.shown_stream.specs.HoldsWhole.{HoldsWhole}
-use Rattle.shown_stream.specs.SentSets.{sent_set, sent_sets, times_from}
-use Rattle.shown_stream.specs.Shows.{authored_view, IsAnchorOf, ShowsFrom}
+use Rattle.shown_stream.specs.SentSets.{sent_set, sent_sets, times_from, times_received}
+use Rattle.shown_stream.specs.Shows.{authored_view, IsAnchorOf, Shows, ShowsFrom}
 
 -- a receiver of the profile, for a PID and a page, that gets these packets but for the first so many, with any anchor that suits the
 -- sets of which packets come. At each tick it shows what the script authors, from the time on of the first set that comes whole and
@@ -22,3 +23,13 @@ pub record IsEnteredRightly (profile : ProfileName) (pid page : ℕ) (script : S
       → ShowsFrom (profile_of profile) pid page anchor (entered_at missed packets) (entry_set missed (sent_sets table sets)) tick (authored_view script tick)
   pub held : (anchor : ℕ) → IsAnchorOf (times_from missed (sent_sets table sets)) anchor → (past : List (Delivery Reading)) → HasReceived (profile_of profile) pid page true (entered_at missed packets) past
       → HoldsWhole script (profile_of profile) anchor sets (λ number set. is_from missed (sent_set table number set) ≡ true) past
+
+-- a receiver of the profile, for a PID and a page, that gets these packets of a compiled stream, between two neighbouring payload
+-- packets of which at most 14 are lost, with any anchor that suits the sets of which packets come. At each tick up to which, from some
+-- set on that is not of state normal, all sets have come whole, it shows what the script authors; and with each set that comes
+-- whole, and whose epoch is known, its page memory holds the script
+pub record IsCutRightly (profile : ProfileName) (pid page : ℕ) (script : Script) (sets : List PlannedSet) (table : Timetable) (sendings : List Sending) (received : List (List ℕ)) : Type 0 where
+  pub shown : (anchor : ℕ) → IsAnchorOf (times_received sendings (sent_sets table sets)) anchor → (tick : ℕ) → IsGoodTick (sent_sets table sets) sendings tick
+      → Shows (profile_of profile) pid page anchor received tick (authored_view script tick)
+  pub held : (anchor : ℕ) → IsAnchorOf (times_received sendings (sent_sets table sets)) anchor → (past : List (Delivery Reading)) → HasReceived (profile_of profile) pid page true received past
+      → HoldsWhole script (profile_of profile) anchor sets (λ number set. IsReceived sendings (sent_set table number set)) past
