@@ -6,6 +6,7 @@ use Rattle.cue_list.specs.declared.script.Script.{Script}
 use Rattle.shown_stream.specs.Compiled.{IsCompiledFor, IsCompiledTo}
 use Rattle.shown_stream.proofs.CompiledPackets.{packets_in, are_packets}
 use Rattle.shown_stream.proofs.CompiledShown.{compiled_entered}
+use Rattle.shown_stream.proofs.LostShown.{compiled_cut}
 use Rattle.shown_stream.proofs.SentPieces.{IsFree}
 use Rattle.sub_base.specs.declared.profile.ProfileName.{ProfileName}
 use Rattle.dvbsub_cmd.specs.Headline.{ShowsScript, OnDone, IsShownBy}
@@ -51,6 +52,7 @@ shows_script profile pid page has_font before now script bytes below made reads 
       compiled = compiled_to profile pid page script bytes (concat (packets_in profile pid page script bytes compiled)) known.joined compiled;
       written = subst (λ (all : List ℕ). Appends before.out.written now.out.written all) known.joined written;
       entered = compiled_entered profile pid page script bytes free made compiled;
+      cut = compiled_cut profile pid page script bytes free made compiled;
     }
 
 -- a status whose line could not be written is not that a command was done

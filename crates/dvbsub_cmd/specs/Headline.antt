@@ -4,7 +4,8 @@ use Rattle.std.specs.List.{concat}
 use Rattle.std.specs.Io.KnownBytes.{Appends}
 use Rattle.cue_list.specs.declared.script.Script.{Script}
 use Rattle.shown_stream.specs.Compiled.{IsCompiledTo}
-use Rattle.shown_stream.specs.Entered.{IsEnteredRightly}
+use Rattle.decoder_model.specs.Streams.{Sending, IsCutTo}
+use Rattle.shown_stream.specs.Entered.{IsEnteredRightly, IsCutRightly}
 use Rattle.sub_base.specs.declared.profile.ProfileName.{ProfileName}
 use Rattle.dvbsub_cmd.specs.ReadScript.{ReadsScript}
 use Rattle.dvbsub_cmd.specs.Seen.{Seen}
@@ -13,9 +14,10 @@ use Rattle.dvbsub_cmd.specs.declared.command.Command.TheVariants as command
 use Rattle.dvbsub_cmd.specs.declared.status.Status.{Status}
 use Rattle.dvbsub_cmd.specs.declared.status.Status.TheVariants as status
 
--- the output has received packets, those to which the script that was read is compiled; and behind whatever number of them a
--- receiver of the profile enters, it shows for the PID and the page what the script authors from its entry point on, and its page
--- memory holds the script
+-- the output has received packets, those to which the script that was read is compiled; behind whatever number of them a receiver of
+-- the profile enters, it shows for the PID and the page what the script authors from its entry set on, and its page memory holds the
+-- script; and whatever packets it loses, at most 14 between two payload packets that it gets, it shows what the script authors
+-- wherever, from some set on that is not of state normal, all sets have come whole, and its page memory holds the script
 pub record ShowsScript (profile : ProfileName) (pid page : ℕ) (has_font : Bool) (before now : Seen) : Type 0 where
   pub script : Script
   pub reads : ReadsScript has_font before.first now.first before.second now.second script
@@ -24,6 +26,8 @@ pub record ShowsScript (profile : ProfileName) (pid page : ℕ) (has_font : Bool
   pub compiled : IsCompiledTo profile pid page script (concat packets)
   pub written : Appends before.out.written now.out.written (concat packets)
   pub entered : (missed : ℕ) → IsEnteredRightly profile pid page script compiled.sets compiled.table packets missed
+  pub cut : (sendings : List Sending) (received : List (List ℕ)) → IsCutTo pid packets sendings received
+      → IsCutRightly profile pid page script compiled.sets compiled.table sendings received
 
 -- where a command was done, this holds
 abbrev pub OnDone : Status → Type 0 → Type 0

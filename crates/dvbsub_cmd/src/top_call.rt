@@ -43,8 +43,9 @@ where
         (seen (A.supplied first.new) (B.supplied second.new) (K.received out.new))
         (N.received notes.old) (N.received notes.new) result }
 
-    // Where a script was compiled, a receiver that enters the packets anywhere shows nothing before its entry point, and from
-    // then on the authored picture at every tick.
+    // Where a script was compiled, a receiver that enters the packets anywhere, with any anchor that suits the sets of which
+    // packets come, shows nothing before its entry set, and from then on the authored picture at every tick; one that
+    // loses packets shows it at every good tick; and page memory holds the script.
     ensures shown { IsShownBy (command_of_words words.now)
         (seen (A.supplied first.old) (B.supplied second.old) (K.received out.old))
         (seen (A.supplied first.new) (B.supplied second.new) (K.received out.new))
