@@ -1,0 +1,44 @@
+-- What painting changes in a store of regions, in the words of the last write to a pixel (EN 300 743, clauses 7.2.3 and 7.2.5).
+use Rattle.std.specs.Prelude.{◌≡◌, ℕ, ◌<◌, Bool, List, [], ◌∷◌, Option, unwrap_or}
+use Rattle.std.specs.Option.{option_or}
+use Rattle.sub_base.specs.Depth.{code_count}
+use Rattle.sub_base.specs.declared.depth.Depth.{Depth}
+use Rattle.stream_syntax.specs.PixelBlocks.{Part, AreParts, runs_after}
+use Rattle.stream_syntax.specs.declared.pixel_run.Run.{Run}
+use Rattle.stream_syntax.specs.declared.region.Listing.{Listing}
+use Rattle.stream_syntax.specs.declared.region.RegionHead.{RegionHead}
+use Rattle.decoder_model.specs.Pixels.{bottom_parts, code_by_field}
+use Rattle.pixel_store.specs.Regions.{Region, Regions, IsPlaced, KeepsOthers, region_at, code_of}
+
+-- a slot of the store has a region of these sides and this depth
+pub record IsRegionOf (head : RegionHead) (slot : ℕ) (store : Regions) : Type 0 where
+  pub placed : IsPlaced store slot
+  pub width : (region_at store slot).width ≡ head.width
+  pub height : (region_at store slot).height ≡ head.height
+  pub depth : (region_at store slot).depth ≡ head.depth
+
+-- each pixel of a slot's region has the code that is written to its column and row, and the code from before where none is;
+-- all other regions are as they were
+pub record IsWritten (slot : ℕ) (written : ℕ → ℕ → Option ℕ) (old new : Regions) : Type 0 where
+  pub others : KeepsOthers slot old new
+  pub codes : (x y : ℕ) → x < (region_at old slot).width → y < (region_at old slot).height →
+      code_of (region_at new slot) x y ≡ unwrap_or (written x y) (code_of (region_at old slot) x y)
+
+-- each run has a code of the depth
+abbrev pub HaveCodes : Depth → List Run → Type 0
+HaveCodes depth [] = Unit {0}
+HaveCodes depth (run ∷ runs) = (run.code < code_count depth) × HaveCodes depth runs
+
+-- the runs of an object's two fields
+pub record FieldRuns : Type 0 where
+  pub top : List Run
+  pub bottom : List Run
+
+-- the code that both fields of an object put in a column and a row, from the corner of a listing on
+abbrev pub code_by_fields : Bool → FieldRuns → ℕ → ℕ → Listing → Option ℕ
+code_by_fields see_through fields x y listing =
+    option_or (code_by_field see_through listing 1 x y fields.bottom) (code_by_field see_through listing 0 x y fields.top)
+
+-- the runs of these sub-blocks in a region of a depth, where an empty bottom block stands for the top block
+abbrev pub field_runs : Depth → List Part → List Part → FieldRuns
+field_runs depth top bottom = record { top = runs_after depth [] top; bottom = runs_after depth [] (bottom_parts top bottom) }
