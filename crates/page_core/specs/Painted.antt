@@ -1,13 +1,20 @@
 -- What painting changes in a store of regions, in the words of the last write to a pixel (EN 300 743, clauses 7.2.3 and 7.2.5).
-use Rattle.std.specs.Prelude.{◌≡◌, ℕ, ◌<◌, Bool, List, [], ◌∷◌, Option, unwrap_or}
+use Rattle.std.specs.Prelude.{◌≡◌, ℕ, ◌<◌, Bool, List, [], ◌∷◌, Option, Some, None, Result, Ok, Err, unwrap_or}
 use Rattle.std.specs.Option.{option_or}
 use Rattle.sub_base.specs.Depth.{code_count}
 use Rattle.sub_base.specs.declared.depth.Depth.{Depth}
-use Rattle.stream_syntax.specs.PixelBlocks.{Part, AreParts, runs_after}
+use Rattle.stream_syntax.specs.PixelBlocks.{Part, AreParts, runs_after, IsBlock}
 use Rattle.stream_syntax.specs.declared.pixel_run.Run.{Run}
 use Rattle.stream_syntax.specs.declared.region.Listing.{Listing}
 use Rattle.stream_syntax.specs.declared.region.RegionHead.{RegionHead}
+use Rattle.stream_syntax.specs.Segments.{Object}
+use Rattle.stream_syntax.specs.declared.code_fault.CodeFault.{CodeFault}
+use Rattle.stream_syntax.specs.declared.code_fault.CodeKind.TheVariants.{TooDeep}
+use Rattle.stream_syntax.specs.declared.segment_fault.SegmentFault.{SegmentFault}
+use Rattle.decoder_model.specs.Faults.{too_deep_at, depth_fault}
 use Rattle.decoder_model.specs.Pixels.{bottom_parts, code_by_field}
+use Rattle.decoder_model.specs.Readings.{Content}
+use Rattle.decoder_model.specs.declared.set_fault.SetFault.TheVariants as fault
 use Rattle.pixel_store.specs.Regions.{Region, Regions, IsPlaced, KeepsOthers, region_at, code_of}
 
 -- a slot of the store has a region of these sides and this depth
@@ -29,8 +36,9 @@ abbrev pub HaveCodes : Depth → List Run → Type 0
 HaveCodes depth [] = Unit {0}
 HaveCodes depth (run ∷ runs) = (run.code < code_count depth) × HaveCodes depth runs
 
--- the runs of an object's two fields
+-- the runs of an object's two fields in regions of a depth
 pub record FieldRuns : Type 0 where
+  pub depth : Depth
   pub top : List Run
   pub bottom : List Run
 
@@ -41,4 +49,15 @@ code_by_fields see_through fields x y listing =
 
 -- the runs of these sub-blocks in a region of a depth, where an empty bottom block stands for the top block
 abbrev pub field_runs : Depth → List Part → List Part → FieldRuns
-field_runs depth top bottom = record { top = runs_after depth [] top; bottom = runs_after depth [] (bottom_parts top bottom) }
+field_runs depth top bottom = record { depth = depth; top = runs_after depth [] top; bottom = runs_after depth [] (bottom_parts top bottom) }
+
+-- the parts of a block, in strings of up to eight bits, are parts for regions of the depth, and these are their runs; or this
+-- is the place of the first string that is too deep
+abbrev pub IsCheckedBlock : Depth → List Part → Result (List Run) CodeFault → Type 0
+IsCheckedBlock depth parts (Ok runs) = (too_deep_at depth parts ≡ None) × (runs ≡ runs_after depth [] parts)
+IsCheckedBlock depth parts (Err found) = (too_deep_at depth parts ≡ Some found.place) × (found.kind ≡ TooDeep)
+
+-- the fields of an object are in the grammar for regions of the depth, or this is its fault
+abbrev pub AreChecked : Depth → Content → Object → Result FieldRuns SegmentFault → Type 0
+AreChecked depth content object (Ok fields) = (depth_fault depth content object ≡ None) × (fields ≡ field_runs depth content.top content.bottom)
+AreChecked depth content object (Err found) = depth_fault depth content object ≡ Some (fault.Segment found)

@@ -2,5 +2,6 @@
 #![tactic(auto)]
 
 mod painting;
+mod painting_objects;
 #[cfg(test)]
 mod tests;
