@@ -1,0 +1,2 @@
+//! The page memory of a receiver of EN 300 743 subtitles.
+#![tactic(auto)]
