@@ -3,5 +3,6 @@
 
 mod painting;
 mod painting_objects;
+
 #[cfg(test)]
 mod tests;
