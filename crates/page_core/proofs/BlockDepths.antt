@@ -1,19 +1,26 @@
 -- A block in strings of up to eight bits, for regions of a depth: it is in the grammar there, or else the first string that is
 -- too deep is its fault.
 use Rattle.std.proofs.Common.{◌≡◌, ◌∙◌, sym, ap, subst, refl, ℕ, ◌+◌, ◌*◌, ◌/◌, ◌<◌, ◌≤◌, ltb, Bool, true, false, cond, List, [], ◌∷◌, ◌++◌, length, Option, Some, None, Result, Ok, Err, append_assoc, length-append, arith}
+use Rattle.std.specs.Prelude.{IfErr}
 use Rattle.std.specs.Option.{option_map, option_or}
 use Rattle.std.proofs.lemmas.Bool.Decides.{nat_tests}
 use Rattle.sub_base.specs.Depth as depths
 use Rattle.sub_base.specs.declared.depth.Depth.{Depth}
 use Rattle.sub_base.specs.declared.depth.Depth.TheVariants.{Eight}
-use Rattle.stream_syntax.specs.PixelCodes.{Code, bits_of, string_of, IsString}
+use Rattle.stream_syntax.specs.PixelCodes.{bits_of, string_of, IsString}
+use Rattle.stream_syntax.specs.PixelCodes.{Code as CodeOf}
 use Rattle.stream_syntax.specs.PixelBlocks.{Part, string, table, line_end, string_type, table_size, entries_of, IsNoDeeper, IsPart, AreParts, IsRefused, runs_after, IsBlock, IsBlockFault}
 use Rattle.stream_syntax.specs.declared.code_fault.CodeFault.{CodeFault}
 use Rattle.stream_syntax.specs.declared.code_fault.CodeKind.TheVariants.{TooDeep}
 use Rattle.stream_syntax.specs.declared.pixel_run.Run.{Run}
-use Rattle.decoder_model.specs.Faults.{part_size, is_too_deep, too_deep_at}
+use Rattle.stream_syntax.specs.Segments.{Object}
+use Rattle.stream_syntax.specs.declared.segment_fault.SegmentKind.TheVariants.{Code}
+use Rattle.decoder_model.specs.Faults.{part_size, is_too_deep, too_deep_at, too_deep_fault, depth_fault}
+use Rattle.decoder_model.specs.Pixels.{bottom_parts}
+use Rattle.decoder_model.specs.Readings.{Content}
+use Rattle.decoder_model.specs.declared.set_fault.SetFault.TheVariants as fault
 use Rattle.pixel_codes.proofs.Bits.{length-bits_of}
-use Rattle.page_core.specs.Painted.{IsCheckedBlock}
+use Rattle.page_core.specs.Painted.{FieldRuns, IsCheckedBlock, AreChecked}
 
 part_here : (region : Depth) (part : Part) (bytes : List ℕ) → IsPart Eight part bytes → is_too_deep region part ≡ false → IsPart region part bytes
 part_here region (string depth codes) bytes h shallow =
@@ -22,7 +29,7 @@ part_here region (string depth codes) bytes h shallow =
 part_here region (table kind entries) bytes h shallow = h
 part_here region line_end bytes h shallow = h
 
-string_bytes : (depth : Depth) (codes : List Code) (body : List ℕ) → IsString depth codes body → (length (string_of depth codes) + 7) / 8 ≡ length body
+string_bytes : (depth : Depth) (codes : List CodeOf) (body : List ℕ) → IsString depth codes body → (length (string_of depth codes) + 7) / 8 ≡ length body
 string_bytes depth codes body is =
     let all : length (bits_of body) ≡ length (string_of depth codes) + length is.fill = ap length is.text ∙ length-append (string_of depth codes) is.fill in
     let few = is.short in
@@ -106,3 +113,59 @@ checked_block region bytes parts result every_block every_fault are = by (too_de
         subst (IsCheckedBlock region parts) (sym (every_block (runs_after region [] parts) here)) (is, refl)
     by (Some place) is =
         subst (IsCheckedBlock region parts) (sym (every_fault (record { place = place; kind = TooDeep }) (deep_fault region parts bytes place are is))) (is, refl)
+
+-- the place of a fault lies within the bytes
+pub fault_within : {Block : Type 0} (region : Depth) (bytes : List ℕ) (result : Result Block CodeFault) → length bytes ≤ 65535 → IfErr result (IsBlockFault region bytes) → IfErr result (λ found. found.place ≤ 65535)
+fault_within region bytes (Ok block) short is = tt
+fault_within region bytes (Err found) short is = omega (arith, is.place, ap length is.whole, length-append is.before is.after)
+
+-- ---- the blocks of two fields
+
+size_of_part : (part : Part) (bytes : List ℕ) → IsPart Eight part bytes → 0 < length bytes
+size_of_part (string depth codes) bytes h = omega (arith, ap length h.2)
+size_of_part (table kind entries) bytes h = omega (arith, ap length h.1)
+size_of_part line_end bytes h = omega (arith, ap length h)
+
+-- an empty block has no parts
+pub no_parts : (parts : List Part) (bytes : List ℕ) → length bytes ≡ 0 → AreParts Eight parts bytes → parts ≡ []
+no_parts [] bytes none h = refl
+no_parts (part ∷ parts) bytes none h = absurd (omega (arith, ap length h.2, length-append h.0 h.1, size_of_part part h.0 h.3))
+
+-- a block with bytes has parts, and stands for itself
+own_parts : (top parts : List Part) (bytes : List ℕ) → (length bytes ≡ 0 → ⊥) → AreParts Eight parts bytes → bottom_parts top parts ≡ parts
+own_parts top [] bytes some h = absurd (some (ap length h))
+own_parts top (part ∷ parts) bytes some h = refl
+
+-- both blocks are in the grammar for regions of the depth, and the bottom one is empty
+pub shared_fields : (depth : Depth) (content : Content) (object : Object) (runs : List Run) → AreParts Eight content.top object.top → AreParts Eight content.bottom object.bottom → length object.bottom ≡ 0
+    → IsCheckedBlock depth content.top (Ok runs) → AreChecked depth content object (Ok (record { depth = depth; top = runs; bottom = runs }))
+shared_fields depth content object runs tops bottoms none checked =
+    let empty : content.bottom ≡ [] = no_parts content.bottom object.bottom none bottoms in (
+      ap (λ found. option_or (option_map (too_deep_fault 13) found) (option_map (too_deep_fault (13 + length object.top)) (too_deep_at depth content.bottom))) checked.0
+          ∙ ap (λ parts. option_map (too_deep_fault (13 + length object.top)) (too_deep_at depth parts)) empty,
+      (λ i. record { depth = depth; top = checked.1 i; bottom = (checked.1 ∙ ap (λ parts. runs_after depth [] (bottom_parts content.top parts)) (sym empty)) i }),
+    )
+
+-- both are, and the bottom one has bytes
+pub own_fields : (depth : Depth) (content : Content) (object : Object) (runs others : List Run) → AreParts Eight content.top object.top → AreParts Eight content.bottom object.bottom → (length object.bottom ≡ 0 → ⊥)
+    → IsCheckedBlock depth content.top (Ok runs) → IsCheckedBlock depth content.bottom (Ok others) → AreChecked depth content object (Ok (record { depth = depth; top = runs; bottom = others }))
+own_fields depth content object runs others tops bottoms some checked checked_too = (
+  ap (λ found. option_or (option_map (too_deep_fault 13) found) (option_map (too_deep_fault (13 + length object.top)) (too_deep_at depth content.bottom))) checked.0
+      ∙ ap (λ found. option_map (too_deep_fault (13 + length object.top)) found) checked_too.0,
+  (λ i. record { depth = depth; top = checked.1 i; bottom = (checked_too.1 ∙ ap (λ parts. runs_after depth [] parts) (sym (own_parts content.top content.bottom object.bottom some bottoms))) i }),
+)
+
+-- the top block has a string that is too deep
+pub top_fault : (depth : Depth) (content : Content) (object : Object) (code : CodeFault) → IsCheckedBlock depth content.top (Err code)
+    → AreChecked depth content object (Err (record { place = 13 + code.place; kind = Code code }))
+top_fault depth content object code checked =
+    ap (λ found. option_or (option_map (too_deep_fault 13) found) (option_map (too_deep_fault (13 + length object.top)) (too_deep_at depth content.bottom))) checked.0
+    ∙ (λ i. Some (fault.Segment (record { place = 13 + code.place; kind = Code (record { place = code.place; kind = sym checked.1 i }) })))
+
+-- the bottom block has one, and the top block has none
+pub bottom_fault : (depth : Depth) (content : Content) (object : Object) (runs : List Run) (code : CodeFault) → IsCheckedBlock depth content.top (Ok runs) → IsCheckedBlock depth content.bottom (Err code)
+    → AreChecked depth content object (Err (record { place = 13 + length object.top + code.place; kind = Code code }))
+bottom_fault depth content object runs code checked checked_too =
+    ap (λ found. option_or (option_map (too_deep_fault 13) found) (option_map (too_deep_fault (13 + length object.top)) (too_deep_at depth content.bottom))) checked.0
+    ∙ ap (λ found. option_map (too_deep_fault (13 + length object.top)) found) checked_too.0
+    ∙ (λ i. Some (fault.Segment (record { place = 13 + length object.top + code.place; kind = Code (record { place = code.place; kind = sym checked_too.1 i }) })))

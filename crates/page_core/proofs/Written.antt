@@ -31,9 +31,7 @@ keeps_twice slot a b c first second = record {
 pub same_region : (head : RegionHead) (slot : ℕ) (old new : Regions) → KeepsOthers slot old new → IsRegionOf head slot old → IsRegionOf head slot new
 same_region head slot old new keeps region = record {
   placed = subst (λ (n : ℕ). slot < n) (sym keeps.count) region.placed;
-  width = keeps.width ∙ region.width;
-  height = keeps.height ∙ region.height;
-  depth = keeps.depth ∙ region.depth;
+  sides = record { width = keeps.width ∙ region.sides.width; height = keeps.height ∙ region.sides.height; depth = keeps.depth ∙ region.sides.depth };
 }
 
 -- ---- what is written
@@ -108,7 +106,7 @@ pub run_written : (head : RegionHead) (slot : ℕ) (see_through : Bool) (listing
 run_written head slot see_through listing first_row left row run old new region changed narrow low left_is row_is keeps painted = record {
   others = keeps;
   codes = run_codes see_through listing first_row left row run (region_at old slot) (region_at new slot) changed
-      (subst (λ (n : ℕ). n < 2 ^ 16) (sym region.width) narrow) (subst (λ (n : ℕ). n < 2 ^ 16) (sym region.height) low) left_is row_is painted;
+      (subst (λ (n : ℕ). n < 2 ^ 16) (sym region.sides.width) narrow) (subst (λ (n : ℕ). n < 2 ^ 16) (sym region.sides.height) low) left_is row_is painted;
 }
 
 -- ---- the runs of a field, one after another

@@ -2,6 +2,7 @@
 use Rattle.std.specs.Prelude.{◌≡◌, ℕ, ◌<◌, Bool, List, [], ◌∷◌, Option, Some, None, Result, Ok, Err, unwrap_or}
 use Rattle.std.specs.Option.{option_or}
 use Rattle.sub_base.specs.Depth.{code_count}
+use Rattle.sub_base.specs.Lists.{last_given}
 use Rattle.sub_base.specs.declared.depth.Depth.{Depth}
 use Rattle.stream_syntax.specs.PixelBlocks.{Part, AreParts, runs_after, IsBlock}
 use Rattle.stream_syntax.specs.declared.pixel_run.Run.{Run}
@@ -15,14 +16,13 @@ use Rattle.decoder_model.specs.Faults.{too_deep_at, depth_fault}
 use Rattle.decoder_model.specs.Pixels.{bottom_parts, code_by_field}
 use Rattle.decoder_model.specs.Readings.{Content}
 use Rattle.decoder_model.specs.declared.set_fault.SetFault.TheVariants as fault
-use Rattle.pixel_store.specs.Regions.{Region, Regions, IsPlaced, KeepsOthers, region_at, code_of}
+use Rattle.pixel_store.specs.Regions.{Regions, IsPlaced, KeepsOthers, region_at, code_of}
+use Rattle.page_core.specs.Memory.{HasSides}
 
--- a slot of the store has a region of these sides and this depth
+-- a slot of the store has a region with the sides and the depth of a head
 pub record IsRegionOf (head : RegionHead) (slot : ℕ) (store : Regions) : Type 0 where
   pub placed : IsPlaced store slot
-  pub width : (region_at store slot).width ≡ head.width
-  pub height : (region_at store slot).height ≡ head.height
-  pub depth : (region_at store slot).depth ≡ head.depth
+  pub sides : HasSides head (region_at store slot)
 
 -- each pixel of a slot's region has the code that is written to its column and row, and the code from before where none is;
 -- all other regions are as they were
@@ -46,6 +46,10 @@ pub record FieldRuns : Type 0 where
 abbrev pub code_by_fields : Bool → FieldRuns → ℕ → ℕ → Listing → Option ℕ
 code_by_fields see_through fields x y listing =
     option_or (code_by_field see_through listing 1 x y fields.bottom) (code_by_field see_through listing 0 x y fields.top)
+
+-- the code that they put there last, through all listings in order
+abbrev pub code_by_fields_in : Bool → FieldRuns → ℕ → ℕ → List Listing → Option ℕ
+code_by_fields_in see_through fields x y listings = last_given (code_by_fields see_through fields x y) listings
 
 -- the runs of these sub-blocks in a region of a depth, where an empty bottom block stands for the top block
 abbrev pub field_runs : Depth → List Part → List Part → FieldRuns

@@ -3,6 +3,5 @@
 
 mod painting;
 mod painting_objects;
-
 #[cfg(test)]
 mod tests;
