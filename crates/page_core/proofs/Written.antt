@@ -4,12 +4,16 @@ use Rattle.std.specs.Prelude.{unwrap_or}
 use Rattle.std.specs.Option.{option_or}
 use Rattle.std.proofs.lemmas.Bool.{cases_eq, cases_lt}
 use Rattle.std.proofs.lemmas.Bool.Decides.{nat_tests}
+use Rattle.sub_base.specs.Lists.{last_given}
+use Rattle.sub_base.specs.declared.depth.Depth.{Depth}
+use Rattle.stream_syntax.specs.PixelBlocks.{Part}
 use Rattle.stream_syntax.specs.declared.pixel_run.Run.{Run}
 use Rattle.stream_syntax.specs.declared.region.Listing.{Listing}
 use Rattle.stream_syntax.specs.declared.region.RegionHead.{RegionHead}
-use Rattle.decoder_model.specs.Pixels.{is_covered, is_changed, code_by_run, code_by_field}
+use Rattle.decoder_model.specs.Pixels.{is_covered, is_changed, code_by_run, code_by_field, code_by_listings, listings_naming}
+use Rattle.decoder_model.proofs.Searches.{option_or-none}
 use Rattle.pixel_store.specs.Regions.{Region, Regions, IsPlaced, KeepsOthers, IsRunPainted, region_at, code_of}
-use Rattle.page_core.specs.Painted.{IsRegionOf, IsWritten, HaveCodes}
+use Rattle.page_core.specs.Painted.{IsRegionOf, IsWritten, HaveCodes, FieldRuns, code_by_fields_in, field_runs}
 
 -- ---- what is kept
 
@@ -109,36 +113,69 @@ run_written head slot see_through listing first_row left row run old new region 
       (subst (λ (n : ℕ). n < 2 ^ 16) (sym region.sides.width) narrow) (subst (λ (n : ℕ). n < 2 ^ 16) (sym region.sides.height) low) left_is row_is painted;
 }
 
--- ---- the runs of a field, one after another
+-- ---- one item after another
 
--- after some runs of a field: whatever the others write is, behind what they wrote, what the whole field writes
-pub record IsPainting (head : RegionHead) (slot : ℕ) (see_through : Bool) (listing : Listing) (first_row : ℕ) (all : List Run) (begin : Regions) (rest : List Run) (now : Regions) : Type 0 where
+-- after some items of which each writes something: whatever the others write is, behind what these wrote, what all write
+pub record IsWriting {X : Type 0} (slot : ℕ) (code_by : ℕ → ℕ → X → Option ℕ) (all : List X) (begin : Regions) (rest : List X) (now : Regions) : Type 0 where
   pub others : KeepsOthers slot begin now
+  pub whole : (end : Regions) → IsWritten slot (λ x y. last_given (code_by x y) rest) now end → IsWritten slot (λ x y. last_given (code_by x y) all) begin end
+
+pub writing_begins : {X : Type 0} (slot : ℕ) (code_by : ℕ → ℕ → X → Option ℕ) (all : List X) (store : Regions) → IsWriting slot code_by all store all store
+writing_begins slot code_by all store = record { others = keeps_all slot store; whole = λ end rest. rest }
+
+pub writing_goes_on : {X : Type 0} (slot : ℕ) (code_by : ℕ → ℕ → X → Option ℕ) (all : List X) (begin : Regions) (item : X) (rest : List X) (now next : Regions)
+    → IsWriting slot code_by all begin (item ∷ rest) now → IsWritten slot (λ x y. code_by x y item) now next → IsWriting slot code_by all begin rest next
+writing_goes_on slot code_by all begin item rest now next writing written = record {
+  others = keeps_twice slot begin now next writing.others written.others;
+  whole = λ end after. writing.whole end (written_twice slot (λ x y. code_by x y item) (λ x y. last_given (code_by x y) rest) now next end written after);
+}
+
+pub writing_ends : {X : Type 0} (slot : ℕ) (code_by : ℕ → ℕ → X → Option ℕ) (all : List X) (begin now : Regions) → IsWriting slot code_by all begin [] now
+    → IsWritten slot (λ x y. last_given (code_by x y) all) begin now
+writing_ends slot code_by all begin now writing = writing.whole now (nothing_written slot (λ x y. None) now (λ x y. refl))
+
+-- ---- the runs of a field
+
+pub record IsPainting (head : RegionHead) (slot : ℕ) (see_through : Bool) (listing : Listing) (first_row : ℕ) (all : List Run) (begin : Regions) (rest : List Run) (now : Regions) : Type 0 where
+  pub writing : IsWriting slot (λ x y. code_by_run see_through listing first_row x y) all begin rest now
   pub codes : HaveCodes head.depth rest
-  pub whole : (end : Regions) → IsWritten slot (λ x y. code_by_field see_through listing first_row x y rest) now end
-      → IsWritten slot (λ x y. code_by_field see_through listing first_row x y all) begin end
 
 pub painting_begins : (head : RegionHead) (slot : ℕ) (see_through : Bool) (listing : Listing) (first_row : ℕ) (all : List Run) (store : Regions) → HaveCodes head.depth all
     → IsPainting head slot see_through listing first_row all store all store
-painting_begins head slot see_through listing first_row all store codes = record { others = keeps_all slot store; codes = codes; whole = λ end rest. rest }
+painting_begins head slot see_through listing first_row all store codes = record { writing = writing_begins slot (λ x y. code_by_run see_through listing first_row x y) all store; codes = codes }
 
 pub painting_goes_on : (head : RegionHead) (slot : ℕ) (see_through : Bool) (listing : Listing) (first_row : ℕ) (all : List Run) (begin : Regions) (left rest : List Run) (now next : Regions) (run : Run)
     → left ≡ run ∷ rest → IsPainting head slot see_through listing first_row all begin left now
     → IsWritten slot (λ x y. code_by_run see_through listing first_row x y run) now next
     → IsPainting head slot see_through listing first_row all begin rest next
 painting_goes_on head slot see_through listing first_row all begin left rest now next run is painting written =
-    let codes : HaveCodes head.depth (run ∷ rest) = subst (HaveCodes head.depth) is painting.codes in
+    let before : IsPainting head slot see_through listing first_row all begin (run ∷ rest) now = subst (λ (runs : List Run). IsPainting head slot see_through listing first_row all begin runs now) is painting in
     record {
-      others = keeps_twice slot begin now next painting.others written.others;
-      codes = codes.1;
-      whole = λ end after.
-          painting.whole end
-          (subst (λ (runs : List Run). IsWritten slot (λ x y. code_by_field see_through listing first_row x y runs) now end) (sym is)
-          (written_twice slot (λ x y. code_by_run see_through listing first_row x y run) (λ x y. code_by_field see_through listing first_row x y rest) now next end written after));
+      writing = writing_goes_on slot (λ x y. code_by_run see_through listing first_row x y) all begin run rest now next before.writing written;
+      codes = before.codes.1;
     }
 
 pub painting_ends : (head : RegionHead) (slot : ℕ) (see_through : Bool) (listing : Listing) (first_row : ℕ) (all : List Run) (begin : Regions) (left : List Run) (now : Regions)
     → left ≡ [] → IsPainting head slot see_through listing first_row all begin left now
     → IsWritten slot (λ x y. code_by_field see_through listing first_row x y all) begin now
 painting_ends head slot see_through listing first_row all begin left now is painting =
-    painting.whole now (nothing_written slot (λ x y. code_by_field see_through listing first_row x y left) now (λ x y. ap (code_by_field see_through listing first_row x y) is))
+    writing_ends slot (λ x y. code_by_run see_through listing first_row x y) all begin now
+    (subst (λ (runs : List Run). IsWriting slot (λ x y. code_by_run see_through listing first_row x y) all begin runs now) is painting.writing)
+
+-- ---- the listings of a region
+
+-- the listings that name an object write what all listings do, of which the others write nothing
+pub named_listings : (code_by : Listing → Option ℕ) (id : ℕ) (listings : List Listing)
+    → last_given code_by (listings_naming id listings) ≡ last_given (λ listing. cond (eqb listing.object id) (code_by listing) None) listings
+named_listings code_by id [] = refl
+named_listings code_by id (listing ∷ listings) = one (eqb listing.object id) ∙ ap (λ found. option_or found (cond (eqb listing.object id) (code_by listing) None)) (named_listings code_by id listings)
+  where
+    one : (named : Bool) → last_given code_by (cond named (listing ∷ listings_naming id listings) (listings_naming id listings)) ≡ option_or (last_given code_by (listings_naming id listings)) (cond named (code_by listing) None)
+    one true = refl
+    one false = sym (option_or-none (last_given code_by (listings_naming id listings)))
+
+-- what the fields of an object write through listings is what the sub-blocks do whose runs they are
+pub by_sub_blocks : (depth : Depth) (see_through : Bool) (top bottom : List Part) (fields : FieldRuns) (slot : ℕ) (listings : List Listing) (old new : Regions) → fields ≡ field_runs depth top bottom
+    → IsWritten slot (λ x y. code_by_fields_in see_through fields x y listings) old new → IsWritten slot (λ x y. code_by_listings depth see_through top bottom x y listings) old new
+by_sub_blocks depth see_through top bottom fields slot listings old new are written =
+    subst (λ (runs : FieldRuns). IsWritten slot (λ x y. code_by_fields_in see_through runs x y listings) old new) are written

@@ -2,12 +2,13 @@
 
 ghost use Rattle.std.specs.Prelude.{◌≡◌, ◌<◌};
 ghost use Rattle.sub_base.specs.Depth.{code_count};
-ghost use Rattle.decoder_model.specs.Pixels.{is_changed, code_by_run, code_by_field};
+ghost use Rattle.decoder_model.specs.Pixels.{is_changed, code_by_run, code_by_field, code_by_fill, fill_code};
 ghost use Rattle.page_core.specs.Painted.{IsRegionOf, IsWritten, HaveCodes};
 
 use pixel_codes::CodeBlock;
 use pixel_store::{Slot, Store};
 use stream_syntax::{Listing, RegionHead, Run};
+use sub_base::Depth;
 
 /// Where the lines of a field of an object go: from the corner of a listing on, the lines of the top field to every second
 /// row from the first one on, those of the bottom field to the rows between.
@@ -64,4 +65,26 @@ fn is_changing(place: FieldPlace, run: Run) -> bool
     ensures { result ≡ is_changed place.see_through run }
 {
     !(place.see_through && run.read == 1)
+}
+
+/// Fills a region with the code of its depth, where its segment says so (EN 300 743, clause 7.2.3).
+pub(crate) fn fill_region(store: &mut Store, slot: Slot, head: RegionHead)
+    requires region { IsRegionOf head slot store.old }
+    requires code { fill_code head.depth head < code_count head.depth }
+    ensures { IsWritten slot (λ x y. code_by_fill head.region head) store.old store.new }
+{
+    if head.fill {
+        store.fill(slot, fill_code(head));
+    }
+}
+
+/// The code with which a region of that depth is filled.
+fn fill_code(head: RegionHead) -> u8
+    ensures { result ≡ fill_code head.depth head }
+{
+    match head.depth {
+        Depth::Two => head.code2,
+        Depth::Four => head.code4,
+        Depth::Eight => head.code8,
+    }
 }
