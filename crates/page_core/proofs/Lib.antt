@@ -1,3 +1,4 @@
 pub mod Written
 pub mod BlockCodes
 pub mod BlockDepths
+pub mod RegionHeads
