@@ -2,3 +2,4 @@ pub mod Written
 pub mod BlockCodes
 pub mod BlockDepths
 pub mod RegionHeads
+pub mod ColouredBytes

@@ -1,3 +1,4 @@
 pub mod Composition
 pub mod Memory
 pub mod Painted
+pub mod Coloured
