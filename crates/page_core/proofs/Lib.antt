@@ -3,3 +3,4 @@ pub mod BlockCodes
 pub mod BlockDepths
 pub mod RegionHeads
 pub mod ColouredBytes
+pub mod DrawnRows

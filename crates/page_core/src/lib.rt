@@ -4,5 +4,6 @@
 mod colours;
 mod painting;
 mod painting_objects;
+mod rows;
 #[cfg(test)]
 mod tests;

@@ -1,0 +1,63 @@
+-- The picture of a page memory, by rows (EN 300 743, clauses 7.2.1 and 7.2.2): regions stand from the corner of the display's window
+-- on and are cut off at its edges; a later entry of the page lies over the ones before it, and where no region is the video is seen.
+use Rattle.std.specs.Prelude.{◌≡◌, ℕ, ◌+◌, ◌-◌, ◌<◌, ◌≤◌, ◌⊎◌, Bool, if◌then◌else◌, List, length, map, Option, Some, None, unwrap_or}
+use Rattle.std.specs.List.{range_with_len}
+use Rattle.sub_base.specs.Colour.{clear}
+use Rattle.sub_base.specs.Lists.{last_given}
+use Rattle.sub_base.specs.declared.colour.Colour.{Colour}
+use Rattle.stream_syntax.specs.declared.display.Window.{Window}
+use Rattle.stream_syntax.specs.declared.page.PageEntry.{PageEntry}
+use Rattle.stream_syntax.specs.declared.region.RegionHead.{RegionHead}
+use Rattle.decoder_model.specs.Shown.{window_of, is_in_window, is_inside}
+use Rattle.pixel_store.specs.Regions.{Region, code_of as code_at}
+use Rattle.page_core.specs.Coloured.{colour_of}
+use Rattle.page_core.specs.Composition.{KeptRegion, region_in}
+use Rattle.page_core.specs.Memory.{Memory, code_in, ink_in}
+
+-- ---- a place of the display
+
+-- the colour in a column and a row of a region, through its CLUT
+abbrev pub colour_in : Memory → KeptRegion → ℕ → ℕ → Colour
+colour_in memory kept x y = ink_in memory.inks kept.head.clut kept.head.depth (code_in memory kept x y)
+
+-- the colour that a region whose corner is there gives a place, where it covers the place
+abbrev pub colour_through : Memory → ℕ → ℕ → ℕ → ℕ → Option KeptRegion → Option Colour
+colour_through memory left top x y None = None
+colour_through memory left top x y (Some kept) =
+    if is_inside left top kept.head.width kept.head.height x y then Some (colour_in memory kept (x - left) (y - top)) else None
+
+-- the colour that an entry of the page gives a place
+abbrev pub colour_by_entry : Memory → Window → ℕ → ℕ → PageEntry → Option Colour
+colour_by_entry memory window x y entry =
+    colour_through memory (window.left + entry.x) (window.top + entry.y) x y (region_in memory.composition entry.region)
+
+-- the colour of a place: that of the last entry whose region covers it, within the window, and else clear
+unfoldable pub colour_at : Memory → ℕ → ℕ → Colour
+colour_at memory x y =
+    if is_in_window (window_of memory.display) x y
+    then unwrap_or (last_given (colour_by_entry memory (window_of memory.display) x y) memory.composition.entries) clear else clear
+
+-- a row of the picture
+unfoldable pub row_in : Memory → ℕ → List Colour
+row_in memory y = map (λ x. colour_at memory x y) (range_with_len 0 memory.display.width)
+
+-- ---- drawing over a row
+
+-- what is found at a place, where the place lies in the window
+abbrev pub seen_in : Window → ℕ → ℕ → Option Colour → Option Colour
+seen_in window x y found = if is_in_window window x y then found else None
+
+-- each place of row y has the colour that it is given, where it is given one and lies in the window; all others are as they were
+abbrev pub IsDrawnOver : Window → ℕ → (ℕ → Option Colour) → List Colour → List Colour → Type 0
+IsDrawnOver window y given old new = (x : ℕ) → x < length old → colour_of new x ≡ unwrap_or (seen_in window x y (given x)) (colour_of old x)
+
+-- the colour that a region with these colours of its CLUT gives a place, where its corner is there and it covers the place
+abbrev pub colour_by_region : RegionHead → Region → List Colour → ℕ → ℕ → ℕ → ℕ → Option Colour
+colour_by_region head region colours left top x y =
+    if is_inside left top head.width head.height x y then Some (colour_of colours (code_at region (x - left) (y - top))) else None
+
+-- the places of a row from one up to another have the colours of a line of a region, from its first column on, and all others are
+-- as they were
+pub record IsLineDrawn (region : Region) (line : ℕ) (colours : List Colour) (from to : ℕ) (old new : List Colour) : Type 0 where
+  pub covered : (x : ℕ) → from ≤ x → x < to → colour_of new x ≡ colour_of colours (code_at region (x - from) line)
+  pub beside : (x : ℕ) → (x < from) ⊎ (to ≤ x) → colour_of new x ≡ colour_of old x
