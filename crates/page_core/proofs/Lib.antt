@@ -4,3 +4,4 @@ pub mod BlockDepths
 pub mod RegionHeads
 pub mod ColouredBytes
 pub mod DrawnRows
+pub mod DrawnEntries

@@ -3,13 +3,15 @@
 use Rattle.std.specs.Prelude.{◌≡◌, ℕ, ◌+◌, ◌-◌, ◌<◌, ◌≤◌, ◌⊎◌, Bool, if◌then◌else◌, List, length, map, Option, Some, None, unwrap_or}
 use Rattle.std.specs.List.{range_with_len}
 use Rattle.sub_base.specs.Colour.{clear}
+use Rattle.sub_base.specs.Depth.{code_count}
 use Rattle.sub_base.specs.Lists.{last_given}
 use Rattle.sub_base.specs.declared.colour.Colour.{Colour}
+use Rattle.sub_base.specs.declared.depth.Depth.{Depth}
 use Rattle.stream_syntax.specs.declared.display.Window.{Window}
 use Rattle.stream_syntax.specs.declared.page.PageEntry.{PageEntry}
 use Rattle.stream_syntax.specs.declared.region.RegionHead.{RegionHead}
 use Rattle.decoder_model.specs.Shown.{window_of, is_in_window, is_inside}
-use Rattle.pixel_store.specs.Regions.{Region, code_of as code_at}
+use Rattle.pixel_store.specs.Regions.{Region, code_of as code_in_region}
 use Rattle.page_core.specs.Coloured.{colour_of}
 use Rattle.page_core.specs.Composition.{KeptRegion, region_in}
 use Rattle.page_core.specs.Memory.{Memory, code_in, ink_in}
@@ -54,10 +56,20 @@ IsDrawnOver window y given old new = (x : ℕ) → x < length old → colour_of 
 -- the colour that a region with these colours of its CLUT gives a place, where its corner is there and it covers the place
 abbrev pub colour_by_region : RegionHead → Region → List Colour → ℕ → ℕ → ℕ → ℕ → Option Colour
 colour_by_region head region colours left top x y =
-    if is_inside left top head.width head.height x y then Some (colour_of colours (code_at region (x - left) (y - top))) else None
+    if is_inside left top head.width head.height x y then Some (colour_of colours (code_in_region region (x - left) (y - top))) else None
 
 -- the places of a row from one up to another have the colours of a line of a region, from its first column on, and all others are
 -- as they were
 pub record IsLineDrawn (region : Region) (line : ℕ) (colours : List Colour) (from to : ℕ) (old new : List Colour) : Type 0 where
-  pub covered : (x : ℕ) → from ≤ x → x < to → colour_of new x ≡ colour_of colours (code_at region (x - from) line)
+  pub covered : (x : ℕ) → from ≤ x → x < to → colour_of new x ≡ colour_of colours (code_in_region region (x - from) line)
   pub beside : (x : ℕ) → (x < from) ⊎ (to ≤ x) → colour_of new x ≡ colour_of old x
+
+-- these are the colours of a CLUT for codes of a depth
+abbrev pub AreColoursOf : List Colour → ℕ → Depth → List Colour → Type 0
+AreColoursOf inks clut depth colours = (number : ℕ) → number < code_count depth → colour_of colours number ≡ ink_in inks clut depth number
+
+-- a row after some entries of the page, with the entries that are left: what these give it makes it row y of the picture
+abbrev pub IsDrawing : Memory → ℕ → List PageEntry → List Colour → Type 0
+IsDrawing memory y rest row = (x : ℕ) → x < length row →
+    colour_at memory x y
+    ≡ unwrap_or (seen_in (window_of memory.display) x y (last_given (colour_by_entry memory (window_of memory.display) x y) rest)) (colour_of row x)

@@ -1,16 +1,18 @@
 //! Rows of the picture: the lines of regions, drawn one over another within the window of the display (EN 300 743, clauses
 //! 7.2.1 and 7.2.2).
 
-ghost use Rattle.std.specs.Prelude.{◌≡◌, ◌+◌, ◌<◌, ◌≤◌, length};
+ghost use Rattle.std.specs.Prelude.{◌≡◌, ℕ, ◌+◌, ◌<◌, ◌≤◌, length};
+ghost use Rattle.sub_base.specs.Colour.{clear};
 ghost use Rattle.sub_base.specs.Depth.{code_count};
 ghost use Rattle.pixel_store.specs.Regions.{region_at};
+ghost use Rattle.page_core.specs.Coloured.{colour_of};
 ghost use Rattle.page_core.specs.Painted.{IsRegionOf};
 ghost use Rattle.page_core.specs.Rows.{IsDrawnOver, IsLineDrawn, colour_by_region};
 
 use crate::colours::colours_into;
 use pixel_store::{Slot, Store};
 use stream_syntax::{PageEntry, RegionHead, Window};
-use sub_base::Colour;
+use sub_base::{CLEAR, Colour};
 
 /// Draws a region over row y of the display, as far as the window has it, with its corner at an entry of the page. The colours
 /// are those of its CLUT for codes of its depth.
@@ -79,4 +81,11 @@ fn line_into(
     ensures { IsLineDrawn (region_at store.now slot) line colours.now 0 (length row.old) row.old row.new }
 {
     colours_into(store.packed_row(slot, line), head.depth, colours, row);
+}
+
+/// Makes each place of a row clear.
+pub(crate) fn clear_row(row: &mut [Colour])
+    ensures { (x : ℕ) → x < length row.old → colour_of row.new x ≡ clear }
+{
+    row.fill(CLEAR);
 }

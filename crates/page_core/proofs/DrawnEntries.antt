@@ -1,0 +1,98 @@
+-- A row of the picture that is drawn entry by entry.
+use Rattle.std.proofs.Common.{◌≡◌, ◌∙◌, refl, sym, ap, subst, inl, inr, ℕ, ◌+◌, ◌-◌, ◌*◌, ◌/◌, ◌%◌, ◌^◌, ◌<◌, ◌≤◌, Bool, true, false, ◌&&◌, cond, ltb, List, [], ◌∷◌, length, get_or, Option, Some, None, arith}
+use Rattle.std.specs.Prelude.{unwrap_or}
+use Rattle.std.specs.List.{range_with_len}
+use Rattle.std.specs.Option.{option_or}
+use Rattle.std.proofs.lemmas.List.{ext_get_or}
+use Rattle.std.proofs.lemmas.List.FromFn.{length-map-range_with_len, get_or-map-range_with_len}
+use Rattle.std.proofs.lemmas.Nat.{mod_below, pow_pos}
+use Rattle.sub_base.specs.Colour.{clear}
+use Rattle.sub_base.specs.Depth.{bits_of, code_count}
+use Rattle.sub_base.specs.Lists.{last_given}
+use Rattle.sub_base.specs.declared.colour.Colour.{Colour}
+use Rattle.sub_base.specs.declared.depth.Depth.{Depth}
+use Rattle.sub_base.specs.declared.depth.Depth.TheVariants.{Two, Four, Eight}
+use Rattle.stream_syntax.specs.declared.display.Window.{Window}
+use Rattle.stream_syntax.specs.declared.page.PageEntry.{PageEntry}
+use Rattle.decoder_model.specs.Shown.{window_of, is_in_window, is_inside}
+use Rattle.pixel_store.specs.Codes.{code_in as code_in_byte}
+use Rattle.pixel_store.specs.Regions.{Region, region_at, code_of as code_in_region}
+use Rattle.page_core.specs.Coloured.{colour_of}
+use Rattle.page_core.specs.Composition.{KeptRegion, region_in}
+use Rattle.page_core.specs.Memory.{Memory, HasSides, ink_in}
+use Rattle.page_core.specs.Rows.{colour_through, colour_by_entry, colour_at, row_in, seen_in, IsDrawnOver, colour_by_region, AreColoursOf, IsDrawing}
+
+-- ---- before any entry, after one more, after all
+
+pub drawing_begins : (memory : Memory) (y : ℕ) (row : List Colour) → ((x : ℕ) → x < length row → colour_of row x ≡ clear) → IsDrawing memory y memory.composition.entries row
+unfolding colour_at
+drawing_begins memory y row all x inside =
+    by (is_in_window (window_of memory.display) x y)
+    ∙ ap (unwrap_or (seen_in (window_of memory.display) x y (last_given (colour_by_entry memory (window_of memory.display) x y) memory.composition.entries))) (sym (all x inside))
+  where
+    by : (seen : Bool) → cond seen (unwrap_or (last_given (colour_by_entry memory (window_of memory.display) x y) memory.composition.entries) clear) clear
+        ≡ unwrap_or (cond seen (last_given (colour_by_entry memory (window_of memory.display) x y) memory.composition.entries) None) clear
+    by true = refl
+    by false = refl
+
+-- what is drawn later lies over what is drawn before
+over : (seen : Bool) (later here : Option Colour) (colour : Colour) → unwrap_or (cond seen (option_or later here) None) colour ≡ unwrap_or (cond seen later None) (unwrap_or (cond seen here None) colour)
+over true None here colour = refl
+over true (Some found) here colour = refl
+over false later here colour = refl
+
+pub drawing_goes_on : (memory : Memory) (y : ℕ) (entry : PageEntry) (rest : List PageEntry) (old new : List Colour) → IsDrawing memory y (entry ∷ rest) old → length new ≡ length old
+    → IsDrawnOver (window_of memory.display) y (λ x. colour_by_entry memory (window_of memory.display) x y entry) old new → IsDrawing memory y rest new
+drawing_goes_on memory y entry rest old new drawing size drawn x inside =
+    let within : x < length old = omega arith in
+    drawing x within
+    ∙ over (is_in_window (window_of memory.display) x y) (last_given (colour_by_entry memory (window_of memory.display) x y) rest) (colour_by_entry memory (window_of memory.display) x y entry) (colour_of old x)
+    ∙ ap (unwrap_or (seen_in (window_of memory.display) x y (last_given (colour_by_entry memory (window_of memory.display) x y) rest))) (sym (drawn x within))
+
+nothing_seen : (seen : Bool) (colour : Colour) → unwrap_or (cond seen None None) colour ≡ colour
+nothing_seen true colour = refl
+nothing_seen false colour = refl
+
+pub drawing_ends : (memory : Memory) (y : ℕ) (row : List Colour) → length row ≡ memory.display.width → IsDrawing memory y [] row → row ≡ row_in memory y
+unfolding row_in
+drawing_ends memory y row size drawing =
+    ext_get_or clear row (row_in memory y) (size ∙ sym (length-map-range_with_len (λ x. colour_at memory x y) 0 memory.display.width))
+    (λ x inside.
+    sym (drawing x inside ∙ nothing_seen (is_in_window (window_of memory.display) x y) (colour_of row x))
+    ∙ sym (get_or-map-range_with_len (λ x. colour_at memory x y) 0 memory.display.width x x clear (omega arith) (omega arith)))
+
+-- ---- an entry
+
+-- an entry whose region is not there draws nothing
+pub no_region : (memory : Memory) (window : Window) (y : ℕ) (entry : PageEntry) (row : List Colour) → region_in memory.composition entry.region ≡ None
+    → IsDrawnOver window y (λ x. colour_by_entry memory window x y entry) row row
+no_region memory window y entry row none x inside =
+    sym (ap (λ kept. unwrap_or (seen_in window x y (colour_through memory (window.left + entry.x) (window.top + entry.y) x y kept)) (colour_of row x)) none
+    ∙ nothing_seen (is_in_window window x y) (colour_of row x))
+
+-- each code of a region is one of its depth
+digit_below : (depth : Depth) (j byte : ℕ) → code_in_byte depth j byte < code_count depth
+digit_below Two j byte = mod_below (byte / 2 ^ (8 - 2 * (j + 1))) 4 (omega arith)
+digit_below Four j byte = mod_below (byte / 2 ^ (8 - 4 * (j + 1))) 16 (omega arith)
+digit_below Eight j byte = mod_below (byte / 2 ^ (8 - 8 * (j + 1))) 256 (omega arith)
+
+pub code_below : (region : Region) (x y : ℕ) → code_in_region region x y < code_count region.depth
+code_below region x y = digit_below region.depth _ _
+
+-- an entry whose region is there draws the region
+pub region_drawn : (memory : Memory) (window : Window) (y : ℕ) (entry : PageEntry) (kept : KeptRegion) (colours : List Colour) (old new : List Colour)
+    → region_in memory.composition entry.region ≡ Some kept → HasSides kept.head (region_at memory.store kept.slot) → AreColoursOf memory.inks kept.head.clut kept.head.depth colours
+    → IsDrawnOver window y (λ x. colour_by_region kept.head (region_at memory.store kept.slot) colours (window.left + entry.x) (window.top + entry.y) x y) old new
+    → IsDrawnOver window y (λ x. colour_by_entry memory window x y entry) old new
+region_drawn memory window y entry kept colours old new found sides are drawn x inside =
+    drawn x inside
+    ∙ ap (λ colour. unwrap_or (seen_in window x y (cond (is_inside (window.left + entry.x) (window.top + entry.y) kept.head.width kept.head.height x y) (Some colour) None)) (colour_of old x)) same
+    ∙ ap (λ region. unwrap_or (seen_in window x y (colour_through memory (window.left + entry.x) (window.top + entry.y) x y region)) (colour_of old x)) (sym found)
+  where
+    small : code_in_region (region_at memory.store kept.slot) (x - (window.left + entry.x)) (y - (window.top + entry.y)) < code_count kept.head.depth
+    small = subst (λ (depth : Depth). code_in_region (region_at memory.store kept.slot) (x - (window.left + entry.x)) (y - (window.top + entry.y)) < code_count depth) sides.depth
+        (code_below (region_at memory.store kept.slot) (x - (window.left + entry.x)) (y - (window.top + entry.y)))
+
+    same : colour_of colours (code_in_region (region_at memory.store kept.slot) (x - (window.left + entry.x)) (y - (window.top + entry.y)))
+        ≡ ink_in memory.inks kept.head.clut kept.head.depth (code_in_region (region_at memory.store kept.slot) (x - (window.left + entry.x)) (y - (window.top + entry.y)))
+    same = are (code_in_region (region_at memory.store kept.slot) (x - (window.left + entry.x)) (y - (window.top + entry.y))) small
