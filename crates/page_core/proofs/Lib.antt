@@ -5,3 +5,5 @@ pub mod RegionHeads
 pub mod ColouredBytes
 pub mod DrawnRows
 pub mod DrawnEntries
+pub mod SceneRows
+pub mod PackedLines

@@ -1,7 +1,7 @@
 -- The picture of a page memory, by rows (EN 300 743, clauses 7.2.1 and 7.2.2): regions stand from the corner of the display's window
 -- on and are cut off at its edges; a later entry of the page lies over the ones before it, and where no region is the video is seen.
-use Rattle.std.specs.Prelude.{◌≡◌, ℕ, ◌+◌, ◌-◌, ◌<◌, ◌≤◌, ◌⊎◌, Bool, if◌then◌else◌, List, length, map, Option, Some, None, unwrap_or}
-use Rattle.std.specs.List.{range_with_len}
+use Rattle.std.specs.Prelude.{◌≡◌, ℕ, ◌+◌, ◌-◌, ◌==◌, ◌<◌, ◌≤◌, ◌⊎◌, Bool, if◌then◌else◌, List, length, map, flat_map, Option, Some, None, unwrap_or}
+use Rattle.std.specs.List.{list_any, range_with_len}
 use Rattle.sub_base.specs.Colour.{clear}
 use Rattle.sub_base.specs.Depth.{code_count}
 use Rattle.sub_base.specs.Lists.{last_given}
@@ -11,7 +11,7 @@ use Rattle.stream_syntax.specs.declared.display.Window.{Window}
 use Rattle.stream_syntax.specs.declared.page.PageEntry.{PageEntry}
 use Rattle.stream_syntax.specs.declared.region.RegionHead.{RegionHead}
 use Rattle.decoder_model.specs.Shown.{window_of, is_in_window, is_inside}
-use Rattle.pixel_store.specs.Regions.{Region, code_of as code_in_region}
+use Rattle.pixel_store.specs.Regions.{Region, region_at, IsPackedRow, code_of as code_in_region}
 use Rattle.page_core.specs.Coloured.{colour_of}
 use Rattle.page_core.specs.Composition.{KeptRegion, region_in}
 use Rattle.page_core.specs.Memory.{Memory, code_in, ink_in}
@@ -43,6 +43,10 @@ colour_at memory x y =
 unfoldable pub row_in : Memory → ℕ → List Colour
 row_in memory y = map (λ x. colour_at memory x y) (range_with_len 0 memory.display.width)
 
+-- the whole picture, by rows
+abbrev pub picture_in : Memory → List Colour
+picture_in memory = flat_map (row_in memory) (range_with_len 0 memory.display.height)
+
 -- ---- drawing over a row
 
 -- what is found at a place, where the place lies in the window
@@ -73,3 +77,15 @@ abbrev pub IsDrawing : Memory → ℕ → List PageEntry → List Colour → Typ
 IsDrawing memory y rest row = (x : ℕ) → x < length row →
     colour_at memory x y
     ≡ unwrap_or (seen_in (window_of memory.display) x y (last_given (colour_by_entry memory (window_of memory.display) x y) rest)) (colour_of row x)
+
+-- ---- packed lines
+
+-- the region of that id, where the page lists it
+abbrev pub listed_in : Memory → ℕ → Option KeptRegion
+listed_in memory id = if list_any (λ (entry : PageEntry). entry.region == id) memory.composition.entries then region_in memory.composition id else None
+
+-- these are the packed bytes of a line of a region: there are none where there is no region, or it has no such line
+abbrev pub IsLineLent : Memory → Option KeptRegion → ℕ → Option (List ℕ) → Type 0
+IsLineLent memory None line found = found ≡ None
+IsLineLent memory (Some kept) line None = kept.head.height ≤ line
+IsLineLent memory (Some kept) line (Some bytes) = (line < kept.head.height) × IsPackedRow (region_at memory.store kept.slot) line bytes

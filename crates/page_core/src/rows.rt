@@ -1,10 +1,10 @@
 //! Rows of the picture: the lines of regions, drawn one over another within the window of the display (EN 300 743, clauses
 //! 7.2.1 and 7.2.2).
 
-ghost use Rattle.std.specs.Prelude.{◌≡◌, ℕ, ◌+◌, ◌<◌, ◌≤◌, length};
+ghost use Rattle.std.specs.Prelude.{◌≡◌, ℕ, ◌+◌, ◌<◌, ◌≤◌, length, MatchOption};
 ghost use Rattle.sub_base.specs.Colour.{clear};
 ghost use Rattle.sub_base.specs.Depth.{code_count};
-ghost use Rattle.pixel_store.specs.Regions.{region_at};
+ghost use Rattle.pixel_store.specs.Regions.{region_at, IsPackedRow};
 ghost use Rattle.page_core.specs.Coloured.{colour_of};
 ghost use Rattle.page_core.specs.Painted.{IsRegionOf};
 ghost use Rattle.page_core.specs.Rows.{IsDrawnOver, IsLineDrawn, colour_by_region};
@@ -88,4 +88,21 @@ pub(crate) fn clear_row(row: &mut [Colour])
     ensures { (x : ℕ) → x < length row.old → colour_of row.new x ≡ clear }
 {
     row.fill(CLEAR);
+}
+
+/// Lends the packed bytes of a line of a region. None exactly where the region has no such line.
+pub(crate) fn packed_line<'a>(
+    store: &'a Store,
+    slot: Slot,
+    head: RegionHead,
+    line: u16,
+) -> Option<&'a [u8]>
+    requires region { IsRegionOf head slot store.now }
+    ensures { MatchOption result (head.height ≤ line) (λ bytes. (line < head.height) × IsPackedRow (region_at store.now slot) line bytes.now) }
+{
+    if line < head.height {
+        Some(store.packed_row(slot, line))
+    } else {
+        None
+    }
 }
