@@ -1,2 +1,4 @@
 pub mod Composition
+pub mod Handed
 pub mod Memory
+pub mod Nodes

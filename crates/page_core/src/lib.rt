@@ -1,2 +1,6 @@
 //! The page memory of a receiver of EN 300 743 subtitles.
 #![tactic(auto)]
+
+mod composition;
+mod front;
+mod node;
