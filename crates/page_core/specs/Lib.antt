@@ -1,4 +1,5 @@
 pub mod Composition
 pub mod Handed
+pub mod Lists
 pub mod Memory
 pub mod Nodes

@@ -76,7 +76,8 @@ pub record HasSides (head : RegionHead) (region : StoredRegion) : Type 0 where
 -- what holds of the memory of every receiver: its nodes and bytes are those of the profile; the regions have the slots of the
 -- store in order, each with its sides; and there is a colour for each table entry of each CLUT
 pub record IsWhole (memory : Memory) : Type 0 where
-  pub nodes : memory.composition.free + taken_nodes memory.composition ≡ memory.profile.nodes
+  pub nodes : memory.composition.size ≡ memory.profile.nodes
+  pub counted : memory.composition.free + taken_nodes memory.composition ≡ memory.composition.size
   pub size : memory.store.size ≡ memory.profile.pixels
   pub slots : map (λ (kept : KeptRegion). kept.slot) memory.composition.regions ≡ range_with_len 0 (length memory.store.regions)
   pub sides : All (λ (kept : KeptRegion). HasSides kept.head (region_at memory.store kept.slot)) memory.composition.regions

@@ -1,11 +1,12 @@
 -- What the nodes of a pool stand for in a composition. List 0 has the entries of the page, list 1 the regions, list 2 the CLUTs, list 3
 -- the table entries that are set, and list 4 + id the listings of the region of that id.
-use Rattle.std.specs.Prelude.{◌≡◌, ℕ, ◌+◌, ◌==◌, ◌<◌, Bool, true, List, [], length, map, filter_map, find, All, Option, Some, None, option_map, slice_index_or, if◌then◌else◌}
-use Rattle.std.specs.Option.{is_some}
+use Rattle.std.specs.Prelude.{◌≡◌, ℕ, ◌+◌, ◌==◌, ◌<◌, Bool, true, false, List, [], length, map, filter_map, find, All, Option, Some, None, option_map, slice_index_or, if◌then◌else◌}
+use Rattle.std.specs.Option.{is_some, option_map_or}
 use Rattle.stream_syntax.specs.declared.page.PageEntry.{PageEntry}
 use Rattle.decoder_model.specs.Nodes.{TableEntry}
-use Rattle.comp_pool.specs.Pool.{PoolOf, list_of}
+use Rattle.comp_pool.specs.Pool.{PoolOf, list_of, node_count}
 use Rattle.comp_pool.specs.declared.node.NodeId.{NodeId}
+use Rattle.page_core.specs.Lists.{IsPopped}
 use Rattle.page_core.specs.Composition.{Composition, KeptListing, KeptRegion, KeptClut}
 use Rattle.page_core.specs.declared.node.Node.{Node}
 use Rattle.page_core.specs.declared.node.Node.TheVariants as node
@@ -84,6 +85,7 @@ region_kept pool region =
 -- the composition of a pool
 abbrev pub composition_of : PoolOf Node → Composition
 composition_of pool = record {
+  size = node_count pool;
   entries = kept_in entry_in (list_of pool 0);
   regions = map (region_kept pool) (kept_in region_node (list_of pool 1));
   cluts = kept_in clut_node (list_of pool 2);
@@ -99,3 +101,22 @@ pub record IsSorted (pool : PoolOf Node) : Type 0 where
   pub cluts : AreKind clut_node (list_of pool 2)
   pub colours : AreKind colour_in (list_of pool 3)
   pub listings : (id : ℕ) → id < 256 → AreKind listing_in (list_of pool (listings_list id))
+
+-- the region of an id, and the CLUT of an id, as a node has it
+abbrev pub is_region_of : ℕ → NodeId × Node → Bool
+is_region_of id pair = option_map_or (λ (region : RegionNode). region.head.region == id) (region_node pair.1) false
+
+abbrev pub is_clut_of : ℕ → NodeId × Node → Bool
+is_clut_of id pair = option_map_or (λ (kept : KeptClut). kept.clut == id) (clut_node pair.1) false
+
+abbrev pub node_of : NodeId × Node → NodeId
+node_of pair = pair.0
+
+-- the tables have the nodes of the regions and of the CLUTs by their ids
+pub record IsIndexed (pool : PoolOf Node) (region_nodes clut_nodes : List (Option NodeId)) : Type 0 where
+  pub regions : (id : ℕ) → id < 256 → slice_index_or region_nodes id None ≡ option_map node_of (find (is_region_of id) (list_of pool 1))
+  pub cluts : (id : ℕ) → id < 256 → slice_index_or clut_nodes id None ≡ option_map node_of (find (is_clut_of id) (list_of pool 2))
+
+-- the first node of list l is taken out: it was of that kind, and has this
+abbrev pub IsPoppedAs : {X : Type 0} → (Node → Option X) → ℕ → X → PoolOf Node → PoolOf Node → Type 0
+IsPoppedAs kind l found old new = (item : Node) × (kind item ≡ Some found) × IsPopped l item old new

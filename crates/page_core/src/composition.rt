@@ -1,9 +1,13 @@
 //! The composition memory of a receiver (EN 300 743, clause 5.2): one fixed array of nodes for all of its lists.
 
-ghost use Rattle.std.specs.Prelude.{◌≡◌, ◌∷◌, [], IfOk, MatchOption};
-ghost use Rattle.page_core.specs.Composition.{no_composition};
+ghost use Rattle.std.specs.Prelude.{◌≡◌, ◌<◌, ◌∷◌, [], ℕ, None, IfOk, MatchOption, length, option_map, slice_index_or};
+ghost use Rattle.page_core.specs.Composition.{no_composition, without_colour};
+ghost use Rattle.page_core.specs.Nodes.{IsPoppedAs};
+ghost use Rattle.page_core.specs.Nodes.{AreKind, colour_in, place_kept};
+ghost use Rattle.comp_pool.specs.Pool.{list_of};
 
-use crate::node::{Node};
+use crate::lists::pop_front;
+use crate::node::{Node, TablePlace};
 use comp_pool::{NodeId, Pool};
 use std::alloc::Global;
 use std::marker::Model;
@@ -25,13 +29,13 @@ pub(crate) struct CompositionMemory {
 
 impl Model for CompositionMemory {
     ghost use Rattle.page_core.specs.Composition.{Composition};
-    ghost use Rattle.page_core.specs.Nodes.{composition_of, IsSorted};
+    ghost use Rattle.page_core.specs.Nodes.{composition_of, IsSorted, IsIndexed};
 
     ghost Value = { Composition };
 
     ghost view = { λ c. composition_of c.pool };
 
-    ghost invariant = { λ c. IsSorted c.pool };
+    ghost invariant = { λ c. IsSorted c.pool × IsIndexed c.pool c.regions c.cluts };
 }
 
 impl CompositionMemory {
@@ -46,9 +50,26 @@ impl CompositionMemory {
         });
         Ok(CompositionMemory {
             pool: Pool::make(alloc, nodes, LISTS, nothing)?,
-            regions: [None; 256],
-            cluts: [None; 256],
+            regions: no_nodes(),
+            cluts: no_nodes(),
         })
+    }
+
+    /// Takes out the first of the table entries that are set; none where none is.
+    pub fn take_colour(&mut self) -> Option<TablePlace>
+        ensures taken { MatchOption result ((self.old.set_entries ≡ []) × (self.new ≡ self.old))
+            (λ place. (self.old.set_entries ≡ place_kept place ∷ self.new.set_entries) × (self.new ≡ without_colour self.old)) }
+    {
+        pop_colour(&mut self.pool)
+    }
+
+    /// Frees all nodes.
+    pub fn reset(&mut self)
+        ensures { self.new ≡ no_composition self.old.size }
+    {
+        self.pool.reset();
+        self.regions = no_nodes();
+        self.cluts = no_nodes();
     }
 
     /// How many nodes are free.
@@ -57,4 +78,31 @@ impl CompositionMemory {
     {
         self.pool.free_nodes()
     }
+}
+
+// Takes out the first of the table entries that are set.
+fn pop_colour(pool: &mut Pool<Node>) -> Option<TablePlace>
+    requires list { 3 < length pool.old.lists }
+    requires kind { AreKind colour_in (list_of pool.old 3) }
+    ensures { MatchOption result ((list_of pool.old 3 ≡ []) × (pool.new ≡ pool.old)) (λ place. IsPoppedAs colour_in 3 (place_kept place) pool.old pool.new) }
+{
+    match pop_front(pool, COLOURS) {
+        None => None,
+        Some(node) => place_in(node),
+    }
+}
+
+fn place_in(node: Node) -> Option<TablePlace>
+    ensures { option_map place_kept result ≡ colour_in node }
+{
+    match node {
+        Node::Colour(place) => Some(place),
+        _ => None,
+    }
+}
+
+fn no_nodes() -> [Option<NodeId>; 256]
+    ensures { (id : ℕ) → id < 256 → slice_index_or result id None ≡ None }
+{
+    [None; 256]
 }

@@ -3,4 +3,5 @@
 
 mod composition;
 mod front;
+mod lists;
 mod node;
