@@ -1,5 +1,6 @@
 pub mod Composition
 pub mod Handed
+pub mod Inks
 pub mod Lists
 pub mod Memory
 pub mod Nodes

@@ -3,5 +3,6 @@
 
 mod composition;
 mod front;
+mod inks;
 mod lists;
 mod node;
