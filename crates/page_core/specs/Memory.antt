@@ -82,17 +82,21 @@ pub record HasSides (head : RegionHead) (region : StoredRegion) : Type 0 where
   pub height : region.height ≡ head.height
   pub depth : region.depth ≡ head.depth
 
+-- there is a colour for each entry of each table, the default one where it is not set; and what is set are entries of tables
+pub record AreInks (set : List TableEntry) (inks : List Colour) : Type 0 where
+  pub tables : All IsInTable set
+  pub count : length inks ≡ 256 * colours_of_clut
+  pub defaults : AreDefaultsBeside set inks
+
 -- what holds of the memory of every receiver: its nodes and bytes are those of the profile; the regions have the slots of the
--- store in order, each with its sides; and there is a colour for each table entry of each CLUT, the default one where it is not set
+-- store in order, each with its sides; and its colours are the default ones where nothing is set
 pub record IsWhole (memory : Memory) : Type 0 where
   pub nodes : memory.composition.size ≡ memory.profile.nodes
   pub counted : memory.composition.free + taken_nodes memory.composition ≡ memory.composition.size
   pub size : memory.store.size ≡ memory.profile.pixels
   pub slots : map (λ (kept : KeptRegion). kept.slot) memory.composition.regions ≡ range_with_len 0 (length memory.store.regions)
   pub sides : All (λ (kept : KeptRegion). HasSides kept.head (region_at memory.store kept.slot)) memory.composition.regions
-  pub colours : length memory.inks ≡ 256 * colours_of_clut
-  pub tables : All IsInTable memory.composition.set_entries
-  pub defaults : AreDefaultsBeside memory.composition.set_entries memory.inks
+  pub inks : AreInks memory.composition.set_entries memory.inks
 
 -- ---- what it has to do with the segments of an epoch
 

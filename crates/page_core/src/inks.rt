@@ -4,7 +4,7 @@ ghost use Rattle.std.specs.Prelude.{◌≡◌, ◌+◌, ◌<◌, ◌%◌, ◌*�
 ghost use Rattle.sub_base.specs.Colour.{default_of};
 ghost use Rattle.sub_base.specs.Depth.{code_count};
 ghost use Rattle.page_core.specs.Inks.{AreDefaults, default_ink as default_of_index, ink_count};
-ghost use Rattle.page_core.specs.Memory.{AreDefaultsBeside, ink_place as place_of, first_of_table as first_of, colours_of_clut};
+ghost use Rattle.page_core.specs.Memory.{AreInks, ink_place as place_of, first_of_table as first_of, colours_of_clut};
 
 use std::alloc::Global;
 use std::marker::Model;
@@ -32,11 +32,9 @@ impl Model for Inks {
 }
 
 impl Inks {
-    #[tactic(auto, using(crate::proofs::InkTables::all_default))]
     /// The default colours of all CLUTs. All memory is taken here.
     pub fn make(alloc: Global) -> Result<Inks, NoMemory>
-        ensures count { IfOk result (λ inks. length inks ≡ ink_count) }
-        ensures defaults { IfOk result (AreDefaultsBeside []) }
+        ensures { IfOk result (AreInks []) }
     {
         let mut colours = clear_colours(alloc, 256 * CLUT_SIZE)?;
         fill_defaults(&mut colours);
