@@ -7,3 +7,7 @@ pub mod DrawnRows
 pub mod DrawnEntries
 pub mod SceneRows
 pub mod PackedLines
+pub mod Fronts
+pub mod ColourNodes
+pub mod InkTables
+pub mod Popping

@@ -1,6 +1,6 @@
 -- The composition memory of a receiver (EN 300 743, clause 5.2): the page, the regions and CLUTs of the epoch, and what is set in
 -- these. Each entry, region, listing, CLUT and set table entry takes one node.
-use Rattle.std.specs.Prelude.{ℕ, ◌+◌, ◌==◌, List, [], length, find, sum_by, Option}
+use Rattle.std.specs.Prelude.{ℕ, ◌+◌, ◌==◌, List, [], length, drop, find, sum_by, Option}
 use Rattle.stream_syntax.specs.declared.page.PageEntry.{PageEntry}
 use Rattle.stream_syntax.specs.declared.region.Listing.{Listing}
 use Rattle.stream_syntax.specs.declared.region.RegionHead.{RegionHead}
@@ -22,9 +22,10 @@ pub record KeptClut : Type 0 where
   pub clut : ℕ
   pub version : ℕ
 
--- the entries of the page; the regions and the CLUTs in the order in which the epoch defined them, each once; the table entries
--- that are set, each once; and how many nodes are free
+-- how many nodes there are; the entries of the page; the regions and the CLUTs in the order in which the epoch defined them, each
+-- once; the table entries that are set, each once; and how many nodes are free
 pub record Composition : Type 0 where
+  pub size : ℕ
   pub entries : List PageEntry
   pub regions : List KeptRegion
   pub cluts : List KeptClut
@@ -33,7 +34,7 @@ pub record Composition : Type 0 where
 
 -- nothing is kept, and all of so many nodes are free
 abbrev pub no_composition : ℕ → Composition
-no_composition nodes = record { entries = []; regions = []; cluts = []; set_entries = []; free = nodes }
+no_composition nodes = record { size = nodes; entries = []; regions = []; cluts = []; set_entries = []; free = nodes }
 
 -- the region of that id, and the CLUT of that id
 abbrev pub region_in : Composition → ℕ → Option KeptRegion
@@ -50,3 +51,14 @@ taken_nodes composition =
     + sum_by (λ (kept : KeptRegion). length kept.listings) composition.regions
     + length composition.cluts
     + length composition.set_entries
+
+-- the first of the table entries that are set is no more among them
+abbrev pub without_colour : Composition → Composition
+without_colour composition = record {
+  size = composition.size;
+  entries = composition.entries;
+  regions = composition.regions;
+  cluts = composition.cluts;
+  set_entries = drop 1 composition.set_entries;
+  free = composition.free + 1;
+}

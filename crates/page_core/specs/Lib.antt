@@ -1,5 +1,9 @@
 pub mod Composition
+pub mod Handed
+pub mod Inks
+pub mod Lists
 pub mod Memory
 pub mod Painted
 pub mod Coloured
 pub mod Rows
+pub mod Nodes

@@ -1,9 +1,9 @@
 -- What a receiver keeps of the display sets and losses that it was handed, and what that has to do with them (EN 300 743, clauses
 -- 5.1 and 5.2).
-use Rattle.std.specs.Prelude.{◌≡◌, ℕ, ◌+◌, ◌*◌, ◌<◌, Bool, List, [], ◌∷◌, length, map, reverse, slice_index_or, Option, Some, option_map, unwrap_or, All}
+use Rattle.std.specs.Prelude.{◌≡◌, ℕ, ◌+◌, ◌*◌, ◌<◌, Bool, false, List, [], ◌∷◌, length, map, reverse, slice_index_or, Option, Some, option_map, unwrap_or, All}
 use Rattle.std.specs.List.{list_any, range_with_len}
 use Rattle.std.specs.Option.{is_some}
-use Rattle.sub_base.specs.Colour.{clear}
+use Rattle.sub_base.specs.Colour.{clear, default_of}
 use Rattle.sub_base.specs.Depth.{code_count}
 use Rattle.sub_base.specs.declared.colour.Colour.{Colour}
 use Rattle.sub_base.specs.declared.depth.Depth.{Depth}
@@ -67,20 +67,36 @@ ink_in inks clut depth number = slice_index_or inks (ink_place clut depth number
 
 -- ---- what holds whatever it was handed
 
+-- an entry that is not among those that are set has its default colour
+abbrev pub AreDefaultsBeside : List TableEntry → List Colour → Type 0
+AreDefaultsBeside set inks = (clut : ℕ) (depth : Depth) (number : ℕ) → clut < 256 → number < code_count depth →
+    list_any (is_same_entry (record { clut = clut; depth = depth; entry = number })) set ≡ false → ink_in inks clut depth number ≡ default_of depth number
+
+-- an entry is one that a table has
+abbrev pub IsInTable : TableEntry → Type 0
+IsInTable entry = (entry.clut < 256) × (entry.entry < code_count entry.depth)
+
 -- a region of the store has the sides and the depth of a head
 pub record HasSides (head : RegionHead) (region : StoredRegion) : Type 0 where
   pub width : region.width ≡ head.width
   pub height : region.height ≡ head.height
   pub depth : region.depth ≡ head.depth
 
+-- there is a colour for each entry of each table, the default one where it is not set; and what is set are entries of tables
+pub record AreInks (set : List TableEntry) (inks : List Colour) : Type 0 where
+  pub tables : All IsInTable set
+  pub count : length inks ≡ 256 * colours_of_clut
+  pub defaults : AreDefaultsBeside set inks
+
 -- what holds of the memory of every receiver: its nodes and bytes are those of the profile; the regions have the slots of the
--- store in order, each with its sides; and there is a colour for each table entry of each CLUT
+-- store in order, each with its sides; and its colours are the default ones where nothing is set
 pub record IsWhole (memory : Memory) : Type 0 where
-  pub nodes : memory.composition.free + taken_nodes memory.composition ≡ memory.profile.nodes
+  pub nodes : memory.composition.size ≡ memory.profile.nodes
+  pub counted : memory.composition.free + taken_nodes memory.composition ≡ memory.composition.size
   pub size : memory.store.size ≡ memory.profile.pixels
   pub slots : map (λ (kept : KeptRegion). kept.slot) memory.composition.regions ≡ range_with_len 0 (length memory.store.regions)
   pub sides : All (λ (kept : KeptRegion). HasSides kept.head (region_at memory.store kept.slot)) memory.composition.regions
-  pub colours : length memory.inks ≡ 256 * colours_of_clut
+  pub inks : AreInks memory.composition.set_entries memory.inks
 
 -- ---- what it has to do with the segments of an epoch
 

@@ -2,8 +2,15 @@
 #![tactic(auto)]
 
 mod colours;
+mod composition;
+mod forget;
+mod front;
+mod inks;
+mod lists;
+mod node;
 mod painting;
 mod painting_objects;
 mod rows;
+
 #[cfg(test)]
 mod tests;
