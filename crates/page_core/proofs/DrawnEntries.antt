@@ -1,9 +1,10 @@
 -- A row of the picture that is drawn entry by entry.
 use Rattle.std.proofs.Common.{◌≡◌, ◌∙◌, refl, sym, ap, subst, inl, inr, ℕ, ◌+◌, ◌-◌, ◌*◌, ◌/◌, ◌%◌, ◌^◌, ◌<◌, ◌≤◌, Bool, true, false, ◌&&◌, cond, ltb, List, [], ◌∷◌, length, get_or, Option, Some, None, arith}
-use Rattle.std.specs.Prelude.{unwrap_or}
+use Rattle.std.specs.Prelude.{slice_range, unwrap_or}
 use Rattle.std.specs.List.{range_with_len}
 use Rattle.std.specs.Option.{option_or}
 use Rattle.std.proofs.lemmas.List.{ext_get_or}
+use Rattle.std.proofs.lemmas.List.Edits.{get_or-between}
 use Rattle.std.proofs.lemmas.List.FromFn.{length-map-range_with_len, get_or-map-range_with_len}
 use Rattle.std.proofs.lemmas.Nat.{mod_below, pow_pos}
 use Rattle.sub_base.specs.Colour.{clear}
@@ -14,13 +15,16 @@ use Rattle.sub_base.specs.declared.depth.Depth.{Depth}
 use Rattle.sub_base.specs.declared.depth.Depth.TheVariants.{Two, Four, Eight}
 use Rattle.stream_syntax.specs.declared.display.Window.{Window}
 use Rattle.stream_syntax.specs.declared.page.PageEntry.{PageEntry}
+use Rattle.stream_syntax.specs.declared.region.RegionHead.{RegionHead}
 use Rattle.decoder_model.specs.Shown.{window_of, is_in_window, is_inside}
 use Rattle.pixel_store.specs.Codes.{code_in as code_in_byte}
-use Rattle.pixel_store.specs.Regions.{Region, region_at, code_of as code_in_region}
+use Rattle.pixel_store.specs.Regions.{Region, Regions, region_at, code_of as code_in_region}
 use Rattle.page_core.specs.Coloured.{colour_of}
 use Rattle.page_core.specs.Composition.{KeptRegion, region_in}
-use Rattle.page_core.specs.Memory.{Memory, HasSides, ink_in}
-use Rattle.page_core.specs.Rows.{colour_through, colour_by_entry, colour_at, row_in, seen_in, IsDrawnOver, colour_by_region, AreColoursOf, IsDrawing}
+use Rattle.page_core.specs.Memory.{Memory, HasSides, ink_place, ink_in}
+use Rattle.page_core.specs.Painted.{IsRegionOf}
+use Rattle.page_core.specs.Rows.{colour_through, colour_by_entry, colour_at, row_in, seen_in, IsDrawnOver, colour_by_region, AreColoursOf, IsDrawing, IsKeptAs, IsNodeOf}
+use Rattle.page_core.specs.declared.node.RegionNode.{RegionNode}
 
 -- ---- before any entry, after one more, after all
 
@@ -96,3 +100,25 @@ region_drawn memory window y entry kept colours old new found sides are drawn x 
     same : colour_of colours (code_in_region (region_at memory.store kept.slot) (x - (window.left + entry.x)) (y - (window.top + entry.y)))
         ≡ ink_in memory.inks kept.head.clut kept.head.depth (code_in_region (region_at memory.store kept.slot) (x - (window.left + entry.x)) (y - (window.top + entry.y)))
     same = are (code_in_region (region_at memory.store kept.slot) (x - (window.left + entry.x)) (y - (window.top + entry.y))) small
+
+-- ---- the table of a CLUT
+
+-- a part of all colours is the table of a CLUT
+pub table_of : (inks colours : List Colour) (clut : ℕ) (depth : Depth) → colours ≡ slice_range inks (ink_place clut depth 0) (ink_place clut depth 0 + code_count depth) → AreColoursOf inks clut depth colours
+table_of inks colours clut depth is number small =
+    ap (λ (table : List Colour). colour_of table number) is
+    ∙ get_or-between inks (ink_place clut depth 0) (ink_place clut depth 0 + code_count depth) number clear (omega arith)
+    ∙ ap (colour_of inks) (omega arith)
+
+-- the region of an entry is drawn, in the words of a memory that has its pixels and colours
+pub node_drawn : (memory : Memory) (window : Window) (y : ℕ) (entry : PageEntry) (kept : KeptRegion) (region : RegionNode) (store : Regions) (inks colours old new : List Colour)
+    → IsKeptAs memory store inks → region_in memory.composition entry.region ≡ Some kept → IsNodeOf kept region → IsRegionOf region.head region.slot store → AreColoursOf inks region.head.clut region.head.depth colours
+    → IsDrawnOver window y (λ x. colour_by_region region.head (region_at store region.slot) colours (window.left + entry.x) (window.top + entry.y) x y) old new
+    → IsDrawnOver window y (λ x. colour_by_entry memory window x y entry) old new
+node_drawn memory window y entry kept region store inks colours old new has found node is_region are drawn =
+    region_drawn memory window y entry kept colours old new found
+    (subst (λ (head : RegionHead). HasSides head (region_at memory.store kept.slot)) (sym node.head)
+    (subst (λ (r : Region). HasSides region.head r) (λ i. region_at (sym has.pixels i) (sym node.slot i)) is_region.sides))
+    (subst (λ (head : RegionHead). AreColoursOf memory.inks head.clut head.depth colours) (sym node.head) (subst (λ (all : List Colour). AreColoursOf all region.head.clut region.head.depth colours) (sym has.colours) are))
+    (subst (λ (head : RegionHead). IsDrawnOver window y (λ x. colour_by_region head (region_at memory.store kept.slot) colours (window.left + entry.x) (window.top + entry.y) x y) old new) (sym node.head)
+    (subst (λ (r : Region). IsDrawnOver window y (λ x. colour_by_region region.head r colours (window.left + entry.x) (window.top + entry.y) x y) old new) (λ i. region_at (sym has.pixels i) (sym node.slot i)) drawn))

@@ -7,15 +7,10 @@ use Rattle.stream_syntax.specs.Fields.{Field, FitsFields}
 use Rattle.stream_syntax.specs.Segments.{Region, of_region, region_fields, segment_fields, IsSegment}
 use Rattle.stream_syntax.specs.declared.region.RegionHead.{RegionHead}
 use Rattle.decoder_model.specs.Pixels.{fill_code}
+use Rattle.page_core.specs.Painted.{FitsHead}
 
--- the codes with which it is filled, and the id of its CLUT
-pub record HasFields (head : RegionHead) : Type 0 where
-  pub clut : head.clut < 256
-  pub code8 : head.code8 < 256
-  pub code4 : head.code4 < 16
-  pub code2 : head.code2 < 4
-
-pub fields_of_head : (bytes : List ℕ) (region : Region) → IsSegment bytes (of_region region) → HasFields region.head
+-- the numbers of a segment fit
+pub fields_of_head : (bytes : List ℕ) (region : Region) → IsSegment bytes (of_region region) → FitsHead region.head
 fields_of_head bytes region is =
     let body : List Field = region_fields is.is_body.1 region in
     let fits : FitsFields (segment_fields is.kind is.page body) = subst (λ (fields : List Field). FitsFields (segment_fields is.kind is.page fields)) is.is_body.2 is.fits in
@@ -23,7 +18,7 @@ fields_of_head bytes region is =
     record { clut = from_clut.0; code8 = from_clut.1.0; code4 = from_clut.1.1.0; code2 = from_clut.1.1.1.0 }
 
 -- the code that fills the region is one of its depth
-pub fill_in_depth : (head : RegionHead) → HasFields head → fill_code head.depth head < code_count head.depth
+pub fill_in_depth : (head : RegionHead) → FitsHead head → fill_code head.depth head < code_count head.depth
 fill_in_depth head fields = by head.depth
   where
     by : (depth : Depth) → fill_code depth head < code_count depth

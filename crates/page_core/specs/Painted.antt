@@ -24,6 +24,13 @@ pub record IsRegionOf (head : RegionHead) (slot : ℕ) (store : Regions) : Type 
   pub placed : IsPlaced store slot
   pub sides : HasSides head (region_at store slot)
 
+-- the numbers of a region's head fit their fields: the id of its CLUT, and the codes with which it is filled at each depth
+pub record FitsHead (head : RegionHead) : Type 0 where
+  pub clut : head.clut < 256
+  pub code8 : head.code8 < 256
+  pub code4 : head.code4 < 16
+  pub code2 : head.code2 < 4
+
 -- each pixel of a slot's region has the code that is written to its column and row, and the code from before where none is;
 -- all other regions are as they were
 pub record IsWritten (slot : ℕ) (written : ℕ → ℕ → Option ℕ) (old new : Regions) : Type 0 where

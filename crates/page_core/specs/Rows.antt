@@ -11,10 +11,11 @@ use Rattle.stream_syntax.specs.declared.display.Window.{Window}
 use Rattle.stream_syntax.specs.declared.page.PageEntry.{PageEntry}
 use Rattle.stream_syntax.specs.declared.region.RegionHead.{RegionHead}
 use Rattle.decoder_model.specs.Shown.{window_of, is_in_window, is_inside}
-use Rattle.pixel_store.specs.Regions.{Region, region_at, IsPackedRow, code_of as code_in_region}
+use Rattle.pixel_store.specs.Regions.{Region, Regions, region_at, IsPackedRow, code_of as code_in_region}
 use Rattle.page_core.specs.Coloured.{colour_of}
 use Rattle.page_core.specs.Composition.{KeptRegion, region_in}
 use Rattle.page_core.specs.Memory.{Memory, code_in, ink_in}
+use Rattle.page_core.specs.declared.node.RegionNode.{RegionNode}
 
 -- ---- a place of the display
 
@@ -71,6 +72,16 @@ pub record IsLineDrawn (region : Region) (line : ℕ) (colours : List Colour) (f
 -- these are the colours of a CLUT for codes of a depth
 abbrev pub AreColoursOf : List Colour → ℕ → Depth → List Colour → Type 0
 AreColoursOf inks clut depth colours = (number : ℕ) → number < code_count depth → colour_of colours number ≡ ink_in inks clut depth number
+
+-- the memory has these regions of pixels and these colours
+pub record IsKeptAs (memory : Memory) (store : Regions) (inks : List Colour) : Type 0 where
+  pub pixels : memory.store ≡ store
+  pub colours : memory.inks ≡ inks
+
+-- the node has the head and the slot of a region
+pub record IsNodeOf (kept : KeptRegion) (region : RegionNode) : Type 0 where
+  pub head : kept.head ≡ region.head
+  pub slot : kept.slot ≡ region.slot
 
 -- a row after some entries of the page, with the entries that are left: what these give it makes it row y of the picture
 abbrev pub IsDrawing : Memory → ℕ → List PageEntry → List Colour → Type 0

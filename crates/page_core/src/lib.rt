@@ -10,7 +10,8 @@ mod lists;
 mod node;
 mod painting;
 mod painting_objects;
-mod rows;
-
 #[cfg(test)]
-mod tests;
+mod painting_tests;
+mod rows;
+#[cfg(test)]
+mod rows_tests;

@@ -5,6 +5,7 @@ ghost use Rattle.sub_base.specs.Depth.{code_count};
 ghost use Rattle.decoder_model.specs.Pixels.{is_changed, code_by_run, code_by_field, code_by_fill, fill_code};
 ghost use Rattle.page_core.specs.Painted.{IsRegionOf, IsWritten, HaveCodes};
 
+use crate::node::RegionNode;
 use pixel_codes::CodeBlock;
 use pixel_store::{Slot, Store};
 use stream_syntax::{Listing, RegionHead, Run};
@@ -24,19 +25,18 @@ pub(crate) struct FieldPlace {
 /// Paints the runs of a field, as far as the region has the pixels.
 pub(crate) fn paint_field(
     store: &mut Store,
-    slot: Slot,
-    head: RegionHead,
+    region: &RegionNode,
     place: FieldPlace,
     block: &CodeBlock<'_>,
 )
-    requires region { IsRegionOf head slot store.old }
-    requires codes { HaveCodes head.depth block.now }
+    requires region { IsRegionOf region.now.head region.now.slot store.old }
+    requires codes { HaveCodes region.now.head.depth block.now }
     requires row { place.first_row < 2 }
-    ensures { IsWritten slot (λ x y. code_by_field place.see_through place.listing place.first_row x y block.now) store.old store.new }
+    ensures { IsWritten region.now.slot (λ x y. code_by_field place.see_through place.listing place.first_row x y block.now) store.old store.new }
 {
     let mut runs = block.runs();
     while let Some(run) = runs.next_run() {
-        paint_run(store, slot, head, place, run);
+        paint_run(store, region.slot, region.head, place, run);
     }
 }
 
@@ -68,13 +68,13 @@ fn is_changing(place: FieldPlace, run: Run) -> bool
 }
 
 /// Fills a region with the code of its depth, where its segment says so (EN 300 743, clause 7.2.3).
-pub(crate) fn fill_region(store: &mut Store, slot: Slot, head: RegionHead)
-    requires region { IsRegionOf head slot store.old }
-    requires code { fill_code head.depth head < code_count head.depth }
-    ensures { IsWritten slot (λ x y. code_by_fill head.region head) store.old store.new }
+pub(crate) fn fill_region(store: &mut Store, region: &RegionNode)
+    requires region { IsRegionOf region.now.head region.now.slot store.old }
+    requires code { fill_code region.now.head.depth region.now.head < code_count region.now.head.depth }
+    ensures { IsWritten region.now.slot (λ x y. code_by_fill region.now.head.region region.now.head) store.old store.new }
 {
-    if head.fill {
-        store.fill(slot, fill_code(head));
+    if region.head.fill {
+        store.fill(region.slot, fill_code(region.head));
     }
 }
 

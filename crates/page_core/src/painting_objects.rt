@@ -7,11 +7,12 @@ ghost use Rattle.sub_base.specs.declared.depth.Depth.TheVariants.{Eight};
 ghost use Rattle.decoder_model.specs.Readings.{Content, AreFields};
 ghost use Rattle.page_core.specs.Painted.{IsRegionOf, IsWritten, HaveCodes, AreChecked, IsCheckedBlock, code_by_fields};
 
+use crate::node::RegionNode;
 use crate::painting::{FieldPlace, paint_field};
 use pixel_codes::{CodeBlock, check_block};
-use pixel_store::{Slot, Store};
+use pixel_store::Store;
 use std::marker::Model;
-use stream_syntax::{CodeFault, Listing, RegionHead, SegmentFault, SegmentKind};
+use stream_syntax::{CodeFault, Listing, SegmentFault, SegmentKind};
 use sub_base::Depth;
 
 /// The blocks of an object's two fields, which are in the grammar for regions of a depth. Contracts see the depth and the
@@ -95,27 +96,26 @@ impl Fields<'_> {
     pub(crate) fn paint(
         &self,
         store: &mut Store,
-        slot: Slot,
-        head: RegionHead,
+        region: &RegionNode,
         listing: Listing,
         see_through: bool,
     )
-        requires region { IsRegionOf head slot store.old }
-        requires depth { self.now.depth ≡ head.depth }
-        ensures { IsWritten slot (λ x y. code_by_fields see_through self.now x y listing) store.old store.new }
+        requires region { IsRegionOf region.now.head region.now.slot store.old }
+        requires depth { self.now.depth ≡ region.now.head.depth }
+        ensures { IsWritten region.now.slot (λ x y. code_by_fields see_through self.now x y listing) store.old store.new }
     {
         let top = FieldPlace {
             listing,
             first_row: 0,
             see_through,
         };
-        paint_field(store, slot, head, top, &self.top);
+        paint_field(store, region, top, &self.top);
         let bottom = FieldPlace {
             listing,
             first_row: 1,
             see_through,
         };
-        paint_field(store, slot, head, bottom, self.bottom_block());
+        paint_field(store, region, bottom, self.bottom_block());
     }
 
     /// The block of the bottom field.

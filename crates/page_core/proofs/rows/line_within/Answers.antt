@@ -7,7 +7,7 @@ use Rattle.page_core.proofs.rows.line_within.Goals as goal
 
 pub returns : goal.returns
 returns c =
-    let region = region_at c.args.store.now c.args.slot in
+    let region = region_at c.args.store.now c.args.region.now.slot in
     let row = c.args.row.now in
     let order = c.requires.order in
     let inside = c.requires.row in
