@@ -1,4 +1,5 @@
 pub mod Fronts
 pub mod ColourNodes
 pub mod InkTables
+pub mod Pasts
 pub mod Popping

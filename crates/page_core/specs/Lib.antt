@@ -1,4 +1,5 @@
 pub mod Composition
+pub mod Cores
 pub mod Handed
 pub mod Inks
 pub mod Lists

@@ -6,4 +6,9 @@ mod forget;
 mod front;
 mod inks;
 mod lists;
+mod memory;
 mod node;
+mod times;
+
+pub use decoder_model::{SetEnd, SetFault};
+pub use memory::Core;
