@@ -3,3 +3,4 @@ pub mod ColourNodes
 pub mod InkTables
 pub mod Pasts
 pub mod Popping
+pub mod Scanning

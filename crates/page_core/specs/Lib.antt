@@ -5,3 +5,4 @@ pub mod Inks
 pub mod Lists
 pub mod Memory
 pub mod Nodes
+pub mod Seen

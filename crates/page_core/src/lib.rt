@@ -8,6 +8,7 @@ mod inks;
 mod lists;
 mod memory;
 mod node;
+mod seen;
 mod times;
 
 pub use decoder_model::{SetEnd, SetFault};
