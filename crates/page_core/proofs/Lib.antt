@@ -10,4 +10,6 @@ pub mod PackedLines
 pub mod Fronts
 pub mod ColourNodes
 pub mod InkTables
+pub mod Pasts
 pub mod Popping
+pub mod Scanning

@@ -1,4 +1,5 @@
 pub mod Composition
+pub mod Cores
 pub mod Handed
 pub mod Inks
 pub mod Lists
@@ -7,3 +8,4 @@ pub mod Painted
 pub mod Coloured
 pub mod Rows
 pub mod Nodes
+pub mod Seen

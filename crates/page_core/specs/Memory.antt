@@ -1,6 +1,6 @@
 -- What a receiver keeps of the display sets and losses that it was handed, and what that has to do with them (EN 300 743, clauses
 -- 5.1 and 5.2).
-use Rattle.std.specs.Prelude.{◌≡◌, ℕ, ◌+◌, ◌*◌, ◌<◌, Bool, false, List, [], ◌∷◌, length, map, reverse, slice_index_or, Option, Some, option_map, unwrap_or, All}
+use Rattle.std.specs.Prelude.{◌≡◌, ℕ, ◌+◌, ◌*◌, ◌<◌, Bool, false, List, [], ◌∷◌, length, map, reverse, slice_index_or, Option, Some, None, option_map, unwrap_or, All}
 use Rattle.std.specs.List.{list_any, range_with_len}
 use Rattle.std.specs.Option.{is_some}
 use Rattle.sub_base.specs.Colour.{clear, default_of}
@@ -13,7 +13,7 @@ use Rattle.stream_syntax.specs.Segments.{Page, Region, Display}
 use Rattle.stream_syntax.specs.declared.region.Listing.{Listing}
 use Rattle.stream_syntax.specs.declared.region.RegionHead.{RegionHead}
 use Rattle.decoder_model.specs.Contents.{object_named, page_in_set}
-use Rattle.decoder_model.specs.Faults.{display_in_force}
+use Rattle.decoder_model.specs.Faults.{display_in_force, display_or_default}
 use Rattle.decoder_model.specs.Free.{free_nodes_after, free_pixels_after}
 use Rattle.decoder_model.specs.Ink.{ink_of}
 use Rattle.decoder_model.specs.Kept.{last_time}
@@ -24,9 +24,9 @@ use Rattle.decoder_model.specs.Sets.{Delivery}
 use Rattle.sub_base.specs.Lists.{first_given}
 use Rattle.decoder_model.specs.Taken.{Taken, segments_of, taken_of, taken_region, last_clut, clut_version}
 use Rattle.decoder_model.specs.Verdict.{known_epoch}
-use Rattle.pixel_store.specs.Regions.{Regions, region_at, code_of}
+use Rattle.pixel_store.specs.Regions.{Regions, region_at, code_of, no_regions}
 use Rattle.pixel_store.specs.Regions.{Region as StoredRegion}
-use Rattle.page_core.specs.Composition.{Composition, KeptListing, KeptRegion, KeptClut, region_in, clut_in, taken_nodes}
+use Rattle.page_core.specs.Composition.{Composition, KeptListing, KeptRegion, KeptClut, region_in, clut_in, taken_nodes, no_composition}
 
 -- ---- what is kept
 
@@ -97,6 +97,26 @@ pub record IsWhole (memory : Memory) : Type 0 where
   pub slots : map (λ (kept : KeptRegion). kept.slot) memory.composition.regions ≡ range_with_len 0 (length memory.store.regions)
   pub sides : All (λ (kept : KeptRegion). HasSides kept.head (region_at memory.store kept.slot)) memory.composition.regions
   pub inks : AreInks memory.composition.set_entries memory.inks
+
+-- the profile, page id and anchor stay
+pub record IsSameReceiver (old new : Memory) : Type 0 where
+  pub profile : new.profile ≡ old.profile
+  pub page : new.page ≡ old.page
+  pub anchor : new.anchor ≡ old.anchor
+
+-- no epoch is known; all nodes and all bytes of pixels are free, and all colours are the default ones
+pub record IsForgotten (memory : Memory) : Type 0 where
+  pub known : memory.known ≡ false
+  pub display : memory.display ≡ display_or_default None
+  pub composition : memory.composition ≡ no_composition memory.profile.nodes
+  pub inks : AreDefaultsBeside [] memory.inks
+  pub store : memory.store ≡ no_regions memory.profile.pixels
+
+-- all is forgotten but the greatest lifted time
+pub record Forgets (old new : Memory) : Type 0 where
+  pub same : IsSameReceiver old new
+  pub last : new.last ≡ old.last
+  pub forgotten : IsForgotten new
 
 -- ---- what it has to do with the segments of an epoch
 

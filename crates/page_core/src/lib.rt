@@ -7,11 +7,18 @@ mod forget;
 mod front;
 mod inks;
 mod lists;
+mod memory;
 mod node;
 mod painting;
 mod painting_objects;
+mod rows;
+mod seen;
+mod times;
+
+pub use decoder_model::{SetEnd, SetFault};
+pub use memory::Core;
+
 #[cfg(test)]
 mod painting_tests;
-mod rows;
 #[cfg(test)]
 mod rows_tests;
