@@ -13,3 +13,5 @@ pub mod InkTables
 pub mod Pasts
 pub mod Popping
 pub mod Scanning
+pub mod EntryWalks
+pub mod RegionLookups

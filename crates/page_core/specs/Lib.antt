@@ -9,3 +9,4 @@ pub mod Coloured
 pub mod Rows
 pub mod Nodes
 pub mod Seen
+pub mod Entries

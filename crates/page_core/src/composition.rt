@@ -6,6 +6,8 @@ ghost use Rattle.page_core.specs.Nodes.{IsPoppedAs};
 ghost use Rattle.page_core.specs.Nodes.{AreKind, colour_in, place_kept};
 ghost use Rattle.comp_pool.specs.Pool.{list_of};
 
+mod lookup;
+
 use crate::lists::pop_front;
 use crate::node::{Node, TablePlace};
 use comp_pool::{NodeId, Pool};

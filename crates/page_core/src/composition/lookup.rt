@@ -1,0 +1,92 @@
+//! What is read of the composition memory: the entries of the page in order, and a region by its id.
+
+ghost use Rattle.std.specs.Prelude.{◌≡◌, ◌<◌, ◌∷◌, [], None, Some, MatchOption};
+ghost use Rattle.page_core.specs.Composition.{KeptRegion, region_in};
+ghost use Rattle.page_core.specs.Nodes.{entry_in as entry_of, region_node};
+ghost use Rattle.page_core.specs.Entries.{IsFoundRegion};
+
+use crate::composition::CompositionMemory;
+use crate::node::{Node, RegionNode};
+use comp_pool::{NodeId, Pool};
+use std::marker::Model;
+use stream_syntax::PageEntry;
+
+/// The list of the page's entries.
+const ENTRIES: u32 = 0;
+
+/// The list of the regions.
+const REGIONS: u32 = 1;
+
+/// The entries of a page, one after another. It is seen as the list of the entries that come.
+#[derive(Drop)]
+pub(crate) struct Entries<'a> {
+    pool: &'a Pool<Node>,
+    next: Option<NodeId>,
+}
+
+impl<'a> Model for Entries<'a> {
+    ghost use Rattle.std.specs.Prelude.{List};
+    ghost use Rattle.stream_syntax.specs.declared.page.PageEntry.{PageEntry};
+    ghost use Rattle.comp_pool.specs.Pool.{list_of};
+    ghost use Rattle.page_core.specs.Entries.{entries_left, IsWalk};
+
+    ghost Value = { List PageEntry };
+
+    ghost view = { λ e. entries_left e.pool.now e.next };
+
+    ghost invariant = { λ e. IsWalk e.pool.now e.next };
+}
+
+impl Entries<'_> {
+    /// The next entry; none exactly after the last one.
+    pub(crate) fn next_entry(&mut self) -> Option<PageEntry>
+        ensures { MatchOption result ((self.old ≡ []) × (self.new ≡ [])) (λ entry. self.old ≡ entry ∷ self.new) }
+    {
+        let node = self.next?;
+        let entry = entry_in(self.pool.item(node));
+        self.next = self.pool.next(node);
+        entry
+    }
+}
+
+/// The entry that a node has.
+fn entry_in(node: Node) -> Option<PageEntry>
+    ensures { result ≡ entry_of node }
+{
+    match node {
+        Node::Entry(entry) => Some(entry),
+        _ => None,
+    }
+}
+
+impl CompositionMemory {
+    /// The entries of the page, in order.
+    pub(crate) fn entries(&self) -> Entries<'_>
+        ensures { result ≡ self.now.entries }
+    {
+        Entries {
+            pool: &self.pool,
+            next: self.pool.first(ENTRIES),
+        }
+    }
+
+    /// The region of that id. None exactly where the epoch has none.
+    pub(crate) fn region(&self, id: u8) -> Option<RegionNode>
+        ensures { IsFoundRegion (region_in self.now id) result }
+    {
+        let node = self.regions[usize::from(id)]?;
+        // No node is there twice, as this call tells.
+        let _ = self.pool.first(REGIONS);
+        region_of(self.pool.item(node))
+    }
+}
+
+/// The region that a node has.
+fn region_of(node: Node) -> Option<RegionNode>
+    ensures { result ≡ region_node node }
+{
+    match node {
+        Node::Region(region) => Some(region),
+        _ => None,
+    }
+}
