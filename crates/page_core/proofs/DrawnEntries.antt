@@ -1,5 +1,5 @@
 -- A row of the picture that is drawn entry by entry.
-use Rattle.std.proofs.Common.{◌≡◌, ◌∙◌, refl, sym, ap, subst, inl, inr, ℕ, ◌+◌, ◌-◌, ◌*◌, ◌/◌, ◌%◌, ◌^◌, ◌<◌, ◌≤◌, Bool, true, false, ◌&&◌, cond, ltb, List, [], ◌∷◌, length, get_or, Option, Some, None, arith}
+use Rattle.std.proofs.Common.{◌≡◌, ◌∙◌, refl, sym, ap, subst, inl, inr, ℕ, ◌+◌, ◌-◌, ◌*◌, ◌/◌, ◌%◌, ◌^◌, ◌<◌, ◌≤◌, Bool, true, false, ◌&&◌, cond, eqb, ltb, All, List, [], ◌∷◌, length, get_or, Option, Some, None, arith}
 use Rattle.std.specs.Prelude.{slice_range, unwrap_or}
 use Rattle.std.specs.List.{range_with_len}
 use Rattle.std.specs.Option.{option_or}
@@ -20,10 +20,13 @@ use Rattle.decoder_model.specs.Shown.{window_of, is_in_window, is_inside}
 use Rattle.pixel_store.specs.Codes.{code_in as code_in_byte}
 use Rattle.pixel_store.specs.Regions.{Region, Regions, region_at, code_of as code_in_region}
 use Rattle.page_core.specs.Coloured.{colour_of}
-use Rattle.page_core.specs.Composition.{KeptRegion, region_in}
+use Rattle.page_core.specs.Composition.{Composition, KeptRegion, region_in}
 use Rattle.page_core.specs.Memory.{Memory, HasSides, ink_place, ink_in}
 use Rattle.page_core.specs.Painted.{IsRegionOf}
-use Rattle.page_core.specs.Rows.{colour_through, colour_by_entry, colour_at, row_in, seen_in, IsDrawnOver, colour_by_region, AreColoursOf, IsDrawing, IsKeptAs, IsNodeOf}
+use Rattle.page_core.specs.Rows.{colour_through, colour_by_entry, colour_at, row_in, seen_in, IsDrawnOver, colour_by_region, AreColoursOf, IsDrawing, IsKeptAs, IsNodeOf, window_at}
+use Rattle.page_core.specs.Entries.{IsFoundRegion}
+use Rattle.page_core.specs.declared.rows.RowPlace.{RowPlace}
+use Rattle.page_core.proofs.Finds.{found_all}
 use Rattle.page_core.specs.declared.node.RegionNode.{RegionNode}
 
 -- ---- before any entry, after one more, after all
@@ -111,14 +114,67 @@ table_of inks colours clut depth is number small =
     ∙ ap (colour_of inks) (omega arith)
 
 -- the region of an entry is drawn, in the words of a memory that has its pixels and colours
-pub node_drawn : (memory : Memory) (window : Window) (y : ℕ) (entry : PageEntry) (kept : KeptRegion) (region : RegionNode) (store : Regions) (inks colours old new : List Colour)
-    → IsKeptAs memory store inks → region_in memory.composition entry.region ≡ Some kept → IsNodeOf kept region → IsRegionOf region.head region.slot store → AreColoursOf inks region.head.clut region.head.depth colours
+pub node_drawn : (memory : Memory) (window : Window) (y : ℕ) (entry : PageEntry) (kept : KeptRegion) (region : RegionNode) (composition : Composition) (store : Regions) (inks colours old new : List Colour)
+    → IsKeptAs memory composition store inks → region_in memory.composition entry.region ≡ Some kept → IsNodeOf kept region → IsRegionOf region.head region.slot store → AreColoursOf inks region.head.clut region.head.depth colours
     → IsDrawnOver window y (λ x. colour_by_region region.head (region_at store region.slot) colours (window.left + entry.x) (window.top + entry.y) x y) old new
     → IsDrawnOver window y (λ x. colour_by_entry memory window x y entry) old new
-node_drawn memory window y entry kept region store inks colours old new has found node is_region are drawn =
+node_drawn memory window y entry kept region composition store inks colours old new has found node is_region are drawn =
     region_drawn memory window y entry kept colours old new found
     (subst (λ (head : RegionHead). HasSides head (region_at memory.store kept.slot)) (sym node.head)
     (subst (λ (r : Region). HasSides region.head r) (λ i. region_at (sym has.pixels i) (sym node.slot i)) is_region.sides))
     (subst (λ (head : RegionHead). AreColoursOf memory.inks head.clut head.depth colours) (sym node.head) (subst (λ (all : List Colour). AreColoursOf all region.head.clut region.head.depth colours) (sym has.colours) are))
     (subst (λ (head : RegionHead). IsDrawnOver window y (λ x. colour_by_region head (region_at memory.store kept.slot) colours (window.left + entry.x) (window.top + entry.y) x y) old new) (sym node.head)
     (subst (λ (r : Region). IsDrawnOver window y (λ x. colour_by_region region.head r colours (window.left + entry.x) (window.top + entry.y) x y) old new) (λ i. region_at (sym has.pixels i) (sym node.slot i)) drawn))
+
+-- ---- a region that is found
+
+-- it is one that is kept
+pub kept_found : (composition : Composition) (id : ℕ) (region : RegionNode) → IsFoundRegion (region_in composition id) (Some region) → (kept : KeptRegion) × (region_in composition id ≡ Some kept) × IsNodeOf kept region
+kept_found composition id region found = by (region_in composition id) refl found
+  where
+    by : (kept : Option KeptRegion) → region_in composition id ≡ kept → IsFoundRegion kept (Some region) → (one : KeptRegion) × (region_in composition id ≡ Some one) × IsNodeOf one region
+    by None is found = absurd found
+    by (Some kept) is found = (kept, is, found)
+
+-- none is kept
+pub none_found : (composition : Composition) (id : ℕ) → IsFoundRegion (region_in composition id) None → region_in composition id ≡ None
+none_found composition id found = by (region_in composition id) found
+  where
+    by : (kept : Option KeptRegion) → IsFoundRegion kept None → kept ≡ None
+    by None found = refl
+    by (Some kept) found = absurd found
+
+-- its slot has its sides and depth
+pub found_placed : (composition : Composition) (id : ℕ) (region : RegionNode) (store : Regions) → All (λ (kept : KeptRegion). IsRegionOf kept.head kept.slot store) composition.regions
+    → IsFoundRegion (region_in composition id) (Some region) → IsRegionOf region.head region.slot store
+found_placed composition id region store all found =
+    let kept = kept_found composition id region found in
+    let placed = found_all (λ (kept : KeptRegion). IsRegionOf kept.head kept.slot store) (λ (kept : KeptRegion). eqb kept.head.region id) composition.regions kept.0 all kept.1 in
+    subst (λ (head : RegionHead). IsRegionOf head region.slot store) kept.2.head (subst (λ (slot : ℕ). IsRegionOf kept.0.head slot store) kept.2.slot placed)
+
+-- ---- the rows of every memory with these parts
+
+-- a row on its way, in the words of every memory with these parts
+pub record IsOnWay (composition : Composition) (store : Regions) (inks : List Colour) (place : RowPlace) (rest : List PageEntry) (row : List Colour) : Type 0 where
+  pub drawing : (memory : Memory) → IsKeptAs memory composition store inks → window_of memory.display ≡ window_at place → IsDrawing memory place.y rest row
+
+pub way_begins : (composition : Composition) (store : Regions) (inks : List Colour) (place : RowPlace) (entries : List PageEntry) (row : List Colour) → ((x : ℕ) → x < length row → colour_of row x ≡ clear)
+    → entries ≡ composition.entries → IsOnWay composition store inks place entries row
+way_begins composition store inks place entries row all is = record {
+  drawing = λ memory has window. subst (λ (rest : List PageEntry). IsDrawing memory place.y rest row) (ap (λ (c : Composition). c.entries) has.nodes ∙ sym is) (drawing_begins memory place.y row all);
+}
+
+pub way_goes_on : (composition : Composition) (store : Regions) (inks : List Colour) (place : RowPlace) (left : List PageEntry) (entry : PageEntry) (rest : List PageEntry) (old new : List Colour)
+    → left ≡ entry ∷ rest → length new ≡ length old
+    → ((memory : Memory) → IsKeptAs memory composition store inks → IsDrawnOver (window_at place) place.y (λ x. colour_by_entry memory (window_at place) x place.y entry) old new)
+    → IsOnWay composition store inks place left old → IsOnWay composition store inks place rest new
+way_goes_on composition store inks place left entry rest old new is size drawn way = record {
+  drawing = λ memory has window.
+      drawing_goes_on memory place.y entry rest old new (subst (λ (entries : List PageEntry). IsDrawing memory place.y entries old) is (way.drawing memory has window)) size
+      (subst (λ (w : Window). IsDrawnOver w place.y (λ x. colour_by_entry memory w x place.y entry) old new) (sym window) (drawn memory has));
+}
+
+pub way_ends : (composition : Composition) (store : Regions) (inks : List Colour) (place : RowPlace) (left : List PageEntry) (row : List Colour) → left ≡ [] → IsOnWay composition store inks place left row
+    → (memory : Memory) → IsKeptAs memory composition store inks → window_of memory.display ≡ window_at place → length row ≡ memory.display.width → row ≡ row_in memory place.y
+way_ends composition store inks place left row is way memory has window size =
+    drawing_ends memory place.y row size (subst (λ (rest : List PageEntry). IsDrawing memory place.y rest row) is (way.drawing memory has window))

@@ -15,3 +15,4 @@ pub mod Popping
 pub mod Scanning
 pub mod EntryWalks
 pub mod RegionLookups
+pub mod Finds

@@ -30,18 +30,10 @@ use Rattle.page_core.specs.Composition.{KeptRegion, region_in}
 use Rattle.page_core.specs.Memory.{Memory, HasSides, IsWhole, Holds, head_of, code_in, ink_in}
 use Rattle.page_core.specs.Rows.{colour_in, colour_through, colour_by_entry, colour_at, row_in, picture_in, listed_in, IsLineLent}
 use Rattle.page_core.proofs.DrawnEntries.{code_below}
+use Rattle.page_core.proofs.Finds.{found_all}
 use Rattle.page_core.proofs.PackedLines.{packed_line}
 
 -- ---- what is found
-
--- what holds of all items holds of one that is found
-pub found_all : {X : Type 0} (P : X → Type 0) (test : X → Bool) (xs : List X) (x : X) → All P xs → find test xs ≡ Some x → P x
-found_all P test [] x all found = absurd (cc)
-found_all {X} P test (item ∷ xs) x all found = by (λ found. found_all P test xs x (All-tail P item xs all) found) (test item) found
-  where
-    by : (find test xs ≡ Some x → P x) → (hit : Bool) → cond hit (Some item) (find test xs) ≡ Some x → P x
-    by rest true found = let same : item ≡ x = cc in subst P same (All-head P item xs all)
-    by rest false found = rest found
 
 -- what passes a test passes it
 passes : {X : Type 0} (test : X → Bool) (found : Option X) (x : X) → where_passes test found ≡ Some x → test x ≡ true

@@ -13,9 +13,10 @@ use Rattle.stream_syntax.specs.declared.region.RegionHead.{RegionHead}
 use Rattle.decoder_model.specs.Shown.{window_of, is_in_window, is_inside}
 use Rattle.pixel_store.specs.Regions.{Region, Regions, region_at, IsPackedRow, code_of as code_in_region}
 use Rattle.page_core.specs.Coloured.{colour_of}
-use Rattle.page_core.specs.Composition.{KeptRegion, region_in}
+use Rattle.page_core.specs.Composition.{Composition, KeptRegion, region_in}
 use Rattle.page_core.specs.Memory.{Memory, code_in, ink_in}
 use Rattle.page_core.specs.declared.node.RegionNode.{RegionNode}
+use Rattle.page_core.specs.declared.rows.RowPlace.{RowPlace}
 
 -- ---- a place of the display
 
@@ -73,8 +74,13 @@ pub record IsLineDrawn (region : Region) (line : ℕ) (colours : List Colour) (f
 abbrev pub AreColoursOf : List Colour → ℕ → Depth → List Colour → Type 0
 AreColoursOf inks clut depth colours = (number : ℕ) → number < code_count depth → colour_of colours number ≡ ink_in inks clut depth number
 
--- the memory has these regions of pixels and these colours
-pub record IsKeptAs (memory : Memory) (store : Regions) (inks : List Colour) : Type 0 where
+-- the window at whose rows a row is
+abbrev pub window_at : RowPlace → Window
+window_at place = record { left = place.left; right = place.right; top = place.top; bottom = place.bottom }
+
+-- the memory has this composition, these regions of pixels and these colours
+pub record IsKeptAs (memory : Memory) (composition : Composition) (store : Regions) (inks : List Colour) : Type 0 where
+  pub nodes : memory.composition ≡ composition
   pub pixels : memory.store ≡ store
   pub colours : memory.inks ≡ inks
 

@@ -1,50 +1,102 @@
 //! Rows of the picture: the lines of regions, drawn one over another within the window of the display (EN 300 743, clauses
 //! 7.2.1 and 7.2.2).
 
-ghost use Rattle.std.specs.Prelude.{◌≡◌, ℕ, ◌+◌, ◌<◌, ◌≤◌, length, MatchOption, Some};
+ghost use Rattle.std.specs.Prelude.{◌≡◌, ℕ, ◌+◌, ◌<◌, ◌≤◌, length, All, MatchOption};
 ghost use Rattle.sub_base.specs.Colour.{clear};
 ghost use Rattle.sub_base.specs.Depth.{code_count};
+ghost use Rattle.decoder_model.specs.Shown.{window_of};
+ghost use Rattle.segments.specs.Contents.{display_value};
 ghost use Rattle.pixel_store.specs.Regions.{region_at, IsPackedRow};
 ghost use Rattle.page_core.specs.Coloured.{colour_of};
-ghost use Rattle.page_core.specs.Composition.{KeptRegion, region_in};
 ghost use Rattle.page_core.specs.Memory.{Memory};
 ghost use Rattle.page_core.specs.Painted.{IsRegionOf};
-ghost use Rattle.page_core.specs.Rows.{IsDrawnOver, IsLineDrawn, IsKeptAs, IsNodeOf, colour_by_entry, colour_by_region};
+ghost use Rattle.page_core.specs.Rows.{IsDrawnOver, IsLineDrawn, IsKeptAs, colour_by_entry, colour_by_region, row_in, window_at};
 
 use crate::colours::colours_into;
+use crate::composition::CompositionMemory;
 use crate::inks::Inks;
 use crate::node::RegionNode;
 use pixel_store::Store;
-use stream_syntax::{PageEntry, Window};
+use segments::DisplaySeg;
+use stream_syntax::PageEntry;
 use sub_base::{CLEAR, Colour};
 
-/// A row of the display, and the window in which regions are seen.
+/// A row of the display, and the first and last columns and rows in which regions are seen.
 #[derive(Clone, Copy)]
 pub(crate) struct RowPlace {
-    pub(crate) window: Window,
+    pub(crate) left: u32,
+    pub(crate) right: u32,
+    pub(crate) top: u32,
+    pub(crate) bottom: u32,
     pub(crate) y: u32,
 }
 
-/// Draws the region of an entry of the page over row y of the display, as far as the window has it.
-pub(crate) fn entry_into(
+/// Makes a row the row y of the picture.
+pub(crate) fn row_into(
+    composition: &CompositionMemory,
     store: &Store,
     inks: &Inks,
-    region: &RegionNode,
+    display: DisplaySeg,
+    y: u32,
+    row: &mut [Colour],
+)
+    requires { All (λ kept. IsRegionOf kept.head kept.slot store.now) composition.now.regions }
+    ensures { (memory : Memory) → IsKeptAs memory composition.now store.now inks.now → memory.display ≡ display_value display
+        → length row.old ≡ memory.display.width → row.new ≡ row_in memory y }
+{
+    clear_row(row);
+    let place = row_place(display, y);
+    let mut entries = composition.entries();
+    while let Some(entry) = entries.next_entry() {
+        entry_into(composition, store, inks, place, entry, row);
+    }
+}
+
+/// A row of a display, in its window where it has one (EN 300 743, clause 7.2.1).
+fn row_place(display: DisplaySeg, y: u32) -> RowPlace
+    ensures window { window_at result ≡ window_of (display_value display) }
+    ensures y { result.y ≡ y }
+{
+    match display.window {
+        Some(window) => RowPlace {
+            left: u32::from(window.left),
+            right: u32::from(window.right),
+            top: u32::from(window.top),
+            bottom: u32::from(window.bottom),
+            y,
+        },
+        None => RowPlace {
+            left: 0,
+            right: display.width.saturating_sub(1),
+            top: 0,
+            bottom: display.height.saturating_sub(1),
+            y,
+        },
+    }
+}
+
+/// Draws the region of an entry of the page over a row, as far as the window has it.
+fn entry_into(
+    composition: &CompositionMemory,
+    store: &Store,
+    inks: &Inks,
     place: RowPlace,
     entry: PageEntry,
     row: &mut [Colour],
 )
-    requires { IsRegionOf region.now.head region.now.slot store.now }
-    ensures { (memory : Memory) (kept : KeptRegion) → IsKeptAs memory store.now inks.now → region_in memory.composition entry.region ≡ Some kept → IsNodeOf kept region.now
-        → IsDrawnOver place.window place.y (λ x. colour_by_entry memory place.window x place.y entry) row.old row.new }
+    requires { All (λ kept. IsRegionOf kept.head kept.slot store.now) composition.now.regions }
+    ensures { (memory : Memory) → IsKeptAs memory composition.now store.now inks.now
+        → IsDrawnOver (window_at place) place.y (λ x. colour_by_entry memory (window_at place) x place.y entry) row.old row.new }
 {
-    let colours = inks.table(region.head.clut, region.head.depth);
-    region_into(store, region, colours, place, entry, row);
+    if let Some(region) = composition.region(entry.region) {
+        let colours = inks.table(region.head.clut, region.head.depth);
+        region_into(store, &region, colours, place, entry, row);
+    }
 }
 
-/// Draws a region over row y of the display, as far as the window has it, with its corner at an entry of the page. The colours
+/// Draws a region over a row of the display, as far as the window has it, with its corner at an entry of the page. The colours
 /// are those of its CLUT for codes of its depth.
-pub(crate) fn region_into(
+fn region_into(
     store: &Store,
     region: &RegionNode,
     colours: &[Colour],
@@ -54,16 +106,16 @@ pub(crate) fn region_into(
 )
     requires region { IsRegionOf region.now.head region.now.slot store.now }
     requires colours { length colours.now ≡ code_count region.now.head.depth }
-    ensures { IsDrawnOver place.window place.y (λ x. colour_by_region region.now.head (region_at store.now region.now.slot) colours.now (place.window.left + entry.x) (place.window.top + entry.y) x place.y) row.old row.new }
+    ensures { IsDrawnOver (window_at place) place.y (λ x. colour_by_region region.now.head (region_at store.now region.now.slot) colours.now (place.left + entry.x) (place.top + entry.y) x place.y) row.old row.new }
 {
-    let RowPlace { window, y } = place;
-    let left = usize::from(window.left) + usize::from(entry.x);
-    let top = u32::from(window.top) + u32::from(entry.y);
-    if y < top || u32::from(window.bottom) < y || u32::from(region.head.height) <= y - top {
+    let left = place.left as usize + usize::from(entry.x);
+    let top = place.top as usize + usize::from(entry.y);
+    let y = place.y as usize;
+    if y < top || place.bottom < place.y || usize::from(region.head.height) <= y - top {
         return;
     }
     let end = (left + usize::from(region.head.width))
-        .min(usize::from(window.right) + 1)
+        .min(place.right as usize + 1)
         .min(row.len());
     if left < end {
         line_within(store, region, (y - top) as u16, colours, left, end, row);
@@ -108,7 +160,7 @@ fn line_into(store: &Store, region: &RegionNode, line: u16, colours: &[Colour], 
 }
 
 /// Makes each place of a row clear.
-pub(crate) fn clear_row(row: &mut [Colour])
+fn clear_row(row: &mut [Colour])
     ensures { (x : ℕ) → x < length row.old → colour_of row.new x ≡ clear }
 {
     row.fill(CLEAR);
