@@ -3,9 +3,9 @@ use Rattle.std.proofs.Common.{◌≡◌, ◌∙◌, refl, sym, ap, subst, inl, i
 use Rattle.std.specs.Prelude.{slice_range, unwrap_or}
 use Rattle.std.specs.List.{range_with_len}
 use Rattle.std.specs.Option.{option_or}
-use Rattle.std.proofs.lemmas.List.{ext_get_or}
+use Rattle.std.proofs.lemmas.List.{ext_get_or, get_or-map, length-map}
 use Rattle.std.proofs.lemmas.List.Edits.{get_or-between}
-use Rattle.std.proofs.lemmas.List.FromFn.{length-map-range_with_len, get_or-map-range_with_len}
+use Rattle.std.proofs.lemmas.List.FromFn.{get_or-range_with_len, length-range_with_len, length-map-range_with_len, get_or-map-range_with_len}
 use Rattle.std.proofs.lemmas.Nat.{mod_below, pow_pos}
 use Rattle.sub_base.specs.Colour.{clear}
 use Rattle.sub_base.specs.Depth.{bits_of, code_count}
@@ -21,7 +21,7 @@ use Rattle.pixel_store.specs.Codes.{code_in as code_in_byte}
 use Rattle.pixel_store.specs.Regions.{Region, Regions, region_at, code_of as code_in_region}
 use Rattle.page_core.specs.Coloured.{colour_of}
 use Rattle.page_core.specs.Composition.{Composition, KeptRegion, region_in}
-use Rattle.page_core.specs.Memory.{Memory, HasSides, ink_place, ink_in}
+use Rattle.page_core.specs.Memory.{Memory, HasSides, IsWhole, ink_place, ink_in}
 use Rattle.page_core.specs.Painted.{IsRegionOf}
 use Rattle.page_core.specs.Rows.{colour_through, colour_by_entry, colour_at, row_in, seen_in, IsDrawnOver, colour_by_region, AreColoursOf, IsDrawing, IsKeptAs, IsNodeOf, window_at}
 use Rattle.page_core.specs.Entries.{IsFoundRegion}
@@ -178,3 +178,15 @@ pub way_ends : (composition : Composition) (store : Regions) (inks : List Colour
     → (memory : Memory) → IsKeptAs memory composition store inks → window_of memory.display ≡ window_at place → length row ≡ memory.display.width → row ≡ row_in memory place.y
 way_ends composition store inks place left row is way memory has window size =
     drawing_ends memory place.y row size (subst (λ (rest : List PageEntry). IsDrawing memory place.y rest row) is (way.drawing memory has window))
+
+-- ---- a whole memory
+
+-- each region that is kept has its slot, with its sides and depth
+pub regions_placed : (memory : Memory) → IsWhole memory → All (λ (kept : KeptRegion). IsRegionOf kept.head kept.slot memory.store) memory.composition.regions
+regions_placed memory whole = λ k d within.
+    let slot_of : KeptRegion → ℕ = λ kept. kept.slot in
+    let regions = memory.composition.regions in
+    let count : length regions ≡ length memory.store.regions = sym (length-map regions slot_of) ∙ ap length whole.slots ∙ length-range_with_len 0 (length memory.store.regions) in
+    let slot : (get_or regions k d).slot ≡ k =
+    sym (get_or-map slot_of regions k d 0 within) ∙ ap (λ (slots : List ℕ). get_or slots k 0) whole.slots ∙ get_or-range_with_len 0 (length memory.store.regions) k 0 (omega (arith, count)) ∙ omega arith in
+    record { placed = omega (arith, slot, count); sides = whole.sides k d within }

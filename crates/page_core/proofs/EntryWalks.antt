@@ -46,4 +46,3 @@ entry_given pool next answer node item found before walk here there is kind left
         none : is_some {T = PageEntry} None ≡ true → ⊥
         none e = cc
     by (Some entry) kind = all ∙ ap (λ one. cons_option one (entries_left pool answer)) (sym kind)
-

@@ -1,7 +1,7 @@
 //! Rows of the picture: the lines of regions, drawn one over another within the window of the display (EN 300 743, clauses
 //! 7.2.1 and 7.2.2).
 
-ghost use Rattle.std.specs.Prelude.{◌≡◌, ℕ, ◌+◌, ◌<◌, ◌≤◌, length, All, MatchOption};
+ghost use Rattle.std.specs.Prelude.{◌≡◌, ℕ, ◌+◌, ◌<◌, ◌≤◌, length, All, MatchOption, option_map};
 ghost use Rattle.sub_base.specs.Colour.{clear};
 ghost use Rattle.sub_base.specs.Depth.{code_count};
 ghost use Rattle.decoder_model.specs.Shown.{window_of};
@@ -10,7 +10,7 @@ ghost use Rattle.pixel_store.specs.Regions.{region_at, IsPackedRow};
 ghost use Rattle.page_core.specs.Coloured.{colour_of};
 ghost use Rattle.page_core.specs.Memory.{Memory};
 ghost use Rattle.page_core.specs.Painted.{IsRegionOf};
-ghost use Rattle.page_core.specs.Rows.{IsDrawnOver, IsLineDrawn, IsKeptAs, colour_by_entry, colour_by_region, row_in, window_at};
+ghost use Rattle.page_core.specs.Rows.{IsDrawnOver, IsLineDrawn, IsKeptAs, colour_by_entry, colour_by_region, row_in, window_at, listed_in, IsLineLent};
 
 use crate::colours::colours_into;
 use crate::composition::CompositionMemory;
@@ -96,7 +96,7 @@ fn entry_into(
 
 /// Draws a region over a row of the display, as far as the window has it, with its corner at an entry of the page. The colours
 /// are those of its CLUT for codes of its depth.
-fn region_into(
+pub(crate) fn region_into(
     store: &Store,
     region: &RegionNode,
     colours: &[Colour],
@@ -164,6 +164,24 @@ fn clear_row(row: &mut [Colour])
     ensures { (x : ℕ) → x < length row.old → colour_of row.new x ≡ clear }
 {
     row.fill(CLEAR);
+}
+
+/// Lends the packed bytes of a line of the region of that id. None exactly where the page lists no such region or the region has
+/// no such line.
+pub(crate) fn packed_row<'a>(
+    composition: &CompositionMemory,
+    store: &'a Store,
+    id: u8,
+    line: u16,
+) -> Option<&'a [u8]>
+    requires { All (λ kept. IsRegionOf kept.head kept.slot store.now) composition.now.regions }
+    ensures { (memory : Memory) → memory.composition ≡ composition.now → memory.store ≡ store.now → IsLineLent memory (listed_in memory id) line (option_map (λ bytes. bytes.now) result) }
+{
+    if !composition.is_listed(id) {
+        return None;
+    }
+    let region = composition.region(id)?;
+    packed_line(store, &region, line)
 }
 
 /// Lends the packed bytes of a line of a region. None exactly where the region has no such line.

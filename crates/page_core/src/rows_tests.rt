@@ -2,10 +2,10 @@ use crate::colours::colours_into;
 use crate::inks::Inks;
 use crate::painting_objects::check_fields;
 use crate::painting_tests::{TWO_BITS, placed};
-use crate::rows::{RowPlace, clear_row, entry_into, packed_line};
+use crate::rows::{RowPlace, packed_line, region_into};
 use pixel_store::Store;
 use std::test::Fail;
-use stream_syntax::{Listing, PageEntry, Window};
+use stream_syntax::{Listing, PageEntry};
 use sub_base::{CLEAR, Colour, Depth};
 
 /// The default colours of a CLUT: 1, 2 and 3 of two bits; 1 and 9 of four bits; and 1 of eight bits.
@@ -93,23 +93,23 @@ fn rows_of_a_window(rt: HostRuntime) -> Result<(), Fail> {
     };
     check_fields(&TWO_BITS, &[], Depth::Two)?.paint(&mut store, &region, listing, false);
     let inks = Inks::make(rt.alloc())?;
-    let window = Window {
-        left: 2,
-        right: 8,
-        top: 1,
-        bottom: 3,
-    };
+    let colours = inks.table(0, Depth::Two);
     let nothing = [CLEAR; 12];
     let drawn = [
         CLEAR, CLEAR, WHITE, WHITE, BLACK, GREY, BLACK, BLACK, BLACK, CLEAR, CLEAR, CLEAR,
     ];
     for (y, wanted) in [(1, nothing), (2, drawn), (3, drawn), (4, nothing)] {
-        let mut row = [GREY; 12];
-        clear_row(&mut row);
+        let place = RowPlace {
+            left: 2,
+            right: 8,
+            top: 1,
+            bottom: 3,
+            y,
+        };
+        let mut row = [CLEAR; 12];
         for x in [0, 1] {
             let entry = PageEntry { region: 0, x, y: 1 };
-            let place = RowPlace { window, y };
-            entry_into(&store, &inks, &region, place, entry, &mut row);
+            region_into(&store, &region, colours, place, entry, &mut row);
         }
         assert_eq!(rt; row, wanted, "row {y}");
     }

@@ -1,7 +1,9 @@
 //! What is read of the composition memory: the entries of the page in order, and a region by its id.
 
-ghost use Rattle.std.specs.Prelude.{◌≡◌, ◌<◌, ◌∷◌, [], None, Some, MatchOption};
-ghost use Rattle.page_core.specs.Composition.{KeptRegion, region_in};
+ghost use Rattle.std.specs.Prelude.{◌≡◌, ◌==◌, ◌∷◌, [], MatchOption};
+ghost use Rattle.std.specs.List.{list_any};
+ghost use Rattle.stream_syntax.specs.declared.page.PageEntry.{PageEntry as EntryOf};
+ghost use Rattle.page_core.specs.Composition.{region_in};
 ghost use Rattle.page_core.specs.Nodes.{entry_in as entry_of, region_node};
 ghost use Rattle.page_core.specs.Entries.{IsFoundRegion};
 
@@ -68,6 +70,19 @@ impl CompositionMemory {
             pool: &self.pool,
             next: self.pool.first(ENTRIES),
         }
+    }
+
+    /// Whether the page lists a region of that id.
+    pub(crate) fn is_listed(&self, id: u8) -> bool
+        ensures { result ≡ list_any (λ (entry : EntryOf). entry.region == id) self.now.entries }
+    {
+        let mut entries = self.entries();
+        while let Some(entry) = entries.next_entry() {
+            if entry.region == id {
+                return true;
+            }
+        }
+        false
     }
 
     /// The region of that id. None exactly where the epoch has none.
