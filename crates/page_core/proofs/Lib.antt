@@ -4,3 +4,4 @@ pub mod InkTables
 pub mod Pasts
 pub mod Popping
 pub mod Scanning
+pub mod NextContents

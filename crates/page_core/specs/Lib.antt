@@ -6,3 +6,4 @@ pub mod Lists
 pub mod Memory
 pub mod Nodes
 pub mod Seen
+pub mod Walks

@@ -10,6 +10,7 @@ mod memory;
 mod node;
 mod seen;
 mod times;
+mod walking;
 
 pub use decoder_model::{SetEnd, SetFault};
 pub use memory::Core;
