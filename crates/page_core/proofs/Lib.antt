@@ -1,3 +1,4 @@
+pub mod Defining
 pub mod Fronts
 pub mod ColourNodes
 pub mod InkTables

@@ -2,6 +2,7 @@ pub mod Composition
 pub mod Cores
 pub mod Handed
 pub mod Inks
+pub mod Judging
 pub mod Known
 pub mod Lists
 pub mod Memory

@@ -5,6 +5,7 @@ mod composition;
 mod forget;
 mod front;
 mod inks;
+mod judging;
 mod lists;
 mod memory;
 mod node;
