@@ -2,8 +2,11 @@ pub mod Defining
 pub mod Fronts
 pub mod ColourNodes
 pub mod InkTables
+pub mod Orders
 pub mod Pasts
 pub mod Popping
+pub mod RegionLaws
 pub mod RegionNodes
 pub mod Scanning
 pub mod NextContents
+pub mod Versions

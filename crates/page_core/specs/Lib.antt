@@ -7,5 +7,6 @@ pub mod Known
 pub mod Lists
 pub mod Memory
 pub mod Nodes
+pub mod RegionTests
 pub mod Seen
 pub mod Walks

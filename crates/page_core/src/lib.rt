@@ -9,6 +9,7 @@ mod judging;
 mod lists;
 mod memory;
 mod node;
+mod region_tests;
 mod seen;
 mod times;
 mod walking;
