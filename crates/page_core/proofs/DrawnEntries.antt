@@ -22,9 +22,9 @@ use Rattle.pixel_store.specs.Regions.{Region, Regions, region_at, code_of as cod
 use Rattle.page_core.specs.Coloured.{colour_of}
 use Rattle.page_core.specs.Composition.{Composition, KeptRegion, region_in}
 use Rattle.page_core.specs.Memory.{Memory, HasSides, IsWhole, ink_place, ink_in}
-use Rattle.page_core.specs.Painted.{IsRegionOf}
-use Rattle.page_core.specs.Rows.{colour_through, colour_by_entry, colour_at, row_in, seen_in, IsDrawnOver, colour_by_region, AreColoursOf, IsDrawing, IsKeptAs, IsNodeOf, window_at}
-use Rattle.page_core.specs.Entries.{IsFoundRegion}
+use Rattle.page_core.specs.Painted.{HasRegion}
+use Rattle.page_core.specs.Rows.{colour_through, colour_by_entry, colour_at, row_in, seen_in, IsDrawnOver, colour_by_region, AreColoursOf, IsDrawing, IsKeptAs, window_at}
+use Rattle.page_core.specs.Known.{IsNodeOf}
 use Rattle.page_core.specs.declared.rows.RowPlace.{RowPlace}
 use Rattle.page_core.proofs.Finds.{found_all}
 use Rattle.page_core.specs.declared.node.RegionNode.{RegionNode}
@@ -115,42 +115,25 @@ table_of inks colours clut depth is number small =
 
 -- the region of an entry is drawn, in the words of a memory that has its pixels and colours
 pub node_drawn : (memory : Memory) (window : Window) (y : ℕ) (entry : PageEntry) (kept : KeptRegion) (region : RegionNode) (composition : Composition) (store : Regions) (inks colours old new : List Colour)
-    → IsKeptAs memory composition store inks → region_in memory.composition entry.region ≡ Some kept → IsNodeOf kept region → IsRegionOf region.head region.slot store → AreColoursOf inks region.head.clut region.head.depth colours
+    → IsKeptAs memory composition store inks → region_in memory.composition entry.region ≡ Some kept → IsNodeOf kept region → HasRegion region.head region.slot store → AreColoursOf inks region.head.clut region.head.depth colours
     → IsDrawnOver window y (λ x. colour_by_region region.head (region_at store region.slot) colours (window.left + entry.x) (window.top + entry.y) x y) old new
     → IsDrawnOver window y (λ x. colour_by_entry memory window x y entry) old new
 node_drawn memory window y entry kept region composition store inks colours old new has found node is_region are drawn =
     region_drawn memory window y entry kept colours old new found
-    (subst (λ (head : RegionHead). HasSides head (region_at memory.store kept.slot)) (sym node.head)
-    (subst (λ (r : Region). HasSides region.head r) (λ i. region_at (sym has.pixels i) (sym node.slot i)) is_region.sides))
-    (subst (λ (head : RegionHead). AreColoursOf memory.inks head.clut head.depth colours) (sym node.head) (subst (λ (all : List Colour). AreColoursOf all region.head.clut region.head.depth colours) (sym has.colours) are))
-    (subst (λ (head : RegionHead). IsDrawnOver window y (λ x. colour_by_region head (region_at memory.store kept.slot) colours (window.left + entry.x) (window.top + entry.y) x y) old new) (sym node.head)
-    (subst (λ (r : Region). IsDrawnOver window y (λ x. colour_by_region region.head r colours (window.left + entry.x) (window.top + entry.y) x y) old new) (λ i. region_at (sym has.pixels i) (sym node.slot i)) drawn))
+    (subst (λ (head : RegionHead). HasSides head (region_at memory.store kept.slot)) node.head
+    (subst (λ (r : Region). HasSides region.head r) (λ i. region_at (sym has.pixels i) (node.slot i)) is_region.sides))
+    (subst (λ (head : RegionHead). AreColoursOf memory.inks head.clut head.depth colours) node.head (subst (λ (all : List Colour). AreColoursOf all region.head.clut region.head.depth colours) (sym has.colours) are))
+    (subst (λ (head : RegionHead). IsDrawnOver window y (λ x. colour_by_region head (region_at memory.store kept.slot) colours (window.left + entry.x) (window.top + entry.y) x y) old new) node.head
+    (subst (λ (r : Region). IsDrawnOver window y (λ x. colour_by_region region.head r colours (window.left + entry.x) (window.top + entry.y) x y) old new) (λ i. region_at (sym has.pixels i) (node.slot i)) drawn))
 
 -- ---- a region that is found
 
--- it is one that is kept
-pub kept_found : (composition : Composition) (id : ℕ) (region : RegionNode) → IsFoundRegion (region_in composition id) (Some region) → (kept : KeptRegion) × (region_in composition id ≡ Some kept) × IsNodeOf kept region
-kept_found composition id region found = by (region_in composition id) refl found
-  where
-    by : (kept : Option KeptRegion) → region_in composition id ≡ kept → IsFoundRegion kept (Some region) → (one : KeptRegion) × (region_in composition id ≡ Some one) × IsNodeOf one region
-    by None is found = absurd found
-    by (Some kept) is found = (kept, is, found)
-
--- none is kept
-pub none_found : (composition : Composition) (id : ℕ) → IsFoundRegion (region_in composition id) None → region_in composition id ≡ None
-none_found composition id found = by (region_in composition id) found
-  where
-    by : (kept : Option KeptRegion) → IsFoundRegion kept None → kept ≡ None
-    by None found = refl
-    by (Some kept) found = absurd found
-
 -- its slot has its sides and depth
-pub found_placed : (composition : Composition) (id : ℕ) (region : RegionNode) (store : Regions) → All (λ (kept : KeptRegion). IsRegionOf kept.head kept.slot store) composition.regions
-    → IsFoundRegion (region_in composition id) (Some region) → IsRegionOf region.head region.slot store
-found_placed composition id region store all found =
-    let kept = kept_found composition id region found in
-    let placed = found_all (λ (kept : KeptRegion). IsRegionOf kept.head kept.slot store) (λ (kept : KeptRegion). eqb kept.head.region id) composition.regions kept.0 all kept.1 in
-    subst (λ (head : RegionHead). IsRegionOf head region.slot store) kept.2.head (subst (λ (slot : ℕ). IsRegionOf kept.0.head slot store) kept.2.slot placed)
+pub found_placed : (composition : Composition) (id : ℕ) (kept : KeptRegion) (region : RegionNode) (store : Regions) → All (λ (kept : KeptRegion). HasRegion kept.head kept.slot store) composition.regions
+    → region_in composition id ≡ Some kept → IsNodeOf kept region → HasRegion region.head region.slot store
+found_placed composition id kept region store all found node =
+    let placed = found_all (λ (kept : KeptRegion). HasRegion kept.head kept.slot store) (λ (kept : KeptRegion). eqb kept.head.region id) composition.regions kept all found in
+    subst (λ (head : RegionHead). HasRegion head region.slot store) (sym node.head) (subst (λ (slot : ℕ). HasRegion kept.head slot store) (sym node.slot) placed)
 
 -- ---- the rows of every memory with these parts
 
@@ -182,7 +165,7 @@ way_ends composition store inks place left row is way memory has window size =
 -- ---- a whole memory
 
 -- each region that is kept has its slot, with its sides and depth
-pub regions_placed : (memory : Memory) → IsWhole memory → All (λ (kept : KeptRegion). IsRegionOf kept.head kept.slot memory.store) memory.composition.regions
+pub regions_placed : (memory : Memory) → IsWhole memory → All (λ (kept : KeptRegion). HasRegion kept.head kept.slot memory.store) memory.composition.regions
 regions_placed memory whole = λ k d within.
     let slot_of : KeptRegion → ℕ = λ kept. kept.slot in
     let regions = memory.composition.regions in

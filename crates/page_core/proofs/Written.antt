@@ -13,7 +13,7 @@ use Rattle.stream_syntax.specs.declared.region.RegionHead.{RegionHead}
 use Rattle.decoder_model.specs.Pixels.{is_covered, is_changed, code_by_run, code_by_field, code_by_listings, listings_naming}
 use Rattle.decoder_model.proofs.Searches.{option_or-none}
 use Rattle.pixel_store.specs.Regions.{Region, Regions, IsPlaced, KeepsOthers, IsRunPainted, region_at, code_of}
-use Rattle.page_core.specs.Painted.{IsRegionOf, IsWritten, HaveCodes, FieldRuns, code_by_fields_in, field_runs}
+use Rattle.page_core.specs.Painted.{HasRegion, IsWritten, HaveCodes, FieldRuns, code_by_fields_in, field_runs}
 
 -- ---- what is kept
 
@@ -32,7 +32,7 @@ keeps_twice slot a b c first second = record {
 }
 
 -- a region keeps its sides and depth
-pub same_region : (head : RegionHead) (slot : ℕ) (old new : Regions) → KeepsOthers slot old new → IsRegionOf head slot old → IsRegionOf head slot new
+pub same_region : (head : RegionHead) (slot : ℕ) (old new : Regions) → KeepsOthers slot old new → HasRegion head slot old → HasRegion head slot new
 same_region head slot old new keeps region = record {
   placed = subst (λ (n : ℕ). slot < n) (sym keeps.count) region.placed;
   sides = record { width = keeps.width ∙ region.sides.width; height = keeps.height ∙ region.sides.height; depth = keeps.depth ∙ region.sides.depth };
@@ -102,7 +102,7 @@ module _ (see_through : Bool) (listing : Listing) (first_row left row : ℕ) (ru
   ]
 
 -- a run that is painted by its place, which is cut off at 2^32 - 1
-pub run_written : (head : RegionHead) (slot : ℕ) (see_through : Bool) (listing : Listing) (first_row left row : ℕ) (run : Run) (old new : Regions) → IsRegionOf head slot old
+pub run_written : (head : RegionHead) (slot : ℕ) (see_through : Bool) (listing : Listing) (first_row left row : ℕ) (run : Run) (old new : Regions) → HasRegion head slot old
     → is_changed see_through run ≡ true → head.width < 2 ^ 16 → head.height < 2 ^ 16
     → left ≡ min (listing.x + run.x) 4294967295 → row ≡ min (listing.y + 2 * run.line + first_row) 4294967295
     → KeepsOthers slot old new → IsRunPainted left row run.length run.code (region_at old slot) (region_at new slot)

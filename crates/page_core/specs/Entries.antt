@@ -1,15 +1,12 @@
--- What is read of the nodes of a composition: the entries of a page that are left in a walk, and the region of an id.
-use Rattle.std.specs.Prelude.{ℕ, List, Option, Some, None}
+-- The entries of a page that are left in a walk over the list of its nodes.
+use Rattle.std.specs.Prelude.{ℕ, List, Option}
 use Rattle.std.specs.Option.{ForSome}
 use Rattle.stream_syntax.specs.declared.page.PageEntry.{PageEntry}
 use Rattle.comp_pool.specs.Places.{rest_from}
 use Rattle.comp_pool.specs.Pool.{PoolOf, list_of, IsInList, NoneTwice}
 use Rattle.comp_pool.specs.declared.node.NodeId.{NodeId}
-use Rattle.page_core.specs.Composition.{KeptRegion}
 use Rattle.page_core.specs.Nodes.{AreKind, kept_in, entry_in}
-use Rattle.page_core.specs.Rows.{IsNodeOf}
 use Rattle.page_core.specs.declared.node.Node.{Node}
-use Rattle.page_core.specs.declared.node.RegionNode.{RegionNode}
 
 -- the entries from a node on
 abbrev pub entries_left : PoolOf Node → Option NodeId → List PageEntry
@@ -20,10 +17,3 @@ pub record IsWalk (pool : PoolOf Node) (next : Option NodeId) : Type 0 where
   pub kinds : AreKind entry_in (list_of pool 0)
   pub distinct : NoneTwice pool
   pub listed : ForSome next (IsInList pool 0)
-
--- a region that is kept is found with its head and its slot, and nothing where none is kept
-abbrev pub IsFoundRegion : Option KeptRegion → Option RegionNode → Type 0
-IsFoundRegion None None = Unit {0}
-IsFoundRegion None (Some region) = ⊥
-IsFoundRegion (Some kept) None = ⊥
-IsFoundRegion (Some kept) (Some region) = IsNodeOf kept region

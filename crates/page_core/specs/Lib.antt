@@ -2,11 +2,15 @@ pub mod Composition
 pub mod Cores
 pub mod Handed
 pub mod Inks
+pub mod Judging
+pub mod Known
 pub mod Lists
 pub mod Memory
 pub mod Painted
 pub mod Coloured
 pub mod Rows
 pub mod Nodes
+pub mod RegionTests
 pub mod Seen
 pub mod Entries
+pub mod Walks

@@ -1,6 +1,6 @@
 -- What the nodes of a pool stand for in a composition. List 0 has the entries of the page, list 1 the regions, list 2 the CLUTs, list 3
 -- the table entries that are set, and list 4 + id the listings of the region of that id.
-use Rattle.std.specs.Prelude.{◌≡◌, ℕ, ◌+◌, ◌==◌, ◌<◌, Bool, true, false, List, [], length, map, filter_map, find, All, Option, Some, None, option_map, slice_index_or, if◌then◌else◌}
+use Rattle.std.specs.Prelude.{◌≡◌, ℕ, ◌+◌, ◌==◌, ◌<◌, Bool, true, false, List, [], length, map, filter_map, find, All, Option, Some, None, option_map, slice_index_or, if◌then◌else◌, Contains}
 use Rattle.std.specs.Option.{is_some, option_map_or}
 use Rattle.stream_syntax.specs.declared.page.PageEntry.{PageEntry}
 use Rattle.decoder_model.specs.Nodes.{TableEntry}
@@ -120,3 +120,8 @@ pub record IsIndexed (pool : PoolOf Node) (region_nodes clut_nodes : List (Optio
 -- the first node of list l is taken out: it was of that kind, and has this
 abbrev pub IsPoppedAs : {X : Type 0} → (Node → Option X) → ℕ → X → PoolOf Node → PoolOf Node → Type 0
 IsPoppedAs kind l found old new = (item : Node) × (kind item ≡ Some found) × IsPopped l item old new
+
+-- what a node of list 1 has, as a region
+abbrev pub IsRegionOf : PoolOf Node → Option NodeId → Option RegionNode → Type 0
+IsRegionOf pool None found = found ≡ None
+IsRegionOf pool (Some name) found = (item : Node) × Contains (list_of pool 1) (name, item) × (found ≡ region_node item)

@@ -20,7 +20,7 @@ use Rattle.pixel_store.specs.Regions.{Regions, IsPlaced, KeepsOthers, region_at,
 use Rattle.page_core.specs.Memory.{HasSides}
 
 -- a slot of the store has a region with the sides and the depth of a head
-pub record IsRegionOf (head : RegionHead) (slot : ℕ) (store : Regions) : Type 0 where
+pub record HasRegion (head : RegionHead) (slot : ℕ) (store : Regions) : Type 0 where
   pub placed : IsPlaced store slot
   pub sides : HasSides head (region_at store slot)
 

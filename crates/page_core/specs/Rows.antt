@@ -15,7 +15,6 @@ use Rattle.pixel_store.specs.Regions.{Region, Regions, region_at, IsPackedRow, c
 use Rattle.page_core.specs.Coloured.{colour_of}
 use Rattle.page_core.specs.Composition.{Composition, KeptRegion, region_in}
 use Rattle.page_core.specs.Memory.{Memory, code_in, ink_in}
-use Rattle.page_core.specs.declared.node.RegionNode.{RegionNode}
 use Rattle.page_core.specs.declared.rows.RowPlace.{RowPlace}
 
 -- ---- a place of the display
@@ -83,11 +82,6 @@ pub record IsKeptAs (memory : Memory) (composition : Composition) (store : Regio
   pub nodes : memory.composition ≡ composition
   pub pixels : memory.store ≡ store
   pub colours : memory.inks ≡ inks
-
--- the node has the head and the slot of a region
-pub record IsNodeOf (kept : KeptRegion) (region : RegionNode) : Type 0 where
-  pub head : kept.head ≡ region.head
-  pub slot : kept.slot ≡ region.slot
 
 -- a row after some entries of the page, with the entries that are left: what these give it makes it row y of the picture
 abbrev pub IsDrawing : Memory → ℕ → List PageEntry → List Colour → Type 0

@@ -1,15 +1,16 @@
 //! The composition memory of a receiver (EN 300 743, clause 5.2): one fixed array of nodes for all of its lists.
 
-ghost use Rattle.std.specs.Prelude.{◌≡◌, ◌<◌, ◌∷◌, [], ℕ, None, IfOk, MatchOption, length, option_map, slice_index_or};
+ghost use Rattle.std.specs.Prelude.{◌≡◌, ◌<◌, ◌∷◌, [], ℕ, None, IfOk, IfSome, MatchOption, length, option_map, slice_index_or};
 ghost use Rattle.page_core.specs.Composition.{no_composition, without_colour};
 ghost use Rattle.page_core.specs.Nodes.{IsPoppedAs};
-ghost use Rattle.page_core.specs.Nodes.{AreKind, colour_in, place_kept};
-ghost use Rattle.comp_pool.specs.Pool.{list_of};
+ghost use Rattle.page_core.specs.Nodes.{AreKind, IsRegionOf, colour_in, place_kept, region_node};
+ghost use Rattle.comp_pool.specs.Pool.{IsInList, NoneTwice, list_of};
+ghost use Rattle.page_core.specs.Known.{IsRegionIn};
 
 mod lookup;
 
 use crate::lists::pop_front;
-use crate::node::{Node, TablePlace};
+use crate::node::{Node, RegionNode, TablePlace};
 use comp_pool::{NodeId, Pool};
 use std::alloc::Global;
 use std::marker::Model;
@@ -17,6 +18,7 @@ use stream_syntax::PageEntry;
 use sub_base::NoMemory;
 
 // The lists of the pool. That of the listings of a region is behind these, by its id.
+const REGIONS: u32 = 1;
 const COLOURS: u32 = 3;
 const LISTS: u32 = 260;
 
@@ -65,6 +67,13 @@ impl CompositionMemory {
         pop_colour(&mut self.pool)
     }
 
+    /// The region of that id; none where the epoch has none.
+    pub fn region(&self, id: u8) -> Option<RegionNode>
+        ensures { IsRegionIn self.now id result }
+    {
+        region_at(&self.pool, node_at(&self.regions, id))
+    }
+
     /// Frees all nodes.
     pub fn reset(&mut self)
         ensures { self.new ≡ no_composition self.old.size }
@@ -79,6 +88,37 @@ impl CompositionMemory {
         ensures { result ≡ self.now.free }
     {
         self.pool.free_nodes()
+    }
+}
+
+fn node_at(nodes: &[Option<NodeId>; 256], id: u8) -> Option<NodeId>
+    ensures node { result ≡ slice_index_or nodes.now id None }
+    ensures byte { id < 256 }
+{
+    nodes[usize::from(id)]
+}
+
+// The region that a node of the regions has.
+#[tactic(auto, using(comp_pool::proofs::NodeLaws::in_some_list))]
+fn region_at(pool: &Pool<Node>, node: Option<NodeId>) -> Option<RegionNode>
+    requires list { 1 < length pool.now.lists }
+    requires listed { IfSome node (λ node. IsInList pool.now 1 node) }
+    ensures region { IsRegionOf pool.now node result }
+    ensures distinct { NoneTwice pool.now }
+{
+    let _ = pool.first(REGIONS);
+    match node {
+        None => None,
+        Some(node) => region_in(pool.item(node)),
+    }
+}
+
+fn region_in(node: Node) -> Option<RegionNode>
+    ensures { result ≡ region_node node }
+{
+    match node {
+        Node::Region(region) => Some(region),
+        _ => None,
     }
 }
 

@@ -6,14 +6,17 @@ mod composition;
 mod forget;
 mod front;
 mod inks;
+mod judging;
 mod lists;
 mod memory;
 mod node;
 mod painting;
 mod painting_objects;
+mod region_tests;
 mod rows;
 mod seen;
 mod times;
+mod walking;
 
 pub use decoder_model::{SetEnd, SetFault};
 pub use memory::Core;

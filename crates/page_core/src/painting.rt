@@ -3,7 +3,7 @@
 ghost use Rattle.std.specs.Prelude.{◌≡◌, ◌<◌};
 ghost use Rattle.sub_base.specs.Depth.{code_count};
 ghost use Rattle.decoder_model.specs.Pixels.{is_changed, code_by_run, code_by_field, code_by_fill, fill_code};
-ghost use Rattle.page_core.specs.Painted.{IsRegionOf, IsWritten, HaveCodes};
+ghost use Rattle.page_core.specs.Painted.{HasRegion, IsWritten, HaveCodes};
 
 use crate::node::RegionNode;
 use pixel_codes::CodeBlock;
@@ -29,7 +29,7 @@ pub(crate) fn paint_field(
     place: FieldPlace,
     block: &CodeBlock<'_>,
 )
-    requires region { IsRegionOf region.now.head region.now.slot store.old }
+    requires region { HasRegion region.now.head region.now.slot store.old }
     requires codes { HaveCodes region.now.head.depth block.now }
     requires row { place.first_row < 2 }
     ensures { IsWritten region.now.slot (λ x y. code_by_field place.see_through place.listing place.first_row x y block.now) store.old store.new }
@@ -43,7 +43,7 @@ pub(crate) fn paint_field(
 /// Paints a run, where it changes pixels at all.
 #[inline(always)]
 fn paint_run(store: &mut Store, slot: Slot, head: RegionHead, place: FieldPlace, run: Run)
-    requires region { IsRegionOf head slot store.old }
+    requires region { HasRegion head slot store.old }
     requires code { run.code < code_count head.depth }
     requires row { place.first_row < 2 }
     ensures { IsWritten slot (λ x y. code_by_run place.see_through place.listing place.first_row x y run) store.old store.new }
@@ -69,7 +69,7 @@ fn is_changing(place: FieldPlace, run: Run) -> bool
 
 /// Fills a region with the code of its depth, where its segment says so (EN 300 743, clause 7.2.3).
 pub(crate) fn fill_region(store: &mut Store, region: &RegionNode)
-    requires region { IsRegionOf region.now.head region.now.slot store.old }
+    requires region { HasRegion region.now.head region.now.slot store.old }
     requires code { fill_code region.now.head.depth region.now.head < code_count region.now.head.depth }
     ensures { IsWritten region.now.slot (λ x y. code_by_fill region.now.head.region region.now.head) store.old store.new }
 {

@@ -5,7 +5,7 @@ ghost use Rattle.stream_syntax.specs.PixelBlocks.{Part, AreParts};
 ghost use Rattle.stream_syntax.specs.Segments.{Object, of_object};
 ghost use Rattle.sub_base.specs.declared.depth.Depth.TheVariants.{Eight};
 ghost use Rattle.decoder_model.specs.Readings.{Content, AreFields};
-ghost use Rattle.page_core.specs.Painted.{IsRegionOf, IsWritten, HaveCodes, AreChecked, IsCheckedBlock, code_by_fields};
+ghost use Rattle.page_core.specs.Painted.{HasRegion, IsWritten, HaveCodes, AreChecked, IsCheckedBlock, code_by_fields};
 
 use crate::node::RegionNode;
 use crate::painting::{FieldPlace, paint_field};
@@ -100,7 +100,7 @@ impl Fields<'_> {
         listing: Listing,
         see_through: bool,
     )
-        requires region { IsRegionOf region.now.head region.now.slot store.old }
+        requires region { HasRegion region.now.head region.now.slot store.old }
         requires depth { self.now.depth ≡ region.now.head.depth }
         ensures { IsWritten region.now.slot (λ x y. code_by_fields see_through self.now x y listing) store.old store.new }
     {

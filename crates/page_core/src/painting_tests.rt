@@ -1,5 +1,5 @@
 ghost use Rattle.std.specs.Prelude.{◌≡◌, ◌<◌, ◌≤◌, length, IfOk};
-ghost use Rattle.page_core.specs.Painted.{FitsHead, IsRegionOf};
+ghost use Rattle.page_core.specs.Painted.{FitsHead, HasRegion};
 
 use crate::node::RegionNode;
 use crate::painting::fill_region;
@@ -65,7 +65,7 @@ fn head(depth: Depth) -> RegionHead
 #[tactic(auto, using(crate::proofs::RegionHeads::fill_in_depth))]
 pub(crate) fn placed(store: &mut Store, depth: Depth) -> Result<RegionNode, StoreFull>
     requires { length store.old.regions < 256 }
-    ensures region { IfOk result (λ region. IsRegionOf region.head region.slot store.new) }
+    ensures region { IfOk result (λ region. HasRegion region.head region.slot store.new) }
     ensures depth { IfOk result (λ region. region.head.depth ≡ depth) }
 {
     let head = head(depth);

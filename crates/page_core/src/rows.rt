@@ -9,7 +9,7 @@ ghost use Rattle.segments.specs.Contents.{display_value};
 ghost use Rattle.pixel_store.specs.Regions.{region_at, IsPackedRow};
 ghost use Rattle.page_core.specs.Coloured.{colour_of};
 ghost use Rattle.page_core.specs.Memory.{Memory};
-ghost use Rattle.page_core.specs.Painted.{IsRegionOf};
+ghost use Rattle.page_core.specs.Painted.{HasRegion};
 ghost use Rattle.page_core.specs.Rows.{IsDrawnOver, IsLineDrawn, IsKeptAs, colour_by_entry, colour_by_region, row_in, window_at, listed_in, IsLineLent};
 
 use crate::colours::colours_into;
@@ -40,7 +40,7 @@ pub(crate) fn row_into(
     y: u32,
     row: &mut [Colour],
 )
-    requires { All (λ kept. IsRegionOf kept.head kept.slot store.now) composition.now.regions }
+    requires { All (λ kept. HasRegion kept.head kept.slot store.now) composition.now.regions }
     ensures { (memory : Memory) → IsKeptAs memory composition.now store.now inks.now → memory.display ≡ display_value display
         → length row.old ≡ memory.display.width → row.new ≡ row_in memory y }
 {
@@ -84,7 +84,7 @@ fn entry_into(
     entry: PageEntry,
     row: &mut [Colour],
 )
-    requires { All (λ kept. IsRegionOf kept.head kept.slot store.now) composition.now.regions }
+    requires { All (λ kept. HasRegion kept.head kept.slot store.now) composition.now.regions }
     ensures { (memory : Memory) → IsKeptAs memory composition.now store.now inks.now
         → IsDrawnOver (window_at place) place.y (λ x. colour_by_entry memory (window_at place) x place.y entry) row.old row.new }
 {
@@ -104,7 +104,7 @@ pub(crate) fn region_into(
     entry: PageEntry,
     row: &mut [Colour],
 )
-    requires region { IsRegionOf region.now.head region.now.slot store.now }
+    requires region { HasRegion region.now.head region.now.slot store.now }
     requires colours { length colours.now ≡ code_count region.now.head.depth }
     ensures { IsDrawnOver (window_at place) place.y (λ x. colour_by_region region.now.head (region_at store.now region.now.slot) colours.now (place.left + entry.x) (place.top + entry.y) x place.y) row.old row.new }
 {
@@ -132,7 +132,7 @@ fn line_within(
     to: usize,
     row: &mut [Colour],
 )
-    requires region { IsRegionOf region.now.head region.now.slot store.now }
+    requires region { HasRegion region.now.head region.now.slot store.now }
     requires line { line < region.now.head.height }
     requires colours { length colours.now ≡ code_count region.now.head.depth }
     requires order { from ≤ to }
@@ -145,7 +145,7 @@ fn line_within(
 
 /// Draws the front of a line of a region.
 fn line_into(store: &Store, region: &RegionNode, line: u16, colours: &[Colour], row: &mut [Colour])
-    requires region { IsRegionOf region.now.head region.now.slot store.now }
+    requires region { HasRegion region.now.head region.now.slot store.now }
     requires line { line < region.now.head.height }
     requires colours { length colours.now ≡ code_count region.now.head.depth }
     requires row { length row.old ≤ region.now.head.width }
@@ -174,7 +174,7 @@ pub(crate) fn packed_row<'a>(
     id: u8,
     line: u16,
 ) -> Option<&'a [u8]>
-    requires { All (λ kept. IsRegionOf kept.head kept.slot store.now) composition.now.regions }
+    requires { All (λ kept. HasRegion kept.head kept.slot store.now) composition.now.regions }
     ensures { (memory : Memory) → memory.composition ≡ composition.now → memory.store ≡ store.now → IsLineLent memory (listed_in memory id) line (option_map (λ bytes. bytes.now) result) }
 {
     if !composition.is_listed(id) {
@@ -186,7 +186,7 @@ pub(crate) fn packed_row<'a>(
 
 /// Lends the packed bytes of a line of a region. None exactly where the region has no such line.
 pub(crate) fn packed_line<'a>(store: &'a Store, region: &RegionNode, line: u16) -> Option<&'a [u8]>
-    requires { IsRegionOf region.now.head region.now.slot store.now }
+    requires { HasRegion region.now.head region.now.slot store.now }
     ensures { MatchOption result (region.now.head.height ≤ line) (λ bytes. (line < region.now.head.height) × IsPackedRow (region_at store.now region.now.slot) line bytes.now) }
 {
     if line < region.head.height {

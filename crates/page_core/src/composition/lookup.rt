@@ -1,23 +1,18 @@
-//! What is read of the composition memory: the entries of the page in order, and a region by its id.
+//! The entries of the page in the composition memory, in order.
 
 ghost use Rattle.std.specs.Prelude.{◌≡◌, ◌==◌, ◌∷◌, [], MatchOption};
 ghost use Rattle.std.specs.List.{list_any};
 ghost use Rattle.stream_syntax.specs.declared.page.PageEntry.{PageEntry as EntryOf};
-ghost use Rattle.page_core.specs.Composition.{region_in};
-ghost use Rattle.page_core.specs.Nodes.{entry_in as entry_of, region_node};
-ghost use Rattle.page_core.specs.Entries.{IsFoundRegion};
+ghost use Rattle.page_core.specs.Nodes.{entry_in as entry_of};
 
 use crate::composition::CompositionMemory;
-use crate::node::{Node, RegionNode};
+use crate::node::Node;
 use comp_pool::{NodeId, Pool};
 use std::marker::Model;
 use stream_syntax::PageEntry;
 
 /// The list of the page's entries.
 const ENTRIES: u32 = 0;
-
-/// The list of the regions.
-const REGIONS: u32 = 1;
 
 /// The entries of a page, one after another. It is seen as the list of the entries that come.
 #[derive(Drop)]
@@ -83,25 +78,5 @@ impl CompositionMemory {
             }
         }
         false
-    }
-
-    /// The region of that id. None exactly where the epoch has none.
-    pub(crate) fn region(&self, id: u8) -> Option<RegionNode>
-        ensures { IsFoundRegion (region_in self.now id) result }
-    {
-        let node = self.regions[usize::from(id)]?;
-        // No node is there twice, as this call tells.
-        let _ = self.pool.first(REGIONS);
-        region_of(self.pool.item(node))
-    }
-}
-
-/// The region that a node has.
-fn region_of(node: Node) -> Option<RegionNode>
-    ensures { result ≡ region_node node }
-{
-    match node {
-        Node::Region(region) => Some(region),
-        _ => None,
     }
 }
