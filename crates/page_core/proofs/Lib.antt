@@ -21,3 +21,5 @@ pub mod EntryWalks
 pub mod Finds
 pub mod NextContents
 pub mod Versions
+pub mod Rewriting
+pub mod Repainting

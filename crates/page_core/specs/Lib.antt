@@ -14,3 +14,4 @@ pub mod RegionTests
 pub mod Seen
 pub mod Entries
 pub mod Walks
+pub mod Listings
