@@ -23,3 +23,4 @@ pub mod NextContents
 pub mod Versions
 pub mod Rewriting
 pub mod Repainting
+pub mod PaintedRegions

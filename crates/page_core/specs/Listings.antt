@@ -2,6 +2,7 @@
 -- were painted with another version.
 use Rattle.std.specs.Prelude.{◌≡◌, ℕ, ◌==◌, ◌&&◌, Bool, if◌then◌else◌, List, map, Option, Some, None}
 use Rattle.decoder_model.specs.Taken.{has_new_version}
+use Rattle.comp_pool.specs.declared.node.NodeId.{NodeId}
 use Rattle.page_core.specs.Composition.{Composition, KeptListing, KeptRegion}
 use Rattle.page_core.specs.Nodes.{listing_in}
 use Rattle.page_core.specs.Painted.{FieldRuns, code_by_fields}
@@ -43,6 +44,10 @@ with_painted id object composition = record {
 abbrev pub code_by_node : Painter → FieldRuns → ℕ → ℕ → Option KeptListing → Option ℕ
 code_by_node object fields x y None = None
 code_by_node object fields x y (Some kept) = code_by_kept object fields x y kept
+
+-- through what the node of a pair has
+abbrev pub code_by_pair : Painter → FieldRuns → ℕ → ℕ → NodeId × Node → Option ℕ
+code_by_pair object fields x y pair = code_by_node object fields x y (listing_in pair.1)
 
 -- what a node has behind the object
 abbrev pub due_node : Painter → ListingNode → Bool
