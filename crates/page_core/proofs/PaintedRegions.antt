@@ -132,20 +132,21 @@ module _ (object : Painter) (id : ℕ) (old new : PoolOf Node) (painted : IsRewr
       still (Some kept) e = e
 
   pub painted_kept : (region_nodes clut_nodes : List (Option NodeId)) → IsSorted old × IsIndexed old region_nodes clut_nodes → IsSorted new × IsIndexed new region_nodes clut_nodes
-  painted_kept region_nodes clut_nodes kept =
-      (record {
-        lists = painted.beside.lists ∙ kept.0.lists;
-        entries = subst (AreKind entry_in) (sym (kept_list 0 (omega arith))) kept.0.entries;
-        regions = subst (AreKind region_node) (sym (kept_list 1 (omega arith))) kept.0.regions;
-        cluts = subst (AreKind clut_node) (sym (kept_list 2 (omega arith))) kept.0.cluts;
-        colours = subst (AreKind colour_in) (sym (kept_list 3 (omega arith))) kept.0.colours;
-        listings = λ other low. elim (cases_eq other id) [
-          | inl e ↦ subst (λ (n : ℕ). AreKind listing_in (list_of new (listings_list n))) (sym e)
-              (subst (AreKind listing_in) (sym painted.list) (kinds_of (list_of old (listings_list id)) (kept.0.listings id (subst (λ (n : ℕ). n < 256) e low))))
-          | inr ne ↦ subst (AreKind listing_in) (sym (painted.beside.others (listings_list other) (λ e. ne (omega (arith, e))))) (kept.0.listings other low)
-        ];
-      },
-      record {
-        regions = λ n low. kept.1.regions n low ∙ ap (λ (ps : List (NodeId × Node)). option_map node_of (find (is_region_of n) ps)) (sym (kept_list 1 (omega arith)));
-        cluts = λ n low. kept.1.cluts n low ∙ ap (λ (ps : List (NodeId × Node)). option_map node_of (find (is_clut_of n) ps)) (sym (kept_list 2 (omega arith)));
-      })
+  painted_kept region_nodes clut_nodes kept = (
+    record {
+      lists = painted.beside.lists ∙ kept.0.lists;
+      entries = subst (AreKind entry_in) (sym (kept_list 0 (omega arith))) kept.0.entries;
+      regions = subst (AreKind region_node) (sym (kept_list 1 (omega arith))) kept.0.regions;
+      cluts = subst (AreKind clut_node) (sym (kept_list 2 (omega arith))) kept.0.cluts;
+      colours = subst (AreKind colour_in) (sym (kept_list 3 (omega arith))) kept.0.colours;
+      listings = λ other low. elim (cases_eq other id) [
+        | inl e ↦ subst (λ (n : ℕ). AreKind listing_in (list_of new (listings_list n))) (sym e)
+            (subst (AreKind listing_in) (sym painted.list) (kinds_of (list_of old (listings_list id)) (kept.0.listings id (subst (λ (n : ℕ). n < 256) e low))))
+        | inr ne ↦ subst (AreKind listing_in) (sym (painted.beside.others (listings_list other) (λ e. ne (omega (arith, e))))) (kept.0.listings other low)
+      ];
+    },
+    record {
+      regions = λ n low. kept.1.regions n low ∙ ap (λ (ps : List (NodeId × Node)). option_map node_of (find (is_region_of n) ps)) (sym (kept_list 1 (omega arith)));
+      cluts = λ n low. kept.1.cluts n low ∙ ap (λ (ps : List (NodeId × Node)). option_map node_of (find (is_clut_of n) ps)) (sym (kept_list 2 (omega arith)));
+    },
+  )

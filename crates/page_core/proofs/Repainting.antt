@@ -76,7 +76,8 @@ module _ (l : ℕ) (object : Painter) (fields : FieldRuns) (slot : ℕ) (begin :
   -- none is left
   pub repainting_ends : place ≡ None → IsRewritten l (painted_node object) begin now × IsWritten slot (λ x y. last_given (code_by_pair object fields x y) (list_of begin l)) before store
   repainting_ends none =
-      let end = rewriting_ends l (painted_node object) begin on.rest place now on.nodes none in
-      (end.0,
-      writing_ends slot (code_by_pair object fields) (list_of begin l) before store
-      (subst (λ (rest : List (NodeId × Node)). IsWriting slot (code_by_pair object fields) (list_of begin l) before rest store) end.1 on.writing))
+      let end = rewriting_ends l (painted_node object) begin on.rest place now on.nodes none in (
+        end.0,
+        writing_ends slot (code_by_pair object fields) (list_of begin l) before store
+            (subst (λ (rest : List (NodeId × Node)). IsWriting slot (code_by_pair object fields) (list_of begin l) before rest store) end.1 on.writing),
+      )

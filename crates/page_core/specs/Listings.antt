@@ -1,6 +1,7 @@
 -- What an object changes in the listings of a region (EN 300 743, clause 7.2.5): it paints those that name it and are unpainted, or
 -- were painted with another version.
 use Rattle.std.specs.Prelude.{◌≡◌, ℕ, ◌==◌, ◌&&◌, Bool, if◌then◌else◌, List, map, Option, Some, None}
+use Rattle.stream_syntax.specs.Segments.{Object}
 use Rattle.decoder_model.specs.Taken.{has_new_version}
 use Rattle.comp_pool.specs.declared.node.NodeId.{NodeId}
 use Rattle.page_core.specs.Composition.{Composition, KeptListing, KeptRegion}
@@ -60,3 +61,9 @@ painted_node object (node.Listing kept) =
     node.Listing (if due_node object kept then record { listing = kept.listing; painted = Some object.version } else kept)
 painted_node object (node.Clut clut) = node.Clut clut
 painted_node object (node.Colour place) = node.Colour place
+
+-- the painter is that of an object
+pub record IsPainter (painter : Painter) (value : Object) : Type 0 where
+  pub object : painter.object ≡ value.object
+  pub version : painter.version ≡ value.version
+  pub see_through : painter.see_through ≡ value.see_through

@@ -39,7 +39,14 @@ impl CompositionMemory {
             → IsWritten region.now.slot (λ x y. last_given (code_by_kept object fields.now x y) kept.listings) store.old store.new }
     {
         let id = region.head.region;
-        paint_list(&mut self.pool, listings_of(id), object, fields, region, store);
+        paint_list(
+            &mut self.pool,
+            listings_of(id),
+            object,
+            fields,
+            region,
+            store,
+        );
     }
 }
 
