@@ -4,6 +4,7 @@ pub mod ColourNodes
 pub mod InkTables
 pub mod Orders
 pub mod Pasts
+pub mod PixelRoom
 pub mod Popping
 pub mod RegionLaws
 pub mod RegionNodes
