@@ -1,4 +1,5 @@
 pub mod Defining
+pub mod EpochLaws
 pub mod Fronts
 pub mod ColourNodes
 pub mod InkTables

@@ -1,5 +1,6 @@
 pub mod Composition
 pub mod Cores
+pub mod Epochs
 pub mod Handed
 pub mod Inks
 pub mod Judging

@@ -2,6 +2,7 @@
 #![tactic(auto)]
 
 mod composition;
+mod epoch;
 mod forget;
 mod front;
 mod inks;
