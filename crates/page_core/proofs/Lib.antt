@@ -11,4 +11,5 @@ pub mod RegionLaws
 pub mod RegionNodes
 pub mod Scanning
 pub mod NextContents
+pub mod SetLaws
 pub mod Versions

@@ -11,3 +11,4 @@ pub mod Nodes
 pub mod RegionTests
 pub mod Seen
 pub mod Walks
+pub mod Sound
