@@ -1,3 +1,12 @@
+pub mod Written
+pub mod BlockCodes
+pub mod BlockDepths
+pub mod RegionHeads
+pub mod ColouredBytes
+pub mod DrawnRows
+pub mod DrawnEntries
+pub mod SceneRows
+pub mod PackedLines
 pub mod Defining
 pub mod EpochLaws
 pub mod Fronts
@@ -10,6 +19,10 @@ pub mod Popping
 pub mod RegionLaws
 pub mod RegionNodes
 pub mod Scanning
+pub mod EntryWalks
+pub mod Finds
 pub mod NextContents
 pub mod SetLaws
 pub mod Versions
+pub mod Rewriting
+pub mod Repainting

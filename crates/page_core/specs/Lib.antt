@@ -7,8 +7,13 @@ pub mod Judging
 pub mod Known
 pub mod Lists
 pub mod Memory
+pub mod Painted
+pub mod Coloured
+pub mod Rows
 pub mod Nodes
 pub mod RegionTests
 pub mod Seen
+pub mod Entries
 pub mod Walks
 pub mod Sound
+pub mod Listings

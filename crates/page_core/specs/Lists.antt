@@ -1,5 +1,5 @@
 -- What a call changes in the lists of a pool.
-use Rattle.std.specs.Prelude.{◌≡◌, ◌≢◌, ℕ, ◌+◌, List, ◌∷◌, length}
+use Rattle.std.specs.Prelude.{◌≡◌, ◌≢◌, ℕ, ◌+◌, List, ◌∷◌, length, map}
 use Rattle.comp_pool.specs.Pool.{PoolOf, list_of, node_count}
 use Rattle.comp_pool.specs.declared.node.NodeId.{NodeId}
 
@@ -15,3 +15,13 @@ pub record IsPopped {T : Type 0} (l : ℕ) (item : T) (old new : PoolOf T) : Typ
   pub node : NodeId
   pub popped : list_of old l ≡ (node, item) ∷ list_of new l
   pub free : new.free ≡ old.free + 1
+
+-- the pair, with its item changed
+abbrev pub with_changed : {T : Type 0} → (T → T) → NodeId × T → NodeId × T
+with_changed change pair = (pair.0, change pair.1)
+
+-- each item of list l is changed, and nothing else
+pub record IsRewritten {T : Type 0} (l : ℕ) (change : T → T) (old new : PoolOf T) : Type 0 where
+  pub beside : KeepsBeside l old new
+  pub free : new.free ≡ old.free
+  pub list : list_of new l ≡ map (with_changed change) (list_of old l)

@@ -7,6 +7,9 @@ ghost use Rattle.page_core.specs.Nodes.{AreKind, IsRegionOf, colour_in, place_ke
 ghost use Rattle.comp_pool.specs.Pool.{IsInList, NoneTwice, list_of};
 ghost use Rattle.page_core.specs.Known.{IsRegionIn};
 
+mod listings;
+mod lookup;
+
 use crate::lists::pop_front;
 use crate::node::{Node, RegionNode, TablePlace};
 use comp_pool::{NodeId, Pool};

@@ -1,6 +1,7 @@
 //! The page memory of a receiver of EN 300 743 subtitles.
 #![tactic(auto)]
 
+mod colours;
 mod composition;
 mod epoch;
 mod forget;
@@ -10,10 +11,18 @@ mod judging;
 mod lists;
 mod memory;
 mod node;
+mod painting;
+mod painting_objects;
 mod region_tests;
+mod rows;
 mod seen;
 mod times;
 mod walking;
 
 pub use decoder_model::{SetEnd, SetFault};
 pub use memory::Core;
+
+#[cfg(test)]
+mod painting_tests;
+#[cfg(test)]
+mod rows_tests;
