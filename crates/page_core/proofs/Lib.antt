@@ -23,6 +23,7 @@ pub mod EntryWalks
 pub mod Finds
 pub mod NextContents
 pub mod SetLaws
+pub mod TestsInOrder
 pub mod Versions
 pub mod Rewriting
 pub mod Repainting
