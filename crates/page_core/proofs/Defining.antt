@@ -102,7 +102,7 @@ some_given f (x ∷ xs) = some_or (f x) (first_given f xs) ∙ ap (λ b. is_some
 pub unnamed : (id : ℕ) (content : Content) → region_in content.value ≡ None → is_some (region_named id content) ≡ false
 unnamed id content none = ap (λ found. is_some (where_passes (λ region. region.head.region == id) found)) none
 
-no_region : (content : Content) → is_some (region_of content) ≡ false → region_in content.value ≡ None
+pub no_region : (content : Content) → is_some (region_of content) ≡ false → region_in content.value ≡ None
 no_region content none = by (region_in content.value) none
   where
     by : {X : Type 0} (found : Option X) → is_some found ≡ false → found ≡ None

@@ -8,11 +8,13 @@ pub mod DrawnEntries
 pub mod SceneRows
 pub mod PackedLines
 pub mod Defining
+pub mod EpochLaws
 pub mod Fronts
 pub mod ColourNodes
 pub mod InkTables
 pub mod Orders
 pub mod Pasts
+pub mod PixelRoom
 pub mod Popping
 pub mod RegionLaws
 pub mod RegionNodes
@@ -20,6 +22,8 @@ pub mod Scanning
 pub mod EntryWalks
 pub mod Finds
 pub mod NextContents
+pub mod SetLaws
+pub mod TestsInOrder
 pub mod Versions
 pub mod Rewriting
 pub mod Repainting

@@ -115,10 +115,10 @@ pub record NextTested (test : List Content → Content → Option SetFault) (old
       ≡ option_or (test (mid ++ before_regions older set) content) (first_in test (content ∷ (mid ++ before_regions older set)) (filter is_region more))
 
 module _ (test : List Content → Content → Option SetFault) (older set : List Content) where
-  pub starts : (bytes : List ℕ) → AreContents set bytes → AreApart [] (filter is_region set) → IsTested test older set bytes
+  abbrev pub starts : (bytes : List ℕ) → AreContents set bytes → AreApart [] (filter is_region set) → IsTested test older set bytes
   starts bytes are apart = record { mid = []; left = set; are = are; apart = apart; same = refl }
 
-  pub next_tested : (bytes rest : List ℕ) (region : Region) → ((other : List Content) → AreContents other bytes → IsNextOf is_region other (of_region region) rest) → IsTested test older set bytes → NextTested test older set region rest
+  abbrev pub next_tested : (bytes rest : List ℕ) (region : Region) → ((other : List Content) → AreContents other bytes → IsNextOf is_region other (of_region region) rest) → IsTested test older set bytes → NextTested test older set region rest
   next_tested bytes rest region next t =
       let n = next t.left t.are in
       let apart = subst (AreApart t.mid) n.split t.apart in
@@ -134,7 +134,7 @@ module _ (test : List Content → Content → Option SetFault) (older set : List
       }
 
   -- a region without a fault is passed
-  pub passes : (rest : List ℕ) (region : Region) (n : NextTested test older set region rest) → test (n.mid ++ before_regions older set) n.content ≡ None → IsTested test older set rest
+  abbrev pub passes : (rest : List ℕ) (region : Region) (n : NextTested test older set region rest) → test (n.mid ++ before_regions older set) n.content ≡ None → IsTested test older set rest
   passes rest region n none = record {
     mid = n.content ∷ n.mid;
     left = n.more;

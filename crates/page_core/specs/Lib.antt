@@ -1,5 +1,6 @@
 pub mod Composition
 pub mod Cores
+pub mod Epochs
 pub mod Handed
 pub mod Inks
 pub mod Judging
@@ -14,4 +15,5 @@ pub mod RegionTests
 pub mod Seen
 pub mod Entries
 pub mod Walks
+pub mod Sound
 pub mod Listings

@@ -3,6 +3,7 @@
 
 mod colours;
 mod composition;
+mod epoch;
 mod forget;
 mod front;
 mod inks;

@@ -1,4 +1,4 @@
-ghost use Rattle.std.specs.Prelude.{◌≡◌, ◌<◌, List, ℕ, true, length, slice_set, false, slice_index_or, None, Option, Some, [], if◌then◌else◌, ◌∷◌, option_map};
+ghost use Rattle.std.specs.Prelude.{◌≡◌, ◌<◌, List, ℕ, true, length, slice_set, false, slice_index_or, None, Option, Some, [], if◌then◌else◌, ◌∷◌, option_map, OnOk};
 ghost use Rattle.stream_syntax.specs.Segments.{SegmentValue};
 ghost use Rattle.decoder_model.specs.Faults.{contents_in, twice_among};
 ghost use Rattle.decoder_model.specs.Readings.{Content, Reading};
@@ -6,6 +6,7 @@ ghost use Rattle.segments.specs.Contents.{contents, page_value, display_value};
 ghost use Rattle.decoder_model.specs.declared.set_fault.SetFault.TheVariants.{TwiceInSet};
 ghost use Rattle.decoder_model.specs.Received.{AreRead};
 ghost use Rattle.page_core.specs.Handed.{Matches};
+ghost use Rattle.page_core.specs.Sound.{IsSound};
 ghost use Rattle.page_core.specs.Seen.{AreFlags, Sees, Scanned, page_with, display_with};
 
 use crate::front::{cut_front, read_one};
@@ -130,7 +131,8 @@ pub(crate) struct Found<'a> {
 
 /// Tests the segments of a set one by one, and looks what the set has; or the first fault of a segment.
 pub(crate) fn scan(bytes: &[u8]) -> Result<Found<'_>, SetFault>
-    ensures { (readings : List Reading) → AreRead readings bytes.now → Scanned result readings }
+    ensures found { (readings : List Reading) → AreRead readings bytes.now → Scanned result readings }
+    ensures sound { (readings : List Reading) → AreRead readings bytes.now → OnOk result (IsSound (contents_in readings) bytes.now) }
 {
     let mut seen = Seen::nothing();
     let mut page = None;
