@@ -28,3 +28,4 @@ pub mod Versions
 pub mod Rewriting
 pub mod Repainting
 pub mod PaintedRegions
+pub mod ObjectSteps
