@@ -17,3 +17,5 @@ pub mod Entries
 pub mod Walks
 pub mod Sound
 pub mod Listings
+pub mod Steps
+pub mod ObjectFaults

@@ -9,6 +9,8 @@ ghost use Rattle.page_core.specs.Known.{IsRegionIn};
 
 mod listings;
 mod lookup;
+mod objects;
+mod walk;
 
 use crate::lists::pop_front;
 use crate::node::{Node, RegionNode, TablePlace};
