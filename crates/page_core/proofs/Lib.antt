@@ -29,3 +29,4 @@ pub mod Rewriting
 pub mod Repainting
 pub mod PaintedRegions
 pub mod ObjectSteps
+pub mod ObjectRegions
