@@ -30,3 +30,4 @@ pub mod Repainting
 pub mod PaintedRegions
 pub mod ObjectSteps
 pub mod ObjectRegions
+pub mod ObjectFaultLaws

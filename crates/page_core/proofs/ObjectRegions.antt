@@ -59,16 +59,16 @@ fault_of_nodes pool painter content object (p ∷ ps) =
 
 module _ {X : Type 0} (fault_of : X → Option (ℕ × SetFault)) where
   -- an item has the fault, and no item has one with a lesser id
-  record IsLeast (items : List X) (found : ℕ × SetFault) : Type 0 where
+  pub record IsLeast (items : List X) (found : ℕ × SetFault) : Type 0 where
     pub item : X
     pub there : Contains items item
     pub has : fault_of item ≡ Some found
     pub least : (other : X) (fault : ℕ × SetFault) → Contains items other → fault_of other ≡ Some fault → found.0 ≤ fault.0
 
-  abbrev AreNone : List X → Type 0
+  abbrev pub AreNone : List X → Type 0
   AreNone items = (item : X) → Contains items item → fault_of item ≡ None
 
-  abbrev IsLeastOf : List X → Option (ℕ × SetFault) → Type 0
+  abbrev pub IsLeastOf : List X → Option (ℕ × SetFault) → Type 0
   IsLeastOf items None = AreNone items
   IsLeastOf items (Some found) = IsLeast items found
 
@@ -79,7 +79,7 @@ module _ {X : Type 0} (fault_of : X → Option (ℕ × SetFault)) where
   first_or_rest x xs y P here there (zero, short, e) = subst P e here
   first_or_rest x xs y P here there (suc k, short, e) = there y (k, omega (arith, short), e)
 
-  least_is : (items : List X) → IsLeastOf items (least_of fault_of items)
+  pub least_is : (items : List X) → IsLeastOf items (least_of fault_of items)
   least_is [] = λ item there. absurd (omega (arith, there.1))
   least_is (x ∷ xs) = by (fault_of x) (least_of fault_of xs) refl (least_is xs)
     where
@@ -121,7 +121,7 @@ module _ {X : Type 0} (fault_of : X → Option (ℕ × SetFault)) where
 
 -- ---- rising ids
 
-first_at : {Y : Type 0} (g : ℕ → Option Y) (from count id : ℕ) (y : Y) → from ≤ id → id < from + count → ((k : ℕ) → k < id → g k ≡ None) → g id ≡ Some y → first_given g (range_with_len from count) ≡ Some y
+pub first_at : {Y : Type 0} (g : ℕ → Option Y) (from count id : ℕ) (y : Y) → from ≤ id → id < from + count → ((k : ℕ) → k < id → g k ≡ None) → g id ≡ Some y → first_given g (range_with_len from count) ≡ Some y
 first_at g from zero id y low high none here = absurd (omega arith)
 first_at g from (suc count) id y low high none here = by (cases_lt from id) (λ before. first_at g (from + 1) count id y (omega arith) (omega arith) none here)
   where
@@ -131,6 +131,6 @@ first_at g from (suc count) id y low high none here = by (cases_lt from id) (λ 
         let same : id ≡ from = omega arith in
         ap (λ found. option_or found (first_given g (range_with_len (from + 1) count))) (ap g (sym same) ∙ here)
 
-none_at : {Y : Type 0} (g : ℕ → Option Y) (from count : ℕ) → ((k : ℕ) → g k ≡ None) → first_given g (range_with_len from count) ≡ None
+pub none_at : {Y : Type 0} (g : ℕ → Option Y) (from count : ℕ) → ((k : ℕ) → g k ≡ None) → first_given g (range_with_len from count) ≡ None
 none_at g from zero none = refl
 none_at g from (suc count) none = ap (λ found. option_or found (first_given g (range_with_len (from + 1) count))) (none from) ∙ none_at g (from + 1) count none
