@@ -11,10 +11,13 @@ use Rattle.comp_pool.specs.Pool.{PoolOf, list_of}
 use Rattle.decoder_model.specs.Faults.{depth_fault}
 use Rattle.decoder_model.specs.Readings.{Content}
 use Rattle.decoder_model.specs.declared.set_fault.SetFault.{SetFault}
-use Rattle.page_core.specs.Composition.{KeptListing, KeptRegion}
+use Rattle.decoder_model.specs.declared.set_fault.SetFault.TheVariants as fault
+use Rattle.stream_syntax.specs.declared.segment_fault.SegmentFault.{SegmentFault}
+use Rattle.page_core.specs.declared.composition.objects.RegionFault.{RegionFault}
+use Rattle.page_core.specs.Composition.{Composition, KeptListing, KeptRegion}
 use Rattle.page_core.specs.Listings.{is_due}
-use Rattle.page_core.specs.Nodes.{kept_in, region_node, region_kept, listing_in, listings_list}
-use Rattle.page_core.specs.ObjectFaults.{lesser, least_of, in_region, fault_in_kept, is_due_node, is_due_pair, fault_in_region_node, fault_in_node, fault_in_pair}
+use Rattle.page_core.specs.Nodes.{kept_in, region_node, region_kept, listing_in, listings_list, composition_of}
+use Rattle.page_core.specs.ObjectFaults.{lesser, least_of, in_region, fault_in_kept, is_due_node, is_due_pair, fault_in_region_node, fault_in_node, fault_in_pair, told}
 use Rattle.page_core.specs.declared.composition.listings.Painter.{Painter}
 use Rattle.page_core.specs.declared.node.Node.{Node}
 use Rattle.page_core.specs.declared.node.Node.TheVariants as node
@@ -134,3 +137,17 @@ first_at g from (suc count) id y low high none here = by (cases_lt from id) (λ 
 pub none_at : {Y : Type 0} (g : ℕ → Option Y) (from count : ℕ) → ((k : ℕ) → g k ≡ None) → first_given g (range_with_len from count) ≡ None
 none_at g from zero none = refl
 none_at g from (suc count) none = ap (λ found. option_or found (first_given g (range_with_len (from + 1) count))) (none from) ∙ none_at g (from + 1) count none
+
+-- ---- the answer
+
+pub fault_answered : (pool : PoolOf Node) (value : Composition) (painter other : Painter) (content : Content) (object : Object) (found : Option RegionFault) (answer : Option SegmentFault) → composition_of pool ≡ value → painter ≡ other
+    → option_map told found ≡ least_of (fault_in_pair pool painter content object) (list_of pool 1) → answer ≡ option_map (λ (found : RegionFault). found.fault) found
+    → option_map fault.Segment answer ≡ option_map (λ (found : ℕ × SetFault). found.1) (least_of (fault_in_kept other content object) value.regions)
+fault_answered pool value painter other content object found answer view same is answer_is =
+    ap (option_map fault.Segment) answer_is ∙ by found
+    ∙ ap (option_map (λ (found : ℕ × SetFault). found.1)) (is ∙ fault_of_nodes pool painter content object (list_of pool 1)
+    ∙ (λ i. least_of (fault_in_kept (same i) content object) (view i).regions))
+  where
+    by : (found : Option RegionFault) → option_map fault.Segment (option_map (λ (found : RegionFault). found.fault) found) ≡ option_map (λ (found : ℕ × SetFault). found.1) (option_map told found)
+    by None = refl
+    by (Some one) = refl

@@ -5,9 +5,13 @@ ghost use Rattle.std.specs.List.{list_any};
 ghost use Rattle.comp_pool.specs.Pool.{list_of};
 ghost use Rattle.decoder_model.specs.Readings.{Content, AreFields};
 ghost use Rattle.stream_syntax.specs.Segments.{Object, of_object};
+ghost use Rattle.decoder_model.specs.declared.set_fault.SetFault.{SetFault};
+ghost use Rattle.segments.specs.Contents.{object_value};
+ghost use Rattle.page_core.specs.Listings.{painter_of};
 ghost use Rattle.page_core.specs.Nodes.{list_count};
-ghost use Rattle.page_core.specs.ObjectFaults.{fault_in_node, fault_in_pair, fault_in_region_node, is_due_node, is_due_pair, least_of, lesser, told};
+ghost use Rattle.page_core.specs.ObjectFaults.{fault_in_kept, fault_in_node, fault_in_pair, fault_in_region_node, is_due_node, is_due_pair, least_of, lesser, told};
 
+use crate::composition::CompositionMemory;
 use crate::composition::listings::{Painter, is_due, listings_of};
 use crate::composition::walk::Walk;
 use crate::node::{Node, RegionNode};
@@ -26,8 +30,32 @@ pub(crate) struct RegionFault {
     pub(crate) fault: SegmentFault,
 }
 
+impl CompositionMemory {
+    /// The fault of an object in the region of the least id in which it has one, among those in which it paints.
+    pub(crate) fn object_fault(&self, object: &ObjectSeg<'_>) -> Option<SegmentFault>
+        requires top { length object.now.top.now ≤ 65535 }
+        requires bottom { length object.now.bottom.now ≤ 65535 }
+        ensures { (content : Content) → AreFields (of_object (object_value object.now)) content.top content.bottom
+            → option_map SetFault.Segment result ≡ option_map (λ found. found.1) (least_of (fault_in_kept (painter_of object.now) content (object_value object.now)) self.now.regions) }
+    {
+        let found = least_fault(&self.pool, painter(object), object)?;
+        Some(found.fault)
+    }
+}
+
+/// By what an object is painted.
+fn painter(object: &ObjectSeg<'_>) -> Painter
+    ensures { result ≡ painter_of object.now }
+{
+    Painter {
+        object: object.object,
+        version: object.version,
+        see_through: object.see_through,
+    }
+}
+
 /// The fault of an object in the region of the least id in which it has one.
-fn object_fault(pool: &Pool<Node>, painter: Painter, object: &ObjectSeg<'_>) -> Option<RegionFault>
+fn least_fault(pool: &Pool<Node>, painter: Painter, object: &ObjectSeg<'_>) -> Option<RegionFault>
     requires lists { length pool.now.lists ≡ list_count }
     requires top { length object.now.top.now ≤ 65535 }
     requires bottom { length object.now.bottom.now ≤ 65535 }

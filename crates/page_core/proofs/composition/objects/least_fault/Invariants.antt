@@ -3,7 +3,7 @@ use Rattle.stream_syntax.specs.Segments.{Object, of_object}
 use Rattle.comp_pool.specs.Pool.{list_of}
 use Rattle.decoder_model.specs.Readings.{Content, AreFields}
 use Rattle.page_core.specs.ObjectFaults.{fault_in_pair, least_of, lesser, told}
-use Rattle.page_core.proofs.composition.objects.object_fault.Given as goal
+use Rattle.page_core.proofs.composition.objects.least_fault.Given as goal
 
 abbrev pub invariant-loop-node : goal.invariant-loop-node
 invariant-loop-node l =
