@@ -31,3 +31,4 @@ pub mod PaintedRegions
 pub mod ObjectSteps
 pub mod ObjectRegions
 pub mod ObjectFaultLaws
+pub mod EverywhereLaws

@@ -133,11 +133,13 @@ module _ (segments : List Content) (memory : Memory) (holds : Holds segments mem
   kept_fault : (id : ℕ) (fault : SetFault) → fault_in_region (taken_of segments) content object id ≡ Some fault
       → (kept : KeptRegion) × Contains memory.composition.regions kept × (fault_in_kept painter content object kept ≡ Some (id, fault))
   kept_fault id fault has =
-      let kept = faulty_is_kept id fault has in
-      (kept.0, kept.1,
-      region_of_kept kept.0 kept.1
-      ∙ (λ i. option_map (in_region (kept.2 i)) (fault_in_region (taken_of segments) content object (kept.2 i)))
-      ∙ ap (option_map (in_region id)) has)
+      let kept = faulty_is_kept id fault has in (
+        kept.0,
+        kept.1,
+        region_of_kept kept.0 kept.1
+            ∙ (λ i. option_map (in_region (kept.2 i)) (fault_in_region (taken_of segments) content object (kept.2 i)))
+            ∙ ap (option_map (in_region id)) has,
+      )
 
   -- the fault in the region of the least id is the first one over all ids
   below_count : (count : ℕ) → ((kept : KeptRegion) → Contains memory.composition.regions kept → kept.head.region < count)

@@ -19,3 +19,4 @@ pub mod Sound
 pub mod Listings
 pub mod Steps
 pub mod ObjectFaults
+pub mod Everywhere

@@ -60,7 +60,7 @@ pub(crate) fn listings_of(id: u8) -> u32
 
 /// Paints the object through the items of a list, in order.
 #[tactic(auto, using(comp_pool::proofs::NodeLaws::in_some_list))]
-fn paint_list(
+pub(crate) fn paint_list(
     pool: &mut Pool<Node>,
     list: u32,
     object: Painter,

@@ -77,7 +77,11 @@ fn lesser(one: Option<RegionFault>, other: Option<RegionFault>) -> Option<Region
     match (one, other) {
         (None, other) => other,
         (Some(one), None) => Some(one),
-        (Some(one), Some(other)) => Some(if other.region < one.region { other } else { one }),
+        (Some(one), Some(other)) => Some(if other.region < one.region {
+            other
+        } else {
+            one
+        }),
     }
 }
 

@@ -24,7 +24,8 @@ pub returns : goal.returns
 returns c =
     let pool = c.self.inside.pool.now in
     let list = c.self.inside.list in
-    let listed : IsInList pool list c.in_ok-node.node = c.self.invariant.listed c.in_ok-node.node c.in_ok-node.was in
-    (c.in_ok-node.node,
-    sym c.self.view_is ∙ ap (λ (o : Option NodeId). rest_from o (list_of pool list)) c.in_ok-node.was
-    ∙ walk_step pool list c.self.invariant.distinct c.in_ok-node.node c.item-item.result c.next-self-inside.result (c.item-item.ensures list listed) (c.next-self-inside.ensures list listed))
+    let listed : IsInList pool list c.in_ok-node.node = c.self.invariant.listed c.in_ok-node.node c.in_ok-node.was in (
+      c.in_ok-node.node,
+      sym c.self.view_is ∙ ap (λ (o : Option NodeId). rest_from o (list_of pool list)) c.in_ok-node.was
+          ∙ walk_step pool list c.self.invariant.distinct c.in_ok-node.node c.item-item.result c.next-self-inside.result (c.item-item.ensures list listed) (c.next-self-inside.ensures list listed),
+    )
