@@ -17,3 +17,4 @@ pub mod Entries
 pub mod Walks
 pub mod Sound
 pub mod Listings
+pub mod Scenes

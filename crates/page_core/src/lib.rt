@@ -20,7 +20,7 @@ mod times;
 mod walking;
 
 pub use decoder_model::{SetEnd, SetFault};
-pub use memory::Core;
+pub use memory::{Core, Scene};
 
 #[cfg(test)]
 mod painting_tests;
