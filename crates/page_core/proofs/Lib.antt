@@ -29,3 +29,5 @@ pub mod TestsInOrder
 pub mod Versions
 pub mod Rewriting
 pub mod Repainting
+pub mod PaintedRegions
+pub mod ObjectSteps

@@ -12,7 +12,7 @@ use Rattle.decoder_model.proofs.Searches.{option_or-none}
 use Rattle.pixel_store.specs.Regions.{Regions}
 use Rattle.stream_syntax.specs.declared.region.RegionHead.{RegionHead}
 use Rattle.page_core.specs.Composition.{Composition, KeptListing, KeptRegion, region_in}
-use Rattle.page_core.specs.Listings.{is_due, code_by_kept, painted_listing, painted_region, with_painted, code_by_node, painted_node}
+use Rattle.page_core.specs.Listings.{is_due, code_by_kept, painted_listing, painted_region, with_painted, code_by_node, code_by_pair, painted_node}
 use Rattle.page_core.specs.Lists.{KeepsBeside, with_changed, IsRewritten}
 use Rattle.page_core.specs.Nodes.{kept_in, listing_in, listing_kept}
 use Rattle.page_core.specs.Painted.{FieldRuns, HasRegion, IsWritten}
@@ -20,10 +20,6 @@ use Rattle.page_core.specs.declared.composition.listings.Painter.{Painter}
 use Rattle.page_core.specs.declared.node.Node.{Node}
 use Rattle.page_core.proofs.Rewriting.{IsRewriting, rewriting_begins, node_comes, item_comes, rewriting_goes_on, rewriting_ends}
 use Rattle.page_core.proofs.Written.{IsWriting, writing_begins, writing_goes_on, writing_ends, same_region}
-
--- the code that the object puts there through the item of a pair
-abbrev pub code_by_pair : Painter → FieldRuns → ℕ → ℕ → NodeId × Node → Option ℕ
-code_by_pair object fields x y pair = code_by_node object fields x y (listing_in pair.1)
 
 -- some of the nodes are painted, and the others are behind them
 pub record IsRepainting (l : ℕ) (object : Painter) (fields : FieldRuns) (slot : ℕ) (begin : PoolOf Node) (before : Regions) (place : Option NodeId) (now : PoolOf Node) (store : Regions) : Type 0 where
@@ -80,7 +76,8 @@ module _ (l : ℕ) (object : Painter) (fields : FieldRuns) (slot : ℕ) (begin :
   -- none is left
   pub repainting_ends : place ≡ None → IsRewritten l (painted_node object) begin now × IsWritten slot (λ x y. last_given (code_by_pair object fields x y) (list_of begin l)) before store
   repainting_ends none =
-      let end = rewriting_ends l (painted_node object) begin on.rest place now on.nodes none in
-      (end.0,
-      writing_ends slot (code_by_pair object fields) (list_of begin l) before store
-      (subst (λ (rest : List (NodeId × Node)). IsWriting slot (code_by_pair object fields) (list_of begin l) before rest store) end.1 on.writing))
+      let end = rewriting_ends l (painted_node object) begin on.rest place now on.nodes none in (
+        end.0,
+        writing_ends slot (code_by_pair object fields) (list_of begin l) before store
+            (subst (λ (rest : List (NodeId × Node)). IsWriting slot (code_by_pair object fields) (list_of begin l) before rest store) end.1 on.writing),
+      )

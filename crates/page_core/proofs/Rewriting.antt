@@ -114,6 +114,7 @@ module _ {T : Type 0} where
     where
       length_of : List NodeId → ℕ
       length_of ms = length ms
+
       by : (hit : Bool) → is_node p.0 node ≡ hit → is_node q.0 node ≡ is_node p.0 node → length (rest_from (Some node) ps) ≡ length (rest_from (Some node) qs) → length (nodes_of ps) ≡ length (nodes_of qs)
           → length (rest_from (Some node) (p ∷ ps)) ≡ length (rest_from (Some node) (q ∷ qs))
       by true is also behind count =

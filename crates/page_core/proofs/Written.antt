@@ -46,7 +46,7 @@ nothing_written slot written store none = record {
   codes = λ x y narrow low. sym (ap (λ found. unwrap_or found (code_of (region_at store slot) x y)) (none x y));
 }
 
-later_first : (second first : Option ℕ) (code : ℕ) → unwrap_or second (unwrap_or first code) ≡ unwrap_or (option_or second first) code
+pub later_first : (second first : Option ℕ) (code : ℕ) → unwrap_or second (unwrap_or first code) ≡ unwrap_or (option_or second first) code
 later_first None first code = refl
 later_first (Some found) first code = refl
 

@@ -1,7 +1,9 @@
 -- What an object changes in the listings of a region (EN 300 743, clause 7.2.5): it paints those that name it and are unpainted, or
 -- were painted with another version.
 use Rattle.std.specs.Prelude.{◌≡◌, ℕ, ◌==◌, ◌&&◌, Bool, if◌then◌else◌, List, map, Option, Some, None}
+use Rattle.stream_syntax.specs.Segments.{Object}
 use Rattle.decoder_model.specs.Taken.{has_new_version}
+use Rattle.comp_pool.specs.declared.node.NodeId.{NodeId}
 use Rattle.page_core.specs.Composition.{Composition, KeptListing, KeptRegion}
 use Rattle.page_core.specs.Nodes.{listing_in}
 use Rattle.page_core.specs.Painted.{FieldRuns, code_by_fields}
@@ -44,6 +46,10 @@ abbrev pub code_by_node : Painter → FieldRuns → ℕ → ℕ → Option KeptL
 code_by_node object fields x y None = None
 code_by_node object fields x y (Some kept) = code_by_kept object fields x y kept
 
+-- through what the node of a pair has
+abbrev pub code_by_pair : Painter → FieldRuns → ℕ → ℕ → NodeId × Node → Option ℕ
+code_by_pair object fields x y pair = code_by_node object fields x y (listing_in pair.1)
+
 -- what a node has behind the object
 abbrev pub due_node : Painter → ListingNode → Bool
 due_node object kept = (kept.listing.object == object.object) && has_new_version object.version kept.painted
@@ -55,3 +61,9 @@ painted_node object (node.Listing kept) =
     node.Listing (if due_node object kept then record { listing = kept.listing; painted = Some object.version } else kept)
 painted_node object (node.Clut clut) = node.Clut clut
 painted_node object (node.Colour place) = node.Colour place
+
+-- the painter is that of an object
+pub record IsPainter (painter : Painter) (value : Object) : Type 0 where
+  pub object : painter.object ≡ value.object
+  pub version : painter.version ≡ value.version
+  pub see_through : painter.see_through ≡ value.see_through

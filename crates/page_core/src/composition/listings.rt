@@ -1,12 +1,18 @@
 //! The listings of a region that an object paints (EN 300 743, clause 7.2.5).
 
-ghost use Rattle.std.specs.Prelude.{◌≡◌};
-ghost use Rattle.page_core.specs.Listings.{code_by_node, due_node, painted_node as painted_node_of};
-ghost use Rattle.page_core.specs.Nodes.{listing_in};
+ghost use Rattle.std.specs.Prelude.{◌≡◌, ◌<◌, length, Some};
+ghost use Rattle.sub_base.specs.Lists.{last_given};
+ghost use Rattle.comp_pool.specs.Pool.{list_of};
+ghost use Rattle.page_core.specs.Composition.{KeptRegion, region_in};
+ghost use Rattle.page_core.specs.Listings.{code_by_kept, code_by_node, code_by_pair, due_node, painted_node as painted_node_of, with_painted};
+ghost use Rattle.page_core.specs.Lists.{IsRewritten};
+ghost use Rattle.page_core.specs.Nodes.{list_count, listing_in, listings_list};
 ghost use Rattle.page_core.specs.Painted.{HasRegion, IsWritten};
 
+use crate::composition::CompositionMemory;
 use crate::node::{ListingNode, Node, RegionNode};
 use crate::painting_objects::Fields;
+use comp_pool::Pool;
 use pixel_store::Store;
 
 /// What an object is painted by: its id, its version, and whether pixels of code 1 leave the region as it is.
@@ -15,6 +21,65 @@ pub(crate) struct Painter {
     pub(crate) object: u16,
     pub(crate) version: u8,
     pub(crate) see_through: bool,
+}
+
+impl CompositionMemory {
+    /// Paints the object through the listings of a region that it paints, in order, and keeps its version for them.
+    pub(crate) fn paint_object(
+        &mut self,
+        object: Painter,
+        fields: &Fields<'_>,
+        region: &RegionNode,
+        store: &mut Store,
+    )
+        requires region { HasRegion region.now.head region.now.slot store.old }
+        requires depth { fields.now.depth ≡ region.now.head.depth }
+        ensures composition { self.new ≡ with_painted region.now.head.region object self.old }
+        ensures written { (kept : KeptRegion) → region_in self.old region.now.head.region ≡ Some kept
+            → IsWritten region.now.slot (λ x y. last_given (code_by_kept object fields.now x y) kept.listings) store.old store.new }
+    {
+        let id = region.head.region;
+        paint_list(
+            &mut self.pool,
+            listings_of(id),
+            object,
+            fields,
+            region,
+            store,
+        );
+    }
+}
+
+/// The list of the listings of a region.
+fn listings_of(id: u8) -> u32
+    ensures list { result ≡ listings_list id }
+    ensures within { result < list_count }
+{
+    4 + u32::from(id)
+}
+
+/// Paints the object through the items of a list, in order.
+#[tactic(auto, using(comp_pool::proofs::NodeLaws::in_some_list))]
+fn paint_list(
+    pool: &mut Pool<Node>,
+    list: u32,
+    object: Painter,
+    fields: &Fields<'_>,
+    region: &RegionNode,
+    store: &mut Store,
+)
+    requires list { list < length pool.old.lists }
+    requires region { HasRegion region.now.head region.now.slot store.old }
+    requires depth { fields.now.depth ≡ region.now.head.depth }
+    ensures nodes { IsRewritten list (painted_node_of object) pool.old pool.new }
+    ensures written { IsWritten region.now.slot (λ x y. last_given (code_by_pair object fields.now x y) (list_of pool.old list)) store.old store.new }
+{
+    let mut place = pool.first(list);
+    while let Some(node) = place {
+        place = pool.next(node);
+        let item = painted_node(pool.item(node), object, fields, region, store);
+        pool.set_item(node, item);
+    }
 }
 
 /// Paints the object through what a node has, where that is a listing that it paints, and answers what the node has then.

@@ -15,8 +15,7 @@ default_colour-colour-requires c =
 pub loop-place-preserved : goal.loop-place-preserved
 loop-place-preserved c =
     let are = subst (λ set. AreInks set c.loop-place.inks) c.in-Some.ensures.taken.0 c.loop-place.invariant.0 in
-    let reset = set_no_more (place_kept c.in-Some.place) c.take_colour.new.self.set_entries c.loop-place.inks are in
-    (
+    let reset = set_no_more (place_kept c.in-Some.place) c.take_colour.new.self.set_entries c.loop-place.inks are in (
       subst (AreInks c.take_colour.new.self.set_entries) (sym (c.set.ensures.set ∙ ap (slice_set c.loop-place.inks (ink_place c.in-Some.place.clut c.in-Some.place.depth c.in-Some.place.entry)) c.default_colour-colour.ensures)) reset,
       ap (λ (composition : Composition). composition.size) c.in-Some.ensures.taken.1 ∙ c.loop-place.invariant.1,
     )
