@@ -26,3 +26,5 @@ pub use memory::{Core, Scene};
 mod painting_tests;
 #[cfg(test)]
 mod rows_tests;
+#[cfg(test)]
+mod core_tests;
