@@ -23,6 +23,8 @@ pub mod EntryWalks
 pub mod Finds
 pub mod NextContents
 pub mod SetLaws
+pub mod ShownScenes
+pub mod Standings
 pub mod TestsInOrder
 pub mod Versions
 pub mod Rewriting

@@ -20,3 +20,4 @@ pub mod Listings
 pub mod Steps
 pub mod ObjectFaults
 pub mod Everywhere
+pub mod Scenes

@@ -89,13 +89,14 @@ pub record AreInks (set : List TableEntry) (inks : List Colour) : Type 0 where
   pub defaults : AreDefaultsBeside set inks
 
 -- what holds of the memory of every receiver: its nodes and bytes are those of the profile; the regions have the slots of the
--- store in order, each with its sides; and its colours are the default ones where nothing is set
+-- store in order, each with its sides, and ids of CLUTs that are bytes; and its colours are the default ones where nothing is set
 pub record IsWhole (memory : Memory) : Type 0 where
   pub nodes : memory.composition.size ≡ memory.profile.nodes
   pub counted : memory.composition.free + taken_nodes memory.composition ≡ memory.composition.size
   pub size : memory.store.size ≡ memory.profile.pixels
   pub slots : map (λ (kept : KeptRegion). kept.slot) memory.composition.regions ≡ range_with_len 0 (length memory.store.regions)
   pub sides : All (λ (kept : KeptRegion). HasSides kept.head (region_at memory.store kept.slot)) memory.composition.regions
+  pub cluts : All (λ (kept : KeptRegion). kept.head.clut < 256) memory.composition.regions
   pub inks : AreInks memory.composition.set_entries memory.inks
 
 -- the profile, page id and anchor stay

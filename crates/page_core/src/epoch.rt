@@ -10,7 +10,7 @@ ghost use Rattle.page_core.specs.Epochs.{HasOnePage, IsStart};
 use stream_syntax::State;
 
 /// What a set with a page is for the epoch.
-#[derive(Clone, Copy)]
+#[derive(Clone, Copy, Debug, PartialEq, Eq)]
 pub(crate) enum Start {
     /// It begins an epoch.
     Begins,

@@ -20,9 +20,11 @@ mod times;
 mod walking;
 
 pub use decoder_model::{SetEnd, SetFault};
-pub use memory::Core;
+pub use memory::{Core, Scene};
 
 #[cfg(test)]
 mod painting_tests;
 #[cfg(test)]
 mod rows_tests;
+#[cfg(test)]
+mod core_tests;

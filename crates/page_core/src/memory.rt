@@ -12,6 +12,10 @@ ghost use Rattle.decoder_model.specs.declared.set_fault.SetFault.{SetFault as Wh
 ghost use Rattle.segments.specs.Contents.{display_value};
 ghost use Rattle.page_core.specs.Memory.{Stands, IsForgotten, IsSameReceiver, Forgets};
 
+mod scene;
+
+pub use scene::Scene;
+
 use crate::composition::CompositionMemory;
 use crate::forget::reset_colours;
 use crate::inks::Inks;
