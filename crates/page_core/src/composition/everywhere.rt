@@ -9,7 +9,7 @@ ghost use Rattle.decoder_model.specs.Readings.{Content, AreFields};
 ghost use Rattle.pixel_store.specs.Regions.{KeepsOthers};
 ghost use Rattle.segments.specs.Contents.{object_value};
 ghost use Rattle.stream_syntax.specs.Segments.{of_object};
-ghost use Rattle.page_core.specs.Everywhere.{HasNoFault};
+ghost use Rattle.page_core.specs.Everywhere.{HasNoFault, HasRegionAt, IsPaintedAt, KeepsAt, IsWrittenAt, IsWrittenIn};
 ghost use Rattle.page_core.specs.Listings.{code_by_pair, painted_node};
 ghost use Rattle.page_core.specs.Lists.{IsRewritten};
 ghost use Rattle.page_core.specs.Nodes.{list_count, listings_list};
@@ -21,6 +21,28 @@ use crate::painting_objects::fields_for;
 use comp_pool::Pool;
 use pixel_store::Store;
 use segments::ObjectSeg;
+
+/// Paints the object in the region that a node has.
+fn paint_at(
+    pool: &mut Pool<Node>,
+    painter: Painter,
+    object: &ObjectSeg<'_>,
+    node: Node,
+    store: &mut Store,
+)
+    requires lists { length pool.old.lists ≡ list_count }
+    requires region { HasRegionAt node store.old }
+    requires top { length object.now.top.now ≤ 65535 }
+    requires bottom { length object.now.bottom.now ≤ 65535 }
+    ensures nodes { IsPaintedAt painter node pool.old pool.new }
+    ensures others { KeepsAt node store.old store.new }
+    ensures written { (content : Content) → AreFields (of_object (object_value object.now)) content.top content.bottom
+        → IsWrittenAt painter content (object_value object.now) pool.old node store.old store.new }
+{
+    if let Node::Region(region) = node {
+        paint_in(pool, painter, object, &region, store);
+    }
+}
 
 /// Paints the object through the listings of a region that it paints. It writes nothing where it is refused there.
 fn paint_in(
@@ -37,7 +59,7 @@ fn paint_in(
     ensures nodes { IsRewritten (listings_list region.now.head.region) (painted_node painter) pool.old pool.new }
     ensures others { KeepsOthers region.now.slot store.old store.new }
     ensures written { (content : Content) → AreFields (of_object (object_value object.now)) content.top content.bottom → HasNoFault painter content (object_value object.now) pool.old region.now
-        → IsWritten region.now.slot (λ x y. last_given (code_by_pair painter (field_runs region.now.head.depth content.top content.bottom) x y) (list_of pool.old (listings_list region.now.head.region))) store.old store.new }
+        → IsWrittenIn painter content pool.old region.now store.old store.new }
 {
     let head = region.head;
     let fields = fields_for(object.top, object.bottom, head.depth);
