@@ -34,3 +34,4 @@ pub mod ObjectSteps
 pub mod ObjectRegions
 pub mod ObjectFaultLaws
 pub mod EverywhereLaws
+pub mod EverywhereWalks

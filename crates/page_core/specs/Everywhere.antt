@@ -1,13 +1,16 @@
 -- What an object does in all regions.
-use Rattle.std.specs.Prelude.{◌≡◌, ℕ, None}
+use Rattle.std.specs.Prelude.{◌≡◌, ℕ, ◌<◌, Bool, if◌then◌else◌, List, length, map, None}
+use Rattle.std.specs.List.{list_any}
 use Rattle.sub_base.specs.Lists.{last_given}
 use Rattle.stream_syntax.specs.Segments.{Object}
-use Rattle.comp_pool.specs.Pool.{PoolOf, list_of}
+use Rattle.comp_pool.specs.Pool.{PoolOf, list_of, node_count}
+use Rattle.comp_pool.specs.declared.node.NodeId.{NodeId}
 use Rattle.decoder_model.specs.Readings.{Content}
 use Rattle.pixel_store.specs.Regions.{Regions, KeepsOthers}
-use Rattle.page_core.specs.Listings.{code_by_pair, painted_node}
-use Rattle.page_core.specs.Lists.{IsRewritten}
-use Rattle.page_core.specs.Nodes.{listings_list}
+use Rattle.page_core.specs.Composition.{Composition, KeptRegion}
+use Rattle.page_core.specs.Listings.{code_by_pair, painted_listing, painted_node}
+use Rattle.page_core.specs.Lists.{IsRewritten, with_changed}
+use Rattle.page_core.specs.Nodes.{is_region_of, listings_list}
 use Rattle.page_core.specs.ObjectFaults.{fault_in_region_node}
 use Rattle.page_core.specs.Painted.{HasRegion, IsWritten, field_runs}
 use Rattle.page_core.specs.declared.composition.listings.Painter.{Painter}
@@ -53,3 +56,30 @@ IsWrittenAt painter content object pool (node.Region region) old new = HasNoFaul
 IsWrittenAt painter content object pool (node.Listing kept) old new = Unit {0}
 IsWrittenAt painter content object pool (node.Clut clut) old new = Unit {0}
 IsWrittenAt painter content object pool (node.Colour place) old new = Unit {0}
+
+-- the items of a list behind the object, where it paints them
+abbrev pub painted_where : Painter → Bool → List (NodeId × Node) → List (NodeId × Node)
+painted_where painter painted pairs = if painted then map (with_changed (painted_node painter)) pairs else pairs
+
+-- the object is painted in all regions: each list of listings of a region has what the object leaves there, and nothing else is
+-- changed
+pub record IsEverywhere (painter : Painter) (old new : PoolOf Node) : Type 0 where
+  pub lists : length new.lists ≡ length old.lists
+  pub count : node_count new ≡ node_count old
+  pub free : new.free ≡ old.free
+  pub low : (k : ℕ) → k < 4 → list_of new k ≡ list_of old k
+  pub listings : (id : ℕ) → list_of new (listings_list id) ≡ painted_where painter (list_any (is_region_of id) (list_of old 1)) (list_of old (listings_list id))
+
+-- a region behind the object, and the composition
+abbrev pub painted_kept : Painter → KeptRegion → KeptRegion
+painted_kept painter kept = record { head = kept.head; slot = kept.slot; listings = map (painted_listing painter) kept.listings }
+
+abbrev pub with_all_painted : Painter → Composition → Composition
+with_all_painted painter composition = record {
+  size = composition.size;
+  entries = composition.entries;
+  regions = map (painted_kept painter) composition.regions;
+  cluts = composition.cluts;
+  set_entries = composition.set_entries;
+  free = composition.free;
+}
