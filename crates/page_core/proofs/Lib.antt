@@ -35,3 +35,4 @@ pub mod ObjectRegions
 pub mod ObjectFaultLaws
 pub mod EverywhereLaws
 pub mod EverywhereWalks
+pub mod EverywhereWrites

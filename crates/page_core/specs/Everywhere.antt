@@ -1,5 +1,5 @@
 -- What an object does in all regions.
-use Rattle.std.specs.Prelude.{◌≡◌, ℕ, ◌<◌, Bool, if◌then◌else◌, List, length, map, None}
+use Rattle.std.specs.Prelude.{◌≡◌, ℕ, ◌<◌, Bool, false, if◌then◌else◌, List, [], ◌∷◌, ◌++◌, length, map, Contains, Some, None}
 use Rattle.std.specs.List.{list_any}
 use Rattle.sub_base.specs.Lists.{last_given}
 use Rattle.stream_syntax.specs.Segments.{Object}
@@ -10,7 +10,7 @@ use Rattle.pixel_store.specs.Regions.{Regions, KeepsOthers}
 use Rattle.page_core.specs.Composition.{Composition, KeptRegion}
 use Rattle.page_core.specs.Listings.{code_by_pair, painted_listing, painted_node}
 use Rattle.page_core.specs.Lists.{IsRewritten, with_changed}
-use Rattle.page_core.specs.Nodes.{is_region_of, listings_list}
+use Rattle.page_core.specs.Nodes.{is_region_of, region_node, listings_list}
 use Rattle.page_core.specs.ObjectFaults.{fault_in_region_node}
 use Rattle.page_core.specs.Painted.{HasRegion, IsWritten, field_runs}
 use Rattle.page_core.specs.declared.composition.listings.Painter.{Painter}
@@ -83,3 +83,24 @@ with_all_painted painter composition = record {
   set_entries = composition.set_entries;
   free = composition.free;
 }
+
+-- the object has no fault in any region
+abbrev pub HasNoFaults : Painter → Content → Object → PoolOf Node → Type 0
+HasNoFaults painter content object pool =
+    (pair : NodeId × Node) (region : RegionNode) → Contains (list_of pool 1) pair → region_node pair.1 ≡ Some region → HasNoFault painter content object pool region
+
+-- no two nodes have regions of one id
+abbrev pub AreApart : PoolOf Node → Type 0
+AreApart pool =
+    (before behind : List (NodeId × Node)) (pair : NodeId × Node) (region : RegionNode) → before ++ pair ∷ behind ≡ list_of pool 1 → region_node pair.1 ≡ Some region
+    → list_any (is_region_of region.head.region) before ≡ false
+
+-- the object writes to some regions, one after another
+abbrev pub AreWritten : Painter → Content → PoolOf Node → List RegionNode → Regions → Regions → Type 0
+AreWritten painter content pool [] old new = old ≡ new
+AreWritten painter content pool (region ∷ regions) old new =
+    (between : Regions) × IsWrittenIn painter content pool region old between × AreWritten painter content pool regions between new
+
+-- the slots of all regions have them, with their sides and depths
+abbrev pub HaveRegions : PoolOf Node → Regions → Type 0
+HaveRegions pool store = (pair : NodeId × Node) → Contains (list_of pool 1) pair → HasRegionAt pair.1 store

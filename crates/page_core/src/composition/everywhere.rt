@@ -9,10 +9,10 @@ ghost use Rattle.decoder_model.specs.Readings.{Content, AreFields};
 ghost use Rattle.pixel_store.specs.Regions.{KeepsOthers};
 ghost use Rattle.segments.specs.Contents.{object_value};
 ghost use Rattle.stream_syntax.specs.Segments.{of_object};
-ghost use Rattle.page_core.specs.Everywhere.{HasNoFault, HasRegionAt, IsPaintedAt, KeepsAt, IsWrittenAt, IsWrittenIn};
+ghost use Rattle.page_core.specs.Everywhere.{AreApart, AreWritten, HasNoFault, HasNoFaults, HasRegionAt, HaveRegions, IsEverywhere, IsPaintedAt, KeepsAt, IsWrittenAt, IsWrittenIn};
 ghost use Rattle.page_core.specs.Listings.{code_by_pair, painted_node};
 ghost use Rattle.page_core.specs.Lists.{IsRewritten};
-ghost use Rattle.page_core.specs.Nodes.{list_count, listings_list};
+ghost use Rattle.page_core.specs.Nodes.{kept_in, list_count, listings_list, region_node};
 ghost use Rattle.page_core.specs.Painted.{HasRegion, IsWritten, field_runs};
 
 use crate::composition::listings::{Painter, listings_of, paint_list};
@@ -21,6 +21,34 @@ use crate::painting_objects::fields_for;
 use comp_pool::Pool;
 use pixel_store::Store;
 use segments::ObjectSeg;
+
+/// The list of the regions.
+const REGIONS: u32 = 1;
+
+/// Paints the object in all regions, one after another.
+fn paint_regions(
+    pool: &mut Pool<Node>,
+    painter: Painter,
+    object: &ObjectSeg<'_>,
+    store: &mut Store,
+)
+    requires lists { length pool.old.lists ≡ list_count }
+    requires regions { HaveRegions pool.old store.old }
+    requires top { length object.now.top.now ≤ 65535 }
+    requires bottom { length object.now.bottom.now ≤ 65535 }
+    ensures nodes { IsEverywhere painter pool.old pool.new }
+    ensures regions { HaveRegions pool.old store.new }
+    ensures written { (content : Content) → AreFields (of_object (object_value object.now)) content.top content.bottom
+        → HasNoFaults painter content (object_value object.now) pool.old → AreApart pool.old
+        → AreWritten painter content pool.old (kept_in region_node (list_of pool.old 1)) store.old store.new }
+{
+    let mut place = pool.first(REGIONS);
+    while let Some(node) = place {
+        place = pool.next(node);
+        let item = pool.item(node);
+        paint_at(pool, painter, object, item, store);
+    }
+}
 
 /// Paints the object in the region that a node has.
 fn paint_at(
