@@ -36,3 +36,4 @@ pub mod ObjectFaultLaws
 pub mod EverywhereLaws
 pub mod EverywhereWalks
 pub mod EverywhereWrites
+pub mod EverywhereKept
