@@ -16,6 +16,7 @@ pub mod Orders
 pub mod Pasts
 pub mod PixelRoom
 pub mod Popping
+pub mod QuietSteps
 pub mod RegionLaws
 pub mod RegionNodes
 pub mod Scanning

@@ -8,6 +8,7 @@ mod forget;
 mod front;
 mod inks;
 mod judging;
+mod laws;
 mod lists;
 mod memory;
 mod node;
