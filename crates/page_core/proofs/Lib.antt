@@ -32,3 +32,6 @@ pub mod Rewriting
 pub mod Repainting
 pub mod PaintedRegions
 pub mod ObjectSteps
+pub mod ObjectRegions
+pub mod ObjectFaultLaws
+pub mod EverywhereLaws

@@ -37,7 +37,7 @@ pixel_step taken content slot id x y old new written narrow low before =
 
 module _ (taken : Taken) (id : ℕ) (object : Object) (painter : Painter) (is : IsPainter painter object) where
   -- whether a listing is due
-  due_is : (listing : Listing) → is_due painter (kept_listing taken id listing) ≡ (eqb listing.object object.object && is_painting taken id object)
+  pub due_is : (listing : Listing) → is_due painter (kept_listing taken id listing) ≡ (eqb listing.object object.object && is_painting taken id object)
   due_is listing =
       (λ i. eqb listing.object (is.object i) && has_new_version (is.version i) (object_version (first_given (object_named listing.object) (since_region id taken))))
       ∙ by (eqb listing.object object.object) refl

@@ -17,4 +17,7 @@ pub mod Entries
 pub mod Walks
 pub mod Sound
 pub mod Listings
+pub mod Steps
+pub mod ObjectFaults
+pub mod Everywhere
 pub mod Scenes

@@ -1,6 +1,7 @@
 -- What an object changes in the listings of a region (EN 300 743, clause 7.2.5): it paints those that name it and are unpainted, or
 -- were painted with another version.
 use Rattle.std.specs.Prelude.{◌≡◌, ℕ, ◌==◌, ◌&&◌, Bool, if◌then◌else◌, List, map, Option, Some, None}
+use Rattle.segments.specs.declared.object.ObjectSeg.{ObjectSeg}
 use Rattle.stream_syntax.specs.Segments.{Object}
 use Rattle.decoder_model.specs.Taken.{has_new_version}
 use Rattle.comp_pool.specs.declared.node.NodeId.{NodeId}
@@ -67,3 +68,7 @@ pub record IsPainter (painter : Painter) (value : Object) : Type 0 where
   pub object : painter.object ≡ value.object
   pub version : painter.version ≡ value.version
   pub see_through : painter.see_through ≡ value.see_through
+
+-- by what an object segment is painted
+abbrev pub painter_of : ObjectSeg → Painter
+painter_of object = record { object = object.object; version = object.version; see_through = object.see_through }

@@ -7,8 +7,11 @@ ghost use Rattle.page_core.specs.Nodes.{AreKind, IsRegionOf, colour_in, place_ke
 ghost use Rattle.comp_pool.specs.Pool.{IsInList, NoneTwice, list_of};
 ghost use Rattle.page_core.specs.Known.{IsRegionIn};
 
+mod everywhere;
 mod listings;
 mod lookup;
+mod objects;
+mod walk;
 
 use crate::lists::pop_front;
 use crate::node::{Node, RegionNode, TablePlace};
@@ -20,7 +23,9 @@ use sub_base::NoMemory;
 
 // The lists of the pool. That of the listings of a region is behind these, by its id.
 const REGIONS: u32 = 1;
+
 const COLOURS: u32 = 3;
+
 const LISTS: u32 = 260;
 
 /// The page, the regions, the CLUTs, and what is set in them.

@@ -26,19 +26,7 @@ pub(crate) fn start_of(known: bool, state: State) -> Start
 {
     match state {
         State::ModeChange => Start::Begins,
-        State::Acquisition => {
-            if known {
-                Start::GoesOn
-            } else {
-                Start::Begins
-            }
-        }
-        State::Normal => {
-            if known {
-                Start::GoesOn
-            } else {
-                Start::Waits
-            }
-        }
+        State::Acquisition => { if known { Start::GoesOn } else { Start::Begins } }
+        State::Normal => { if known { Start::GoesOn } else { Start::Waits } }
     }
 }

@@ -53,7 +53,11 @@ fn has_same_shape(known: &RegionHead, region: &RegionSeg<'_>) -> bool
 
 /// The first region of a set that is new in the epoch and for which the regions before it leave too few of the free bytes of
 /// pixels.
-pub(crate) fn full_pixels(composition: &CompositionMemory, free: u64, bytes: &[u8]) -> Option<SetFault>
+pub(crate) fn full_pixels(
+    composition: &CompositionMemory,
+    free: u64,
+    bytes: &[u8],
+) -> Option<SetFault>
     ensures { (profile : Profile) (set older : List Content) → free ≡ profile.pixels - pixels_used (taken_of older) → HasHeads older composition.now → AreContents set bytes.now → AreApart [] (filter is_region set)
         → first_fault_by region_changed older set ≡ None → result ≡ first_fault_by (pixels_full profile) older set }
 {
@@ -69,7 +73,11 @@ pub(crate) fn full_pixels(composition: &CompositionMemory, free: u64, bytes: &[u
 }
 
 // A region that is not known takes its bytes of those that are left, unless they are too few.
-fn take_room(composition: &CompositionMemory, region: &RegionSeg<'_>, left: &mut u64) -> Option<SetFault>
+fn take_room(
+    composition: &CompositionMemory,
+    region: &RegionSeg<'_>,
+    left: &mut u64,
+) -> Option<SetFault>
     ensures fault { result ≡ room_fault (region_value region.now).head (head_in composition.now region.now.region) left.old }
     ensures left { result ≡ None → left.new ≡ room_left (region_value region.now).head (head_in composition.now region.now.region) left.old }
 {

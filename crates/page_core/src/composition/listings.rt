@@ -51,7 +51,7 @@ impl CompositionMemory {
 }
 
 /// The list of the listings of a region.
-fn listings_of(id: u8) -> u32
+pub(crate) fn listings_of(id: u8) -> u32
     ensures list { result ≡ listings_list id }
     ensures within { result < list_count }
 {
@@ -60,7 +60,7 @@ fn listings_of(id: u8) -> u32
 
 /// Paints the object through the items of a list, in order.
 #[tactic(auto, using(comp_pool::proofs::NodeLaws::in_some_list))]
-fn paint_list(
+pub(crate) fn paint_list(
     pool: &mut Pool<Node>,
     list: u32,
     object: Painter,
@@ -125,7 +125,7 @@ fn painted_listing(
 }
 
 /// Whether the object paints a listing: it names the object, and is unpainted or was painted with another version.
-fn is_due(kept: ListingNode, object: Painter) -> bool
+pub(crate) fn is_due(kept: ListingNode, object: Painter) -> bool
     ensures { result ≡ due_node object kept }
 {
     kept.listing.object == object.object && kept.painted != Some(object.version)
