@@ -13,6 +13,7 @@ pub mod Fronts
 pub mod ColourNodes
 pub mod InkTables
 pub mod Orders
+pub mod PagePushes
 pub mod Pasts
 pub mod PixelRoom
 pub mod Popping

@@ -21,3 +21,4 @@ pub mod Steps
 pub mod ObjectFaults
 pub mod Everywhere
 pub mod Scenes
+pub mod PageEntries
