@@ -28,6 +28,7 @@ pub mod SetLaws
 pub mod ShownScenes
 pub mod Standings
 pub mod TestsInOrder
+pub mod Verdicts
 pub mod Versions
 pub mod Rewriting
 pub mod Repainting

@@ -96,30 +96,7 @@ entries_counted (pair ∷ pairs) all = by (entry_in pair.1) refl (All-head kind 
     by (Some entry) is some rest = ap (λ (o : Option PageEntry). length (cons_option o (kept_in entry_in pairs))) is ∙ ap suc rest
     by None is some rest = absurd (let e = sym (ap is_some is) ∙ some in cc)
 
--- the pool with the entries of a page keeps its lists and tables
-pub kept_with_entries : (entries : List PageEntry) (old mid new : PoolOf Node) (region_nodes clut_nodes : List (Option NodeId)) → IsSorted old × IsIndexed old region_nodes clut_nodes → IsEmptied old mid → HasEntries entries mid new
-    → IsSorted new × IsIndexed new region_nodes clut_nodes
-kept_with_entries entries old mid new region_nodes clut_nodes kept emptied has =
-    let same : (k : ℕ) → k ≢ 0 → list_of new k ≡ list_of old k = λ k other. has.beside.others k other ∙ emptied.beside.others k other in
-    let regions = same 1 (λ e. absurd (omega arith)) in
-    let cluts = same 2 (λ e. absurd (omega arith)) in
-    let colours = same 3 (λ e. absurd (omega arith)) in
-    (
-      record {
-        lists = has.beside.lists ∙ emptied.beside.lists ∙ kept.0.lists;
-        entries = has.kinds;
-        regions = subst (AreKind region_node) (sym regions) kept.0.regions;
-        cluts = subst (AreKind clut_node) (sym cluts) kept.0.cluts;
-        colours = subst (AreKind colour_in) (sym colours) kept.0.colours;
-        listings = λ id low. subst (AreKind listing_in) (sym (same (listings_list id) (λ e. absurd (omega arith)))) (kept.0.listings id low);
-      },
-      record {
-        regions = λ id low. kept.1.regions id low ∙ ap (λ (ps : List (NodeId × Node)). option_map node_of (find (is_region_of id) ps)) (sym regions);
-        cluts = λ id low. kept.1.cluts id low ∙ ap (λ (ps : List (NodeId × Node)). option_map node_of (find (is_clut_of id) ps)) (sym cluts);
-      },
-    )
-
--- and has them in the place of those that were there
+-- the pool has the entries of a page in the place of those that were there
 pub value_with_entries : (entries : List PageEntry) (old mid new : PoolOf Node) (before : Composition) → composition_of old ≡ before → IsSorted old → IsEmptied old mid → HasEntries entries mid new → composition_of new ≡ with_entries entries before
 value_with_entries entries old mid new before view sorted emptied has =
     let same : (k : ℕ) → k ≢ 0 → list_of new k ≡ list_of old k = λ k other. has.beside.others k other ∙ emptied.beside.others k other in

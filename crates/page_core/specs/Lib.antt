@@ -22,3 +22,4 @@ pub mod ObjectFaults
 pub mod Everywhere
 pub mod Scenes
 pub mod PageEntries
+pub mod Accepted

@@ -17,6 +17,7 @@ mod painting_objects;
 mod region_tests;
 mod rows;
 mod seen;
+mod taking;
 mod times;
 mod walking;
 
