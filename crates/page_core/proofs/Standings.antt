@@ -55,7 +55,7 @@ epoch_begins set sets epoch is = either (up_to_first (has_state ModeChange) (set
 -- ---- by the verdict on a set
 
 -- a set that waits leaves no epoch known, and one that is shown has a page
-WaitsOrShows : List (List Content) → List Content → SetEnd → Type 0
+abbrev pub WaitsOrShows : List (List Content) → List Content → SetEnd → Type 0
 WaitsOrShows sets set Shown = (page : Page) × (page_in_set set ≡ Some page) × (epoch : List (List Content)) × (epoch_of (set ∷ sets) ≡ Some epoch)
 WaitsOrShows sets set Waiting = epoch_of (set ∷ sets) ≡ None
 WaitsOrShows sets set (Broken fault) = Unit {0}
@@ -63,7 +63,6 @@ WaitsOrShows sets set (NotLater last) = ⊥
 
 by_epoch : (profile : Profile) (sets : List (List Content)) (set : List Content) (page : Page) (epoch : Option (List (List Content))) → page_in_set set ≡ Some page → epoch_of (set ∷ sets) ≡ epoch
     → WaitsOrShows sets set (verdict_in_epoch profile page epoch)
-unfolding WaitsOrShows
 by_epoch profile sets set page None is known = known
 by_epoch profile sets set page (Some []) is known = absurd (let begins = epoch_begins set sets [] known in let e = begins.1 in cc)
 by_epoch profile sets set page (Some (other ∷ before)) is known = by (epoch_fault profile before other page)
@@ -72,8 +71,7 @@ by_epoch profile sets set page (Some (other ∷ before)) is known = by (epoch_fa
     by None = (page, is, (other ∷ before), known)
     by (Some fault) = tt
 
-waits_or_shows : (profile : Profile) (sets : List (List Content)) (readings : List Reading) → WaitsOrShows sets (contents_in readings) (verdict_on_kept profile sets readings)
-unfolding WaitsOrShows
+pub waits_or_shows : (profile : Profile) (sets : List (List Content)) (readings : List Reading) → WaitsOrShows sets (contents_in readings) (verdict_on_kept profile sets readings)
 waits_or_shows profile sets readings = by_fault (segment_fault readings)
   where
     by_page : (page : Option Page) → page_in_set (contents_in readings) ≡ page → WaitsOrShows sets (contents_in readings) (verdict_with_page profile sets (contents_in readings) page)
@@ -83,14 +81,13 @@ waits_or_shows profile sets readings = by_fault (segment_fault readings)
     by_fault (Some fault) = tt
     by_fault None = by_page (page_in_set (contents_in readings)) refl
 
-no_epoch : epoch_of [] ≡ None
+pub no_epoch : epoch_of [] ≡ None
 unfolding epoch_of
 no_epoch = refl
 
 -- what stands and what is known with a kept set
 kept_both : (sets : List (List Content)) (last : Option ℕ) (time pts size : ℕ) (readings : List Reading) (verdict : SetEnd) (before : Option Standing) → last ≡ Some time → WaitsOrShows sets (contents_in readings) verdict
     → AreBoth last (epoch_of (sets_with sets (whole pts size readings) (Some verdict))) (standing_with sets (Some time) (whole pts size readings) (Some verdict) before)
-unfolding WaitsOrShows
 kept_both sets last time pts size readings Shown before is (page, found, epoch, known) =
     let begins = epoch_begins (contents_in readings) sets epoch known in
     subst (λ (p : Option Page). MatchOption (standing_in time p (epoch_of (contents_in readings ∷ sets))) (epoch_of (contents_in readings ∷ sets) ≡ None) (IsKnown last (epoch_of (contents_in readings ∷ sets)))) (sym found)

@@ -5,8 +5,8 @@ use Rattle.segments.specs.Contents.{page_value}
 use Rattle.page_core.proofs.Verdicts.{verdict_by_epoch, waits}
 use Rattle.page_core.proofs.taking.accept.Goals as goal
 
-pub returns-in-Waits : goal.returns-in-Waits
-returns-in-Waits c profile sets readings known are =
+pub returns-in-Waits-clause-accepted : goal.returns-in-Waits-clause-accepted
+returns-in-Waits-clause-accepted c profile sets readings known are =
     let found = c.in-Ok.ensures.found readings are in
     let sound = c.in-Ok.ensures.sound readings are in
     let page = found.1.page ∙ ap (option_map page_value) c.in-Some.is in
