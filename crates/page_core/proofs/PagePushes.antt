@@ -92,6 +92,7 @@ entries_counted (pair ∷ pairs) all = by (entry_in pair.1) refl (All-head kind 
   where
     kind : NodeId × Node → Type 0
     kind p = is_some (entry_in p.1) ≡ true
+
     by : (found : Option PageEntry) → entry_in pair.1 ≡ found → is_some (entry_in pair.1) ≡ true → length (kept_in entry_in pairs) ≡ length pairs → length (cons_option (entry_in pair.1) (kept_in entry_in pairs)) ≡ suc (length pairs)
     by (Some entry) is some rest = ap (λ (o : Option PageEntry). length (cons_option o (kept_in entry_in pairs))) is ∙ ap suc rest
     by None is some rest = absurd (let e = sym (ap is_some is) ∙ some in cc)
@@ -106,7 +107,7 @@ value_with_entries entries old mid new before view sorted emptied has =
     let counted = entries_counted (list_of old 0) sorted.entries in
     let free : new.free ≡ old.free + length (kept_in entry_in (list_of old 0)) - length entries = omega (arith, has.free, emptied.free, counted) in
     let region : (r : RegionNode) → region_kept new r ≡ region_kept old r =
-        λ r i. record { head = r.head; slot = r.slot; listings = kept_in listing_in (same (listings_list r.head.region) (λ e. absurd (omega arith)) i) } in
+    λ r i. record { head = r.head; slot = r.slot; listings = kept_in listing_in (same (listings_list r.head.region) (λ e. absurd (omega arith)) i) } in
     (λ i. record {
       size = (has.beside.count ∙ emptied.beside.count) i;
       entries = has.are i;

@@ -99,9 +99,9 @@ ended_stands past pts size time readings end old new stands lifted verdict early
     let found : Option ℕ = lifted_behind old.anchor (last_time old.anchor past) pts in
     let times : last_time old.anchor (whole pts size readings ∷ past) ≡ Some time = ap (λ (o : Option ℕ). option_or o (last_time old.anchor past)) lifted in
     let epoch : known_epoch old.profile old.anchor (whole pts size readings ∷ past) ≡ None =
-        ap (λ (o : Option ℕ). epoch_of (sets_with sets (whole pts size readings) (Some (if_kept o (last_time old.anchor past) (verdict_on_kept old.profile sets readings))))) lifted
-        ∙ ap (λ (v : SetEnd). epoch_of (sets_with sets (whole pts size readings) (Some v))) verdict
-        ∙ by sets end early (subst (WaitsOrShows sets (contents_in readings)) verdict (waits_or_shows old.profile sets readings)) in
+    ap (λ (o : Option ℕ). epoch_of (sets_with sets (whole pts size readings) (Some (if_kept o (last_time old.anchor past) (verdict_on_kept old.profile sets readings))))) lifted
+    ∙ ap (λ (v : SetEnd). epoch_of (sets_with sets (whole pts size readings) (Some v))) verdict
+    ∙ by sets end early (subst (WaitsOrShows sets (contents_in readings)) verdict (waits_or_shows old.profile sets readings)) in
     forgotten_stands (whole pts size readings ∷ past) new
     (last ∙ sym times ∙ ap (λ anchor. last_time anchor (whole pts size readings ∷ past)) (sym same.anchor))
     (ap (λ profile. known_epoch profile new.anchor (whole pts size readings ∷ past)) same.profile ∙ ap (λ anchor. known_epoch old.profile anchor (whole pts size readings ∷ past)) same.anchor ∙ epoch)
@@ -144,7 +144,7 @@ whole_late past pts size readings memory late stands =
     still_stands past (whole pts size readings) memory
     (ap (λ (found : Option ℕ). option_or found (last_time memory.anchor past)) late)
     (ap (λ (found : Option ℕ). sets_with (sets_since memory.profile memory.anchor past) (whole pts size readings)
-        (Some (if_kept found (last_time memory.anchor past) (verdict_on_kept memory.profile (sets_since memory.profile memory.anchor past) readings)))) late)
+    (Some (if_kept found (last_time memory.anchor past) (verdict_on_kept memory.profile (sets_since memory.profile memory.anchor past) readings)))) late)
     stands
 
 -- ---- answers

@@ -43,7 +43,7 @@ page_step page top bottom earlier memory holds = record {
   heads = holds.heads;
   listings = λ id. holds.listings id
       ∙ listings_by (taken_of earlier) (record { segments = record { value = of_page page; top = top; bottom = bottom } ∷ taken_among earlier }) id (taken_region id (taken_of earlier))
-          (λ listing. listing_behind (record { value = of_page page; top = top; bottom = bottom }) (taken_among earlier) id listing refl refl);
+      (λ listing. listing_behind (record { value = of_page page; top = top; bottom = bottom }) (taken_among earlier) id listing refl refl);
   pixels = holds.pixels;
   clut_ids = holds.clut_ids;
   versions = holds.versions;
@@ -61,7 +61,7 @@ display_step display top bottom earlier memory holds = record {
   heads = holds.heads;
   listings = λ id. holds.listings id
       ∙ listings_by (taken_of earlier) (record { segments = record { value = of_display display; top = top; bottom = bottom } ∷ taken_among earlier }) id (taken_region id (taken_of earlier))
-          (λ listing. listing_behind (record { value = of_display display; top = top; bottom = bottom }) (taken_among earlier) id listing refl refl);
+      (λ listing. listing_behind (record { value = of_display display; top = top; bottom = bottom }) (taken_among earlier) id listing refl refl);
   pixels = holds.pixels;
   clut_ids = holds.clut_ids;
   versions = holds.versions;

@@ -25,8 +25,8 @@ pub use decoder_model::{SetEnd, SetFault};
 pub use memory::{Core, Scene};
 
 #[cfg(test)]
+mod core_tests;
+#[cfg(test)]
 mod painting_tests;
 #[cfg(test)]
 mod rows_tests;
-#[cfg(test)]
-mod core_tests;

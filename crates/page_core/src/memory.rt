@@ -17,8 +17,6 @@ ghost use Rattle.page_core.specs.Memory.{Stands, IsForgotten, IsSameReceiver, Fo
 
 mod scene;
 
-pub use scene::Scene;
-
 use crate::composition::CompositionMemory;
 use crate::epoch::Start;
 use crate::forget::reset_colours;
@@ -26,6 +24,7 @@ use crate::inks::Inks;
 use crate::times::lifted_behind;
 use decoder_model::{SetEnd, SetFault};
 use pixel_store::Store;
+pub use scene::Scene;
 use segments::DisplaySeg;
 use std::alloc::Global;
 use std::marker::Model;

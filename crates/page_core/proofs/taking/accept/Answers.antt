@@ -12,8 +12,8 @@ returns-in-Waits-clause-accepted c profile sets readings known are =
     let page = found.1.page ∙ ap (option_map page_value) c.in-Some.is in
     waits profile sets readings (page_value c.in-Some.page) found.0 page (c.in-Waits.ensures sets (contents_in readings) (page_value c.in-Some.page) known (sound.one_page (page_value c.in-Some.page) page) refl)
 
-pub returns-in_default-start_of : goal.returns-in_default-start_of
-returns-in_default-start_of c profile sets readings known are =
+pub returns-in_default-start_of-clause-accepted : goal.returns-in_default-start_of-clause-accepted
+returns-in_default-start_of-clause-accepted c profile sets readings known are =
     let found = c.in-Ok.ensures.found readings are in
     let sound = c.in-Ok.ensures.sound readings are in
     let page = found.1.page ∙ ap (option_map page_value) c.in-Some.is in

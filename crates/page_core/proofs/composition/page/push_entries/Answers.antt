@@ -1,5 +1,5 @@
 -- One more entry is put in.
-use Rattle.std.proofs.Common.{◌<◌, length, arith, ◌∙◌}
+use Rattle.std.proofs.Common.{◌<◌, length, arith}
 use Rattle.segments.specs.Contents.{page_value}
 use Rattle.page_core.proofs.PagePushes.{pushed_entry}
 use Rattle.page_core.proofs.composition.page.push_entries.Goals as goal
