@@ -30,7 +30,7 @@ same_regions : (old new : PoolOf Node) → list_of new 1 ≡ list_of old 1 → (
     → map (region_kept new) (kept_in region_node (list_of new 1)) ≡ map (region_kept old) (kept_in region_node (list_of old 1))
 same_regions old new regions listings =
     let same : (region : RegionNode) → region_kept new region ≡ region_kept old region =
-        λ region i. record { head = region.head; slot = region.slot; listings = kept_in listing_in (listings region.head.region i) } in
+    λ region i. record { head = region.head; slot = region.slot; listings = kept_in listing_in (listings region.head.region i) } in
     λ i. map (λ region. same region i) (kept_in region_node (regions i))
 
 -- the first colour is no more there
@@ -45,28 +45,31 @@ popped_colour found old new region_nodes clut_nodes sorted indexed (item, kind, 
     let cluts = beside.others 2 (λ e. absurd (omega arith)) in
     let listings : (id : ℕ) → list_of new (listings_list id) ≡ list_of old (listings_list id) = λ id. beside.others (listings_list id) (λ e. absurd (omega arith)) in
     let before : kept_in colour_in (list_of old 3) ≡ place_kept found ∷ kept_in colour_in (list_of new 3) =
-        ap (kept_in colour_in) popped.popped ∙ ap (λ (o : Option _). cons_option o (kept_in colour_in (list_of new 3))) kind in
-    ((record {
-        lists = beside.lists ∙ sorted.lists;
-        entries = subst (AreKind entry_in) (sym entries) sorted.entries;
-        regions = subst (AreKind region_node) (sym regions) sorted.regions;
-        cluts = subst (AreKind clut_node) (sym cluts) sorted.cluts;
-        colours = All-tail (λ (pair : NodeId × Node). is_some (colour_in pair.1) ≡ true) (popped.node, item) (list_of new 3) (subst (AreKind colour_in) popped.popped sorted.colours);
-        listings = λ id low. subst (AreKind listing_in) (sym (listings id)) (sorted.listings id low);
+    ap (kept_in colour_in) popped.popped ∙ ap (λ (o : Option _). cons_option o (kept_in colour_in (list_of new 3))) kind in (
+      (
+        record {
+          lists = beside.lists ∙ sorted.lists;
+          entries = subst (AreKind entry_in) (sym entries) sorted.entries;
+          regions = subst (AreKind region_node) (sym regions) sorted.regions;
+          cluts = subst (AreKind clut_node) (sym cluts) sorted.cluts;
+          colours = All-tail (λ (pair : NodeId × Node). is_some (colour_in pair.1) ≡ true) (popped.node, item) (list_of new 3) (subst (AreKind colour_in) popped.popped sorted.colours);
+          listings = λ id low. subst (AreKind listing_in) (sym (listings id)) (sorted.listings id low);
+        },
+        record {
+          regions = λ id low. indexed.regions id low ∙ ap (λ (ps : List (NodeId × Node)). option_map node_of (find (is_region_of id) ps)) (sym regions);
+          cluts = λ id low. indexed.cluts id low ∙ ap (λ (ps : List (NodeId × Node)). option_map node_of (find (is_clut_of id) ps)) (sym cluts);
+        },
+      ),
+      before,
+      λ i. record {
+        size = beside.count i;
+        entries = kept_in entry_in (entries i);
+        regions = same_regions old new regions listings i;
+        cluts = kept_in clut_node (cluts i);
+        set_entries = (sym (ap (drop 1) before)) i;
+        free = popped.free i;
       },
-      record {
-        regions = λ id low. indexed.regions id low ∙ ap (λ (ps : List (NodeId × Node)). option_map node_of (find (is_region_of id) ps)) (sym regions);
-        cluts = λ id low. indexed.cluts id low ∙ ap (λ (ps : List (NodeId × Node)). option_map node_of (find (is_clut_of id) ps)) (sym cluts);
-      }),
-    before,
-    λ i. record {
-      size = beside.count i;
-      entries = kept_in entry_in (entries i);
-      regions = same_regions old new regions listings i;
-      cluts = kept_in clut_node (cluts i);
-      set_entries = (sym (ap (drop 1) before)) i;
-      free = popped.free i;
-    })
+    )
 
 -- what a pool keeps is kept, whether there was a colour or not
 pub kept_by_pop : (found : Option TablePlace) (old new : PoolOf Node) (region_nodes clut_nodes : List (Option NodeId)) → IsSorted old × IsIndexed old region_nodes clut_nodes
@@ -78,7 +81,7 @@ kept_by_pop (Some found) old new region_nodes clut_nodes kept popped = (popped_c
 pub taken_by_pop : (found : Option TablePlace) (old new : PoolOf Node) (region_nodes clut_nodes : List (Option NodeId)) (before : Composition) → composition_of old ≡ before → IsSorted old × IsIndexed old region_nodes clut_nodes
     → MatchOption found ((list_of old 3 ≡ []) × (new ≡ old)) (λ place. IsPoppedAs colour_in 3 (place_kept place) old new)
     → MatchOption found ((before.set_entries ≡ []) × (composition_of new ≡ before))
-        (λ place. (before.set_entries ≡ place_kept place ∷ (composition_of new).set_entries) × (composition_of new ≡ without_colour before))
+    (λ place. (before.set_entries ≡ place_kept place ∷ (composition_of new).set_entries) × (composition_of new ≡ without_colour before))
 taken_by_pop None old new region_nodes clut_nodes before is kept (empty, same) =
     (ap (λ (c : Composition). c.set_entries) (sym is) ∙ ap (kept_in colour_in) empty, ap composition_of same ∙ is)
 taken_by_pop (Some found) old new region_nodes clut_nodes before is kept popped =

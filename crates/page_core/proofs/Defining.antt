@@ -125,8 +125,8 @@ defines_in_order id set =
     ∙ list_any-append p regions (cluts ++ objects)
     ∙ ap (λ b. b || list_any p (cluts ++ objects)) (any_of_all p (λ content. is_some (region_of content)) set (λ content is. unnamed id content (no_region content is)))
     ∙ ap (λ b. defines id set || b) (list_any-append p cluts objects
-        ∙ ap (λ b. b || list_any p objects) (any_of_none p (λ content. is_some (clut_of content)) set (λ content is. unnamed id content (no_region_in_clut content.value is)))
-        ∙ any_of_none p (λ content. is_some (object_of content)) set (λ content is. unnamed id content (no_region_in_object content.value is)))
+    ∙ ap (λ b. b || list_any p objects) (any_of_none p (λ content. is_some (clut_of content)) set (λ content is. unnamed id content (no_region_in_clut content.value is)))
+    ∙ any_of_none p (λ content. is_some (object_of content)) set (λ content is. unnamed id content (no_region_in_object content.value is)))
     ∙ or_false (defines id set)
   where
     or_false : (b : Bool) → (b || false) ≡ b
@@ -159,6 +159,7 @@ unknown_by_composition id set older composition found none knows apart region is
     same : (found : Option RegionNode) → IsRegionIn composition id found → is_some found ≡ is_some (kept_region composition id)
     same None none = sym (ap is_some none)
     same (Some region) (kept, there, node) = sym (ap is_some there)
+
     turned : (a b : Bool) → b ≡ not a → a ≡ not b
     turned true b e = sym (ap not e)
     turned false b e = sym (ap not e)

@@ -102,6 +102,7 @@ place_of_same a b is =
     and_left : (x y : Bool) → (x && y) ≡ true → x ≡ true
     and_left true y both = refl
     and_left false y both = both
+
     and_right : (x y : Bool) → (x && y) ≡ true → y ≡ true
     and_right true y both = both
     and_right false y both = absurd (cc)

@@ -13,9 +13,11 @@ pub mod Fronts
 pub mod ColourNodes
 pub mod InkTables
 pub mod Orders
+pub mod PagePushes
 pub mod Pasts
 pub mod PixelRoom
 pub mod Popping
+pub mod QuietSteps
 pub mod RegionLaws
 pub mod RegionNodes
 pub mod Scanning
@@ -26,6 +28,7 @@ pub mod SetLaws
 pub mod ShownScenes
 pub mod Standings
 pub mod TestsInOrder
+pub mod Verdicts
 pub mod Versions
 pub mod Rewriting
 pub mod Repainting

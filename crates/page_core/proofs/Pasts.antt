@@ -12,7 +12,13 @@ use Rattle.decoder_model.specs.Sets.{Delivery, lost, whole, refused}
 use Rattle.decoder_model.specs.Taken.{segments_of, taken_among, taken_of}
 use Rattle.decoder_model.specs.Verdict.{sets_with, sets_since, known_epoch, if_kept, verdict_on_kept}
 use Rattle.decoder_model.specs.declared.set_end.SetEnd.{SetEnd}
-use Rattle.decoder_model.specs.declared.set_end.SetEnd.TheVariants.{Broken, NotLater}
+use Rattle.decoder_model.specs.Faults.{contents_in}
+use Rattle.decoder_model.specs.declared.set_end.SetEnd.TheVariants.{Shown, Waiting, Broken, NotLater}
+use Rattle.page_core.specs.Accepted.{IsBegun, IsEarly}
+use Rattle.page_core.specs.Epochs.{IsStart}
+use Rattle.page_core.specs.declared.epoch.Start.{Start}
+use Rattle.page_core.specs.declared.epoch.Start.TheVariants.{Begins, GoesOn, Waits}
+use Rattle.page_core.proofs.Standings.{WaitsOrShows, waits_or_shows, no_epoch}
 use Rattle.decoder_model.specs.declared.set_fault.SetFault.{SetFault}
 use Rattle.pixel_store.specs.Regions.{Regions}
 use Rattle.page_core.specs.Composition.{Composition, KeptRegion, KeptClut, region_in, clut_in, no_composition}
@@ -59,10 +65,6 @@ forgotten_stands past memory last none forgotten =
       free_pixels = ap (λ (s : Regions). s.free) forgotten.store ∙ nothing_off memory.profile.pixels ∙ ap (λ epoch. memory.profile.pixels - pixels_held epoch) (sym none);
     }
 
-no_epoch : epoch_of [] ≡ None
-unfolding epoch_of
-no_epoch = refl
-
 -- before the first set
 pub nothing_handed : (memory : Memory) → memory.last ≡ None → IsForgotten memory → Stands [] memory
 unfolding last_time sets_since
@@ -86,6 +88,30 @@ refused_stands past pts size time fault old new stands lifted last same forgotte
     (last ∙ ap (λ (found : Option ℕ). option_or found (last_time new.anchor past)) (sym is))
     (ap (λ (found : Option ℕ). epoch_of (sets_with (sets_since new.profile new.anchor past) (refused pts size fault) (Some (if_kept found (last_time new.anchor past) (Broken fault))))) is ∙ no_epoch)
     forgotten
+
+-- after a kept set that waits or is broken, where all is forgotten
+pub ended_stands : (past : List (Delivery Reading)) (pts size time : ℕ) (readings : List Reading) (end : SetEnd) (old new : Memory) → Stands past old → lifted_behind old.anchor (last_time old.anchor past) pts ≡ Some time
+    → verdict_on_kept old.profile (sets_since old.profile old.anchor past) readings ≡ end → IsEarly end → new.last ≡ Some time → IsSameReceiver old new → IsForgotten new
+    → Stands (whole pts size readings ∷ past) new
+unfolding last_time sets_since
+ended_stands past pts size time readings end old new stands lifted verdict early last same forgotten =
+    let sets = sets_since old.profile old.anchor past in
+    let found : Option ℕ = lifted_behind old.anchor (last_time old.anchor past) pts in
+    let times : last_time old.anchor (whole pts size readings ∷ past) ≡ Some time = ap (λ (o : Option ℕ). option_or o (last_time old.anchor past)) lifted in
+    let epoch : known_epoch old.profile old.anchor (whole pts size readings ∷ past) ≡ None =
+    ap (λ (o : Option ℕ). epoch_of (sets_with sets (whole pts size readings) (Some (if_kept o (last_time old.anchor past) (verdict_on_kept old.profile sets readings))))) lifted
+    ∙ ap (λ (v : SetEnd). epoch_of (sets_with sets (whole pts size readings) (Some v))) verdict
+    ∙ by sets end early (subst (WaitsOrShows sets (contents_in readings)) verdict (waits_or_shows old.profile sets readings)) in
+    forgotten_stands (whole pts size readings ∷ past) new
+    (last ∙ sym times ∙ ap (λ anchor. last_time anchor (whole pts size readings ∷ past)) (sym same.anchor))
+    (ap (λ profile. known_epoch profile new.anchor (whole pts size readings ∷ past)) same.profile ∙ ap (λ anchor. known_epoch old.profile anchor (whole pts size readings ∷ past)) same.anchor ∙ epoch)
+    forgotten
+  where
+    by : (sets : List (List Content)) (end : SetEnd) → IsEarly end → WaitsOrShows sets (contents_in readings) end → epoch_of (sets_with sets (whole pts size readings) (Some end)) ≡ None
+    by sets Shown early is = absurd early
+    by sets Waiting early is = is
+    by sets (Broken fault) early is = no_epoch
+    by sets (NotLater other) early is = absurd early
 
 -- a set that is not kept changes nothing
 pub still_stands : (past : List (Delivery Reading)) (delivery : Delivery Reading) (memory : Memory) → last_time memory.anchor (delivery ∷ past) ≡ last_time memory.anchor past
@@ -118,7 +144,7 @@ whole_late past pts size readings memory late stands =
     still_stands past (whole pts size readings) memory
     (ap (λ (found : Option ℕ). option_or found (last_time memory.anchor past)) late)
     (ap (λ (found : Option ℕ). sets_with (sets_since memory.profile memory.anchor past) (whole pts size readings)
-        (Some (if_kept found (last_time memory.anchor past) (verdict_on_kept memory.profile (sets_since memory.profile memory.anchor past) readings)))) late)
+    (Some (if_kept found (last_time memory.anchor past) (verdict_on_kept memory.profile (sets_since memory.profile memory.anchor past) readings)))) late)
     stands
 
 -- ---- answers
@@ -133,3 +159,15 @@ late_answer past pts memory verdict answer stands late is =
 pub kept_answer : (past : List (Delivery Reading)) (pts time : ℕ) (anchor : ℕ) (verdict answer : SetEnd) → lifted_behind anchor (last_time anchor past) pts ≡ Some time
     → answer ≡ verdict → Some answer ≡ Some (if_kept (lifted_behind anchor (last_time anchor past) pts) (last_time anchor past) verdict)
 kept_answer past pts time anchor verdict answer kept is = ap Some (is ∙ ap (λ (found : Option ℕ). if_kept found (last_time anchor past) verdict) (sym kept))
+
+-- ---- a set of an epoch
+
+-- where all is forgotten, nothing stands before the set
+pub begun_anew : (memory : Memory) → IsForgotten memory → Holds (segments_of []) memory
+begun_anew memory forgotten = subst (λ segments. Holds segments memory) (sym no_segments) (holds_nothing memory forgotten)
+
+-- a set that does not go on with an epoch finds nothing
+pub begun_by : (sets : List (List Content)) (set : List Content) (start : Start) (memory : Memory) → (start ≡ GoesOn → ⊥) → IsStart sets set start → IsForgotten memory → IsBegun sets set start memory
+begun_by sets set GoesOn memory other is forgotten = absurd (other refl)
+begun_by sets set Begins memory other is forgotten = (is, begun_anew memory forgotten)
+begun_by sets set Waits memory other is forgotten = tt

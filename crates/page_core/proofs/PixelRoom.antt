@@ -42,6 +42,7 @@ id_among id (content ∷ segments) = by (id_among id segments) (region_in conten
     hit : (region : Region) (b : Bool) (rest : Bool) (last : Option Region) → rest ≡ is_some last → (b || rest) ≡ is_some (option_or (cond b (Some region) None) last)
     hit region true rest last same = refl
     hit region false rest last same = same
+
     by : list_any (is_same id) (map region_id (filter_map region_of segments)) ≡ is_some (last_region id segments) → (found : Option Region)
         → list_any (is_same id) (map region_id (cons_option found (filter_map region_of segments))) ≡ is_some (option_or (where_passes (λ region. region.head.region == id) found) (last_region id segments))
     by rest None = rest
@@ -57,6 +58,7 @@ id_among_different id (x ∷ ids) = by (id_among_different id ids) (list_any (is
     absorbed : (hit : Bool) → (id == x) ≡ hit → list_any (is_same x) ids ≡ true → list_any (is_same id) ids ≡ (hit || list_any (is_same id) ids)
     absorbed true same there = ap (λ n. list_any (is_same n) ids) (eqb-true id x same) ∙ there
     absorbed false other there = refl
+
     by : list_any (is_same id) (different is_same ids) ≡ list_any (is_same id) ids → (again : Bool) → list_any (is_same x) ids ≡ again
         → list_any (is_same id) (cond again (different is_same ids) (x ∷ different is_same ids)) ≡ ((id == x) || list_any (is_same id) ids)
     by rest true there = rest ∙ absorbed (id == x) refl there
@@ -114,12 +116,12 @@ pub used_with_new : (content : Content) (region : Region) (segments : List Conte
     → pixels_used (with_segment content segments) ≡ pixel_bytes region.head + pixels_used (of_segments segments)
 used_with_new content region segments is none =
     let ids : region_ids (with_segment content segments) ≡ region.head.region ∷ region_ids (of_segments segments) =
-        ids_with content region segments is ∙ ap (λ (last : Option Region). cond (is_some last) (region_ids (of_segments segments)) (region.head.region ∷ region_ids (of_segments segments))) none in
+    ids_with content region segments is ∙ ap (λ (last : Option Region). cond (is_some last) (region_ids (of_segments segments)) (region.head.region ∷ region_ids (of_segments segments))) none in
     let f : ℕ → ℕ = bytes_by (content ∷ segments) in
     let here : f region.head.region ≡ pixel_bytes region.head = ap (λ (o : Option Region). bytes_of_region (option_or o (last_region region.head.region segments))) (named_same content region is) in
     let rest : sum_by f (region_ids (of_segments segments)) ≡ sum_by (bytes_by segments) (region_ids (of_segments segments)) =
-        sum_apart f (bytes_by segments) region.head.region (region_ids (of_segments segments))
-        (λ i other. ap (λ (o : Option Region). bytes_of_region (option_or o (last_region i segments))) (named_other content region i is other)) (apart_ids region.head.region segments none) in
+    sum_apart f (bytes_by segments) region.head.region (region_ids (of_segments segments))
+    (λ i other. ap (λ (o : Option Region). bytes_of_region (option_or o (last_region i segments))) (named_other content region i is other)) (apart_ids region.head.region segments none) in
     ap (sum_by f) ids ∙ sum_by-cons f region.head.region (region_ids (of_segments segments)) ∙ (λ i. here i + rest i)
 
 -- one of the size of the last one takes none
@@ -127,14 +129,14 @@ pub used_with_same : (content : Content) (region last : Region) (segments : List
     → pixels_used (with_segment content segments) ≡ pixels_used (of_segments segments)
 used_with_same content region last segments is known size =
     let ids : region_ids (with_segment content segments) ≡ region_ids (of_segments segments) =
-        ids_with content region segments is ∙ ap (λ (found : Option Region). cond (is_some found) (region_ids (of_segments segments)) (region.head.region ∷ region_ids (of_segments segments))) known in
+    ids_with content region segments is ∙ ap (λ (found : Option Region). cond (is_some found) (region_ids (of_segments segments)) (region.head.region ∷ region_ids (of_segments segments))) known in
     let same : (i : ℕ) → bytes_by (content ∷ segments) i ≡ bytes_by segments i = λ i.
-        elim (cases_eq i region.head.region) [
-          | inl e ↦
-              ap (bytes_by (content ∷ segments)) e ∙ ap (λ (o : Option Region). bytes_of_region (option_or o (last_region region.head.region segments))) (named_same content region is)
-              ∙ size ∙ sym (ap bytes_of_region known) ∙ ap (bytes_by segments) (sym e)
-          | inr other ↦ ap (λ (o : Option Region). bytes_of_region (option_or o (last_region i segments))) (named_other content region i is other)
-        ] in
+    elim (cases_eq i region.head.region) [
+      | inl e ↦
+          ap (bytes_by (content ∷ segments)) e ∙ ap (λ (o : Option Region). bytes_of_region (option_or o (last_region region.head.region segments))) (named_same content region is)
+          ∙ size ∙ sym (ap bytes_of_region known) ∙ ap (bytes_by segments) (sym e)
+      | inr other ↦ ap (λ (o : Option Region). bytes_of_region (option_or o (last_region i segments))) (named_other content region i is other)
+    ] in
     ap (sum_by (bytes_by (content ∷ segments))) ids ∙ (λ j. sum_by (λ i. same i j) (region_ids (of_segments segments)))
 
 -- any other segment takes none
@@ -143,7 +145,7 @@ unfolding region_ids
 used_with_other content segments is =
     let ids : region_ids (with_segment content segments) ≡ region_ids (of_segments segments) = ap (λ (found : Option Region). different is_same (map region_id (cons_option found (filter_map region_of segments)))) is in
     let same : (i : ℕ) → bytes_by (content ∷ segments) i ≡ bytes_by segments i =
-        λ i. ap (λ (found : Option Region). bytes_of_region (option_or (where_passes (λ one. one.head.region == i) found) (last_region i segments))) is in
+    λ i. ap (λ (found : Option Region). bytes_of_region (option_or (where_passes (λ one. one.head.region == i) found) (last_region i segments))) is in
     ap (sum_by (bytes_by (content ∷ segments))) ids ∙ (λ j. sum_by (λ i. same i j) (region_ids (of_segments segments)))
 
 taken_or_held : (content : Content) (earlier : List Content) (taken : Bool) → is_taken earlier content.value ≡ taken → pixels_used (taken_of (content ∷ earlier)) ≡ pixels_used (cond taken (with_segment content (taken_among earlier)) (taken_of earlier))
@@ -161,9 +163,11 @@ used_behind_others (content ∷ mid) base none =
     either : (a b : Bool) → (a || b) ≡ false → (a ≡ false) × (b ≡ false)
     either false b is = (refl, is)
     either true b is = absurd (cc)
+
     no_some : {X : Type 0} (o : Option X) → is_some o ≡ false → o ≡ None
     no_some None is = refl
     no_some (Some x) is = absurd (cc)
+
     by : (taken : Bool) → is_taken (mid ++ base) content.value ≡ taken → region_of content ≡ None → pixels_used (taken_of (mid ++ base)) ≡ pixels_used (taken_of base) → pixels_used (taken_of (content ∷ (mid ++ base))) ≡ pixels_used (taken_of base)
     by true is other rest = taken_or_held content (mid ++ base) true is ∙ used_with_other content (taken_among (mid ++ base)) other ∙ rest
     by false is other rest = taken_or_held content (mid ++ base) false is ∙ rest
@@ -206,7 +210,7 @@ pub room_is : (profile : Profile) (older earlier : List Content) (content : Cont
 room_is profile older earlier content region composition left has is before free =
     let need = pixel_bytes region.head in
     ap (λ b. cond (b && nat_lt left need) (Some (PixelFull need left)) None)
-        (ap is_none (known_head older earlier region composition has before) ∙ none_mapped head_of (taken_region region.head.region (taken_of earlier)))
+    (ap is_none (known_head older earlier region composition has before) ∙ none_mapped head_of (taken_region region.head.region (taken_of earlier)))
     ∙ ap (λ n. cond (is_none (taken_region region.head.region (taken_of earlier)) && nat_lt n need) (Some (PixelFull need n)) None) free
     ∙ ap (λ (v : SegmentValue). option_and_then (region_too_large profile (taken_of earlier)) (region_in v)) is
 
@@ -227,8 +231,10 @@ left_is profile older earlier content region composition left has is before unch
   where
     id : ℕ
     id = region.head.region
+
     of : region_of content ≡ Some region
     of = ap region_in (sym is)
+
     by : (last : Option Region) (taken : Bool) → taken_region id (taken_of earlier) ≡ last → is_taken earlier content.value ≡ taken → head_in composition id ≡ option_map head_of (taken_region id (taken_of earlier))
         → is_taken earlier content.value ≡ is_new region.head (option_map head_of (taken_region id (taken_of earlier)))
         → room_left region.head (head_in composition id) left ≡ profile.pixels - pixels_used (taken_of (content ∷ earlier))
@@ -242,10 +248,10 @@ left_is profile older earlier content region composition left has is before unch
         ap (λ (o : Option RegionHead). room_left region.head o left) (head ∙ ap (option_map head_of) known) ∙ omega (arith, free, used)
     by (Some last) true known taken head new =
         let changed : changed_from region (Some last) ≡ None =
-            ap (changed_from region) (sym known) ∙ sym (ap (λ b. cond b (changed_from region (taken_region id (taken_of earlier))) None) taken)
-            ∙ ap (changed_region earlier content.value) (sym of) ∙ unchanged in
+        ap (changed_from region) (sym known) ∙ sym (ap (λ b. cond b (changed_from region (taken_region id (taken_of earlier))) None) taken)
+        ∙ ap (changed_region earlier content.value) (sym of) ∙ unchanged in
         let used : pixels_used (taken_of (content ∷ earlier)) ≡ pixels_used (taken_of earlier) =
-            taken_or_held content earlier true taken ∙ used_with_same content region last (taken_among earlier) of known (same_bytes region.head last.head (shape_kept region last changed)) in
+        taken_or_held content earlier true taken ∙ used_with_same content region last (taken_among earlier) of known (same_bytes region.head last.head (shape_kept region last changed)) in
         ap (λ (o : Option RegionHead). room_left region.head o left) (head ∙ ap (option_map head_of) known) ∙ omega (arith, free, used)
 
 -- ---- a walk over the regions of a set
@@ -285,7 +291,7 @@ module _ (profile : Profile) (older set : List Content) where
       let n = next_tested (pixels_full profile) older set bytes rest region next r.tested in
       let split = (next r.tested.left r.tested.are).split in
       let both = neither (region_changed (n.mid ++ before_regions older set) n.content) (first_in region_changed (n.content ∷ (n.mid ++ before_regions older set)) (filter is_region n.more))
-          (sym (ap (first_in region_changed (n.mid ++ before_regions older set)) split) ∙ r.unchanged) in
+      (sym (ap (first_in region_changed (n.mid ++ before_regions older set)) split) ∙ r.unchanged) in
       record {
         tested = passes (pixels_full profile) older set rest region n (sym (room_is profile older (n.mid ++ before_regions older set) n.content region composition left has n.is n.before r.free) ∙ sym none);
         free = is ∙ left_is profile older (n.mid ++ before_regions older set) n.content region composition left has n.is n.before both.0 r.free;

@@ -32,7 +32,7 @@ module _ {T : Type 0} where
       let here : p.0 ≡ node = cc in
       let hit : is_node p.0 node ≡ true = ap (λ (m : NodeId). is_node m node) here ∙ is_node_same node in
       let nowhere : (i : ℕ) → slice_get (nodes_of ps) i ≡ Some node → ⊥ = λ i at.
-          (let twice = one l l 0 (suc i) node (ap (λ (qs : List (NodeId × T)). slice_get (nodes_of qs) 0) is ∙ ap Some here) (ap (λ (qs : List (NodeId × T)). slice_get (nodes_of qs) (suc i)) is ∙ at) in omega (arith, twice.1)) in
+      (let twice = one l l 0 (suc i) node (ap (λ (qs : List (NodeId × T)). slice_get (nodes_of qs) 0) is ∙ ap Some here) (ap (λ (qs : List (NodeId × T)). slice_get (nodes_of qs) (suc i)) is ∙ at) in omega (arith, twice.1)) in
       let rest : without node (p ∷ ps) ≡ ps = rw hit (without_none node ps nowhere) in
       let pair : p ≡ (node, item) = pair_is p here (same p.1 (subst (λ (qs : List (NodeId × T)). Contains qs (node, p.1)) (sym is) (0, omega arith, ap (λ (m : NodeId). let q : NodeId × T = (m, p.1) in q) here))) in
       record {

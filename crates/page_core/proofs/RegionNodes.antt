@@ -28,6 +28,7 @@ region_lookup pool id (pair ∷ pairs) = by (region_lookup pool id pairs) (regio
         ≡ option_map (region_kept pool) (option_and_then item_region (cond hit (Some pair) (find (is_region_of id) pairs)))
     by_hit rest region true is some = sym (ap (option_map (region_kept pool)) some)
     by_hit rest region false is some = rest
+
     by : find (λ (kept : KeptRegion). kept.head.region == id) (map (region_kept pool) (kept_in region_node pairs)) ≡ option_map (region_kept pool) (option_and_then item_region (find (is_region_of id) pairs))
         → (found : Option RegionNode) → region_node pair.1 ≡ found
         → find (λ (kept : KeptRegion). kept.head.region == id) (map (region_kept pool) (kept_in region_node (pair ∷ pairs))) ≡ option_map (region_kept pool) (option_and_then item_region (find (is_region_of id) (pair ∷ pairs)))
@@ -75,8 +76,9 @@ region_is pool id name found value view is one has =
     by_item : (pair : NodeId × Node) (found' region : Option RegionNode) → find (is_region_of id) (list_of pool 1) ≡ Some pair → found' ≡ region → region_node pair.1 ≡ region → (r : RegionNode) × (region ≡ Some r) → IsRegionIn (composition_of pool) id found'
     by_item pair found' region at is_found node (r, some) =
         let there : region_in (composition_of pool) id ≡ Some (region_kept pool r) =
-            region_lookup pool id (list_of pool 1) ∙ ap (λ (o : Option (NodeId × Node)). option_map (region_kept pool) (option_and_then item_region o)) at ∙ ap (option_map (region_kept pool)) (node ∙ some) in
+        region_lookup pool id (list_of pool 1) ∙ ap (λ (o : Option (NodeId × Node)). option_map (region_kept pool) (option_and_then item_region o)) at ∙ ap (option_map (region_kept pool)) (node ∙ some) in
         subst (IsRegionIn (composition_of pool) id) (sym (is_found ∙ some)) (region_kept pool r, there, record { head = refl; slot = refl })
+
     by : (pair : Option (NodeId × Node)) → find (is_region_of id) (list_of pool 1) ≡ pair → IsRegionOf pool (option_map node_of pair) found → IsRegionIn (composition_of pool) id found
     by None at none =
         subst (IsRegionIn (composition_of pool) id) (sym none) (region_lookup pool id (list_of pool 1) ∙ ap (λ (o : Option (NodeId × Node)). option_map (region_kept pool) (option_and_then item_region o)) at)

@@ -123,6 +123,7 @@ ends readings seen page display bytes nothing p =
     or_none : {X : Type 0} (found : Option X) → option_or found None ≡ found
     or_none None = refl
     or_none (Some found) = refl
+
     or_false : (b : Bool) → b ≡ (b || false)
     or_false true = refl
     or_false false = refl

@@ -74,7 +74,6 @@ apart_behind before (faulty fault ∷ left) none = absurd (no_fault (Segment fau
 
 -- ---- pages
 
-
 page_is : (value : SegmentValue) (page : Page) → page_in value ≡ Some page → value ≡ of_page page
 page_is (of_page v) page is = ap of_page (let same : v ≡ page = cc in same)
 page_is (of_region v) page is = absurd (cc)
@@ -98,6 +97,7 @@ no_second before (read content ∷ left) has none =
     either : (a b : Bool) → b ≡ true → (a || b) ≡ true
     either true b is = refl
     either false b is = is
+
     by : (found : Option Page) → page_in content.value ≡ found → filter_map page_of (contents_in left) ≡ [] → twice_among (contents_in before) content.value ≡ None → cons_option (page_of content) (filter_map page_of (contents_in left)) ≡ []
     by None is rest free = ap (λ (o : Option Page). cons_option o (filter_map page_of (contents_in left))) is ∙ rest
     by (Some page) is rest free =

@@ -1,6 +1,6 @@
 -- The composition memory of a receiver (EN 300 743, clause 5.2): the page, the regions and CLUTs of the epoch, and what is set in
 -- these. Each entry, region, listing, CLUT and set table entry takes one node.
-use Rattle.std.specs.Prelude.{ℕ, ◌+◌, ◌==◌, List, [], length, drop, find, sum_by, Option}
+use Rattle.std.specs.Prelude.{ℕ, ◌+◌, ◌-◌, ◌==◌, List, [], length, drop, find, sum_by, Option}
 use Rattle.stream_syntax.specs.declared.page.PageEntry.{PageEntry}
 use Rattle.stream_syntax.specs.declared.region.Listing.{Listing}
 use Rattle.stream_syntax.specs.declared.region.RegionHead.{RegionHead}
@@ -61,4 +61,15 @@ without_colour composition = record {
   cluts = composition.cluts;
   set_entries = drop 1 composition.set_entries;
   free = composition.free + 1;
+}
+
+-- with these entries of the page in place of those that were there
+abbrev pub with_entries : List PageEntry → Composition → Composition
+with_entries entries composition = record {
+  size = composition.size;
+  entries = entries;
+  regions = composition.regions;
+  cluts = composition.cluts;
+  set_entries = composition.set_entries;
+  free = composition.free + length composition.entries - length entries;
 }

@@ -21,3 +21,5 @@ pub mod Steps
 pub mod ObjectFaults
 pub mod Everywhere
 pub mod Scenes
+pub mod PageEntries
+pub mod Accepted

@@ -65,6 +65,21 @@ ink_place clut depth number = clut * colours_of_clut + first_of_table depth + nu
 abbrev pub ink_in : List Colour → ℕ → Depth → ℕ → Colour
 ink_in inks clut depth number = slice_index_or inks (ink_place clut depth number) clear
 
+-- the memory with that display
+abbrev pub showing : Display → Memory → Memory
+showing display memory = record {
+  profile = memory.profile;
+  page = memory.page;
+  anchor = memory.anchor;
+  last = memory.last;
+  known = memory.known;
+  time_out = memory.time_out;
+  display = display;
+  composition = memory.composition;
+  inks = memory.inks;
+  store = memory.store;
+}
+
 -- ---- what holds whatever it was handed
 
 -- an entry that is not among those that are set has its default colour

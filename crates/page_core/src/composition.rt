@@ -11,6 +11,7 @@ mod everywhere;
 mod listings;
 mod lookup;
 mod objects;
+mod page;
 mod walk;
 
 use crate::lists::pop_front;

@@ -25,11 +25,24 @@ fn lifted_times(rt: HostRuntime) -> Result<(), Fail> {
     assert_eq!(rt; core.lift(5), Some(8_589_934_597));
     assert_eq!(rt; core.lift(4_294_967_293), Some(12_884_901_885));
     assert_eq!(rt; core.lift(4_294_967_294), None);
-    assert_eq!(rt; core.refuse_set(8_589_934_589, long), SetEnd::NotLater { last: 8_589_934_590 });
+    assert_eq!(rt;
+        core.refuse_set(8_589_934_589, long),
+        SetEnd::NotLater {
+            last: 8_589_934_590
+        }
+    );
     core.lose();
     assert_eq!(rt; core.lift(8_589_934_590), None);
-    assert_eq!(rt; core.refuse_set(0, SetFault::NoPage), SetEnd::Broken(SetFault::NoPage));
-    assert_eq!(rt; core.refuse_set(0, long), SetEnd::NotLater { last: 8_589_934_592 });
+    assert_eq!(rt;
+        core.refuse_set(0, SetFault::NoPage),
+        SetEnd::Broken(SetFault::NoPage)
+    );
+    assert_eq!(rt;
+        core.refuse_set(0, long),
+        SetEnd::NotLater {
+            last: 8_589_934_592
+        }
+    );
     Ok(())
 }
 
@@ -57,15 +70,25 @@ fn free_memory(rt: HostRuntime) -> Result<(), Fail> {
 // in 4 bits, a display of 720 by 576 and one of 721 by 576, an object of 2 bits, one of characters, one whose string has no end,
 // one of type FF, and the end.
 const PAGE: &[u8] = &[15, 16, 0, 1, 0, 8, 10, 8, 1, 0, 0, 0, 0, 0];
+
 const NO_ENTRY: &[u8] = &[15, 16, 0, 1, 0, 2, 10, 4];
+
 const REGION: &[u8] = &[15, 17, 0, 1, 0, 10, 1, 8, 0, 2, 0, 1, 36, 0, 0, 0];
+
 const WIDER: &[u8] = &[15, 17, 0, 1, 0, 10, 1, 24, 0, 4, 0, 1, 36, 0, 0, 0];
+
 const DISPLAY: &[u8] = &[15, 20, 0, 1, 0, 5, 0, 2, 207, 2, 63];
+
 const WIDE_DISPLAY: &[u8] = &[15, 20, 0, 1, 0, 5, 0, 2, 208, 2, 63];
+
 const OBJECT: &[u8] = &[15, 19, 0, 1, 0, 11, 0, 5, 0, 0, 4, 0, 0, 16, 112, 0, 240];
+
 const CHARACTERS: &[u8] = &[15, 19, 0, 1, 0, 3, 0, 5, 4];
+
 const NO_END: &[u8] = &[15, 19, 0, 1, 0, 9, 0, 5, 0, 0, 2, 0, 0, 18, 1];
+
 const STUFFING: &[u8] = &[15, 255, 0, 1, 0, 2, 170, 170];
+
 const END: &[u8] = &[15, 128, 0, 1, 0, 0];
 
 // The bytes of segments one after another.
@@ -93,12 +116,21 @@ fn segments_of_sets(rt: HostRuntime) -> Result<(), Fail> {
         (&[DISPLAY, PAGE, DISPLAY], twice(20, 0)),
         (&[REGION, PAGE, WIDER], twice(17, 1)),
         (&[OBJECT, OBJECT, END, END], None),
-        (&[CHARACTERS, PAGE, PAGE], Some(SetFault::Segment(SegmentFault { place: 8, kind: SegmentKind::CharacterObject }))),
+        (
+            &[CHARACTERS, PAGE, PAGE],
+            Some(SetFault::Segment(SegmentFault {
+                place: 8,
+                kind: SegmentKind::CharacterObject,
+            })),
+        ),
         (
             &[NO_END],
             Some(SetFault::Segment(SegmentFault {
                 place: 13,
-                kind: SegmentKind::Code(CodeFault { place: 0, kind: CodeKind::CutString }),
+                kind: SegmentKind::Code(CodeFault {
+                    place: 0,
+                    kind: CodeKind::CutString,
+                }),
             })),
         ),
         (&[PAGE, STUFFING], None),
@@ -113,7 +145,9 @@ fn segments_of_sets(rt: HostRuntime) -> Result<(), Fail> {
 
 // Regions of 8 bits: 2 of 720 by 576, 2 of 720 by 80 and 3 of 720 by 40 pixels.
 const WHOLE: &[u8] = &[15, 17, 0, 1, 0, 10, 2, 8, 2, 208, 2, 64, 108, 0, 0, 0];
+
 const LINES: &[u8] = &[15, 17, 0, 1, 0, 10, 2, 8, 2, 208, 0, 80, 108, 0, 0, 0];
+
 const MORE: &[u8] = &[15, 17, 0, 1, 0, 10, 3, 8, 2, 208, 0, 40, 108, 0, 0, 0];
 
 /// The first fault of a set by an epoch that has nothing before it, as far as its nodes are not counted.
@@ -123,7 +157,13 @@ fn sets_in_a_new_epoch(rt: HostRuntime) -> Result<(), Fail> {
     let rows: [(&[&[u8]], Option<SetFault>); 7] = [
         (&[PAGE, REGION, OBJECT, END], None),
         (&[DISPLAY, NO_ENTRY], None),
-        (&[PAGE, WIDE_DISPLAY], Some(SetFault::DisplayTooLarge { width: 721, height: 576 })),
+        (
+            &[PAGE, WIDE_DISPLAY],
+            Some(SetFault::DisplayTooLarge {
+                width: 721,
+                height: 576,
+            }),
+        ),
         (&[PAGE, WHOLE], Some(SetFault::NoSuchRegion { id: 1 })),
         (&[NO_ENTRY, WHOLE], full(414_720, 81_920)),
         (&[NO_ENTRY, LINES, MORE], full(28_800, 24_320)),

@@ -8,6 +8,7 @@ mod forget;
 mod front;
 mod inks;
 mod judging;
+mod laws;
 mod lists;
 mod memory;
 mod node;
@@ -16,6 +17,7 @@ mod painting_objects;
 mod region_tests;
 mod rows;
 mod seen;
+mod taking;
 mod times;
 mod walking;
 
@@ -23,8 +25,8 @@ pub use decoder_model::{SetEnd, SetFault};
 pub use memory::{Core, Scene};
 
 #[cfg(test)]
+mod core_tests;
+#[cfg(test)]
 mod painting_tests;
 #[cfg(test)]
 mod rows_tests;
-#[cfg(test)]
-mod core_tests;

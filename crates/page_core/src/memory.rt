@@ -4,24 +4,27 @@ ghost use Rattle.std.specs.Prelude.{unwrap_or, ◌≡◌, ◌<◌, ◌^◌, ◌�
 ghost use Rattle.decoder_model.specs.Faults.{display_or_default};
 ghost use Rattle.decoder_model.specs.Free.{free_nodes_after, free_pixels_after};
 ghost use Rattle.decoder_model.specs.Kept.{lifted_time};
-ghost use Rattle.decoder_model.specs.Readings.{Reading};
+ghost use Rattle.decoder_model.specs.Readings.{Content, Reading};
 ghost use Rattle.decoder_model.specs.Sets.{Delivery, lost, whole, refused};
-ghost use Rattle.decoder_model.specs.Verdict.{verdict_of};
+ghost use Rattle.decoder_model.specs.Verdict.{sets_since, verdict_of, verdict_on_kept};
+ghost use Rattle.decoder_model.specs.declared.set_end.SetEnd.{SetEnd as Verdict};
 ghost use Rattle.decoder_model.specs.declared.set_end.SetEnd.TheVariants.{Broken, NotLater};
 ghost use Rattle.decoder_model.specs.declared.set_fault.SetFault.{SetFault as WhyBroken};
 ghost use Rattle.segments.specs.Contents.{display_value};
+ghost use Rattle.page_core.specs.Accepted.{IsBegun, IsEarly};
+ghost use Rattle.page_core.specs.Epochs.{IsStart};
 ghost use Rattle.page_core.specs.Memory.{Stands, IsForgotten, IsSameReceiver, Forgets};
 
 mod scene;
 
-pub use scene::Scene;
-
 use crate::composition::CompositionMemory;
+use crate::epoch::Start;
 use crate::forget::reset_colours;
 use crate::inks::Inks;
 use crate::times::lifted_behind;
 use decoder_model::{SetEnd, SetFault};
 use pixel_store::Store;
+pub use scene::Scene;
 use segments::DisplaySeg;
 use std::alloc::Global;
 use std::marker::Model;
@@ -150,6 +153,34 @@ impl Core {
         ensures free { (past : List (Delivery Reading)) → Stands past self.now → result ≡ free_pixels_after self.now.profile self.now.anchor past }
     {
         self.store.free()
+    }
+
+    // A kept set whose verdict is known before its epoch is looked at: it waits, or is broken.
+    fn end_early(&mut self, time: u64)
+        requires { time < 2 ^ 62 }
+        ensures stands { (past : List (Delivery Reading)) (pts size : ℕ) (readings : List Reading) (end : Verdict) → Stands past self.old
+            → lifted_time self.old.anchor past (whole pts size readings) ≡ Some time
+            → verdict_on_kept self.old.profile (sets_since self.old.profile self.old.anchor past) readings ≡ end → IsEarly end
+            → Stands (whole pts size readings ∷ past) self.new }
+        ensures same { IsSameReceiver self.old self.new }
+        ensures forgotten { IsForgotten self.new }
+    {
+        self.break_off(time);
+    }
+
+    // A kept set of an epoch: what the epoch had before it is kept, and all else is forgotten.
+    fn begin(&mut self, time: u64, start: Start)
+        requires { time < 2 ^ 62 }
+        ensures last { self.new.last ≡ Some time }
+        ensures same { IsSameReceiver self.old self.new }
+        ensures begun { (past : List (Delivery Reading)) (set : List Content) → Stands past self.old
+            → IsStart (sets_since self.old.profile self.old.anchor past) set start → IsBegun (sets_since self.old.profile self.old.anchor past) set start self.new }
+    {
+        self.last = Some(time);
+        match start {
+            Start::GoesOn => {}
+            _ => self.forget(),
+        }
     }
 
     // All is forgotten but the greatest lifted time.

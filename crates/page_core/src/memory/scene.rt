@@ -77,7 +77,14 @@ impl Scene<'_> {
         ensures { row.new ≡ row_in self.now y }
     {
         let core = self.core;
-        rows::row_into(&core.composition, &core.store, &core.inks, core.display, y, row);
+        rows::row_into(
+            &core.composition,
+            &core.store,
+            &core.inks,
+            core.display,
+            y,
+            row,
+        );
     }
 
     /// Lends the packed bytes of a line of a region. `None` exactly where the page lists no region of that id or the line is not

@@ -1,5 +1,5 @@
 -- One entry less is set.
-use Rattle.std.proofs.Common.{◌∷◌, ap, subst, sym, ◌∙◌, slice_set}
+use Rattle.std.proofs.Common.{ap, subst, sym, ◌∙◌, slice_set}
 use Rattle.std.proofs.lemmas.List.Elements.{All-head}
 use Rattle.page_core.specs.Composition.{Composition}
 use Rattle.page_core.specs.Memory.{AreInks, IsInTable, ink_place}

@@ -1,5 +1,5 @@
 -- The first fault of four tests.
-use Rattle.std.proofs.Common.{◌≡◌, [], ◌∷◌, List, None, Some, Option, option_map, sym}
+use Rattle.std.proofs.Common.{◌≡◌, ◌∷◌, None, Some, option_map, sym}
 use Rattle.std.specs.Prelude.{option_and_then}
 use Rattle.decoder_model.specs.Contents.{display_in_set}
 use Rattle.decoder_model.specs.Faults.{display_fault, page_fault, first_fault_by, region_changed, pixels_full}
@@ -33,10 +33,10 @@ returns c set before free heads found sound =
     let knows = knows_by_heads older c.args.composition.now heads in
     let unchanged : first_fault_by region_changed older set ≡ None = sym (c.in_default-changed_region.ensures set older heads sound.contents sound.apart) in
     sym (
-      last_is (option_and_then (display_fault c.args.profile.now) (display_in_set set)) (page_fault (segments_of (set ∷ before)) (page_value c.args.page.now))
-      (first_fault_by region_changed older set) (first_fault_by (pixels_full c.args.profile.now) older set) c.full_pixels.result
-      (display_is c.args.profile.now set (option_map display_value c.args.found.now.display) None found.display c.in_default.ensures)
-      (page_is set before (page_value c.args.page.now) None (c.in_default-page_fault.ensures set older knows found.regions))
-      unchanged
-      (sym (c.full_pixels.ensures c.args.profile.now set older free heads sound.contents sound.apart unchanged))
+    last_is (option_and_then (display_fault c.args.profile.now) (display_in_set set)) (page_fault (segments_of (set ∷ before)) (page_value c.args.page.now))
+    (first_fault_by region_changed older set) (first_fault_by (pixels_full c.args.profile.now) older set) c.full_pixels.result
+    (display_is c.args.profile.now set (option_map display_value c.args.found.now.display) None found.display c.in_default.ensures)
+    (page_is set before (page_value c.args.page.now) None (c.in_default-page_fault.ensures set older knows found.regions))
+    unchanged
+    (sym (c.full_pixels.ensures c.args.profile.now set older free heads sound.contents sound.apart unchanged))
     )

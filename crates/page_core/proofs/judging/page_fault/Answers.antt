@@ -1,5 +1,5 @@
 -- The first entry whose region is unknown.
-use Rattle.std.proofs.Common.{◌≡◌, ◌∙◌, ◌++◌, ◌+◌, ◌≤◌, cond, Some, None, drop, length, reverse, sym, ap, arith}
+use Rattle.std.proofs.Common.{◌∙◌, ◌++◌, ◌+◌, ◌≤◌, cond, Some, None, drop, length, reverse, sym, ap, arith}
 use Rattle.std.specs.Option.{option_or}
 use Rattle.sub_base.specs.Lists.{first_given}
 use Rattle.decoder_model.specs.Contents.{in_order}
@@ -15,9 +15,9 @@ returns-then-is_unknown c set older knows defined =
     let entries = (page_value c.args.page.now).entries in
     let rest = first_given (unknown_region segments) (drop (c.loop-i.i + 1) entries) in
     sym (
-      c.loop-i.invariant set older knows defined
-      ∙ entry_unknown segments entries c.loop-i.i c.entry-id.result c.is_unknown.result c.entry-id.ensures (c.is_unknown.ensures set older knows defined)
-      ∙ ap (λ b. option_or (cond b (Some (NoSuchRegion c.entry-id.result.region)) None) rest) c.if-is_unknown.true
+    c.loop-i.invariant set older knows defined
+    ∙ entry_unknown segments entries c.loop-i.i c.entry-id.result c.is_unknown.result c.entry-id.ensures (c.is_unknown.ensures set older knows defined)
+    ∙ ap (λ b. option_or (cond b (Some (NoSuchRegion c.entry-id.result.region)) None) rest) c.if-is_unknown.true
     )
 
 pub loop-i-preserved : goal.loop-i-preserved

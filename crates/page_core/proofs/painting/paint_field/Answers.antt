@@ -1,4 +1,3 @@
-use Rattle.std.proofs.Common.{arith}
 use Rattle.page_core.proofs.Written.{painting_goes_on}
 use Rattle.page_core.proofs.painting.paint_field.Goals as goal
 

@@ -1,5 +1,4 @@
 use Rattle.std.proofs.Common.{◌≡◌, ◌+◌, ◌*◌, ◌<◌, ◌^◌, true, min, arith}
-use Rattle.std.proofs.lemmas.Bool.Decides.{nat_tests}
 use Rattle.decoder_model.specs.Pixels.{is_changed}
 use Rattle.page_core.proofs.Written.{run_written}
 use Rattle.page_core.proofs.painting.paint_run.Goals as goal

@@ -1,4 +1,4 @@
-use Rattle.std.proofs.Common.{◌≡◌, ◌∙◌, sym, ap, subst, List, ℕ, length}
+use Rattle.std.proofs.Common.{◌≡◌, ◌∙◌, sym, ap, subst, length}
 use Rattle.std.proofs.lemmas.Bool.{eqb-true}
 use Rattle.stream_syntax.specs.PixelBlocks.{AreParts}
 use Rattle.sub_base.specs.declared.depth.Depth.TheVariants.{Eight}

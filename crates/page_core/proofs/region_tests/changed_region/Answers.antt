@@ -1,5 +1,5 @@
 -- The first region that is changed.
-use Rattle.std.proofs.Common.{◌≡◌, ◌∙◌, ◌++◌, None, Some, refl, sym}
+use Rattle.std.proofs.Common.{◌∙◌, ◌++◌, sym}
 use Rattle.decoder_model.specs.Faults.{region_changed}
 use Rattle.segments.specs.Contents.{region_value}
 use Rattle.page_core.specs.RegionTests.{before_regions}
@@ -14,7 +14,7 @@ returns-in-Some-change_fault c set older heads are apart =
     let region = region_value c.in-Some.next.segment in
     let n = next_tested region_changed older set c.loop-next.rest.now c.in-Some.next.rest.now region c.in-Some.ensures.next (c.loop-next.invariant set older heads are apart) in
     sym (changed_in_order older set ∙ fails region_changed older set c.in-Some.next.rest.now region c.in-Some-change_fault.fault n
-        (sym (fault_by_head older (n.mid ++ before_regions older set) n.content region c.args.composition.now heads n.is n.before) ∙ sym c.in-Some-change_fault.ensures))
+    (sym (fault_by_head older (n.mid ++ before_regions older set) n.content region c.args.composition.now heads n.is n.before) ∙ sym c.in-Some-change_fault.ensures))
 
 pub loop-next-preserved : goal.loop-next-preserved
 loop-next-preserved c set older heads are apart =

@@ -1,4 +1,4 @@
-use Rattle.std.proofs.Common.{◌≡◌, ◌∙◌, ap}
+use Rattle.std.proofs.Common.{◌∙◌, ap}
 use Rattle.page_core.specs.Composition.{Composition, region_in}
 use Rattle.page_core.specs.Rows.{window_at}
 use Rattle.page_core.proofs.DrawnEntries.{no_region, table_of, node_drawn, found_placed}

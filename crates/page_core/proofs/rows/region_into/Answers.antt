@@ -1,4 +1,4 @@
-use Rattle.std.proofs.Common.{◌≡◌, ◌+◌, ◌-◌, ◌<◌, ◌≤◌, min, length, subst, sym, ℕ, arith}
+use Rattle.std.proofs.Common.{◌≡◌, ◌+◌, ◌-◌, ◌<◌, ◌≤◌, min, length, subst, ℕ, arith}
 use Rattle.stream_syntax.specs.declared.display.Window.{Window}
 use Rattle.pixel_store.specs.Regions.{region_at}
 use Rattle.page_core.specs.Rows.{IsLineDrawn, window_at}

@@ -1,6 +1,5 @@
 -- A segment that is no second one is seen.
-use Rattle.std.proofs.Common.{Ok, subst}
-use Rattle.decoder_model.specs.Readings.{Reading}
+use Rattle.std.proofs.Common.{subst}
 use Rattle.page_core.specs.Handed.{Matches}
 use Rattle.page_core.proofs.Scanning.{passes}
 use Rattle.page_core.proofs.seen.see.Goals as goal

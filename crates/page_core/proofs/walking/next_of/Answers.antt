@@ -1,8 +1,7 @@
 -- The next segment of a type.
-use Rattle.std.proofs.Common.{◌≡◌, ◌==◌, ◌<◌, ◌≤◌, true, false, length, arith, subst, sym, Ok, Err}
+use Rattle.std.proofs.Common.{arith}
 use Rattle.std.proofs.lemmas.Bool.{eq-eqb, ne_eqb}
 use Rattle.decoder_model.specs.Readings.{read}
-use Rattle.page_core.specs.Handed.{Matches}
 use Rattle.page_core.specs.Walks.{is_content_of}
 use Rattle.page_core.proofs.NextContents.{front_of, passed, found, none_left, start}
 use Rattle.page_core.proofs.walking.next_of.Goals as goal
@@ -26,10 +25,12 @@ returns-in-Err-clause-next c set are =
 pub loop-front-preserved : goal.loop-front-preserved
 loop-front-preserved c =
     let a = c.loop-front.invariant.0 in
-    let b = c.in-Some.ensures.shorter in
-    (omega arith, λ set are.
-        let f = front_of c.args.kind set c.loop-front.rest.now c.in-Some.front c.requires c.in-Some.ensures.shorter c.in-Some.ensures.cut (c.loop-front.invariant.1 set are) in
-        passed c.args.kind set c.in-Some.front (ne_eqb c.in-Some.front.kind c.args.kind c.if-front-kind.false) f)
+    let b = c.in-Some.ensures.shorter in (
+      omega arith,
+      λ set are.
+          let f = front_of c.args.kind set c.loop-front.rest.now c.in-Some.front c.requires c.in-Some.ensures.shorter c.in-Some.ensures.cut (c.loop-front.invariant.1 set are) in
+          passed c.args.kind set c.in-Some.front (ne_eqb c.in-Some.front.kind c.args.kind c.if-front-kind.false) f,
+    )
 
 pub returns-clause-next : goal.returns-clause-next
 returns-clause-next c set are = none_left c.args.kind set c.loop-front.rest.now c.in_default.ensures.cut (c.loop-front.invariant.1 set are)

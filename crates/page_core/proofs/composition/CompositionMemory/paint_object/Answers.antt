@@ -1,7 +1,6 @@
-use Rattle.std.proofs.Common.{◌≡◌, ◌∙◌, ap, subst, ℕ}
+use Rattle.std.proofs.Common.{◌∙◌, ap, subst, ℕ}
 use Rattle.sub_base.specs.Lists.{last_given}
 use Rattle.comp_pool.specs.Pool.{list_of}
-use Rattle.page_core.specs.Composition.{Composition}
 use Rattle.page_core.specs.Listings.{code_by_pair, painted_node, with_painted}
 use Rattle.page_core.specs.Lists.{IsRewritten}
 use Rattle.page_core.specs.Nodes.{listings_list}

@@ -1,4 +1,4 @@
-use Rattle.std.proofs.Common.{◌≡◌, ◌∙◌, sym, ap, Option}
+use Rattle.std.proofs.Common.{◌∙◌, sym, ap, Option}
 use Rattle.comp_pool.specs.Places.{rest_from}
 use Rattle.comp_pool.specs.Pool.{IsInList, list_of}
 use Rattle.comp_pool.specs.declared.node.NodeId.{NodeId}
