@@ -1,15 +1,23 @@
 -- The codes behind an object that is painted everywhere.
-use Rattle.std.proofs.Common.{◌≡◌, ◌∙◌, sym, ap, subst, ℕ, zero, suc, ◌+◌, ◌<◌, ◌≤◌, List, [], ◌∷◌, map, Contains, arith}
+use Rattle.std.proofs.Common.{◌≡◌, ◌∙◌, refl, sym, ap, subst, ℕ, zero, suc, ◌+◌, ◌<◌, ◌≤◌, Bool, true, false, cond, eqb, List, [], ◌∷◌, length, map, find, Contains, Option, Some, None, option_map, arith}
 use Rattle.std.specs.Prelude.{unwrap_or}
 use Rattle.std.specs.List.{range_with_len}
 use Rattle.sub_base.specs.Lists.{last_given}
+use Rattle.stream_syntax.specs.Segments.{SegmentValue, Object, Region, of_object}
+use Rattle.stream_syntax.specs.declared.region.RegionHead.{RegionHead}
+use Rattle.decoder_model.specs.Pixels.{depth_of, painted_listings, code_by_listings, code_by_segment, last_code, pixel_of}
 use Rattle.decoder_model.specs.Readings.{Content}
+use Rattle.decoder_model.specs.Taken.{Taken, taken_region, taken_of}
 use Rattle.pixel_store.specs.Regions.{Regions, region_at, code_of}
-use Rattle.page_core.specs.Composition.{KeptRegion}
+use Rattle.page_core.specs.Composition.{KeptRegion, region_in}
 use Rattle.page_core.specs.Everywhere.{AreKeptWritten}
-use Rattle.page_core.specs.Listings.{code_by_kept}
+use Rattle.page_core.specs.Listings.{IsPainter, code_by_kept}
+use Rattle.page_core.specs.Memory.{Memory, IsWhole, Holds, HasSides, kept_listing, head_of}
 use Rattle.page_core.specs.Painted.{field_runs}
 use Rattle.page_core.specs.declared.composition.listings.Painter.{Painter}
+use Rattle.page_core.proofs.EverywhereKept.{all_at}
+use Rattle.page_core.proofs.ObjectSteps.{object_writes}
+use Rattle.page_core.proofs.Written.{later_first}
 
 abbrev slots_of : List KeptRegion → List ℕ
 slots_of regions = map (λ (kept : KeptRegion). kept.slot) regions
@@ -64,3 +72,58 @@ module _ (painter : Painter) (content : Content) where
       λ narrow low.
       codes_behind (suc from) rest.0 regions between new rest.1 more x y kept there (subst (λ r. x < r.width) (sym same) narrow) (subst (λ r. y < r.height) (sym same) low)
       ∙ ap (λ r. unwrap_or (last_given (code_by_kept painter (field_runs kept.head.depth content.top content.bottom) x y) kept.listings) (code_of r x y)) same
+
+-- ---- in the words of the taken segments
+
+found_there : {X : Type 0} (test : X → Bool) (xs : List X) (x : X) → find test xs ≡ Some x → Contains xs x
+found_there test [] x e = absurd (cc)
+found_there test (y ∷ ys) x e = by (test y) (λ more. found_there test ys x more) e
+  where
+    by : (hit : Bool) → (find test ys ≡ Some x → Contains ys x) → cond hit (Some y) (find test ys) ≡ Some x → Contains (y ∷ ys) x
+    by true rest e = (zero, omega arith, cc)
+    by false rest e =
+        let there : Contains ys x = rest e in
+        (suc there.0, omega (arith, there.1), there.2)
+
+module _ (taken : Taken) (content : Content) (object : Object) (painter : Painter) (is : IsPainter painter object) (value_is : content.value ≡ of_object object) where
+  codes_are : (id x y : ℕ) (kept : KeptRegion) (region : Region) → taken_region id taken ≡ Some region → kept.head ≡ region.head → kept.listings ≡ map (kept_listing taken id) region.listings
+      → last_given (code_by_kept painter (field_runs kept.head.depth content.top content.bottom) x y) kept.listings ≡ code_by_segment taken content.value content.top content.bottom id x y
+  codes_are id x y kept region here head listings =
+      (λ i. last_given (code_by_kept painter (field_runs (RegionHead.depth (head i)) content.top content.bottom) x y) (listings i))
+      ∙ object_writes taken id object painter is region (field_runs region.head.depth content.top content.bottom) content.top content.bottom here refl x y
+      ∙ ap (λ (r : Option Region). code_by_listings (depth_of r) object.see_through content.top content.bottom x y (painted_listings taken id object)) (sym here)
+      ∙ ap (λ (v : SegmentValue). code_by_segment taken v content.top content.bottom id x y) (sym value_is)
+
+  -- a pixel has the code of the last write behind the object
+  pub pixel_behind : (from n : ℕ) (regions : List KeptRegion) (old new : Regions) → slots_of regions ≡ range_with_len from n → AreKeptWritten painter content regions old new
+      → (id x y : ℕ) (kept : KeptRegion) (region : Region) → Contains regions kept → taken_region id taken ≡ Some region → kept.head ≡ region.head → kept.listings ≡ map (kept_listing taken id) region.listings
+      → x < (region_at old kept.slot).width → y < (region_at old kept.slot).height → code_of (region_at old kept.slot) x y ≡ pixel_of taken id x y
+      → code_of (region_at new kept.slot) x y ≡ pixel_of (record { segments = content ∷ taken.segments }) id x y
+  unfolding pixel_of
+  pixel_behind from n regions old new slots written id x y kept region there here head listings narrow low before =
+      codes_behind painter content from n regions old new slots written x y kept there narrow low
+      ∙ ap (λ (o : Option ℕ). unwrap_or o (code_of (region_at old kept.slot) x y)) (codes_are id x y kept region here head listings)
+      ∙ ap (unwrap_or (code_by_segment taken content.value content.top content.bottom id x y)) before
+      ∙ later_first (code_by_segment taken content.value content.top content.bottom id x y) (last_code taken.segments id x y) 0
+
+-- the pixels behind an object, where the memory holds the segments before it
+pub pixels_behind : (segments : List Content) (memory : Memory) → IsWhole memory → Holds segments memory
+    → (content : Content) (object : Object) (painter : Painter) → IsPainter painter object → content.value ≡ of_object object → (new : Regions) → AreKeptWritten painter content memory.composition.regions memory.store new
+    → (id x y : ℕ) (kept : KeptRegion) → region_in memory.composition id ≡ Some kept → x < kept.head.width → y < kept.head.height
+    → code_of (region_at new kept.slot) x y ≡ pixel_of (record { segments = content ∷ (taken_of segments).segments }) id x y
+pixels_behind segments memory whole holds content object painter is value_is new written id x y kept found narrow low =
+    by (taken_region id (taken_of segments)) refl (ap (option_map (λ (kept : KeptRegion). kept.head)) (sym found) ∙ holds.heads id)
+    (ap (option_map (λ (kept : KeptRegion). kept.listings)) (sym found) ∙ holds.listings id)
+  where
+    by : (o : Option Region) → taken_region id (taken_of segments) ≡ o → Some kept.head ≡ option_map head_of o → Some kept.listings ≡ option_map (λ (region : Region). map (kept_listing (taken_of segments) id) region.listings) o
+        → code_of (region_at new kept.slot) x y ≡ pixel_of (record { segments = content ∷ (taken_of segments).segments }) id x y
+    by None here head listings = absurd (cc)
+    by (Some region) here head listings =
+        let there : Contains memory.composition.regions kept = found_there (λ (kept : KeptRegion). eqb kept.head.region id) memory.composition.regions kept found in
+        let sides : HasSides kept.head (region_at memory.store kept.slot)
+        = all_at (λ (kept : KeptRegion). HasSides kept.head (region_at memory.store kept.slot)) memory.composition.regions kept whole.sides there in
+        let same_head : kept.head ≡ region.head = cc in
+        let same_listings : kept.listings ≡ map (kept_listing (taken_of segments) id) region.listings = cc in
+        pixel_behind (taken_of segments) content object painter is value_is 0 (length memory.store.regions) memory.composition.regions memory.store new whole.slots written id x y kept region there here
+        same_head same_listings
+        (subst (λ (n : ℕ). x < n) (sym sides.width) narrow) (subst (λ (n : ℕ). y < n) (sym sides.height) low) (holds.pixels id x y kept found narrow low)

@@ -40,7 +40,7 @@ kept_there pool (p ∷ ps) pair region (suc k, short, e) is = behind (region_nod
     behind None there = there
     behind (Some other) there = (suc there.0, omega (arith, there.1), there.2)
 
-all_at : {X : Type 0} (P : X → Type 0) (xs : List X) (x : X) → All P xs → Contains xs x → P x
+pub all_at : {X : Type 0} (P : X → Type 0) (xs : List X) (x : X) → All P xs → Contains xs x → P x
 all_at P xs x all (k, short, e) = subst P e (all k x short)
 
 has_at : (pool : PoolOf Node) (store : Regions) (pair : NodeId × Node) → ((region : RegionNode) → region_node pair.1 ≡ Some region → HasRegion region.head region.slot store) → HasRegionAt pair.1 store
