@@ -9,14 +9,14 @@ use Rattle.decoder_model.specs.Pixels.{depth_of, painted_listings, code_by_listi
 use Rattle.decoder_model.specs.Readings.{Content}
 use Rattle.decoder_model.specs.Taken.{Taken, taken_region, taken_of}
 use Rattle.pixel_store.specs.Regions.{Regions, region_at, code_of}
-use Rattle.page_core.specs.Composition.{KeptRegion, region_in}
-use Rattle.page_core.specs.Everywhere.{AreKeptWritten}
-use Rattle.page_core.specs.Listings.{IsPainter, code_by_kept}
+use Rattle.page_core.specs.Composition.{Composition, KeptRegion, region_in}
+use Rattle.page_core.specs.Everywhere.{AreKeptWritten, painted_kept, with_all_painted}
+use Rattle.page_core.specs.Listings.{IsPainter, code_by_kept, painted_listing}
 use Rattle.page_core.specs.Memory.{Memory, IsWhole, Holds, HasSides, kept_listing, head_of}
 use Rattle.page_core.specs.Painted.{field_runs}
 use Rattle.page_core.specs.declared.composition.listings.Painter.{Painter}
 use Rattle.page_core.proofs.EverywhereKept.{all_at}
-use Rattle.page_core.proofs.ObjectSteps.{object_writes}
+use Rattle.page_core.proofs.ObjectSteps.{object_writes, object_keeps}
 use Rattle.page_core.proofs.Written.{later_first}
 
 abbrev slots_of : List KeptRegion → List ℕ
@@ -127,3 +127,43 @@ pixels_behind segments memory whole holds content object painter is value_is new
         pixel_behind (taken_of segments) content object painter is value_is 0 (length memory.store.regions) memory.composition.regions memory.store new whole.slots written id x y kept region there here
         same_head same_listings
         (subst (λ (n : ℕ). x < n) (sym sides.width) narrow) (subst (λ (n : ℕ). y < n) (sym sides.height) low) (holds.pixels id x y kept found narrow low)
+
+-- ---- the regions behind an object
+
+region_behind : (painter : Painter) (id : ℕ) (regions : List KeptRegion)
+    → find (λ (kept : KeptRegion). eqb kept.head.region id) (map (painted_kept painter) regions) ≡ option_map (painted_kept painter) (find (λ (kept : KeptRegion). eqb kept.head.region id) regions)
+region_behind painter id [] = refl
+region_behind painter id (kept ∷ regions) = by (eqb kept.head.region id) (region_behind painter id regions)
+  where
+    by : (hit : Bool) → find (λ (kept : KeptRegion). eqb kept.head.region id) (map (painted_kept painter) regions) ≡ option_map (painted_kept painter) (find (λ (kept : KeptRegion). eqb kept.head.region id) regions)
+        → cond hit (Some (painted_kept painter kept)) (find (λ (kept : KeptRegion). eqb kept.head.region id) (map (painted_kept painter) regions))
+        ≡ option_map (painted_kept painter) (cond hit (Some kept) (find (λ (kept : KeptRegion). eqb kept.head.region id) regions))
+    by true rest = refl
+    by false rest = rest
+
+-- the heads stay
+pub heads_behind : (painter : Painter) (value : Composition) (id : ℕ)
+    → option_map (λ (kept : KeptRegion). kept.head) (region_in (with_all_painted painter value) id) ≡ option_map (λ (kept : KeptRegion). kept.head) (region_in value id)
+heads_behind painter value id = ap (option_map (λ (kept : KeptRegion). kept.head)) (region_behind painter id value.regions) ∙ by (region_in value id)
+  where
+    by : (o : Option KeptRegion) → option_map (λ (kept : KeptRegion). kept.head) (option_map (painted_kept painter) o) ≡ option_map (λ (kept : KeptRegion). kept.head) o
+    by None = refl
+    by (Some kept) = refl
+
+-- the listings have the versions that the segments with the object give
+pub listings_behind : (segments : List Content) (memory : Memory) → Holds segments memory
+    → (content : Content) (object : Object) (painter : Painter) → IsPainter painter object → content.value ≡ of_object object → (id : ℕ)
+    → option_map (λ (kept : KeptRegion). kept.listings) (region_in (with_all_painted painter memory.composition) id)
+    ≡ option_map (λ (region : Region). map (kept_listing (record { segments = content ∷ (taken_of segments).segments }) id) region.listings) (taken_region id (taken_of segments))
+listings_behind segments memory holds content object painter is value_is id =
+    ap (option_map (λ (kept : KeptRegion). kept.listings)) (region_behind painter id memory.composition.regions) ∙ by (region_in memory.composition id) (taken_region id (taken_of segments)) (holds.listings id)
+  where
+    by : (o : Option KeptRegion) (r : Option Region) → option_map (λ (kept : KeptRegion). kept.listings) o ≡ option_map (λ (region : Region). map (kept_listing (taken_of segments) id) region.listings) r
+        → option_map (λ (kept : KeptRegion). kept.listings) (option_map (painted_kept painter) o)
+        ≡ option_map (λ (region : Region). map (kept_listing (record { segments = content ∷ (taken_of segments).segments }) id) region.listings) r
+    by None None e = refl
+    by None (Some region) e = absurd (cc)
+    by (Some kept) None e = absurd (cc)
+    by (Some kept) (Some region) e =
+        let same : kept.listings ≡ map (kept_listing (taken_of segments) id) region.listings = cc in
+        ap Some (ap (map (painted_listing painter)) same ∙ object_keeps (taken_of segments) id object painter is content value_is region.listings)
