@@ -12,7 +12,7 @@ use Rattle.decoder_model.proofs.Searches.{option_or-none}
 use Rattle.pixel_store.specs.Regions.{Regions}
 use Rattle.stream_syntax.specs.declared.region.RegionHead.{RegionHead}
 use Rattle.page_core.specs.Composition.{Composition, KeptListing, KeptRegion, region_in}
-use Rattle.page_core.specs.Listings.{is_due, code_by_kept, painted_listing, painted_region, with_painted, code_by_node, code_by_pair, painted_node}
+use Rattle.page_core.specs.Listings.{is_due, code_by_kept, painted_listing, code_by_node, code_by_pair, painted_node}
 use Rattle.page_core.specs.Lists.{KeepsBeside, with_changed, IsRewritten}
 use Rattle.page_core.specs.Nodes.{kept_in, listing_in, listing_kept}
 use Rattle.page_core.specs.Painted.{FieldRuns, HasRegion, IsWritten}

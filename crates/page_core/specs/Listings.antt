@@ -25,21 +25,6 @@ code_by_kept object fields x y kept = if is_due object kept then code_by_fields 
 abbrev pub painted_listing : Painter → KeptListing → KeptListing
 painted_listing object kept = if is_due object kept then record { listing = kept.listing; painted = Some object.version } else kept
 
--- the composition behind it, where it paints the region of an id
-abbrev pub painted_region : ℕ → Painter → KeptRegion → KeptRegion
-painted_region id object kept =
-    if kept.head.region == id then record { head = kept.head; slot = kept.slot; listings = map (painted_listing object) kept.listings } else kept
-
-abbrev pub with_painted : ℕ → Painter → Composition → Composition
-with_painted id object composition = record {
-  size = composition.size;
-  entries = composition.entries;
-  regions = map (painted_region id object) composition.regions;
-  cluts = composition.cluts;
-  set_entries = composition.set_entries;
-  free = composition.free;
-}
-
 -- ---- nodes
 
 -- the code that the object puts there through what a node has
