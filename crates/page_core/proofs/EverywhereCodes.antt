@@ -24,7 +24,7 @@ slots_of regions = map (λ (kept : KeptRegion). kept.slot) regions
 
 first_slot : (from n : ℕ) (kept : KeptRegion) (regions : List KeptRegion) → slots_of (kept ∷ regions) ≡ range_with_len from n → (kept.slot ≡ from) × (m : ℕ) × (slots_of regions ≡ range_with_len (suc from) m)
 first_slot from zero kept regions e = absurd (cc)
-first_slot from (suc n) kept regions e = 
+first_slot from (suc n) kept regions e =
     let tail : slots_of regions ≡ range_with_len (from + 1) n = cc in
     let next : from + 1 ≡ suc from = omega arith in
     (cc, n, tail ∙ ap (λ (k : ℕ). range_with_len k n) next)

@@ -1,8 +1,6 @@
 -- An object in all regions, in the words of what is kept.
-use Rattle.std.proofs.Common.{◌≡◌, ◌≢◌, ◌∙◌, refl, sym, ap, subst, inl, inr, ℕ, zero, suc, ◌+◌, ◌<◌, Bool, true, false, ◌||◌, cond, eqb, List, [], ◌∷◌, ◌++◌, length, map, find, All, Contains, Option, Some, None, option_map, arith, append_assoc}
+use Rattle.std.proofs.Common.{◌≡◌, ◌∙◌, refl, sym, ap, subst, ℕ, zero, suc, Bool, true, false, ◌||◌, eqb, List, [], ◌∷◌, ◌++◌, map, find, All, Contains, Option, Some, None, option_map, arith}
 use Rattle.std.specs.List.{list_any, cons_option}
-use Rattle.std.specs.Option.{is_some, option_map_or}
-use Rattle.std.proofs.lemmas.Bool.{cases_eq, eqb-true}
 use Rattle.std.proofs.lemmas.Bool.Decides.{nat_tests}
 use Rattle.std.proofs.lemmas.List.Elements.{All-nil, All-cons, Contains-append_right}
 use Rattle.sub_base.specs.Lists.{last_given}
@@ -12,12 +10,11 @@ use Rattle.comp_pool.specs.Pool.{PoolOf, list_of}
 use Rattle.decoder_model.specs.Readings.{Content}
 use Rattle.pixel_store.specs.Regions.{Regions}
 use Rattle.page_core.specs.Composition.{Composition, KeptRegion}
-use Rattle.page_core.specs.Everywhere.{HasRegionAt, IsWrittenIn, painted_where, IsEverywhere, painted_kept, with_all_painted, HasNoFaults, AreApart, AreWritten, HaveRegions, AreIdsApart, AreKeptWritten}
-use Rattle.page_core.specs.Listings.{code_by_kept, code_by_pair, painted_listing, painted_node}
-use Rattle.page_core.specs.Lists.{with_changed}
+use Rattle.page_core.specs.Everywhere.{HasRegionAt, painted_where, IsEverywhere, painted_kept, with_all_painted, HasNoFaults, AreApart, AreWritten, HaveRegions, AreIdsApart, AreKeptWritten}
+use Rattle.page_core.specs.Listings.{code_by_kept, code_by_pair, painted_listing}
 use Rattle.page_core.specs.Nodes.{kept_in, AreKind, entry_in, region_node, listing_in, clut_node, colour_in, listings_list, region_kept, composition_of, IsSorted, IsIndexed, is_region_of, is_clut_of, node_of}
 use Rattle.page_core.specs.ObjectFaults.{least_of, fault_in_kept}
-use Rattle.page_core.specs.Painted.{HasRegion, IsWritten, field_runs}
+use Rattle.page_core.specs.Painted.{HasRegion, field_runs}
 use Rattle.page_core.specs.declared.composition.listings.Painter.{Painter}
 use Rattle.page_core.specs.declared.node.Node.{Node}
 use Rattle.page_core.specs.declared.node.Node.TheVariants as node
@@ -111,11 +108,11 @@ pub kept_written : (painter : Painter) (content : Content) (pool : PoolOf Node) 
     → AreKeptWritten painter content (map (region_kept pool) regions) old new
 kept_written painter content pool [] old new same = same
 kept_written painter content pool (region ∷ regions) old new (between, written, more) = (
-    between,
-    written_as region.slot (λ x y. last_given (code_by_pair painter (field_runs region.head.depth content.top content.bottom) x y) (list_of pool (listings_list region.head.region)))
-        (λ x y. last_given (code_by_kept painter (field_runs region.head.depth content.top content.bottom) x y) (kept_in listing_in (list_of pool (listings_list region.head.region)))) old between
-        (λ x y. written_through painter (field_runs region.head.depth content.top content.bottom) x y (list_of pool (listings_list region.head.region))) written,
-    kept_written painter content pool regions between new more,
+  between,
+  written_as region.slot (λ x y. last_given (code_by_pair painter (field_runs region.head.depth content.top content.bottom) x y) (list_of pool (listings_list region.head.region)))
+      (λ x y. last_given (code_by_kept painter (field_runs region.head.depth content.top content.bottom) x y) (kept_in listing_in (list_of pool (listings_list region.head.region)))) old between
+      (λ x y. written_through painter (field_runs region.head.depth content.top content.bottom) x y (list_of pool (listings_list region.head.region))) written,
+  kept_written painter content pool regions between new more,
 )
 
 -- all that the object writes
