@@ -1,5 +1,5 @@
 -- The runs of a block for a region of a depth have codes of that depth.
-use Rattle.std.proofs.Common.{◌≡◌, ◌∙◌, sym, ap, subst, refl, ℕ, zero, suc, ◌+◌, ◌*◌, ◌/◌, ◌%◌, ◌<◌, ◌≤◌, eqb, ltb, ◌&&◌, Bool, true, false, cond, List, [], ◌∷◌, ◌++◌, length, get_or, All, Result, Ok, Err, arith}
+use Rattle.std.proofs.Common.{◌≡◌, sym, subst, refl, ℕ, zero, suc, ◌+◌, ◌<◌, eqb, ltb, ◌&&◌, Bool, true, false, cond, List, [], ◌∷◌, ◌++◌, get_or, All, Result, Ok, Err, arith}
 use Rattle.std.specs.Prelude.{IfOk}
 use Rattle.std.proofs.lemmas.List.Elements.{All-head, All-tail}
 use Rattle.std.specs.List.{list_all}
@@ -7,8 +7,8 @@ use Rattle.std.proofs.lemmas.Bool.{ltb-true}
 use Rattle.sub_base.specs.Depth.{code_count}
 use Rattle.sub_base.specs.declared.depth.Depth.{Depth}
 use Rattle.sub_base.specs.declared.depth.Depth.TheVariants.{Two, Four, Eight}
-use Rattle.stream_syntax.specs.PixelCodes.{Code, IsCode, pixel_count, colour_of, IsString}
-use Rattle.stream_syntax.specs.PixelBlocks.{Part, string, table, line_end, table_size, entries_of, IsNoDeeper, IsPart, AreParts, entries_in, mapped, line_after, column_after, runs_from, runs_after, IsBlock}
+use Rattle.stream_syntax.specs.PixelCodes.{Code, IsCode, pixel_count, colour_of}
+use Rattle.stream_syntax.specs.PixelBlocks.{Part, string, table, line_end, entries_of, IsNoDeeper, AreParts, entries_in, mapped, line_after, column_after, runs_from, runs_after, IsBlock}
 use Rattle.stream_syntax.specs.declared.map_table.MapTable.{MapTable}
 use Rattle.stream_syntax.specs.declared.map_table.MapTable.TheVariants.{TwoToFour, TwoToEight, FourToEight}
 use Rattle.stream_syntax.specs.declared.pixel_run.Run.{Run}

@@ -1,6 +1,6 @@
 -- A block in strings of up to eight bits, for regions of a depth: it is in the grammar there, or else the first string that is
 -- too deep is its fault.
-use Rattle.std.proofs.Common.{◌≡◌, ◌∙◌, sym, ap, subst, refl, ℕ, ◌+◌, ◌*◌, ◌/◌, ◌<◌, ◌≤◌, ltb, Bool, true, false, cond, List, [], ◌∷◌, ◌++◌, length, Option, Some, None, Result, Ok, Err, append_assoc, length-append, arith}
+use Rattle.std.proofs.Common.{◌≡◌, ◌∙◌, sym, ap, subst, refl, ℕ, ◌+◌, ◌/◌, ◌<◌, ◌≤◌, Bool, true, false, cond, List, [], ◌∷◌, ◌++◌, length, Option, Some, None, Result, Ok, Err, append_assoc, length-append, arith}
 use Rattle.std.specs.Prelude.{IfErr}
 use Rattle.std.specs.Option.{option_map, option_or}
 use Rattle.std.proofs.lemmas.Bool.Decides.{nat_tests}
@@ -9,18 +9,18 @@ use Rattle.sub_base.specs.declared.depth.Depth.{Depth}
 use Rattle.sub_base.specs.declared.depth.Depth.TheVariants.{Eight}
 use Rattle.stream_syntax.specs.PixelCodes.{bits_of, string_of, IsString}
 use Rattle.stream_syntax.specs.PixelCodes.{Code as CodeOf}
-use Rattle.stream_syntax.specs.PixelBlocks.{Part, string, table, line_end, string_type, table_size, entries_of, IsNoDeeper, IsPart, AreParts, IsRefused, runs_after, IsBlock, IsBlockFault}
+use Rattle.stream_syntax.specs.PixelBlocks.{Part, string, table, line_end, IsNoDeeper, IsPart, AreParts, IsRefused, runs_after, IsBlock, IsBlockFault}
 use Rattle.stream_syntax.specs.declared.code_fault.CodeFault.{CodeFault}
 use Rattle.stream_syntax.specs.declared.code_fault.CodeKind.TheVariants.{TooDeep}
 use Rattle.stream_syntax.specs.declared.pixel_run.Run.{Run}
 use Rattle.stream_syntax.specs.Segments.{Object}
 use Rattle.stream_syntax.specs.declared.segment_fault.SegmentKind.TheVariants.{Code}
-use Rattle.decoder_model.specs.Faults.{part_size, is_too_deep, too_deep_at, too_deep_fault, depth_fault}
+use Rattle.decoder_model.specs.Faults.{part_size, is_too_deep, too_deep_at, too_deep_fault}
 use Rattle.decoder_model.specs.Pixels.{bottom_parts}
 use Rattle.decoder_model.specs.Readings.{Content}
 use Rattle.decoder_model.specs.declared.set_fault.SetFault.TheVariants as fault
 use Rattle.pixel_codes.proofs.Bits.{length-bits_of}
-use Rattle.page_core.specs.Painted.{FieldRuns, IsCheckedBlock, AreChecked}
+use Rattle.page_core.specs.Painted.{IsCheckedBlock, AreChecked}
 
 part_here : (region : Depth) (part : Part) (bytes : List ℕ) → IsPart Eight part bytes → is_too_deep region part ≡ false → IsPart region part bytes
 part_here region (string depth codes) bytes h shallow =

@@ -1,17 +1,17 @@
 -- A walk over the entries of a page.
-use Rattle.std.proofs.Common.{◌≡◌, ◌∙◌, refl, sym, ap, subst, ℕ, ◌<◌, Bool, true, List, [], ◌∷◌, length, All, Contains, Option, Some, None, arith}
+use Rattle.std.proofs.Common.{◌≡◌, ◌∙◌, sym, ap, true, List, [], ◌∷◌, Contains, Option, Some, None}
 use Rattle.std.specs.Prelude.{MatchOption}
 use Rattle.std.specs.List.{cons_option}
 use Rattle.std.specs.Option.{is_some}
 use Rattle.std.proofs.lemmas.List.Elements.{All-contains}
 use Rattle.stream_syntax.specs.declared.page.PageEntry.{PageEntry}
-use Rattle.comp_pool.specs.Places.{first_of, behind, rest_from}
-use Rattle.comp_pool.specs.Pool.{PoolOf, list_of, IsInList, NoneTwice}
+use Rattle.comp_pool.specs.Places.{first_of, behind}
+use Rattle.comp_pool.specs.Pool.{PoolOf, list_of, NoneTwice}
 use Rattle.comp_pool.specs.declared.node.NodeId.{NodeId}
 use Rattle.comp_pool.proofs.NodeLaws.{in_list_first, in_list_behind}
 use Rattle.comp_pool.proofs.WalkLaws.{walk_start, walk_step}
 use Rattle.page_core.specs.Entries.{entries_left, IsWalk}
-use Rattle.page_core.specs.Nodes.{AreKind, kept_in, entry_in, IsSorted}
+use Rattle.page_core.specs.Nodes.{kept_in, entry_in, IsSorted}
 use Rattle.page_core.specs.declared.node.Node.{Node}
 
 -- a walk begins at the first node

@@ -1,8 +1,7 @@
 -- An object that is painted in all regions, one after another.
-use Rattle.std.proofs.Common.{◌≡◌, ◌≢◌, ◌∙◌, refl, sym, ap, subst, inl, inr, ℕ, zero, suc, ◌+◌, ◌<◌, ◌≤◌, ◌⊎◌, Bool, true, false, ◌||◌, ◌&&◌, not, cond, eqb, List, [], ◌∷◌, ◌++◌, length, map, find, All, Contains, Option, Some, None, option_map, arith, append_assoc}
-use Rattle.std.specs.List.{list_any, cons_option}
+use Rattle.std.proofs.Common.{◌≡◌, ◌∙◌, refl, sym, subst, ℕ, Bool, true, false, ◌||◌, cond, List, [], ◌∷◌, Option, Some, None, option_map}
+use Rattle.std.specs.List.{list_any}
 use Rattle.std.specs.Option.{option_or}
-use Rattle.std.proofs.lemmas.Bool.Decides.{nat_tests}
 use Rattle.sub_base.specs.Lists.{last_given}
 use Rattle.stream_syntax.specs.Segments.{Object}
 use Rattle.comp_pool.specs.declared.node.NodeId.{NodeId}
@@ -12,7 +11,7 @@ use Rattle.decoder_model.specs.Readings.{Content}
 use Rattle.decoder_model.specs.declared.set_fault.SetFault.{SetFault}
 use Rattle.pixel_store.specs.Regions.{Regions}
 use Rattle.page_core.specs.Everywhere.{HasNoFault}
-use Rattle.page_core.specs.Listings.{due_node, code_by_node, code_by_pair}
+use Rattle.page_core.specs.Listings.{code_by_node, code_by_pair}
 use Rattle.page_core.specs.Nodes.{listing_in, listings_list}
 use Rattle.page_core.specs.ObjectFaults.{in_region, is_due_node, is_due_pair}
 use Rattle.page_core.specs.Painted.{FieldRuns, IsWritten, field_runs}

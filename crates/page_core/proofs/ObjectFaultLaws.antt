@@ -1,24 +1,22 @@
 -- The fault of an object in the regions of a page memory is that in the regions of the taken segments.
-use Rattle.std.proofs.Common.{◌≡◌, ◌∙◌, refl, sym, ap, subst, ℕ, zero, suc, ◌+◌, ◌<◌, ◌≤◌, Bool, true, false, not, ◌&&◌, ◌||◌, cond, eqb, List, [], ◌∷◌, length, map, filter, find, Contains, Option, Some, None, option_map, arith}
+use Rattle.std.proofs.Common.{◌≡◌, ◌∙◌, refl, sym, ap, ℕ, suc, ◌<◌, ◌≤◌, Bool, true, false, not, ◌&&◌, ◌||◌, cond, eqb, List, [], ◌∷◌, length, map, Contains, Option, Some, None, option_map, arith}
 use Rattle.std.specs.List.{list_any, range_with_len}
 use Rattle.std.proofs.lemmas.Bool.{eqb-true}
 use Rattle.std.proofs.lemmas.Bool.Decides.{nat_tests}
 use Rattle.sub_base.specs.Lists.{first_given}
-use Rattle.sub_base.specs.declared.depth.Depth.{Depth}
 use Rattle.stream_syntax.specs.Segments.{Object, Region}
 use Rattle.stream_syntax.specs.declared.region.Listing.{Listing}
-use Rattle.stream_syntax.specs.declared.region.RegionHead.{RegionHead}
 use Rattle.decoder_model.specs.Faults.{depth_fault, fault_in_region, fault_in_regions, all_region_ids}
 use Rattle.decoder_model.specs.Pixels.{is_painting, listings_naming, listings_by, painted_listings, depth_of}
 use Rattle.decoder_model.specs.Readings.{Content}
 use Rattle.decoder_model.specs.Taken.{Taken, taken_of, taken_region}
 use Rattle.decoder_model.specs.declared.set_fault.SetFault.{SetFault}
-use Rattle.page_core.specs.Composition.{Composition, KeptListing, KeptRegion, region_in}
+use Rattle.page_core.specs.Composition.{KeptRegion, region_in}
 use Rattle.page_core.specs.Listings.{is_due, IsPainter}
 use Rattle.page_core.specs.Memory.{Memory, Holds, head_of, kept_listing}
 use Rattle.page_core.specs.ObjectFaults.{least_of, in_region, fault_in_kept, AreById}
 use Rattle.page_core.specs.declared.composition.listings.Painter.{Painter}
-use Rattle.page_core.proofs.ObjectRegions.{IsLeast, AreNone, IsLeastOf, least_is, first_at, none_at}
+use Rattle.page_core.proofs.ObjectRegions.{IsLeastOf, least_is, first_at, none_at}
 use Rattle.page_core.proofs.ObjectSteps.{due_is}
 use Rattle.page_core.proofs.RegionNodes.{found_there}
 

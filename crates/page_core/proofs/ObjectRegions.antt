@@ -1,11 +1,11 @@
 -- The fault of an object in the regions of a composition, and in those of the taken segments.
-use Rattle.std.proofs.Common.{◌≡◌, ◌≢◌, ◌∙◌, refl, sym, ap, subst, inl, inr, ℕ, zero, suc, ◌+◌, ◌<◌, ◌≤◌, ◌⊎◌, Bool, true, false, ◌||◌, cond, eqb, ltb, List, [], ◌∷◌, length, map, Contains, Option, Some, None, option_map, arith}
+use Rattle.std.proofs.Common.{◌≡◌, ◌∙◌, refl, sym, ap, subst, inl, inr, ℕ, zero, suc, ◌+◌, ◌<◌, ◌≤◌, ◌⊎◌, Bool, true, false, ◌||◌, cond, ltb, List, [], ◌∷◌, map, Contains, Option, Some, None, option_map, arith}
 use Rattle.std.specs.List.{list_any, cons_option, range_with_len}
 use Rattle.std.specs.Option.{option_or}
 use Rattle.std.proofs.lemmas.Bool.{cases_lt}
 use Rattle.std.proofs.lemmas.Bool.Decides.{nat_tests}
 use Rattle.sub_base.specs.Lists.{first_given}
-use Rattle.stream_syntax.specs.Segments.{Object, Region}
+use Rattle.stream_syntax.specs.Segments.{Object}
 use Rattle.comp_pool.specs.declared.node.NodeId.{NodeId}
 use Rattle.comp_pool.specs.Pool.{PoolOf, list_of}
 use Rattle.decoder_model.specs.Faults.{depth_fault}
@@ -14,7 +14,7 @@ use Rattle.decoder_model.specs.declared.set_fault.SetFault.{SetFault}
 use Rattle.decoder_model.specs.declared.set_fault.SetFault.TheVariants as fault
 use Rattle.stream_syntax.specs.declared.segment_fault.SegmentFault.{SegmentFault}
 use Rattle.page_core.specs.declared.composition.objects.RegionFault.{RegionFault}
-use Rattle.page_core.specs.Composition.{Composition, KeptListing, KeptRegion}
+use Rattle.page_core.specs.Composition.{Composition, KeptListing}
 use Rattle.page_core.specs.Listings.{is_due}
 use Rattle.page_core.specs.Nodes.{kept_in, region_node, region_kept, listing_in, listings_list, composition_of}
 use Rattle.page_core.specs.ObjectFaults.{lesser, least_of, in_region, fault_in_kept, is_due_node, is_due_pair, fault_in_region_node, fault_in_node, fault_in_pair, told}

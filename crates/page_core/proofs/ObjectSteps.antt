@@ -1,21 +1,19 @@
 -- What an object segment does to a region, in the words of the taken segments (EN 300 743, clause 7.2.5).
-use Rattle.std.proofs.Common.{◌≡◌, ◌∙◌, refl, sym, ap, subst, one-add, ℕ, ◌+◌, ◌<◌, Bool, true, false, ◌&&◌, not, cond, eqb, List, [], ◌∷◌, map, Option, Some, None, arith}
+use Rattle.std.proofs.Common.{◌≡◌, ◌∙◌, refl, sym, ap, one-add, ℕ, ◌+◌, ◌<◌, Bool, true, false, ◌&&◌, not, cond, eqb, List, [], ◌∷◌, map, Option, Some, None, arith}
 use Rattle.std.specs.Prelude.{unwrap_or, take}
 use Rattle.std.specs.List.{prefix_len}
 use Rattle.std.specs.Option.{is_none, option_or}
 use Rattle.std.proofs.lemmas.Bool.{eqb-true}
 use Rattle.std.proofs.lemmas.Bool.Decides.{nat_tests}
 use Rattle.sub_base.specs.Lists.{first_given, last_given}
-use Rattle.sub_base.specs.declared.depth.Depth.{Depth}
 use Rattle.stream_syntax.specs.PixelBlocks.{Part}
 use Rattle.stream_syntax.specs.Segments.{SegmentValue, Object, Region, of_object}
 use Rattle.stream_syntax.specs.declared.region.Listing.{Listing}
 use Rattle.decoder_model.specs.Contents.{where_passes, region_in, object_in, object_named, region_named}
-use Rattle.decoder_model.specs.Pixels.{object_version, since_region, is_painting, listings_naming, listings_by, painted_listings, code_by_listing, code_by_listings, code_by_segment, last_code, pixel_of}
+use Rattle.decoder_model.specs.Pixels.{object_version, since_region, is_painting, listings_by, painted_listings, code_by_listing, code_by_listings, code_by_segment, last_code, pixel_of}
 use Rattle.decoder_model.specs.Readings.{Content}
 use Rattle.decoder_model.specs.Taken.{Taken, has_new_version, taken_region}
 use Rattle.pixel_store.specs.Regions.{Regions, region_at, code_of}
-use Rattle.page_core.specs.Composition.{KeptListing}
 use Rattle.page_core.specs.Listings.{is_due, code_by_kept, painted_listing, IsPainter}
 use Rattle.page_core.specs.Memory.{kept_listing}
 use Rattle.page_core.specs.Painted.{FieldRuns, IsWritten, code_by_fields, field_runs}

@@ -1,22 +1,21 @@
 -- The composition behind an object that paints a region.
-use Rattle.std.proofs.Common.{◌≡◌, ◌≢◌, ◌∙◌, refl, sym, ap, subst, inl, inr, ℕ, ◌+◌, ◌<◌, Bool, true, false, cond, eqb, List, [], ◌∷◌, length, map, find, All, Option, Some, None, option_map, arith}
+use Rattle.std.proofs.Common.{◌≡◌, ◌≢◌, ◌∙◌, refl, sym, ap, subst, inl, inr, ℕ, ◌<◌, Bool, true, false, cond, eqb, List, [], ◌∷◌, map, find, Option, Some, None, option_map, arith}
 use Rattle.std.specs.List.{cons_option}
 use Rattle.std.specs.Option.{is_some, option_or}
 use Rattle.std.proofs.lemmas.Bool.{cases_eq, eqb-true}
 use Rattle.std.proofs.lemmas.Bool.Decides.{nat_tests}
-use Rattle.std.proofs.lemmas.List.Elements.{All-head, All-tail, All-nil, All-map}
+use Rattle.std.proofs.lemmas.List.Elements.{All-map}
 use Rattle.sub_base.specs.Lists.{last_given}
 use Rattle.comp_pool.specs.declared.node.NodeId.{NodeId}
-use Rattle.comp_pool.specs.Pool.{PoolOf, list_of, node_count}
+use Rattle.comp_pool.specs.Pool.{PoolOf, list_of}
 use Rattle.decoder_model.proofs.Searches.{option_or-none}
 use Rattle.pixel_store.specs.Regions.{Regions}
 use Rattle.page_core.specs.Composition.{Composition, KeptListing, KeptRegion, region_in}
-use Rattle.page_core.specs.Listings.{is_due, code_by_kept, painted_listing, painted_region, with_painted, code_by_node, code_by_pair, due_node, painted_node}
+use Rattle.page_core.specs.Listings.{code_by_kept, painted_listing, painted_region, with_painted, code_by_node, code_by_pair, due_node, painted_node}
 use Rattle.page_core.specs.Lists.{with_changed, IsRewritten}
 use Rattle.page_core.specs.Nodes.{kept_in, AreKind, entry_in, region_node, listing_in, listing_kept, clut_node, colour_in, listings_list, region_kept, composition_of, IsSorted, IsIndexed, is_region_of, is_clut_of, node_of}
 use Rattle.page_core.specs.Painted.{FieldRuns, IsWritten}
 use Rattle.page_core.specs.declared.composition.listings.Painter.{Painter}
-use Rattle.page_core.specs.declared.node.ListingNode.{ListingNode}
 use Rattle.page_core.specs.declared.node.Node.{Node}
 use Rattle.page_core.specs.declared.node.Node.TheVariants as node
 use Rattle.page_core.specs.declared.node.RegionNode.{RegionNode}

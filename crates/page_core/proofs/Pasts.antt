@@ -1,7 +1,6 @@
 -- What a memory has to do with one more set or loss.
-use Rattle.std.proofs.Common.{◌≡◌, ◌∙◌, ℕ, ◌-◌, ◌<◌, Bool, true, false, List, [], ◌∷◌, length, map, reverse, Option, Some, None, option_map, unwrap_or, refl, sym, ap, subst, arith}
+use Rattle.std.proofs.Common.{◌≡◌, ◌∙◌, ℕ, ◌-◌, List, [], ◌∷◌, length, map, Option, Some, None, option_map, unwrap_or, refl, sym, ap, subst, arith}
 use Rattle.std.specs.Option.{is_some, option_or}
-use Rattle.sub_base.specs.declared.profile.Profile.{Profile}
 use Rattle.decoder_model.specs.Free.{nodes_held, pixels_held}
 use Rattle.decoder_model.specs.Ink.{ink_of}
 use Rattle.decoder_model.specs.Kept.{lifted_behind, last_time, epoch_of}
@@ -9,7 +8,7 @@ use Rattle.std.specs.List.{list_any}
 use Rattle.decoder_model.specs.Nodes.{is_same_entry, region_ids, clut_ids, table_entries}
 use Rattle.decoder_model.specs.Readings.{Content, Reading}
 use Rattle.decoder_model.specs.Sets.{Delivery, lost, whole, refused}
-use Rattle.decoder_model.specs.Taken.{segments_of, taken_among, taken_of}
+use Rattle.decoder_model.specs.Taken.{segments_of, taken_among}
 use Rattle.decoder_model.specs.Verdict.{sets_with, sets_since, known_epoch, if_kept, verdict_on_kept}
 use Rattle.decoder_model.specs.declared.set_end.SetEnd.{SetEnd}
 use Rattle.decoder_model.specs.Faults.{contents_in}
@@ -21,7 +20,7 @@ use Rattle.page_core.specs.declared.epoch.Start.TheVariants.{Begins, GoesOn, Wai
 use Rattle.page_core.proofs.Standings.{WaitsOrShows, waits_or_shows, no_epoch}
 use Rattle.decoder_model.specs.declared.set_fault.SetFault.{SetFault}
 use Rattle.pixel_store.specs.Regions.{Regions}
-use Rattle.page_core.specs.Composition.{Composition, KeptRegion, KeptClut, region_in, clut_in, no_composition}
+use Rattle.page_core.specs.Composition.{Composition, KeptRegion, KeptClut, region_in, clut_in}
 use Rattle.page_core.specs.Memory.{Memory, IsForgotten, IsSameReceiver, Forgets, Holds, Stands}
 
 -- ---- nothing is known

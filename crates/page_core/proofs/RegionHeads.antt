@@ -1,5 +1,5 @@
 -- The numbers of a region segment's head fit their fields: the code that fills the region is one of its depth.
-use Rattle.std.proofs.Common.{◌≡◌, sym, subst, ℕ, ◌<◌, ◌^◌, List, ◌++◌, arith}
+use Rattle.std.proofs.Common.{subst, ℕ, ◌<◌, List}
 use Rattle.sub_base.specs.Depth.{code_count}
 use Rattle.sub_base.specs.declared.depth.Depth.{Depth}
 use Rattle.sub_base.specs.declared.depth.Depth.TheVariants.{Two, Four, Eight}

@@ -1,20 +1,15 @@
 -- The listings of a region that an object paints, one after another.
-use Rattle.std.proofs.Common.{◌≡◌, ◌∙◌, refl, sym, ap, subst, ℕ, ◌+◌, ◌<◌, Bool, true, false, cond, eqb, List, [], ◌∷◌, ◌++◌, length, map, All, Contains, Option, Some, None, option_map, arith}
-use Rattle.std.specs.List.{cons_option}
-use Rattle.std.specs.Option.{is_some, option_or}
+use Rattle.std.proofs.Common.{◌≡◌, ◌∙◌, ap, subst, ℕ, List, [], ◌∷◌, Contains, Option, Some, None}
 use Rattle.sub_base.specs.Lists.{last_given}
 use Rattle.comp_pool.specs.declared.node.NodeId.{NodeId}
 use Rattle.comp_pool.specs.Pool.{PoolOf, list_of, IsInList, NoneTwice, node_count}
 use Rattle.comp_pool.specs.Places.{first_of, behind}
 use Rattle.comp_pool.specs.Changes.{replaced}
-use Rattle.decoder_model.specs.Taken.{has_new_version}
-use Rattle.decoder_model.proofs.Searches.{option_or-none}
 use Rattle.pixel_store.specs.Regions.{Regions}
 use Rattle.stream_syntax.specs.declared.region.RegionHead.{RegionHead}
-use Rattle.page_core.specs.Composition.{Composition, KeptListing, KeptRegion, region_in}
-use Rattle.page_core.specs.Listings.{is_due, code_by_kept, painted_listing, painted_region, with_painted, code_by_node, code_by_pair, painted_node}
-use Rattle.page_core.specs.Lists.{KeepsBeside, with_changed, IsRewritten}
-use Rattle.page_core.specs.Nodes.{kept_in, listing_in, listing_kept}
+use Rattle.page_core.specs.Listings.{code_by_node, code_by_pair, painted_node}
+use Rattle.page_core.specs.Lists.{IsRewritten}
+use Rattle.page_core.specs.Nodes.{listing_in}
 use Rattle.page_core.specs.Painted.{FieldRuns, HasRegion, IsWritten}
 use Rattle.page_core.specs.declared.composition.listings.Painter.{Painter}
 use Rattle.page_core.specs.declared.node.Node.{Node}

@@ -6,7 +6,7 @@ use Rattle.comp_pool.specs.declared.node.NodeId.{NodeId}
 use Rattle.comp_pool.specs.Pool.{PoolOf, list_of, nodes_of, IsInList, NoneTwice, node_count}
 use Rattle.comp_pool.specs.Places.{is_node, first_of, behind, rest_from}
 use Rattle.comp_pool.specs.Changes.{replaced, with_item}
-use Rattle.comp_pool.proofs.PairLaws.{Off, AtOne, off_before, behind_split, is_node_other}
+use Rattle.comp_pool.proofs.PairLaws.{AtOne, off_before, behind_split, is_node_other}
 use Rattle.comp_pool.proofs.ItemLaws.{in_list_from_item, list_after_set, list_count_after_set}
 use Rattle.comp_pool.proofs.NodeLaws.{one_item, one_list, nodes_after_set}
 use Rattle.comp_pool.proofs.WalkLaws.{set_split, walk_step}

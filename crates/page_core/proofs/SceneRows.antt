@@ -1,18 +1,15 @@
 -- The rows of the picture of a page memory are those of the scene that the memory stands for.
-use Rattle.std.proofs.Common.{◌≡◌, ◌∙◌, refl, sym, ap, subst, inl, inr, ℕ, ◌+◌, ◌-◌, ◌*◌, ◌<◌, ◌≤◌, Bool, true, false, ◌&&◌, cond, eqb, List, [], ◌∷◌, length, map, find, All, Option, Some, None, arith}
+use Rattle.std.proofs.Common.{◌≡◌, ◌∙◌, refl, sym, ap, subst, ℕ, ◌+◌, ◌-◌, ◌*◌, ◌<◌, ◌≤◌, Bool, true, false, cond, eqb, List, [], ◌∷◌, length, map, All, Option, Some, None, arith}
 use Rattle.std.specs.Prelude.{unwrap_or, option_map}
 use Rattle.std.specs.List.{flat_map, list_any, range_with_len}
 use Rattle.std.specs.Option.{option_or}
 use Rattle.std.proofs.lemmas.Bool.{eqb-true}
 use Rattle.std.proofs.lemmas.Bool.Decides.{nat_tests}
-use Rattle.std.proofs.lemmas.List.Elements.{All-head, All-tail}
 use Rattle.sub_base.specs.Colour.{clear}
 use Rattle.sub_base.specs.Depth.{code_count}
 use Rattle.sub_base.specs.Lists.{last_given}
-use Rattle.sub_base.specs.declared.colour.Colour.{Colour}
 use Rattle.sub_base.specs.declared.depth.Depth.{Depth}
-use Rattle.stream_syntax.specs.Segments.{Page, Region, Display, SegmentValue, of_page, of_region, of_clut, of_object, of_display, end_of_set, passed_over}
-use Rattle.stream_syntax.specs.declared.display.Window.{Window}
+use Rattle.stream_syntax.specs.Segments.{Page, Region, Display}
 use Rattle.stream_syntax.specs.declared.page.PageEntry.{PageEntry}
 use Rattle.stream_syntax.specs.declared.region.RegionHead.{RegionHead}
 use Rattle.decoder_model.specs.Contents.{region_named, region_of, where_passes}
@@ -27,7 +24,7 @@ use Rattle.decoder_model.specs.Taken.{Taken, segments_of, taken_of, taken_region
 use Rattle.pixel_store.specs.Codes.{codes_in_byte, packed_code, packed_length}
 use Rattle.pixel_store.specs.Regions.{region_at, IsPackedRow}
 use Rattle.page_core.specs.Composition.{KeptRegion, region_in}
-use Rattle.page_core.specs.Memory.{Memory, HasSides, IsWhole, Holds, head_of, code_in, ink_in}
+use Rattle.page_core.specs.Memory.{Memory, HasSides, IsWhole, Holds, head_of, code_in}
 use Rattle.page_core.specs.Rows.{colour_in, colour_through, colour_by_entry, colour_at, row_in, picture_in, listed_in, IsLineLent}
 use Rattle.page_core.proofs.DrawnEntries.{code_below}
 use Rattle.page_core.proofs.Finds.{found_all}

@@ -1,5 +1,5 @@
 -- What is written to a region of a store: nothing, a run, and one thing after another.
-use Rattle.std.proofs.Common.{◌≡◌, ◌≢◌, ◌∙◌, refl, sym, ap, subst, inl, inr, ℕ, ◌+◌, ◌*◌, ◌<◌, ◌≤◌, ◌^◌, ◌⊎◌, Bool, true, false, ◌&&◌, not, eqb, cond, min, List, [], ◌∷◌, length, Option, Some, None, arith}
+use Rattle.std.proofs.Common.{◌≡◌, ◌∙◌, refl, sym, ap, subst, inl, inr, ℕ, ◌+◌, ◌*◌, ◌<◌, ◌^◌, Bool, true, false, ◌&&◌, eqb, cond, min, List, [], ◌∷◌, Option, Some, None, arith}
 use Rattle.std.specs.Prelude.{unwrap_or}
 use Rattle.std.specs.Option.{option_or}
 use Rattle.std.proofs.lemmas.Bool.{cases_eq, cases_lt}
@@ -12,7 +12,7 @@ use Rattle.stream_syntax.specs.declared.region.Listing.{Listing}
 use Rattle.stream_syntax.specs.declared.region.RegionHead.{RegionHead}
 use Rattle.decoder_model.specs.Pixels.{is_covered, is_changed, code_by_run, code_by_field, code_by_listings, listings_naming}
 use Rattle.decoder_model.proofs.Searches.{option_or-none}
-use Rattle.pixel_store.specs.Regions.{Region, Regions, IsPlaced, KeepsOthers, IsRunPainted, region_at, code_of}
+use Rattle.pixel_store.specs.Regions.{Region, Regions, KeepsOthers, IsRunPainted, region_at, code_of}
 use Rattle.page_core.specs.Painted.{HasRegion, IsWritten, HaveCodes, FieldRuns, code_by_fields_in, field_runs}
 
 -- ---- what is kept

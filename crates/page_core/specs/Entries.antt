@@ -1,5 +1,5 @@
 -- The entries of a page that are left in a walk over the list of its nodes.
-use Rattle.std.specs.Prelude.{ℕ, List, Option}
+use Rattle.std.specs.Prelude.{List, Option}
 use Rattle.std.specs.Option.{ForSome}
 use Rattle.stream_syntax.specs.declared.page.PageEntry.{PageEntry}
 use Rattle.comp_pool.specs.Places.{rest_from}

@@ -1,6 +1,6 @@
 -- What an object changes in the listings of a region (EN 300 743, clause 7.2.5): it paints those that name it and are unpainted, or
 -- were painted with another version.
-use Rattle.std.specs.Prelude.{◌≡◌, ℕ, ◌==◌, ◌&&◌, Bool, if◌then◌else◌, List, map, Option, Some, None}
+use Rattle.std.specs.Prelude.{◌≡◌, ℕ, ◌==◌, ◌&&◌, Bool, if◌then◌else◌, map, Option, Some, None}
 use Rattle.segments.specs.declared.object.ObjectSeg.{ObjectSeg}
 use Rattle.stream_syntax.specs.Segments.{Object}
 use Rattle.decoder_model.specs.Taken.{has_new_version}

@@ -1,5 +1,5 @@
 -- The fault of an object in the regions in which it paints: that of the region of the least id.
-use Rattle.std.specs.Prelude.{◌≡◌, ℕ, ◌<◌, Bool, true, false, nat_lt, if◌then◌else◌, List, [], ◌∷◌, Option, Some, None, option_map, Contains}
+use Rattle.std.specs.Prelude.{◌≡◌, ℕ, ◌<◌, Bool, false, nat_lt, if◌then◌else◌, List, [], ◌∷◌, Option, Some, None, option_map, Contains}
 use Rattle.std.specs.List.{list_any}
 use Rattle.stream_syntax.specs.Segments.{Object}
 use Rattle.comp_pool.specs.Pool.{PoolOf, list_of}

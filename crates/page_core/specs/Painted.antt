@@ -4,7 +4,7 @@ use Rattle.std.specs.Option.{option_or}
 use Rattle.sub_base.specs.Depth.{code_count}
 use Rattle.sub_base.specs.Lists.{last_given}
 use Rattle.sub_base.specs.declared.depth.Depth.{Depth}
-use Rattle.stream_syntax.specs.PixelBlocks.{Part, AreParts, runs_after, IsBlock}
+use Rattle.stream_syntax.specs.PixelBlocks.{Part, runs_after}
 use Rattle.stream_syntax.specs.declared.pixel_run.Run.{Run}
 use Rattle.stream_syntax.specs.declared.region.Listing.{Listing}
 use Rattle.stream_syntax.specs.declared.region.RegionHead.{RegionHead}
