@@ -94,8 +94,10 @@ impl Core {
     /// waits.
     pub fn refuse_set(&mut self, pts: u64, fault: SetFault) -> SetEnd
         requires { pts < 2 ^ 33 }
-        ensures stands { (past : List (Delivery Reading)) (size : ℕ) → Stands past self.old → Stands (refused pts size fault ∷ past) self.new }
-        ensures answer { (past : List (Delivery Reading)) (size : ℕ) → Stands past self.old → Some result ≡ verdict_of self.old.profile self.old.anchor past (refused pts size fault) }
+        ensures stands { (past : List (Delivery Reading)) (size : ℕ) → Stands past self.old
+            → Stands (refused pts size fault ∷ past) self.new }
+        ensures answer { (past : List (Delivery Reading)) (size : ℕ) → Stands past self.old
+            → Some result ≡ verdict_of self.old.profile self.old.anchor past (refused pts size fault) }
         ensures unchanged { (time : ℕ) → result ≡ NotLater time → self.new ≡ self.old }
         ensures broken { (why : WhyBroken) → result ≡ Broken why → IsForgotten self.new }
         ensures same { IsSameReceiver self.old self.new }
@@ -133,7 +135,8 @@ impl Core {
     /// kept.
     pub fn lift(&self, pts: u64) -> Option<u64>
         requires { pts < 2 ^ 33 }
-        ensures lifted { (past : List (Delivery Reading)) (size : ℕ) (readings : List Reading) → Stands past self.now → result ≡ lifted_time self.now.anchor past (whole pts size readings) }
+        ensures lifted { (past : List (Delivery Reading)) (size : ℕ) (readings : List Reading)
+            → Stands past self.now → result ≡ lifted_time self.now.anchor past (whole pts size readings) }
         ensures bounded { IfSome result (λ time. time < 2 ^ 62) }
     {
         lifted_behind(self.anchor, self.last, pts)
@@ -142,7 +145,8 @@ impl Core {
     /// How many nodes of the composition memory are free.
     pub fn free_nodes(&self) -> u32
         ensures value { result ≡ self.now.composition.free }
-        ensures free { (past : List (Delivery Reading)) → Stands past self.now → result ≡ free_nodes_after self.now.profile self.now.anchor past }
+        ensures free { (past : List (Delivery Reading)) → Stands past self.now
+            → result ≡ free_nodes_after self.now.profile self.now.anchor past }
     {
         self.composition.free()
     }
@@ -150,7 +154,8 @@ impl Core {
     /// How many bytes of pixels are free.
     pub fn free_pixels(&self) -> u64
         ensures value { result ≡ self.now.store.free }
-        ensures free { (past : List (Delivery Reading)) → Stands past self.now → result ≡ free_pixels_after self.now.profile self.now.anchor past }
+        ensures free { (past : List (Delivery Reading)) → Stands past self.now
+            → result ≡ free_pixels_after self.now.profile self.now.anchor past }
     {
         self.store.free()
     }
@@ -158,9 +163,11 @@ impl Core {
     // A kept set whose verdict is known before its epoch is looked at: it waits, or is broken.
     fn end_early(&mut self, time: u64)
         requires { time < 2 ^ 62 }
-        ensures stands { (past : List (Delivery Reading)) (pts size : ℕ) (readings : List Reading) (end : Verdict) → Stands past self.old
+        ensures stands { (past : List (Delivery Reading)) (pts size : ℕ) (readings : List Reading) (end : Verdict)
+            → Stands past self.old
             → lifted_time self.old.anchor past (whole pts size readings) ≡ Some time
-            → verdict_on_kept self.old.profile (sets_since self.old.profile self.old.anchor past) readings ≡ end → IsEarly end
+            → verdict_on_kept self.old.profile (sets_since self.old.profile self.old.anchor past) readings ≡ end
+            → IsEarly end
             → Stands (whole pts size readings ∷ past) self.new }
         ensures same { IsSameReceiver self.old self.new }
         ensures forgotten { IsForgotten self.new }
@@ -174,7 +181,8 @@ impl Core {
         ensures last { self.new.last ≡ Some time }
         ensures same { IsSameReceiver self.old self.new }
         ensures begun { (past : List (Delivery Reading)) (set : List Content) → Stands past self.old
-            → IsStart (sets_since self.old.profile self.old.anchor past) set start → IsBegun (sets_since self.old.profile self.old.anchor past) set start self.new }
+            → IsStart (sets_since self.old.profile self.old.anchor past) set start
+            → IsBegun (sets_since self.old.profile self.old.anchor past) set start self.new }
     {
         self.last = Some(time);
         match start {
