@@ -37,3 +37,6 @@ pub mod ObjectSteps
 pub mod ObjectRegions
 pub mod ObjectFaultLaws
 pub mod EverywhereLaws
+pub mod EverywhereWalks
+pub mod EverywhereWrites
+pub mod EverywhereKept

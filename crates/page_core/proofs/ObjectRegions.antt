@@ -36,7 +36,7 @@ pub due_listings : (painter : Painter) (ps : List (NodeId × Node)) → list_any
 due_listings painter [] = refl
 due_listings painter (p ∷ ps) = ap (λ (rest : Bool). is_due_node painter p.1 || rest) (due_listings painter ps) ∙ due_listing painter p.1 (kept_in listing_in ps)
 
-fault_of_region : (pool : PoolOf Node) (painter : Painter) (content : Content) (object : Object) (region : RegionNode)
+pub fault_of_region : (pool : PoolOf Node) (painter : Painter) (content : Content) (object : Object) (region : RegionNode)
     → fault_in_region_node pool painter content object region ≡ fault_in_kept painter content object (region_kept pool region)
 fault_of_region pool painter content object region =
     ap (λ (due : Bool). cond due (option_map (in_region region.head.region) (depth_fault region.head.depth content object)) None) (due_listings painter (list_of pool (listings_list region.head.region)))

@@ -47,8 +47,17 @@ listings_of_list object (p ∷ ps) =
     by None = refl
     by (Some kept) = refl
 
+-- each list has items of its kind
+pub kinds_of : (object : Painter) (ps : List (NodeId × Node)) → AreKind listing_in ps → AreKind listing_in (map (with_changed (painted_node object)) ps)
+kinds_of object ps kinds = All-map (λ (pair : NodeId × Node). is_some (listing_in pair.1) ≡ true) (with_changed (painted_node object)) ps
+    (λ k d within. ap is_some (listing_of_node object _) ∙ still (listing_in _) (kinds k d within))
+  where
+    still : (o : Option KeptListing) → is_some o ≡ true → is_some (option_map (painted_listing object) o) ≡ true
+    still None e = e
+    still (Some kept) e = e
+
 -- what is written through the nodes of a list is written through its listings
-written_through : (object : Painter) (fields : FieldRuns) (x y : ℕ) (ps : List (NodeId × Node)) → last_given (code_by_pair object fields x y) ps ≡ last_given (code_by_kept object fields x y) (kept_in listing_in ps)
+pub written_through : (object : Painter) (fields : FieldRuns) (x y : ℕ) (ps : List (NodeId × Node)) → last_given (code_by_pair object fields x y) ps ≡ last_given (code_by_kept object fields x y) (kept_in listing_in ps)
 written_through object fields x y [] = refl
 written_through object fields x y (p ∷ ps) = ap (λ found. option_or found (code_by_pair object fields x y p)) (written_through object fields x y ps) ∙ by (listing_in p.1)
   where
@@ -121,15 +130,6 @@ module _ (object : Painter) (id : ℕ) (old new : PoolOf Node) (painted : IsRewr
         free = painted.free i;
       }
 
-  -- each list has items of its kind
-  kinds_of : (ps : List (NodeId × Node)) → AreKind listing_in ps → AreKind listing_in (map (with_changed (painted_node object)) ps)
-  kinds_of ps kinds = All-map (λ (pair : NodeId × Node). is_some (listing_in pair.1) ≡ true) (with_changed (painted_node object)) ps
-      (λ k d within. ap is_some (listing_of_node object _) ∙ still (listing_in _) (kinds k d within))
-    where
-      still : (o : Option KeptListing) → is_some o ≡ true → is_some (option_map (painted_listing object) o) ≡ true
-      still None e = e
-      still (Some kept) e = e
-
   pub painted_kept : (region_nodes clut_nodes : List (Option NodeId)) → IsSorted old × IsIndexed old region_nodes clut_nodes → IsSorted new × IsIndexed new region_nodes clut_nodes
   painted_kept region_nodes clut_nodes kept = (
     record {
@@ -140,7 +140,7 @@ module _ (object : Painter) (id : ℕ) (old new : PoolOf Node) (painted : IsRewr
       colours = subst (AreKind colour_in) (sym (kept_list 3 (omega arith))) kept.0.colours;
       listings = λ other low. elim (cases_eq other id) [
         | inl e ↦ subst (λ (n : ℕ). AreKind listing_in (list_of new (listings_list n))) (sym e)
-            (subst (AreKind listing_in) (sym painted.list) (kinds_of (list_of old (listings_list id)) (kept.0.listings id (subst (λ (n : ℕ). n < 256) e low))))
+            (subst (AreKind listing_in) (sym painted.list) (kinds_of object (list_of old (listings_list id)) (kept.0.listings id (subst (λ (n : ℕ). n < 256) e low))))
         | inr ne ↦ subst (AreKind listing_in) (sym (painted.beside.others (listings_list other) (λ e. ne (omega (arith, e))))) (kept.0.listings other low)
       ];
     },
