@@ -111,11 +111,11 @@ pub kept_written : (painter : Painter) (content : Content) (pool : PoolOf Node) 
     → AreKeptWritten painter content (map (region_kept pool) regions) old new
 kept_written painter content pool [] old new same = same
 kept_written painter content pool (region ∷ regions) old new (between, written, more) = (
-    between,
-    written_as region.slot (λ x y. last_given (code_by_pair painter (field_runs region.head.depth content.top content.bottom) x y) (list_of pool (listings_list region.head.region)))
-        (λ x y. last_given (code_by_kept painter (field_runs region.head.depth content.top content.bottom) x y) (kept_in listing_in (list_of pool (listings_list region.head.region)))) old between
-        (λ x y. written_through painter (field_runs region.head.depth content.top content.bottom) x y (list_of pool (listings_list region.head.region))) written,
-    kept_written painter content pool regions between new more,
+  between,
+  written_as region.slot (λ x y. last_given (code_by_pair painter (field_runs region.head.depth content.top content.bottom) x y) (list_of pool (listings_list region.head.region)))
+      (λ x y. last_given (code_by_kept painter (field_runs region.head.depth content.top content.bottom) x y) (kept_in listing_in (list_of pool (listings_list region.head.region)))) old between
+      (λ x y. written_through painter (field_runs region.head.depth content.top content.bottom) x y (list_of pool (listings_list region.head.region))) written,
+  kept_written painter content pool regions between new more,
 )
 
 -- all that the object writes

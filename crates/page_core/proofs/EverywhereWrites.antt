@@ -30,9 +30,9 @@ region_stays : (head : RegionHead) (slot changed : ℕ) (old new : Regions) → 
 region_stays head slot changed old new keeps region = elim (cases_eq slot changed) [
   | inl e ↦ subst (λ (s : ℕ). HasRegion head s new) (sym e) (same_region head changed old new keeps (subst (λ (s : ℕ). HasRegion head s old) e region))
   | inr ne ↦ record {
-      placed = subst (λ (n : ℕ). slot < n) (sym keeps.count) region.placed;
-      sides = subst (λ r. HasSides head r) (sym (keeps.others slot ne)) region.sides;
-    }
+    placed = subst (λ (n : ℕ). slot < n) (sym keeps.count) region.placed;
+    sides = subst (λ r. HasSides head r) (sym (keeps.others slot ne)) region.sides;
+  }
 ]
 
 stays_at : (item other : Node) (old new : Regions) → KeepsAt item old new → HasRegionAt other old → HasRegionAt other new

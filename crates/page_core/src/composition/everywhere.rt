@@ -51,12 +51,7 @@ impl CompositionMemory {
 }
 
 /// Paints the object in all regions, one after another.
-fn paint_regions(
-    pool: &mut Pool<Node>,
-    painter: Painter,
-    object: &ObjectSeg<'_>,
-    store: &mut Store,
-)
+fn paint_regions(pool: &mut Pool<Node>, painter: Painter, object: &ObjectSeg<'_>, store: &mut Store)
     requires lists { length pool.old.lists ≡ list_count }
     requires regions { HaveRegions pool.old store.old }
     requires top { length object.now.top.now ≤ 65535 }
