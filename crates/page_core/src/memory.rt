@@ -5,13 +5,14 @@ ghost use Rattle.decoder_model.specs.Faults.{display_or_default};
 ghost use Rattle.decoder_model.specs.Free.{free_nodes_after, free_pixels_after};
 ghost use Rattle.decoder_model.specs.Kept.{lifted_time};
 ghost use Rattle.decoder_model.specs.Readings.{Content, Reading};
+ghost use Rattle.decoder_model.specs.Received.{AreRead};
 ghost use Rattle.decoder_model.specs.Sets.{Delivery, lost, whole, refused};
 ghost use Rattle.decoder_model.specs.Verdict.{sets_since, verdict_of, verdict_on_kept};
 ghost use Rattle.decoder_model.specs.declared.set_end.SetEnd.{SetEnd as Verdict};
 ghost use Rattle.decoder_model.specs.declared.set_end.SetEnd.TheVariants.{Broken, NotLater};
 ghost use Rattle.decoder_model.specs.declared.set_fault.SetFault.{SetFault as WhyBroken};
 ghost use Rattle.segments.specs.Contents.{display_value};
-ghost use Rattle.page_core.specs.Accepted.{IsBegun, IsEarly};
+ghost use Rattle.page_core.specs.Accepted.{IsBegun, IsEarly, IsTakenEarly};
 ghost use Rattle.page_core.specs.Epochs.{IsStart};
 ghost use Rattle.page_core.specs.Memory.{Stands, IsForgotten, IsSameReceiver, Forgets};
 
@@ -21,6 +22,7 @@ use crate::composition::CompositionMemory;
 use crate::epoch::Start;
 use crate::forget::reset_colours;
 use crate::inks::Inks;
+use crate::taking::{Accepted, accept};
 use crate::times::lifted_behind;
 use decoder_model::{SetEnd, SetFault};
 use pixel_store::Store;
@@ -160,9 +162,31 @@ impl Core {
         self.store.free()
     }
 
+    // A kept set up to the tests by its epoch: one that waits, or is broken by itself, leaves nothing.
+    fn take_early<'a>(&mut self, time: u64, bytes: &'a [u8]) -> Result<Accepted<'a>, SetEnd>
+        requires { time < 2 ^ 62 }
+        ensures taken { (past : List (Delivery Reading)) (pts size : ℕ) (readings : List Reading) → Stands past self.old
+            → lifted_time self.old.anchor past (whole pts size readings) ≡ Some time → AreRead readings bytes.now
+            → IsTakenEarly self.old past pts size readings bytes.now self.new result }
+        ensures last { self.new.last ≡ Some time }
+        ensures same { IsSameReceiver self.old self.new }
+    {
+        match accept(self.known, bytes) {
+            Err(end) => {
+                self.end_early(time);
+                Err(end)
+            }
+            Ok(accepted) => {
+                self.begin(time, accepted.start);
+                Ok(accepted)
+            }
+        }
+    }
+
     // A kept set whose verdict is known before its epoch is looked at: it waits, or is broken.
     fn end_early(&mut self, time: u64)
         requires { time < 2 ^ 62 }
+        ensures last { self.new.last ≡ Some time }
         ensures stands { (past : List (Delivery Reading)) (pts size : ℕ) (readings : List Reading) (end : Verdict)
             → Stands past self.old
             → lifted_time self.old.anchor past (whole pts size readings) ≡ Some time
