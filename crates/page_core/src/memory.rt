@@ -11,8 +11,11 @@ ghost use Rattle.decoder_model.specs.Verdict.{sets_since, verdict_of, verdict_on
 ghost use Rattle.decoder_model.specs.declared.set_end.SetEnd.{SetEnd as Verdict};
 ghost use Rattle.decoder_model.specs.declared.set_end.SetEnd.TheVariants.{Broken, NotLater};
 ghost use Rattle.decoder_model.specs.declared.set_fault.SetFault.{SetFault as WhyBroken};
-ghost use Rattle.segments.specs.Contents.{display_value};
-ghost use Rattle.page_core.specs.Accepted.{IsBegun, IsEarly, IsTakenEarly};
+ghost use Rattle.segments.specs.Contents.{display_value, page_value};
+ghost use Rattle.page_core.specs.Judging.{fault_before_nodes as first_of_tests};
+ghost use Rattle.page_core.specs.Seen.{IsFound};
+ghost use Rattle.page_core.specs.Sound.{IsSound};
+ghost use Rattle.page_core.specs.Accepted.{IsBefore, IsBegun, IsEarly, IsTakenEarly};
 ghost use Rattle.page_core.specs.Epochs.{IsStart};
 ghost use Rattle.page_core.specs.Memory.{Stands, IsForgotten, IsSameReceiver, Forgets};
 
@@ -22,6 +25,7 @@ use crate::composition::CompositionMemory;
 use crate::epoch::Start;
 use crate::forget::reset_colours;
 use crate::inks::Inks;
+use crate::judging::fault_before_nodes;
 use crate::taking::{Accepted, accept};
 use crate::times::lifted_behind;
 use decoder_model::{SetEnd, SetFault};
@@ -181,6 +185,22 @@ impl Core {
                 Ok(accepted)
             }
         }
+    }
+
+    // The first fault of a set by its epoch, up to the count of nodes.
+    fn fault_by_epoch(&self, accepted: &Accepted<'_>, bytes: &[u8]) -> Option<SetFault>
+        ensures { (set : List Content) (before : List (List Content)) → IsBefore before self.now → IsFound set accepted.now.found → IsSound set bytes.now
+            → result ≡ first_of_tests self.now.profile before set (page_value accepted.now.page) }
+    {
+        let free = self.store.free();
+        fault_before_nodes(
+            &self.profile,
+            &self.composition,
+            free,
+            &accepted.found,
+            &accepted.page,
+            bytes,
+        )
     }
 
     // A kept set whose verdict is known before its epoch is looked at: it waits, or is broken.
