@@ -1,13 +1,13 @@
 -- Lists of nodes of one kind.
-use Rattle.std.proofs.Common.{◌≡◌, ◌≢◌, ◌∙◌, refl, sym, ap, subst, ℕ, suc, ◌+◌, ◌<◌, true, List, [], ◌∷◌, length, map, All, Option, Some, None, option_map, arith}
+use Rattle.std.proofs.Common.{◌≡◌, ◌∙◌, sym, ap, subst, ℕ, true, List, [], ◌∷◌, map, Option, Some, None, option_map, arith}
 use Rattle.std.specs.Prelude.{MatchOption, drop, find}
 use Rattle.std.specs.List.{cons_option}
 use Rattle.std.specs.Option.{is_some}
 use Rattle.std.proofs.lemmas.List.Elements.{All-head, All-tail}
 use Rattle.comp_pool.specs.declared.node.NodeId.{NodeId}
 use Rattle.comp_pool.specs.Pool.{PoolOf, list_of}
-use Rattle.page_core.specs.Composition.{Composition, KeptRegion, without_colour}
-use Rattle.page_core.specs.Lists.{KeepsBeside, IsPopped}
+use Rattle.page_core.specs.Composition.{Composition, without_colour}
+use Rattle.page_core.specs.Lists.{IsPopped}
 use Rattle.page_core.specs.Nodes.{kept_in, AreKind, IsPoppedAs, IsSorted, IsIndexed, composition_of, region_kept, region_node, entry_in, clut_node, colour_in, listing_in, listings_list, place_kept, is_region_of, is_clut_of, node_of}
 use Rattle.page_core.specs.declared.node.Node.{Node}
 use Rattle.page_core.specs.declared.node.RegionNode.{RegionNode}

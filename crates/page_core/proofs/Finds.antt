@@ -1,5 +1,5 @@
 -- What is found in a list.
-use Rattle.std.proofs.Common.{◌≡◌, subst, Bool, true, false, cond, List, [], ◌∷◌, find, All, Option, Some}
+use Rattle.std.proofs.Common.{◌≡◌, subst, Bool, true, false, cond, List, [], ◌∷◌, find, All, Some}
 use Rattle.std.proofs.lemmas.List.Elements.{All-head, All-tail}
 
 -- what holds of all items holds of one that is found

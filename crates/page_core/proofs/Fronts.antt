@@ -1,11 +1,11 @@
 -- The segment at the front of framed segments.
-use Rattle.std.proofs.Common.{◌≡◌, ℕ, ◌+◌, ◌*◌, ◌<◌, ◌≤◌, List, [], ◌∷◌, ◌++◌, length, take, drop, Option, Some, None, Result, Ok, Err, IsOkAnd, refl, sym, ap, subst, ◌∙◌, arith, length-append, slice_index}
+use Rattle.std.proofs.Common.{◌≡◌, ℕ, ◌≤◌, List, ◌++◌, length, take, drop, None, Ok, Err, sym, ap, subst, ◌∙◌, arith, length-append}
 use Rattle.std.proofs.Math.Seq.{take-append_seam, drop-append_seam, take-length}
 use Rattle.std.proofs.Math.ListN.{get_or-append}
 use Rattle.std.proofs.lemmas.Bool.Decides.{nat_tests}
 use Rattle.stream_syntax.specs.SegmentTests.{frame_tests, IsSegmentFault}
 use Rattle.stream_syntax.specs.Segments.{SegmentValue, IsSegment}
-use Rattle.stream_syntax.specs.Tests.{byte_at, word_at, first_fault}
+use Rattle.stream_syntax.specs.Tests.{byte_at, first_fault}
 use Rattle.stream_syntax.specs.declared.segment_fault.SegmentFault.{SegmentFault}
 use Rattle.stream_syntax.specs.DataField.{segment_size}
 use Rattle.decoder_model.specs.Readings.{Reading, read, faulty, IsReading}

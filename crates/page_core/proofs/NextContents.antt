@@ -1,17 +1,15 @@
 -- The next content of a kind in a set.
-use Rattle.std.proofs.Common.{◌≡◌, ◌∙◌, ℕ, ◌<◌, ◌==◌, Bool, true, false, cond, List, [], ◌∷◌, filter, map, length, Option, Some, None, Result, Ok, Err, refl, sym, ap, subst, arith}
-use Rattle.std.specs.Option.{is_some}
+use Rattle.std.proofs.Common.{◌≡◌, ◌∙◌, ℕ, ◌<◌, ◌==◌, Bool, true, false, cond, List, [], ◌∷◌, filter, length, refl, sym, ap, subst, arith}
 use Rattle.std.proofs.lemmas.Bool.{eqb-true}
 use Rattle.stream_syntax.specs.Segments.{SegmentValue, of_page, of_region, of_clut, of_object, of_display, end_of_set, passed_over, IsKindOf, IsPassedOver}
 use Rattle.stream_syntax.specs.Tests.{byte_at}
-use Rattle.stream_syntax.specs.declared.segment_fault.SegmentFault.{SegmentFault}
 use Rattle.decoder_model.specs.Readings.{Content, Reading, read, IsReading}
-use Rattle.decoder_model.specs.Received.{BeginsWith, AreRead}
+use Rattle.decoder_model.specs.Received.{BeginsWith}
 use Rattle.segments.specs.Contents.{contents}
 use Rattle.segments.specs.declared.reading.Segment.{Segment}
 use Rattle.segments.proofs.Readings.{kind_of_segment}
-use Rattle.page_core.specs.Handed.{AreContents, IsCutOff, Matches}
-use Rattle.page_core.specs.Walks.{is_of, is_content_of, is_region, is_clut, is_object, IsNextOf, IsLeftOf}
+use Rattle.page_core.specs.Handed.{AreContents, IsCutOff}
+use Rattle.page_core.specs.Walks.{is_of, is_content_of, IsNextOf, IsLeftOf}
 use Rattle.page_core.specs.declared.front.Front.{Front as Cut}
 
 -- the segment type of a segment tells whether its value is of that type

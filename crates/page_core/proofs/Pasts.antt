@@ -1,12 +1,11 @@
 -- What a memory has to do with one more set or loss.
-use Rattle.std.proofs.Common.{◌≡◌, ◌∙◌, ℕ, ◌-◌, ◌<◌, Bool, true, false, List, [], ◌∷◌, length, map, reverse, Option, Some, None, option_map, unwrap_or, refl, sym, ap, subst, arith}
+use Rattle.std.proofs.Common.{◌≡◌, ◌∙◌, ℕ, ◌-◌, List, [], ◌∷◌, length, map, Option, Some, None, option_map, unwrap_or, refl, sym, ap, subst, arith}
 use Rattle.std.specs.Option.{is_some, option_or}
-use Rattle.sub_base.specs.declared.profile.Profile.{Profile}
 use Rattle.decoder_model.specs.Free.{nodes_held, pixels_held}
 use Rattle.decoder_model.specs.Ink.{ink_of}
 use Rattle.decoder_model.specs.Kept.{lifted_behind, last_time, epoch_of}
 use Rattle.std.specs.List.{list_any}
-use Rattle.decoder_model.specs.Nodes.{is_same_entry, region_ids, clut_ids, table_entries}
+use Rattle.decoder_model.specs.Nodes.{is_same_entry, pixels_used, region_ids, clut_ids, table_entries}
 use Rattle.decoder_model.specs.Readings.{Content, Reading}
 use Rattle.decoder_model.specs.Sets.{Delivery, lost, whole, refused}
 use Rattle.decoder_model.specs.Taken.{segments_of, taken_among, taken_of}
@@ -14,14 +13,14 @@ use Rattle.decoder_model.specs.Verdict.{sets_with, sets_since, known_epoch, if_k
 use Rattle.decoder_model.specs.declared.set_end.SetEnd.{SetEnd}
 use Rattle.decoder_model.specs.Faults.{contents_in}
 use Rattle.decoder_model.specs.declared.set_end.SetEnd.TheVariants.{Shown, Waiting, Broken, NotLater}
-use Rattle.page_core.specs.Accepted.{IsBegun, IsEarly}
+use Rattle.page_core.specs.Accepted.{IsBefore, IsBegun, IsEarly}
 use Rattle.page_core.specs.Epochs.{IsStart}
 use Rattle.page_core.specs.declared.epoch.Start.{Start}
 use Rattle.page_core.specs.declared.epoch.Start.TheVariants.{Begins, GoesOn, Waits}
 use Rattle.page_core.proofs.Standings.{WaitsOrShows, waits_or_shows, no_epoch}
 use Rattle.decoder_model.specs.declared.set_fault.SetFault.{SetFault}
 use Rattle.pixel_store.specs.Regions.{Regions}
-use Rattle.page_core.specs.Composition.{Composition, KeptRegion, KeptClut, region_in, clut_in, no_composition}
+use Rattle.page_core.specs.Composition.{Composition, KeptRegion, KeptClut, region_in, clut_in}
 use Rattle.page_core.specs.Memory.{Memory, IsForgotten, IsSameReceiver, Forgets, Holds, Stands}
 
 -- ---- nothing is known
@@ -162,9 +161,17 @@ kept_answer past pts time anchor verdict answer kept is = ap Some (is ∙ ap (λ
 
 -- ---- a set of an epoch
 
+no_pixels : pixels_used (taken_of []) ≡ 0
+unfolding taken_among region_ids
+no_pixels = refl
+
 -- where all is forgotten, nothing stands before the set
-pub begun_anew : (memory : Memory) → IsForgotten memory → Holds (segments_of []) memory
-begun_anew memory forgotten = subst (λ segments. Holds segments memory) (sym no_segments) (holds_nothing memory forgotten)
+pub begun_anew : (memory : Memory) → IsForgotten memory → IsBefore [] memory
+begun_anew memory forgotten = record {
+  holds = subst (λ segments. Holds segments memory) (sym no_segments) (holds_nothing memory forgotten);
+  free = ap (λ (s : Regions). s.free) forgotten.store ∙ nothing_off memory.profile.pixels ∙ ap (λ n. memory.profile.pixels - n) (sym no_pixels)
+      ∙ ap (λ segments. memory.profile.pixels - pixels_used (taken_of segments)) (sym no_segments);
+}
 
 -- a set that does not go on with an epoch finds nothing
 pub begun_by : (sets : List (List Content)) (set : List Content) (start : Start) (memory : Memory) → (start ≡ GoesOn → ⊥) → IsStart sets set start → IsForgotten memory → IsBegun sets set start memory

@@ -1,5 +1,5 @@
 -- The bytes of the regions of an epoch, with one more segment.
-use Rattle.std.proofs.Common.{◌≡◌, ◌∙◌, ℕ, ◌+◌, ◌-◌, ◌*◌, ◌/◌, ◌==◌, ◌||◌, ◌&&◌, Bool, true, false, cond, List, [], ◌∷◌, ◌++◌, filter, map, reverse, Option, Some, None, option_map, refl, sym, ap, subst, arith, inl, inr}
+use Rattle.std.proofs.Common.{◌≡◌, ◌∙◌, ℕ, ◌+◌, ◌-◌, ◌*◌, ◌/◌, ◌==◌, ◌||◌, ◌&&◌, Bool, true, false, cond, List, [], ◌∷◌, ◌++◌, filter, map, reverse, Option, Some, None, option_map, refl, sym, ap, arith, inl, inr}
 use Rattle.std.specs.Prelude.{filter_map, sum_by, nat_lt, option_and_then}
 use Rattle.std.specs.List.{list_any, cons_option}
 use Rattle.std.specs.Option.{option_or, is_some, is_none}
@@ -20,10 +20,10 @@ use Rattle.decoder_model.specs.declared.set_fault.SetFault.TheVariants.{RegionCh
 use Rattle.page_core.specs.Composition.{Composition}
 use Rattle.page_core.specs.Handed.{AreContents}
 use Rattle.page_core.specs.Memory.{head_of}
-use Rattle.page_core.specs.RegionTests.{first_in, IsQuiet, before_regions, AreApart, HasHeads, IsAsBefore, head_in, is_new, room_fault, room_left}
+use Rattle.page_core.specs.RegionTests.{first_in, before_regions, AreApart, HasHeads, IsAsBefore, head_in, is_new, room_fault, room_left}
 use Rattle.page_core.specs.Walks.{is_region, IsNextOf}
 use Rattle.page_core.proofs.Defining.{any_reversed, any_of_none, no_region_in_page, no_region_in_display, no_region_in_clut, no_region_in_object}
-use Rattle.page_core.proofs.Orders.{is_display, is_page, is_clut, is_object, first_of_regions}
+use Rattle.page_core.proofs.Orders.{first_of_regions}
 use Rattle.page_core.proofs.RegionLaws.{IsTested, starts, next_tested, passes, fails, ends, taken_by_head, changed_in_order}
 
 -- ---- ids

@@ -1,9 +1,9 @@
 -- The first node of a list taken out.
-use Rattle.std.proofs.Common.{◌≡◌, ◌≢◌, ◌∙◌, refl, sym, ap, subst, ℕ, zero, suc, true, false, ◌+◌, ◌<◌, List, [], ◌∷◌, length, Contains, Option, Some, None, arith}
+use Rattle.std.proofs.Common.{◌≡◌, ◌∙◌, refl, sym, ap, subst, ℕ, suc, true, false, ◌<◌, List, [], ◌∷◌, length, Contains, Option, Some, None, arith}
 use Rattle.std.specs.Prelude.{slice_get}
 use Rattle.std.proofs.lemmas.List.{get_or-set_same, get_or-set_other, length-set}
 use Rattle.comp_pool.specs.declared.node.NodeId.{NodeId}
-use Rattle.comp_pool.specs.Pool.{PoolOf, list_of, nodes_of, IsAt, NoneTwice, node_count}
+use Rattle.comp_pool.specs.Pool.{PoolOf, list_of, nodes_of, NoneTwice, node_count}
 use Rattle.comp_pool.specs.Places.{is_node, first_of}
 use Rattle.comp_pool.specs.Changes.{unlinked, without}
 use Rattle.comp_pool.proofs.PairLaws.{is_node_same, is_node_other}

@@ -1,9 +1,8 @@
 -- The tests of the regions of a set by what the epoch had before it.
-use Rattle.std.proofs.Common.{◌≡◌, ◌∙◌, ℕ, ◌==◌, ◌||◌, Bool, true, false, cond, not, List, [], ◌∷◌, ◌++◌, filter, reverse, Option, Some, None, option_map, refl, sym, ap, subst}
-use Rattle.std.specs.Option.{option_or, is_some, is_none}
-use Rattle.sub_base.specs.Lists.{first_given}
+use Rattle.std.proofs.Common.{◌≡◌, ◌∙◌, ℕ, ◌||◌, Bool, true, false, cond, List, [], ◌∷◌, ◌++◌, filter, reverse, Option, Some, None, option_map, refl, sym, ap, subst}
+use Rattle.std.specs.Option.{option_or, is_some}
 use Rattle.stream_syntax.specs.Segments.{SegmentValue, of_region, Region}
-use Rattle.decoder_model.specs.Contents.{region_in, region_named, page_of, display_of, region_of}
+use Rattle.decoder_model.specs.Contents.{region_in, region_named, page_of, display_of}
 use Rattle.decoder_model.specs.Faults.{first_fault_by, changed_region, changed_from, region_changed}
 use Rattle.decoder_model.specs.Readings.{Content}
 use Rattle.decoder_model.specs.Taken.{has_new_version, is_taken, last_region, region_version, taken_among, taken_of, taken_region}
@@ -11,7 +10,7 @@ use Rattle.decoder_model.specs.declared.set_fault.SetFault.{SetFault}
 use Rattle.page_core.specs.Composition.{Composition}
 use Rattle.page_core.specs.Handed.{AreContents}
 use Rattle.page_core.specs.Memory.{head_of}
-use Rattle.page_core.specs.RegionTests.{first_in, IsQuiet, before_regions, IsApart, AreApart, HasHeads, IsAsBefore, head_in, is_new, fault_behind_head, fault_of_head}
+use Rattle.page_core.specs.RegionTests.{first_in, IsQuiet, before_regions, AreApart, HasHeads, IsAsBefore, head_in, is_new, fault_behind_head, fault_of_head}
 use Rattle.page_core.specs.Seen.{defines}
 use Rattle.page_core.specs.Walks.{is_region, IsNextOf}
 use Rattle.page_core.proofs.Defining.{any_reversed, any_of_none, no_region_in_page, no_region_in_clut, no_region_in_object, no_region_in_display, unnamed}

@@ -1,6 +1,6 @@
 -- The region of an id, by the table of nodes.
-use Rattle.std.proofs.Common.{◌≡◌, ◌∙◌, ℕ, suc, ◌==◌, ◌<◌, Bool, true, false, cond, List, [], ◌∷◌, find, map, length, Option, Some, None, option_map, Contains, refl, sym, ap, subst, arith}
-use Rattle.std.specs.Prelude.{option_and_then, IfSome, slice_index_or}
+use Rattle.std.proofs.Common.{◌≡◌, ◌∙◌, ℕ, suc, ◌==◌, Bool, true, false, cond, List, [], ◌∷◌, find, map, Option, Some, None, option_map, Contains, refl, sym, ap, subst, arith}
+use Rattle.std.specs.Prelude.{option_and_then, IfSome}
 use Rattle.std.specs.List.{cons_option}
 use Rattle.std.specs.Option.{option_map_or}
 use Rattle.comp_pool.specs.declared.node.NodeId.{NodeId}
@@ -8,8 +8,8 @@ use Rattle.comp_pool.specs.Pool.{PoolOf, list_of, IsInList, NoneTwice, nodes_of}
 use Rattle.comp_pool.proofs.PairLaws.{pair_node}
 use Rattle.comp_pool.proofs.NodeLaws.{one_item}
 use Rattle.page_core.specs.Composition.{Composition, KeptRegion, region_in}
-use Rattle.page_core.specs.Known.{IsNodeOf, IsRegionIn}
-use Rattle.page_core.specs.Nodes.{region_node, region_kept, kept_in, composition_of, is_region_of, node_of, IsRegionOf, IsIndexed}
+use Rattle.page_core.specs.Known.{IsRegionIn}
+use Rattle.page_core.specs.Nodes.{region_node, region_kept, kept_in, composition_of, is_region_of, node_of, IsRegionOf}
 use Rattle.page_core.specs.declared.node.Node.{Node}
 use Rattle.page_core.specs.declared.node.RegionNode.{RegionNode}
 

@@ -1,12 +1,11 @@
 -- A walk over the segments of a set, step by step.
-use Rattle.std.proofs.Common.{◌≡◌, ℕ, ◌<◌, ◌||◌, Bool, true, false, List, [], ◌∷◌, length, Option, Some, None, option_map, Result, Ok, Err, refl, sym, ap, subst, ◌∙◌, arith, length-append}
+use Rattle.std.proofs.Common.{◌≡◌, ℕ, ◌<◌, ◌||◌, Bool, true, false, List, [], ◌∷◌, length, Option, Some, None, Result, Ok, Err, refl, sym, ap, subst, ◌∙◌, arith}
 use Rattle.std.specs.Prelude.{slice_index_or}
-use Rattle.std.specs.List.{list_any}
 use Rattle.std.specs.Option.{option_or, is_some}
 use Rattle.stream_syntax.specs.Segments.{Page, Display, SegmentValue}
 use Rattle.stream_syntax.specs.declared.segment_fault.SegmentFault.{SegmentFault}
 use Rattle.decoder_model.specs.Contents.{page_in, page_in_set, display_in, display_in_set, region_named}
-use Rattle.decoder_model.specs.Faults.{contents_in, fault_of_segment, segment_fault, twice_among}
+use Rattle.decoder_model.specs.Faults.{contents_in, segment_fault, twice_among}
 use Rattle.decoder_model.specs.Readings.{Content, Reading, read, faulty, IsReading}
 use Rattle.decoder_model.specs.Received.{BeginsWith, AreRead}
 use Rattle.decoder_model.specs.declared.set_fault.SetFault.{SetFault}

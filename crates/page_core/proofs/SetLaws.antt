@@ -4,14 +4,12 @@ use Rattle.std.specs.Prelude.{filter_map}
 use Rattle.std.specs.List.{list_any, cons_option}
 use Rattle.std.specs.Option.{option_or, is_some}
 use Rattle.stream_syntax.specs.Segments.{SegmentValue, of_page, of_region, of_clut, of_object, of_display, end_of_set, passed_over, Page, Region}
-use Rattle.decoder_model.specs.Contents.{page_in, page_of, region_in, region_of, region_named, page_in_set}
+use Rattle.decoder_model.specs.Contents.{page_in, page_of, region_in, region_named, page_in_set}
 use Rattle.decoder_model.specs.Faults.{contents_in, fault_of_segment, segment_fault, twice_among}
 use Rattle.decoder_model.specs.Readings.{Content, Reading, read, faulty}
 use Rattle.decoder_model.specs.Received.{AreRead}
 use Rattle.decoder_model.specs.declared.set_fault.SetFault.{SetFault}
 use Rattle.decoder_model.specs.declared.set_fault.SetFault.TheVariants.{TwiceInSet, Segment}
-use Rattle.page_core.specs.Epochs.{HasOnePage}
-use Rattle.page_core.specs.Handed.{AreContents}
 use Rattle.page_core.specs.RegionTests.{IsApart, AreApart}
 use Rattle.page_core.specs.Seen.{defines, fault_behind}
 use Rattle.page_core.specs.Sound.{IsSound}

@@ -1,16 +1,15 @@
 -- What a memory shows is what stands after the past that it stands for.
-use Rattle.std.proofs.Common.{◌≡◌, ◌∙◌, ℕ, ◌+◌, ◌*◌, ◌==◌, Bool, true, false, cond, List, [], ◌∷◌, Option, Some, None, unwrap_or, refl, sym, ap, subst}
+use Rattle.std.proofs.Common.{◌≡◌, ◌∙◌, ◌+◌, ◌*◌, ◌==◌, true, false, cond, List, [], ◌∷◌, Option, Some, None, unwrap_or, refl, sym, ap, subst}
 use Rattle.std.specs.Option.{is_some}
-use Rattle.stream_syntax.specs.Segments.{Page, Display}
 use Rattle.decoder_model.specs.Kept.{last_time}
 use Rattle.decoder_model.specs.PackedRows.{IsPackedLine, listed_region}
 use Rattle.decoder_model.specs.Readings.{Content, Reading}
 use Rattle.decoder_model.specs.Sets.{Delivery}
-use Rattle.decoder_model.specs.Shown.{Scene, Standing, plane_of, row_of, scene_in, standing_after, until_of}
+use Rattle.decoder_model.specs.Shown.{Scene, Standing, plane_of, row_of, standing_after}
 use Rattle.decoder_model.specs.Taken.{segments_of}
 use Rattle.decoder_model.specs.Verdict.{known_epoch}
 use Rattle.page_core.specs.Memory.{Memory, Holds, IsWhole, Stands}
-use Rattle.page_core.specs.Scenes.{Shows, until_in}
+use Rattle.page_core.specs.Scenes.{Shows}
 use Rattle.page_core.proofs.SceneRows.{row_of_page, picture_of_page, line_of_page}
 use Rattle.page_core.proofs.Standings.{AreBoth, IsKnown, both_known}
 

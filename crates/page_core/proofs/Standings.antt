@@ -1,7 +1,7 @@
 -- The page that stands after a past, and the epoch that is known: both are there, or neither is.
-use Rattle.std.proofs.Common.{◌≡◌, ◌∙◌, ℕ, Bool, true, false, cond, List, [], ◌∷◌, Option, Some, None, option_map, unwrap_or, refl, sym, ap, subst}
+use Rattle.std.proofs.Common.{◌≡◌, ℕ, Bool, true, false, cond, List, [], ◌∷◌, Option, Some, None, option_map, refl, sym, ap, subst}
 use Rattle.std.specs.Prelude.{MatchOption}
-use Rattle.std.specs.Option.{option_or, is_some}
+use Rattle.std.specs.Option.{option_or}
 use Rattle.sub_base.specs.Lists.{up_to_first, up_to_last}
 use Rattle.sub_base.specs.declared.profile.Profile.{Profile}
 use Rattle.stream_syntax.specs.Segments.{Page}

@@ -1,5 +1,5 @@
 -- The tests of a set by its epoch, one after another.
-use Rattle.std.proofs.Common.{◌≡◌, ◌∙◌, ℕ, List, [], ◌∷◌, ◌++◌, reverse, Option, Some, None, option_map, refl, sym, ap}
+use Rattle.std.proofs.Common.{◌≡◌, ◌∙◌, List, [], ◌∷◌, ◌++◌, reverse, Option, Some, None, option_map, refl, sym, ap}
 use Rattle.std.specs.Option.{option_or, is_some}
 use Rattle.sub_base.specs.Lists.{first_given}
 use Rattle.std.specs.Prelude.{option_and_then}

@@ -1,5 +1,5 @@
 -- The verdict on a kept set, as far as its own segments and its page tell it.
-use Rattle.std.proofs.Common.{◌≡◌, ◌∙◌, List, ◌∷◌, Option, Some, None, refl, ap}
+use Rattle.std.proofs.Common.{◌≡◌, ◌∙◌, List, ◌∷◌, Some, None, ap}
 use Rattle.sub_base.specs.declared.profile.Profile.{Profile}
 use Rattle.stream_syntax.specs.Segments.{Page}
 use Rattle.decoder_model.specs.Contents.{page_in_set}

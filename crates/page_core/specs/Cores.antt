@@ -1,5 +1,5 @@
 -- What the fields of a core mean.
-use Rattle.std.specs.Prelude.{◌≡◌, ℕ, ◌<◌, ◌^◌, Bool, List, Option, IfSome}
+use Rattle.std.specs.Prelude.{ℕ, ◌<◌, ◌^◌, Bool, List, Option, IfSome}
 use Rattle.sub_base.specs.declared.colour.Colour.{Colour}
 use Rattle.sub_base.specs.declared.profile.Profile.{Profile}
 use Rattle.pixel_store.specs.Regions.{Regions}

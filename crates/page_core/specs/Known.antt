@@ -1,5 +1,5 @@
 -- What is read of a composition by an id.
-use Rattle.std.specs.Prelude.{◌≡◌, ℕ, List, Option, None, MatchOption, Some}
+use Rattle.std.specs.Prelude.{◌≡◌, ℕ, Option, None, MatchOption, Some}
 use Rattle.page_core.specs.Composition.{Composition, KeptRegion, region_in}
 use Rattle.page_core.specs.declared.node.RegionNode.{RegionNode}
 

@@ -1,6 +1,6 @@
 -- What the nodes of a pool stand for in a composition. List 0 has the entries of the page, list 1 the regions, list 2 the CLUTs, list 3
 -- the table entries that are set, and list 4 + id the listings of the region of that id.
-use Rattle.std.specs.Prelude.{◌≡◌, ℕ, ◌+◌, ◌==◌, ◌<◌, Bool, true, false, List, [], length, map, filter_map, find, All, Option, Some, None, option_map, slice_index_or, if◌then◌else◌, Contains}
+use Rattle.std.specs.Prelude.{◌≡◌, ℕ, ◌+◌, ◌==◌, ◌<◌, Bool, true, false, List, length, map, filter_map, find, All, Option, Some, None, option_map, slice_index_or, Contains}
 use Rattle.std.specs.Option.{is_some, option_map_or}
 use Rattle.stream_syntax.specs.declared.page.PageEntry.{PageEntry}
 use Rattle.decoder_model.specs.Nodes.{TableEntry}

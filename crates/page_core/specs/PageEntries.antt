@@ -1,5 +1,5 @@
 -- The entries of a page in a pool.
-use Rattle.std.specs.Prelude.{◌≡◌, ℕ, ◌+◌, List, length}
+use Rattle.std.specs.Prelude.{◌≡◌, ◌+◌, List, length}
 use Rattle.stream_syntax.specs.declared.page.PageEntry.{PageEntry}
 use Rattle.comp_pool.specs.Pool.{PoolOf, list_of}
 use Rattle.page_core.specs.Lists.{KeepsBeside}

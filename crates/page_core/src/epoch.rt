@@ -22,7 +22,9 @@ pub(crate) enum Start {
 
 /// What a set is by the state of its page, and by whether an epoch is known.
 pub(crate) fn start_of(known: bool, state: State) -> Start
-    ensures { (sets : List (List Content)) (set : List Content) (page : Page) → known ≡ is_some (epoch_of sets) → HasOnePage set page → page.state ≡ state → IsStart sets set result }
+    ensures { (sets : List (List Content)) (set : List Content) (page : Page)
+        → known ≡ is_some (epoch_of sets) → HasOnePage set page → page.state ≡ state
+        → IsStart sets set result }
 {
     match state {
         State::ModeChange => Start::Begins,

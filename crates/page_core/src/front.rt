@@ -17,7 +17,8 @@ pub(crate) struct Front<'a> {
 
 /// Cuts off the segment at the front of whole segments by its head alone; none where no whole segment is there.
 pub(crate) fn cut_front(bytes: &[u8]) -> Option<Front<'_>>
-    ensures cut { (reading : Reading) (rest : List ℕ) → BeginsWith bytes.now reading rest → IsSomeAnd result (IsCutOff reading rest) }
+    ensures cut { (reading : Reading) (rest : List ℕ) → BeginsWith bytes.now reading rest
+        → IsSomeAnd result (IsCutOff reading rest) }
     ensures shorter { IfSome result (λ front. length front.rest.now < length bytes.now) }
 {
     let Ok(frame) = read_frame(bytes) else {

@@ -31,8 +31,11 @@ pub(crate) fn fault_before_nodes(
     page: &PageSeg<'_>,
     bytes: &[u8],
 ) -> Option<SetFault>
-    ensures { (set : List Content) (before : List (List Content)) → free ≡ profile.now.pixels - pixels_used (taken_of (segments_of before)) → HasHeads (segments_of before) composition.now
-        → IsFound set found.now → IsSound set bytes.now → result ≡ first_of_tests profile.now before set (page_value page.now) }
+    ensures { (set : List Content) (before : List (List Content))
+        → free ≡ profile.now.pixels - pixels_used (taken_of (segments_of before))
+        → HasHeads (segments_of before) composition.now
+        → IsFound set found.now → IsSound set bytes.now
+        → result ≡ first_of_tests profile.now before set (page_value page.now) }
 {
     if let Some(fault) = display_fault(profile, found.display) {
         return Some(fault);

@@ -8,5 +8,6 @@ ghost use Rattle.page_core.specs.RegionTests.{before_regions};
 
 /// The display and the page of a set change nothing of a memory but the display.
 pub fn display_and_page()
-    ensures { (older set : List Content) (memory : Memory) → Holds older memory → Holds (before_regions older set) (showing (display_in_force (before_regions older set)) memory) }
+    ensures { (older set : List Content) (memory : Memory) → Holds older memory
+        → Holds (before_regions older set) (showing (display_in_force (before_regions older set)) memory) }
 {}

@@ -5,13 +5,17 @@ ghost use Rattle.decoder_model.specs.Faults.{display_or_default};
 ghost use Rattle.decoder_model.specs.Free.{free_nodes_after, free_pixels_after};
 ghost use Rattle.decoder_model.specs.Kept.{lifted_time};
 ghost use Rattle.decoder_model.specs.Readings.{Content, Reading};
+ghost use Rattle.decoder_model.specs.Received.{AreRead};
 ghost use Rattle.decoder_model.specs.Sets.{Delivery, lost, whole, refused};
 ghost use Rattle.decoder_model.specs.Verdict.{sets_since, verdict_of, verdict_on_kept};
 ghost use Rattle.decoder_model.specs.declared.set_end.SetEnd.{SetEnd as Verdict};
 ghost use Rattle.decoder_model.specs.declared.set_end.SetEnd.TheVariants.{Broken, NotLater};
 ghost use Rattle.decoder_model.specs.declared.set_fault.SetFault.{SetFault as WhyBroken};
-ghost use Rattle.segments.specs.Contents.{display_value};
-ghost use Rattle.page_core.specs.Accepted.{IsBegun, IsEarly};
+ghost use Rattle.segments.specs.Contents.{display_value, page_value};
+ghost use Rattle.page_core.specs.Judging.{fault_before_nodes as first_of_tests};
+ghost use Rattle.page_core.specs.Seen.{IsFound};
+ghost use Rattle.page_core.specs.Sound.{IsSound};
+ghost use Rattle.page_core.specs.Accepted.{IsBefore, IsBegun, IsEarly, IsTakenEarly};
 ghost use Rattle.page_core.specs.Epochs.{IsStart};
 ghost use Rattle.page_core.specs.Memory.{Stands, IsForgotten, IsSameReceiver, Forgets};
 
@@ -21,6 +25,8 @@ use crate::composition::CompositionMemory;
 use crate::epoch::Start;
 use crate::forget::reset_colours;
 use crate::inks::Inks;
+use crate::judging::fault_before_nodes;
+use crate::taking::{Accepted, accept};
 use crate::times::lifted_behind;
 use decoder_model::{SetEnd, SetFault};
 use pixel_store::Store;
@@ -94,8 +100,10 @@ impl Core {
     /// waits.
     pub fn refuse_set(&mut self, pts: u64, fault: SetFault) -> SetEnd
         requires { pts < 2 ^ 33 }
-        ensures stands { (past : List (Delivery Reading)) (size : ℕ) → Stands past self.old → Stands (refused pts size fault ∷ past) self.new }
-        ensures answer { (past : List (Delivery Reading)) (size : ℕ) → Stands past self.old → Some result ≡ verdict_of self.old.profile self.old.anchor past (refused pts size fault) }
+        ensures stands { (past : List (Delivery Reading)) (size : ℕ) → Stands past self.old
+            → Stands (refused pts size fault ∷ past) self.new }
+        ensures answer { (past : List (Delivery Reading)) (size : ℕ) → Stands past self.old
+            → Some result ≡ verdict_of self.old.profile self.old.anchor past (refused pts size fault) }
         ensures unchanged { (time : ℕ) → result ≡ NotLater time → self.new ≡ self.old }
         ensures broken { (why : WhyBroken) → result ≡ Broken why → IsForgotten self.new }
         ensures same { IsSameReceiver self.old self.new }
@@ -133,7 +141,8 @@ impl Core {
     /// kept.
     pub fn lift(&self, pts: u64) -> Option<u64>
         requires { pts < 2 ^ 33 }
-        ensures lifted { (past : List (Delivery Reading)) (size : ℕ) (readings : List Reading) → Stands past self.now → result ≡ lifted_time self.now.anchor past (whole pts size readings) }
+        ensures lifted { (past : List (Delivery Reading)) (size : ℕ) (readings : List Reading)
+            → Stands past self.now → result ≡ lifted_time self.now.anchor past (whole pts size readings) }
         ensures bounded { IfSome result (λ time. time < 2 ^ 62) }
     {
         lifted_behind(self.anchor, self.last, pts)
@@ -142,7 +151,8 @@ impl Core {
     /// How many nodes of the composition memory are free.
     pub fn free_nodes(&self) -> u32
         ensures value { result ≡ self.now.composition.free }
-        ensures free { (past : List (Delivery Reading)) → Stands past self.now → result ≡ free_nodes_after self.now.profile self.now.anchor past }
+        ensures free { (past : List (Delivery Reading)) → Stands past self.now
+            → result ≡ free_nodes_after self.now.profile self.now.anchor past }
     {
         self.composition.free()
     }
@@ -150,17 +160,58 @@ impl Core {
     /// How many bytes of pixels are free.
     pub fn free_pixels(&self) -> u64
         ensures value { result ≡ self.now.store.free }
-        ensures free { (past : List (Delivery Reading)) → Stands past self.now → result ≡ free_pixels_after self.now.profile self.now.anchor past }
+        ensures free { (past : List (Delivery Reading)) → Stands past self.now
+            → result ≡ free_pixels_after self.now.profile self.now.anchor past }
     {
         self.store.free()
+    }
+
+    // A kept set up to the tests by its epoch: one that waits, or is broken by itself, leaves nothing.
+    fn take_early<'a>(&mut self, time: u64, bytes: &'a [u8]) -> Result<Accepted<'a>, SetEnd>
+        requires { time < 2 ^ 62 }
+        ensures taken { (past : List (Delivery Reading)) (pts size : ℕ) (readings : List Reading) → Stands past self.old
+            → lifted_time self.old.anchor past (whole pts size readings) ≡ Some time → AreRead readings bytes.now
+            → IsTakenEarly self.old past pts size readings bytes.now self.new result }
+        ensures last { self.new.last ≡ Some time }
+        ensures same { IsSameReceiver self.old self.new }
+    {
+        match accept(self.known, bytes) {
+            Err(end) => {
+                self.end_early(time);
+                Err(end)
+            }
+            Ok(accepted) => {
+                self.begin(time, accepted.start);
+                Ok(accepted)
+            }
+        }
+    }
+
+    // The first fault of a set by its epoch, up to the count of nodes.
+    fn fault_by_epoch(&self, accepted: &Accepted<'_>, bytes: &[u8]) -> Option<SetFault>
+        ensures { (set : List Content) (before : List (List Content)) → IsBefore before self.now → IsFound set accepted.now.found → IsSound set bytes.now
+            → result ≡ first_of_tests self.now.profile before set (page_value accepted.now.page) }
+    {
+        let free = self.store.free();
+        fault_before_nodes(
+            &self.profile,
+            &self.composition,
+            free,
+            &accepted.found,
+            &accepted.page,
+            bytes,
+        )
     }
 
     // A kept set whose verdict is known before its epoch is looked at: it waits, or is broken.
     fn end_early(&mut self, time: u64)
         requires { time < 2 ^ 62 }
-        ensures stands { (past : List (Delivery Reading)) (pts size : ℕ) (readings : List Reading) (end : Verdict) → Stands past self.old
+        ensures last { self.new.last ≡ Some time }
+        ensures stands { (past : List (Delivery Reading)) (pts size : ℕ) (readings : List Reading) (end : Verdict)
+            → Stands past self.old
             → lifted_time self.old.anchor past (whole pts size readings) ≡ Some time
-            → verdict_on_kept self.old.profile (sets_since self.old.profile self.old.anchor past) readings ≡ end → IsEarly end
+            → verdict_on_kept self.old.profile (sets_since self.old.profile self.old.anchor past) readings ≡ end
+            → IsEarly end
             → Stands (whole pts size readings ∷ past) self.new }
         ensures same { IsSameReceiver self.old self.new }
         ensures forgotten { IsForgotten self.new }
@@ -174,7 +225,8 @@ impl Core {
         ensures last { self.new.last ≡ Some time }
         ensures same { IsSameReceiver self.old self.new }
         ensures begun { (past : List (Delivery Reading)) (set : List Content) → Stands past self.old
-            → IsStart (sets_since self.old.profile self.old.anchor past) set start → IsBegun (sets_since self.old.profile self.old.anchor past) set start self.new }
+            → IsStart (sets_since self.old.profile self.old.anchor past) set start
+            → IsBegun (sets_since self.old.profile self.old.anchor past) set start self.new }
     {
         self.last = Some(time);
         match start {

@@ -20,7 +20,8 @@ use sub_base::Depth;
 
 /// The first region of a set that changes its size or depth.
 pub(crate) fn changed_region(composition: &CompositionMemory, bytes: &[u8]) -> Option<SetFault>
-    ensures { (set older : List Content) → HasHeads older composition.now → AreContents set bytes.now → AreApart [] (filter is_region set)
+    ensures { (set older : List Content) → HasHeads older composition.now → AreContents set bytes.now
+        → AreApart [] (filter is_region set)
         → result ≡ first_fault_by region_changed older set }
 {
     let mut rest = bytes;
@@ -58,7 +59,9 @@ pub(crate) fn full_pixels(
     free: u64,
     bytes: &[u8],
 ) -> Option<SetFault>
-    ensures { (profile : Profile) (set older : List Content) → free ≡ profile.pixels - pixels_used (taken_of older) → HasHeads older composition.now → AreContents set bytes.now → AreApart [] (filter is_region set)
+    ensures { (profile : Profile) (set older : List Content)
+        → free ≡ profile.pixels - pixels_used (taken_of older) → HasHeads older composition.now
+        → AreContents set bytes.now → AreApart [] (filter is_region set)
         → first_fault_by region_changed older set ≡ None → result ≡ first_fault_by (pixels_full profile) older set }
 {
     let mut left = free;
@@ -79,7 +82,8 @@ fn take_room(
     left: &mut u64,
 ) -> Option<SetFault>
     ensures fault { result ≡ room_fault (region_value region.now).head (head_in composition.now region.now.region) left.old }
-    ensures left { result ≡ None → left.new ≡ room_left (region_value region.now).head (head_in composition.now region.now.region) left.old }
+    ensures left { result ≡ None
+        → left.new ≡ room_left (region_value region.now).head (head_in composition.now region.now.region) left.old }
 {
     if composition.region(region.region).is_some() {
         return None;

@@ -36,8 +36,10 @@ impl Seen {
 
     /// The fault of a segment that stands a second time in its set, behind what was passed; the segment is passed then.
     fn pass(&mut self, segment: &Segment<'_>) -> Option<SetFault>
-        ensures fault { (before : List Content) → AreFlags before self.old → result ≡ twice_among before (contents segment.now) }
-        ensures flags { (before : List Content) (content : Content) → AreFlags before self.old → contents segment.now ≡ content.value → AreFlags (content ∷ before) self.new }
+        ensures fault { (before : List Content) → AreFlags before self.old
+            → result ≡ twice_among before (contents segment.now) }
+        ensures flags { (before : List Content) (content : Content) → AreFlags before self.old
+            → contents segment.now ≡ content.value → AreFlags (content ∷ before) self.new }
     {
         match segment {
             Segment::Page(_) => {
@@ -92,7 +94,8 @@ fn see<'a>(
     seen: &mut Seen,
     reading: Result<Segment<'a>, SegmentFault>,
 ) -> Result<Segment<'a>, SetFault>
-    ensures { (before : List Reading) (next : Reading) → AreFlags (contents_in before) seen.old → Matches reading.entry next → Sees result before next seen.new }
+    ensures { (before : List Reading) (next : Reading) → AreFlags (contents_in before) seen.old
+        → Matches reading.entry next → Sees result before next seen.new }
 {
     match reading {
         Err(fault) => Err(SetFault::Segment(fault)),
@@ -132,7 +135,8 @@ pub(crate) struct Found<'a> {
 /// Tests the segments of a set one by one, and looks what the set has; or the first fault of a segment.
 pub(crate) fn scan(bytes: &[u8]) -> Result<Found<'_>, SetFault>
     ensures found { (readings : List Reading) → AreRead readings bytes.now → Scanned result readings }
-    ensures sound { (readings : List Reading) → AreRead readings bytes.now → OnOk result (IsSound (contents_in readings) bytes.now) }
+    ensures sound { (readings : List Reading) → AreRead readings bytes.now
+        → OnOk result (IsSound (contents_in readings) bytes.now) }
 {
     let mut seen = Seen::nothing();
     let mut page = None;

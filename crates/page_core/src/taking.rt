@@ -23,7 +23,9 @@ pub(crate) struct Accepted<'a> {
 
 /// Tests a kept set up to the tests by its epoch; the answer for a set that is broken by itself, or that waits.
 pub(crate) fn accept(known: bool, bytes: &[u8]) -> Result<Accepted<'_>, SetEnd>
-    ensures accepted { (profile : Profile) (sets : List (List Content)) (readings : List Reading) → known ≡ is_some (epoch_of sets) → AreRead readings bytes.now → IsAccepted profile sets readings bytes.now result }
+    ensures accepted { (profile : Profile) (sets : List (List Content)) (readings : List Reading)
+        → known ≡ is_some (epoch_of sets) → AreRead readings bytes.now
+        → IsAccepted profile sets readings bytes.now result }
     ensures early { IfErr result IsEarly }
 {
     let found = match scan(bytes) {

@@ -22,7 +22,8 @@ pub(crate) struct Next<'a, S> {
 /// The first segment of a type in the bytes; none where there is none.
 fn next_of(bytes: &[u8], kind: u8) -> Option<Next<'_, Segment<'_>>>
     requires { IsPassedOver kind → ⊥ }
-    ensures next { (set : List Content) → AreContents set bytes.now → MatchOption result (filter (is_content_of kind) set ≡ [])
+    ensures next { (set : List Content) → AreContents set bytes.now
+        → MatchOption result (filter (is_content_of kind) set ≡ [])
         (λ next. IsNextOf (is_content_of kind) set (contents next.segment) next.rest.now) }
     ensures shorter { IfSome result (λ next. length next.rest.now < length bytes.now) }
 {
