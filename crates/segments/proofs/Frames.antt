@@ -109,3 +109,14 @@ segment_again bytes size value le is =
     let rest : drop 6 (take size bytes) ≡ body_of bytes = ap (λ (n : ℕ). drop 6 (take n bytes)) whole ∙ drop-take 6 (word_at 4 bytes) bytes in
     let kind : byte_at 1 (take size bytes) ≡ byte_at 1 bytes = get_or-take size bytes 1 0 (omega arith) in
     (head_passes bytes (sync, omega arith, omega arith), whole, subst (λ (k : ℕ). Reads k (body_of bytes) value) kind (subst (λ (b : List ℕ). Reads (byte_at 1 (take size bytes)) b value) rest again.3))
+
+-- the segment type is the second byte
+kind_by_cells : (segment : List ℕ) (kind page : ℕ) (body : List Field) → AreBytes segment → FitsFields (segment_fields kind page body) → HasFields (segment_fields kind page body) (bits_of segment) → kind ≡ byte_at 1 segment
+kind_by_cells (a ∷ b ∷ rest) kind page body bytes fits has =
+    let first = take_byte 15 a _ _ (omega arith) (bytes 0) has in
+    sym (take_byte kind b _ _ fits.1.0 (bytes 1) first.1).0
+kind_by_cells [] kind page body bytes fits has = absurd (omega (arith, fields_bytes _ [] has))
+kind_by_cells (a ∷ []) kind page body bytes fits has = absurd (omega (arith, fields_bytes _ (a ∷ []) has))
+
+pub kind_there : (segment : List ℕ) (value : SegmentValue) (is : IsSegment segment value) → is.kind ≡ byte_at 1 segment
+kind_there segment value is = kind_by_cells segment is.kind is.page is.body (bytes_of_all segment is.each) is.fits is.laid

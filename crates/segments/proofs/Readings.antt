@@ -15,7 +15,7 @@ use Rattle.stream_syntax.specs.Tests.{first_fault, byte_at, word_at}
 use Rattle.segments.specs.declared.reading.Segment.{Segment}
 use Rattle.segments.specs.Contents.{contents}
 use Rattle.segments.specs.Reading.{value_in}
-use Rattle.segments.proofs.Frames.{is_segment, segment_again}
+use Rattle.segments.proofs.Frames.{is_segment, segment_again, kind_there}
 use Rattle.segments.proofs.Shapes.{AreBytes, AreBytes-take, AreBytes-drop}
 use Rattle.segments.proofs.Whole.{Reads, body_laid}
 
@@ -95,6 +95,10 @@ kind_of_body (of_object value) kind fields is = is.0
 kind_of_body (of_display value) kind fields is = is.0
 kind_of_body end_of_set kind fields is = is.0
 kind_of_body passed_over kind fields is = is.0
+
+-- a segment has the type of its value in its second byte
+pub kind_of_segment : (bytes : List ℕ) (value : SegmentValue) → IsSegment bytes value → IsKindOf value (byte_at 1 bytes)
+kind_of_segment bytes value is = subst (IsKindOf value) (kind_there bytes value is) (kind_of_body value is.kind is.body is.is_body)
 
 pub kind_found : (bytes : List ℕ) (result : Outcome) → AreBytes bytes → WasAllRead bytes result → IfOk result (λ r. IsKindOf (contents r.0) (byte_at 1 bytes))
 kind_found bytes (Ok r) fits was =

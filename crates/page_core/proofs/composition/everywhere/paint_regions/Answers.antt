@@ -1,0 +1,48 @@
+use Rattle.std.proofs.Common.{ap, length, arith}
+use Rattle.comp_pool.specs.Pool.{IsInList}
+use Rattle.comp_pool.proofs.NodeLaws.{in_some_list}
+use Rattle.comp_pool.proofs.WalkLaws.{walk_start}
+use Rattle.segments.specs.Contents.{object_value}
+use Rattle.page_core.proofs.EverywhereWalks.{all_begin, all_go_on, from_node}
+use Rattle.page_core.proofs.EverywhereWrites.{regions_stay, writing_all_begins, writing_all_goes_on}
+use Rattle.page_core.proofs.composition.everywhere.paint_regions.Goals as goal
+
+pub loop-place-init : goal.loop-place-init
+loop-place-init c = record {
+  nodes = all_begin c.args.painter c.args.pool.now c.first-place.result c.first-place.ensures.distinct c.first-place.ensures.first;
+  regions = c.requires.regions;
+  written = λ content fields.
+      writing_all_begins c.args.painter content (object_value c.args.object.now) c.args.pool.now c.args.store.now c.first-place.result (walk_start c.args.pool.now 1 c.first-place.result c.first-place.ensures.first);
+}
+
+pub next-place-requires : goal.next-place-requires
+next-place-requires c = in_some_list c.loop-place.pool 1 c.in-Some.node (c.loop-place.invariant.nodes.listed c.in-Some.node c.in-Some.is)
+
+pub item-item-requires : goal.item-item-requires
+item-item-requires c = in_some_list c.loop-place.pool 1 c.in-Some.node (c.loop-place.invariant.nodes.listed c.in-Some.node c.in-Some.is)
+
+pub loop-place-smaller : goal.loop-place-smaller
+loop-place-smaller c =
+    let pool = c.loop-place.pool in
+    let node = c.in-Some.node in
+    let listed : IsInList pool 1 node = c.loop-place.invariant.nodes.listed node c.in-Some.is in
+    omega (
+      arith,
+      ap length (from_node c.args.painter c.args.pool.now c.loop-place.place pool node c.item-item.result c.next-place.result c.loop-place.invariant.nodes c.in-Some.is (c.item-item.ensures 1 listed) (c.next-place.ensures 1 listed)),
+    )
+
+pub loop-place-preserved : goal.loop-place-preserved
+loop-place-preserved c =
+    let pool = c.loop-place.pool in
+    let node = c.in-Some.node in
+    let on = c.loop-place.invariant.nodes in
+    let listed : IsInList pool 1 node = on.listed node c.in-Some.is in
+    let there = c.item-item.ensures 1 listed in
+    let behind_is = c.next-place.ensures 1 listed in
+    record {
+      nodes = all_go_on c.args.painter c.args.pool.now c.loop-place.place pool c.paint_at.new.pool node c.item-item.result c.next-place.result on c.in-Some.is there behind_is c.paint_at.ensures.nodes;
+      regions = regions_stay c.args.pool.now c.item-item.result c.loop-place.store c.paint_at.new.store c.paint_at.ensures.others c.loop-place.invariant.regions;
+      written = λ content fields.
+          writing_all_goes_on c.args.painter content (object_value c.args.object.now) c.args.pool.now c.args.store.now c.loop-place.place pool c.loop-place.store c.paint_at.new.store node c.item-item.result c.next-place.result
+          on c.in-Some.is there behind_is c.paint_at.ensures.others (c.paint_at.ensures.written content fields) (c.loop-place.invariant.written content fields);
+    }

@@ -1,0 +1,30 @@
+-- What the fields of a core mean.
+use Rattle.std.specs.Prelude.{ℕ, ◌<◌, ◌^◌, Bool, List, Option, IfSome}
+use Rattle.sub_base.specs.declared.colour.Colour.{Colour}
+use Rattle.sub_base.specs.declared.profile.Profile.{Profile}
+use Rattle.pixel_store.specs.Regions.{Regions}
+use Rattle.segments.specs.Contents.{display_value}
+use Rattle.segments.specs.declared.display.DisplaySeg.{DisplaySeg}
+use Rattle.page_core.specs.Composition.{Composition}
+use Rattle.page_core.specs.Memory.{Memory, IsWhole}
+
+-- the memory of a core
+abbrev pub memory_of : Profile → ℕ → ℕ → Option ℕ → Bool → ℕ → DisplaySeg → Composition → List Colour → Regions → Memory
+memory_of profile page anchor last known time_out display composition inks store = record {
+  profile = profile;
+  page = page;
+  anchor = anchor;
+  last = last;
+  known = known;
+  time_out = time_out;
+  display = display_value display;
+  composition = composition;
+  inks = inks;
+  store = store;
+}
+
+-- what a core keeps to: its memory is whole, and its times are below the ends that are set to them
+pub record IsCore (memory : Memory) : Type 0 where
+  pub whole : IsWhole memory
+  pub anchored : memory.anchor < 2 ^ 34
+  pub timed : IfSome memory.last (λ time. time < 2 ^ 62)

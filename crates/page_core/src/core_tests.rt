@@ -1,0 +1,200 @@
+use crate::composition::CompositionMemory;
+use crate::epoch::{Start, start_of};
+use crate::judging::fault_before_nodes;
+use crate::memory::Core;
+use crate::seen::scan;
+use decoder_model::{SetEnd, SetFault};
+use segments::{SegmentFault, SegmentKind};
+use std::test::Fail;
+use stream_syntax::{CodeFault, CodeKind, State};
+use sub_base::{Profile, ProfileName};
+
+/// Lifted times go on where presentation times go round, and are kept by refused sets alone: a loss changes none.
+#[test]
+fn lifted_times(rt: HostRuntime) -> Result<(), Fail> {
+    let sd = Profile::of(ProfileName::Sd);
+    let long = SetFault::SetTooLong { size: 24_577 };
+    let mut core = Core::make(rt.alloc(), &sd, 1, 100)?;
+    // The first set is lifted from the anchor on.
+    assert_eq!(rt; core.lift(100), Some(100));
+    assert_eq!(rt; core.lift(99), Some(8_589_934_691));
+    assert_eq!(rt; core.refuse_set(8_589_934_590, long), SetEnd::Broken(long));
+    // The next are less than 2 to the 32 ahead of the last kept one.
+    assert_eq!(rt; core.lift(8_589_934_590), None);
+    assert_eq!(rt; core.lift(8_589_934_591), Some(8_589_934_591));
+    assert_eq!(rt; core.lift(5), Some(8_589_934_597));
+    assert_eq!(rt; core.lift(4_294_967_293), Some(12_884_901_885));
+    assert_eq!(rt; core.lift(4_294_967_294), None);
+    assert_eq!(rt;
+        core.refuse_set(8_589_934_589, long),
+        SetEnd::NotLater {
+            last: 8_589_934_590
+        }
+    );
+    core.lose();
+    assert_eq!(rt; core.lift(8_589_934_590), None);
+    assert_eq!(rt;
+        core.refuse_set(0, SetFault::NoPage),
+        SetEnd::Broken(SetFault::NoPage)
+    );
+    assert_eq!(rt;
+        core.refuse_set(0, long),
+        SetEnd::NotLater {
+            last: 8_589_934_592
+        }
+    );
+    Ok(())
+}
+
+/// All memory is free before the first set, after a loss and after a broken set.
+#[test]
+fn free_memory(rt: HostRuntime) -> Result<(), Fail> {
+    let rows = [
+        (ProfileName::Sd, 512, 81_920),
+        (ProfileName::Hd, 2_048, 327_680),
+        (ProfileName::Wide, 8_192, 4_194_304),
+        (ProfileName::Large, 8_192, 4_194_304),
+    ];
+    for (name, nodes, pixels) in rows {
+        let mut core = Core::make(rt.alloc(), &Profile::of(name), 7, 0)?;
+        assert_eq!(rt; (core.free_nodes(), core.free_pixels()), (nodes, pixels));
+        core.lose();
+        assert_eq!(rt; (core.free_nodes(), core.free_pixels()), (nodes, pixels));
+        let _ = core.refuse_set(1, SetFault::NoPage);
+        assert_eq!(rt; (core.free_nodes(), core.free_pixels()), (nodes, pixels));
+    }
+    Ok(())
+}
+
+// Segments of page 1: a mode change that lists region 1, an acquisition that lists none, regions 1 of 2 by 1 and of 4 by 1 pixels
+// in 4 bits, a display of 720 by 576 and one of 721 by 576, an object of 2 bits, one of characters, one whose string has no end,
+// one of type FF, and the end.
+const PAGE: &[u8] = &[15, 16, 0, 1, 0, 8, 10, 8, 1, 0, 0, 0, 0, 0];
+
+const NO_ENTRY: &[u8] = &[15, 16, 0, 1, 0, 2, 10, 4];
+
+const REGION: &[u8] = &[15, 17, 0, 1, 0, 10, 1, 8, 0, 2, 0, 1, 36, 0, 0, 0];
+
+const WIDER: &[u8] = &[15, 17, 0, 1, 0, 10, 1, 24, 0, 4, 0, 1, 36, 0, 0, 0];
+
+const DISPLAY: &[u8] = &[15, 20, 0, 1, 0, 5, 0, 2, 207, 2, 63];
+
+const WIDE_DISPLAY: &[u8] = &[15, 20, 0, 1, 0, 5, 0, 2, 208, 2, 63];
+
+const OBJECT: &[u8] = &[15, 19, 0, 1, 0, 11, 0, 5, 0, 0, 4, 0, 0, 16, 112, 0, 240];
+
+const CHARACTERS: &[u8] = &[15, 19, 0, 1, 0, 3, 0, 5, 4];
+
+const NO_END: &[u8] = &[15, 19, 0, 1, 0, 9, 0, 5, 0, 0, 2, 0, 0, 18, 1];
+
+const STUFFING: &[u8] = &[15, 255, 0, 1, 0, 2, 170, 170];
+
+const END: &[u8] = &[15, 128, 0, 1, 0, 0];
+
+// The bytes of segments one after another.
+fn joined<'a>(bytes: &'a mut [u8; 64], parts: &[&[u8]]) -> &'a [u8] {
+    let mut size = 0;
+    for part in parts {
+        for byte in *part {
+            if size < 64 {
+                bytes[size] = *byte;
+                size += 1;
+            }
+        }
+    }
+    bytes.get(..size).unwrap_or(&[])
+}
+
+/// What a set has, or its first fault by its segments one by one.
+#[test]
+fn segments_of_sets(rt: HostRuntime) -> Result<(), Fail> {
+    let twice = |kind, id| Some(SetFault::TwiceInSet { kind, id });
+    let rows: [(&[&[u8]], Option<SetFault>); 9] = [
+        (&[PAGE, REGION, STUFFING, OBJECT, END], None),
+        (&[], None),
+        (&[PAGE, REGION, NO_ENTRY, CHARACTERS], twice(16, 0)),
+        (&[DISPLAY, PAGE, DISPLAY], twice(20, 0)),
+        (&[REGION, PAGE, WIDER], twice(17, 1)),
+        (&[OBJECT, OBJECT, END, END], None),
+        (
+            &[CHARACTERS, PAGE, PAGE],
+            Some(SetFault::Segment(SegmentFault {
+                place: 8,
+                kind: SegmentKind::CharacterObject,
+            })),
+        ),
+        (
+            &[NO_END],
+            Some(SetFault::Segment(SegmentFault {
+                place: 13,
+                kind: SegmentKind::Code(CodeFault {
+                    place: 0,
+                    kind: CodeKind::CutString,
+                }),
+            })),
+        ),
+        (&[PAGE, STUFFING], None),
+    ];
+    for (parts, fault) in rows {
+        let mut bytes = [0; 64];
+        let found = scan(joined(&mut bytes, parts));
+        assert_eq!(rt; found.err(), fault);
+    }
+    Ok(())
+}
+
+// Regions of 8 bits: 2 of 720 by 576, 2 of 720 by 80 and 3 of 720 by 40 pixels.
+const WHOLE: &[u8] = &[15, 17, 0, 1, 0, 10, 2, 8, 2, 208, 2, 64, 108, 0, 0, 0];
+
+const LINES: &[u8] = &[15, 17, 0, 1, 0, 10, 2, 8, 2, 208, 0, 80, 108, 0, 0, 0];
+
+const MORE: &[u8] = &[15, 17, 0, 1, 0, 10, 3, 8, 2, 208, 0, 40, 108, 0, 0, 0];
+
+/// The first fault of a set by an epoch that has nothing before it, as far as its nodes are not counted.
+#[test]
+fn sets_in_a_new_epoch(rt: HostRuntime) -> Result<(), Fail> {
+    let full = |need, free| Some(SetFault::PixelFull { need, free });
+    let rows: [(&[&[u8]], Option<SetFault>); 7] = [
+        (&[PAGE, REGION, OBJECT, END], None),
+        (&[DISPLAY, NO_ENTRY], None),
+        (
+            &[PAGE, WIDE_DISPLAY],
+            Some(SetFault::DisplayTooLarge {
+                width: 721,
+                height: 576,
+            }),
+        ),
+        (&[PAGE, WHOLE], Some(SetFault::NoSuchRegion { id: 1 })),
+        (&[NO_ENTRY, WHOLE], full(414_720, 81_920)),
+        (&[NO_ENTRY, LINES, MORE], full(28_800, 24_320)),
+        (&[NO_ENTRY, MORE, LINES], full(57_600, 53_120)),
+    ];
+    let sd = Profile::of(ProfileName::Sd);
+    let composition = CompositionMemory::make(rt.alloc(), sd.nodes)?;
+    for (parts, fault) in rows {
+        let mut bytes = [0; 64];
+        let bytes = joined(&mut bytes, parts);
+        if let Ok(found) = scan(bytes) {
+            if let Some(page) = found.page {
+                let first = fault_before_nodes(&sd, &composition, 81_920, &found, &page, bytes);
+                assert_eq!(rt; first, fault);
+            }
+        }
+    }
+    Ok(())
+}
+
+/// A set begins an epoch, goes on with the one that is known, or waits.
+#[test]
+fn epochs_begin_and_go_on(rt: HostRuntime) -> Result<(), Fail> {
+    let rows = [
+        (State::ModeChange, Start::Begins, Start::Begins),
+        (State::Acquisition, Start::Begins, Start::GoesOn),
+        (State::Normal, Start::Waits, Start::GoesOn),
+    ];
+    for (state, unknown, known) in rows {
+        assert_eq!(rt; start_of(false, state), unknown);
+        assert_eq!(rt; start_of(true, state), known);
+    }
+    Ok(())
+}
