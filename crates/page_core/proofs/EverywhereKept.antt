@@ -1,8 +1,6 @@
 -- An object in all regions, in the words of what is kept.
-use Rattle.std.proofs.Common.{◌≡◌, ◌≢◌, ◌∙◌, refl, sym, ap, subst, inl, inr, ℕ, zero, suc, ◌+◌, ◌<◌, Bool, true, false, ◌||◌, cond, eqb, List, [], ◌∷◌, ◌++◌, length, map, find, All, Contains, Option, Some, None, option_map, arith, append_assoc}
+use Rattle.std.proofs.Common.{◌≡◌, ◌∙◌, refl, sym, ap, subst, ℕ, zero, suc, Bool, true, false, ◌||◌, eqb, List, [], ◌∷◌, ◌++◌, map, find, All, Contains, Option, Some, None, option_map, arith}
 use Rattle.std.specs.List.{list_any, cons_option}
-use Rattle.std.specs.Option.{is_some, option_map_or}
-use Rattle.std.proofs.lemmas.Bool.{cases_eq, eqb-true}
 use Rattle.std.proofs.lemmas.Bool.Decides.{nat_tests}
 use Rattle.std.proofs.lemmas.List.Elements.{All-nil, All-cons, Contains-append_right}
 use Rattle.sub_base.specs.Lists.{last_given}
@@ -12,12 +10,11 @@ use Rattle.comp_pool.specs.Pool.{PoolOf, list_of}
 use Rattle.decoder_model.specs.Readings.{Content}
 use Rattle.pixel_store.specs.Regions.{Regions}
 use Rattle.page_core.specs.Composition.{Composition, KeptRegion}
-use Rattle.page_core.specs.Everywhere.{HasRegionAt, IsWrittenIn, painted_where, IsEverywhere, painted_kept, with_all_painted, HasNoFaults, AreApart, AreWritten, HaveRegions, AreIdsApart, AreKeptWritten}
-use Rattle.page_core.specs.Listings.{code_by_kept, code_by_pair, painted_listing, painted_node}
-use Rattle.page_core.specs.Lists.{with_changed}
+use Rattle.page_core.specs.Everywhere.{HasRegionAt, painted_where, IsEverywhere, painted_kept, with_all_painted, HasNoFaults, AreApart, AreWritten, HaveRegions, AreIdsApart, AreKeptWritten}
+use Rattle.page_core.specs.Listings.{code_by_kept, code_by_pair, painted_listing}
 use Rattle.page_core.specs.Nodes.{kept_in, AreKind, entry_in, region_node, listing_in, clut_node, colour_in, listings_list, region_kept, composition_of, IsSorted, IsIndexed, is_region_of, is_clut_of, node_of}
 use Rattle.page_core.specs.ObjectFaults.{least_of, fault_in_kept}
-use Rattle.page_core.specs.Painted.{HasRegion, IsWritten, field_runs}
+use Rattle.page_core.specs.Painted.{HasRegion, field_runs}
 use Rattle.page_core.specs.declared.composition.listings.Painter.{Painter}
 use Rattle.page_core.specs.declared.node.Node.{Node}
 use Rattle.page_core.specs.declared.node.Node.TheVariants as node
@@ -40,7 +37,7 @@ kept_there pool (p ∷ ps) pair region (suc k, short, e) is = behind (region_nod
     behind None there = there
     behind (Some other) there = (suc there.0, omega (arith, there.1), there.2)
 
-all_at : {X : Type 0} (P : X → Type 0) (xs : List X) (x : X) → All P xs → Contains xs x → P x
+pub all_at : {X : Type 0} (P : X → Type 0) (xs : List X) (x : X) → All P xs → Contains xs x → P x
 all_at P xs x all (k, short, e) = subst P e (all k x short)
 
 has_at : (pool : PoolOf Node) (store : Regions) (pair : NodeId × Node) → ((region : RegionNode) → region_node pair.1 ≡ Some region → HasRegion region.head region.slot store) → HasRegionAt pair.1 store

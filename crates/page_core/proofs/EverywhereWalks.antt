@@ -1,14 +1,13 @@
 -- The walk of an object over all regions, in the nodes of a composition.
-use Rattle.std.proofs.Common.{◌≡◌, ◌≢◌, ◌∙◌, refl, sym, ap, subst, inl, inr, ℕ, ◌+◌, ◌<◌, ◌≤◌, Bool, true, false, ◌||◌, cond, eqb, List, [], ◌∷◌, ◌++◌, length, map, find, All, Contains, Option, Some, None, option_map, arith, append_assoc}
+use Rattle.std.proofs.Common.{◌≡◌, ◌∙◌, refl, sym, ap, subst, inl, inr, ℕ, ◌<◌, Bool, true, false, ◌||◌, cond, eqb, List, [], ◌∷◌, ◌++◌, length, map, Contains, Option, Some, None, arith, append_assoc}
 use Rattle.std.specs.Prelude.{slice_get}
-use Rattle.std.specs.List.{list_any, cons_option}
-use Rattle.std.specs.Option.{is_some, option_map_or, ForSome}
+use Rattle.std.specs.List.{list_any}
+use Rattle.std.specs.Option.{option_map_or, ForSome}
 use Rattle.std.proofs.lemmas.Bool.{cases_eq, eqb-true}
 use Rattle.std.proofs.lemmas.Bool.Decides.{nat_tests}
-use Rattle.std.proofs.lemmas.List.Elements.{All-map}
 use Rattle.comp_pool.specs.declared.node.NodeId.{NodeId}
 use Rattle.comp_pool.specs.Places.{first_of, behind, rest_from}
-use Rattle.comp_pool.specs.Pool.{PoolOf, list_of, nodes_of, IsInList, IsAt, NoneTwice, node_count}
+use Rattle.comp_pool.specs.Pool.{PoolOf, list_of, nodes_of, IsInList, NoneTwice, node_count}
 use Rattle.comp_pool.proofs.NodeLaws.{in_list_first, in_list_behind}
 use Rattle.comp_pool.proofs.WalkLaws.{walk_start, walk_step}
 use Rattle.page_core.specs.Everywhere.{IsPaintedAt, painted_where, IsEverywhere}
@@ -16,7 +15,6 @@ use Rattle.page_core.specs.Listings.{due_node, painted_node}
 use Rattle.page_core.specs.Lists.{with_changed, IsRewritten}
 use Rattle.page_core.specs.Nodes.{region_node, is_region_of, listings_list}
 use Rattle.page_core.specs.declared.composition.listings.Painter.{Painter}
-use Rattle.page_core.specs.declared.node.ListingNode.{ListingNode}
 use Rattle.page_core.specs.declared.node.Node.{Node}
 use Rattle.page_core.specs.declared.node.Node.TheVariants as node
 use Rattle.page_core.specs.declared.node.RegionNode.{RegionNode}

@@ -1,16 +1,16 @@
 -- What an object writes to all regions, one after another.
-use Rattle.std.proofs.Common.{◌≡◌, ◌≢◌, ◌∙◌, refl, sym, ap, subst, inl, inr, ℕ, zero, suc, ◌+◌, ◌<◌, Bool, true, false, cond, List, [], ◌∷◌, ◌++◌, length, map, Contains, Option, Some, None, option_map, arith}
+use Rattle.std.proofs.Common.{◌≡◌, ◌∙◌, refl, sym, ap, subst, inl, inr, ℕ, ◌<◌, Bool, false, cond, List, ◌∷◌, ◌++◌, Contains, Option, Some, None, option_map, arith}
 use Rattle.std.specs.List.{list_any, cons_option}
 use Rattle.std.proofs.lemmas.Bool.{cases_eq}
 use Rattle.sub_base.specs.Lists.{last_given}
 use Rattle.stream_syntax.specs.Segments.{Object}
 use Rattle.stream_syntax.specs.declared.region.RegionHead.{RegionHead}
 use Rattle.comp_pool.specs.declared.node.NodeId.{NodeId}
-use Rattle.comp_pool.specs.Places.{first_of, behind, rest_from}
+use Rattle.comp_pool.specs.Places.{behind, rest_from}
 use Rattle.comp_pool.specs.Pool.{PoolOf, list_of}
 use Rattle.decoder_model.specs.Faults.{depth_fault}
 use Rattle.decoder_model.specs.Readings.{Content}
-use Rattle.pixel_store.specs.Regions.{Regions, KeepsOthers, region_at}
+use Rattle.pixel_store.specs.Regions.{Regions, KeepsOthers}
 use Rattle.page_core.specs.Everywhere.{HasNoFault, HasRegionAt, KeepsAt, IsWrittenIn, IsWrittenAt, painted_where, HasNoFaults, AreApart, AreWritten, HaveRegions}
 use Rattle.page_core.specs.Listings.{code_by_pair}
 use Rattle.page_core.specs.Memory.{HasSides}

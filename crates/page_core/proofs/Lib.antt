@@ -40,3 +40,4 @@ pub mod EverywhereLaws
 pub mod EverywhereWalks
 pub mod EverywhereWrites
 pub mod EverywhereKept
+pub mod EverywhereCodes

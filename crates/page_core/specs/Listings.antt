@@ -1,11 +1,11 @@
 -- What an object changes in the listings of a region (EN 300 743, clause 7.2.5): it paints those that name it and are unpainted, or
 -- were painted with another version.
-use Rattle.std.specs.Prelude.{◌≡◌, ℕ, ◌==◌, ◌&&◌, Bool, if◌then◌else◌, map, Option, Some, None}
+use Rattle.std.specs.Prelude.{◌≡◌, ℕ, ◌==◌, ◌&&◌, Bool, if◌then◌else◌, Option, Some, None}
 use Rattle.segments.specs.declared.object.ObjectSeg.{ObjectSeg}
 use Rattle.stream_syntax.specs.Segments.{Object}
 use Rattle.decoder_model.specs.Taken.{has_new_version}
 use Rattle.comp_pool.specs.declared.node.NodeId.{NodeId}
-use Rattle.page_core.specs.Composition.{Composition, KeptListing, KeptRegion}
+use Rattle.page_core.specs.Composition.{KeptListing}
 use Rattle.page_core.specs.Nodes.{listing_in}
 use Rattle.page_core.specs.Painted.{FieldRuns, code_by_fields}
 use Rattle.page_core.specs.declared.composition.listings.Painter.{Painter}
@@ -24,21 +24,6 @@ code_by_kept object fields x y kept = if is_due object kept then code_by_fields 
 -- a listing behind the object
 abbrev pub painted_listing : Painter → KeptListing → KeptListing
 painted_listing object kept = if is_due object kept then record { listing = kept.listing; painted = Some object.version } else kept
-
--- the composition behind it, where it paints the region of an id
-abbrev pub painted_region : ℕ → Painter → KeptRegion → KeptRegion
-painted_region id object kept =
-    if kept.head.region == id then record { head = kept.head; slot = kept.slot; listings = map (painted_listing object) kept.listings } else kept
-
-abbrev pub with_painted : ℕ → Painter → Composition → Composition
-with_painted id object composition = record {
-  size = composition.size;
-  entries = composition.entries;
-  regions = map (painted_region id object) composition.regions;
-  cluts = composition.cluts;
-  set_entries = composition.set_entries;
-  free = composition.free;
-}
 
 -- ---- nodes
 

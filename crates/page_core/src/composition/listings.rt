@@ -1,15 +1,13 @@
 //! The listings of a region that an object paints (EN 300 743, clause 7.2.5).
 
-ghost use Rattle.std.specs.Prelude.{◌≡◌, ◌<◌, length, Some};
+ghost use Rattle.std.specs.Prelude.{◌≡◌, ◌<◌, length};
 ghost use Rattle.sub_base.specs.Lists.{last_given};
 ghost use Rattle.comp_pool.specs.Pool.{list_of};
-ghost use Rattle.page_core.specs.Composition.{KeptRegion, region_in};
-ghost use Rattle.page_core.specs.Listings.{code_by_kept, code_by_node, code_by_pair, due_node, painted_node as painted_node_of, with_painted};
+ghost use Rattle.page_core.specs.Listings.{code_by_node, code_by_pair, due_node, painted_node as painted_node_of};
 ghost use Rattle.page_core.specs.Lists.{IsRewritten};
 ghost use Rattle.page_core.specs.Nodes.{list_count, listing_in, listings_list};
 ghost use Rattle.page_core.specs.Painted.{HasRegion, IsWritten};
 
-use crate::composition::CompositionMemory;
 use crate::node::{ListingNode, Node, RegionNode};
 use crate::painting_objects::Fields;
 use comp_pool::Pool;
@@ -21,33 +19,6 @@ pub(crate) struct Painter {
     pub(crate) object: u16,
     pub(crate) version: u8,
     pub(crate) see_through: bool,
-}
-
-impl CompositionMemory {
-    /// Paints the object through the listings of a region that it paints, in order, and keeps its version for them.
-    pub(crate) fn paint_object(
-        &mut self,
-        object: Painter,
-        fields: &Fields<'_>,
-        region: &RegionNode,
-        store: &mut Store,
-    )
-        requires region { HasRegion region.now.head region.now.slot store.old }
-        requires depth { fields.now.depth ≡ region.now.head.depth }
-        ensures composition { self.new ≡ with_painted region.now.head.region object self.old }
-        ensures written { (kept : KeptRegion) → region_in self.old region.now.head.region ≡ Some kept
-            → IsWritten region.now.slot (λ x y. last_given (code_by_kept object fields.now x y) kept.listings) store.old store.new }
-    {
-        let id = region.head.region;
-        paint_list(
-            &mut self.pool,
-            listings_of(id),
-            object,
-            fields,
-            region,
-            store,
-        );
-    }
 }
 
 /// The list of the listings of a region.

@@ -1,13 +1,10 @@
-use Rattle.std.proofs.Common.{ap, length, List, ℕ, Option, ◌≡◌, ◌∙◌, sym, subst, Contains, arith}
-use Rattle.comp_pool.specs.Places.{rest_from}
-use Rattle.comp_pool.specs.Pool.{IsInList, list_of}
-use Rattle.comp_pool.specs.declared.node.NodeId.{NodeId}
+use Rattle.std.proofs.Common.{ap, length, arith}
+use Rattle.comp_pool.specs.Pool.{IsInList}
 use Rattle.comp_pool.proofs.NodeLaws.{in_some_list}
 use Rattle.comp_pool.proofs.WalkLaws.{walk_start}
 use Rattle.segments.specs.Contents.{object_value}
-use Rattle.page_core.specs.declared.node.Node.{Node}
-use Rattle.page_core.proofs.EverywhereWalks.{all_begin, all_go_on, all_end, from_node}
-use Rattle.page_core.proofs.EverywhereWrites.{regions_stay, writing_all_begins, writing_all_goes_on, writing_all_ends}
+use Rattle.page_core.proofs.EverywhereWalks.{all_begin, all_go_on, from_node}
+use Rattle.page_core.proofs.EverywhereWrites.{regions_stay, writing_all_begins, writing_all_goes_on}
 use Rattle.page_core.proofs.composition.everywhere.paint_regions.Goals as goal
 
 pub loop-place-init : goal.loop-place-init
