@@ -1,11 +1,10 @@
 -- The sets of a plan that come whole, as a receiver reads them.
-use Rattle.std.proofs.Common.{◌≡◌, ◌∙◌, ℕ, zero, suc, ◌%◌, List, [], ◌∷◌, ◌++◌, length, map, drop, reverse, Some, None, refl, sym, ap, subst, append_assoc}
+use Rattle.std.proofs.Common.{◌≡◌, ◌∙◌, ℕ, suc, ◌%◌, List, [], ◌∷◌, ◌++◌, map, reverse, Some, None, refl, sym, ap, subst, append_assoc}
 use Rattle.std.specs.Prelude.{All, slice_get}
 use Rattle.std.specs.List.{AllZip}
 use Rattle.std.proofs.lemmas.List.{reverse-append}
 use Rattle.sub_base.specs.declared.profile.Profile.{Profile}
 use Rattle.stream_syntax.specs.declared.wire.TheConstants.{TIME_ROUND}
-use Rattle.stream_syntax.specs.Segments.{spelled}
 use Rattle.cue_list.specs.declared.epoch.Epoch.{Epoch}
 use Rattle.cue_list.specs.declared.script.Script.{Script}
 use Rattle.page_epoch.specs.Plan.{IsPlan}
@@ -15,13 +14,13 @@ use Rattle.decoder_model.specs.Faults.{contents_in, segment_fault}
 use Rattle.decoder_model.specs.Readings.{Content, Reading, read, AreReadings, IsDeliveryRead}
 use Rattle.decoder_model.specs.Sets.{Delivery, whole}
 use Rattle.decoder_model.proofs.SentSets.{TimedSet, all_segments, size_of_units, delivered}
-use Rattle.shown_plan.proofs.Fair.{IsFair, fair}
+use Rattle.shown_plan.proofs.Fair.{fair}
 use Rattle.shown_plan.proofs.PlannedSets.{IsInEpoch}
 use Rattle.shown_plan.proofs.ReadSets.{IsReadSet}
 use Rattle.shown_plan.proofs.Runs.{at_place}
 use Rattle.shown_stream.proofs.CompiledSets.{IsSentAs, AreSentAs}
 use Rattle.shown_stream.proofs.LateRest.{IsPlannedWell}
-use Rattle.shown_stream.proofs.ReadSegments.{AreShallow, fair_shallow, SetRead, set_is_read}
+use Rattle.shown_stream.proofs.ReadSegments.{AreShallow, fair_shallow, set_is_read}
 
 -- a set of a plan that comes whole, with what it is read as
 pub record SetComes (script : Script) (set : PlannedSet) (sent : TimedSet) : Type 0 where

@@ -1,6 +1,6 @@
 -- A receiver that enters a compiled stream behind any number of its packets shows nothing before the time of the first set that it
 -- gets whole and that is not normal, and from then on what the script authors.
-use Rattle.std.proofs.Common.{◌≡◌, ◌∙◌, ℕ, zero, suc, ◌+◌, ◌%◌, ◌<◌, ◌≤◌, Bool, true, false, List, [], ◌∷◌, ◌++◌, length, map, take, drop, reverse, Option, Some, None, refl, sym, ap, subst, arith, append-nil, length-drop}
+use Rattle.std.proofs.Common.{◌≡◌, ◌∙◌, ℕ, zero, suc, ◌%◌, ◌<◌, ◌≤◌, true, List, [], ◌∷◌, ◌++◌, length, map, take, drop, reverse, Option, Some, None, refl, sym, ap, subst, arith, append-nil, length-drop}
 use Rattle.std.specs.Prelude.{slice_get}
 use Rattle.std.specs.List.{AllByRecursion, AllZip}
 use Rattle.std.specs.List.Sorted.{IsStrictlyIncreasing}
@@ -50,7 +50,7 @@ use Rattle.shown_stream.proofs.PlannedRegions.{planned_well}
 use Rattle.shown_stream.proofs.PlannedTimes.{pts_of, times_in_span, pts_rise}
 use Rattle.shown_stream.proofs.SentPieces.{IsFree}
 use Rattle.shown_stream.proofs.SentPlaces.{has_place}
-use Rattle.shown_stream.proofs.ShownSets.{IsAheadOf, AreAheadOf, IsIdle, lifted_at}
+use Rattle.shown_stream.proofs.ShownSets.{AreAheadOf, IsIdle, lifted_at}
 
 -- ---- what comes before the sets that come whole
 

@@ -1,7 +1,6 @@
 -- What a receiver shows while the sets of a plan come to it, one after another without a hole: nothing until one comes that is not
 -- normal, and from its time on what is authored.
-use Rattle.std.proofs.Common.{◌≡◌, ◌∙◌, ℕ, ◌+◌, ◌<◌, ◌≤◌, ◌⊎◌, inl, inr, Bool, true, false, ◌&&◌, not, cond, List, [], ◌∷◌, ◌++◌, map, reverse, Option, Some, None, refl, sym, ap, subst, arith, append_assoc}
-use Rattle.std.specs.Prelude.{slice_get}
+use Rattle.std.proofs.Common.{◌≡◌, ◌∙◌, ℕ, ◌+◌, ◌<◌, ◌≤◌, ◌⊎◌, inl, inr, Bool, true, false, ◌&&◌, not, cond, List, [], ◌∷◌, ◌++◌, map, reverse, Option, Some, refl, sym, ap, subst, arith, append_assoc}
 use Rattle.std.specs.List.{AllZip}
 use Rattle.std.proofs.lemmas.Bool.{cases_lt}
 use Rattle.std.proofs.lemmas.List.{reverse-append}
@@ -14,7 +13,7 @@ use Rattle.schedule.specs.Slots.{Timetable}
 use Rattle.decoder_model.specs.Kept.{lifted_time, last_time}
 use Rattle.decoder_model.specs.Readings.{Content, Reading, AreDeliveriesRead}
 use Rattle.decoder_model.specs.Sets.{Delivery}
-use Rattle.decoder_model.specs.Shown.{View, IsClear, Agrees, view_of, view_at}
+use Rattle.decoder_model.specs.Shown.{View, IsClear, Agrees, view_at}
 use Rattle.decoder_model.specs.Streams.{SentSet, is_from, entry_set, IsShownFrom}
 use Rattle.decoder_model.specs.Verdict.{sets_since, known_epoch}
 use Rattle.decoder_model.proofs.SentSets.{TimedSet, delivered}
@@ -25,7 +24,7 @@ use Rattle.shown_stream.specs.Shows.{authored_view}
 use Rattle.shown_stream.proofs.ComingSets.{SetComes, reading_of, is_read, turned_more}
 use Rattle.shown_stream.proofs.HeldSets.{HoldsEach, holds_next, kept_holds}
 use Rattle.shown_stream.proofs.RunViews.{IsBefore, run_shows}
-use Rattle.shown_stream.proofs.ShownSets.{AreAheadOf, kept_at, last_is, IsIdle, still_idle, page_behind, IsShownSet, shown_set}
+use Rattle.shown_stream.proofs.ShownSets.{AreAheadOf, kept_at, last_is, IsIdle, still_idle, IsShownSet, shown_set}
 
 -- ---- lists turned
 

@@ -1,5 +1,5 @@
 -- What arrives of a stream of which some packets are lost: by the pieces whose packets come, one after another.
-use Rattle.std.proofs.Common.{◌≡◌, ◌≢◌, ◌∙◌, ℕ, zero, suc, ◌+◌, ◌-◌, ◌%◌, ◌<◌, ◌≤◌, Bool, true, false, eqb, cond, List, [], ◌∷◌, ◌++◌, length, map, replicate, Option, Some, None, refl, sym, ap, subst, arith, append_assoc}
+use Rattle.std.proofs.Common.{◌≡◌, ◌≢◌, ◌∙◌, ℕ, zero, suc, ◌+◌, ◌-◌, ◌%◌, Bool, true, false, eqb, cond, List, [], ◌∷◌, ◌++◌, length, map, replicate, Option, Some, None, refl, sym, ap, subst, arith, append_assoc}
 use Rattle.std.specs.Prelude.{flat_map, filter}
 use Rattle.std.specs.Bool.{if◌then◌else◌}
 use Rattle.std.specs.List.{AllByRecursion, slice_get}
@@ -7,8 +7,8 @@ use Rattle.std.specs.Option.{option_map_or}
 use Rattle.std.proofs.lemmas.Bool.Decides.{nat_tests}
 use Rattle.std.proofs.lemmas.List.{map-append, length-append}
 use Rattle.std.proofs.lemmas.List.Elements.{filter-append}
-use Rattle.stream_syntax.specs.TransportPackets.{null_packet, pid_of, counter_of, payload_of, packet_fault}
-use Rattle.stream_syntax.specs.Units.{is_payload, last_counter, succession, payload_part, part_after, part_of, hand_after, unit_after, unit_at, payload_event, event_after, event_at, each_after, is_loss}
+use Rattle.stream_syntax.specs.TransportPackets.{null_packet, pid_of, counter_of}
+use Rattle.stream_syntax.specs.Units.{is_payload, last_counter, succession, payload_part, part_after, part_of, hand_after, unit_after, unit_at, payload_event, event_after, event_at, each_after}
 use Rattle.decoder_model.specs.Arrivals.{Arrival, loss, losses_at, units_at, arrivals_at}
 use Rattle.decoder_model.specs.Streams.{Sending, received_of}
 use Rattle.decoder_model.proofs.SentUnits.{no_loss_at}
@@ -16,7 +16,7 @@ use Rattle.ts_packets.specs.Demuxing.{next_hand}
 use Rattle.ts_packets.proofs.UnitLemmas.{hand_push, counter_push}
 use Rattle.ts_packets.proofs.WrittenPackets.{SaysWhatWasWritten}
 use Rattle.shown_stream.specs.SlotStream.{Piece, packet_of, IsPiece}
-use Rattle.shown_stream.proofs.LaidPackets.{laid, IsAhead, other_number}
+use Rattle.shown_stream.proofs.LaidPackets.{laid, IsAhead}
 use Rattle.shown_stream.proofs.LateEntry.{other_part}
 use Rattle.shown_stream.proofs.SentOrder.{sooner}
 use Rattle.shown_stream.proofs.SentPieces.{IsFree, says, null_is_no_payload, counter_here}

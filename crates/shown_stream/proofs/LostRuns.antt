@@ -1,10 +1,7 @@
 -- What a receiver shows of a stream of which some packets are lost: at each tick up to which, from a set that is not normal on, all
 -- sets have come whole, what is authored.
-use Rattle.std.proofs.Common.{◌≡◌, ◌∙◌, ℕ, zero, suc, ◌+◌, ◌%◌, ◌<◌, ◌≤◌, ◌⊎◌, inl, inr, Bool, true, false, ◌&&◌, ◌||◌, cond, List, [], ◌∷◌, ◌++◌, length, map, take, drop, reverse, Option, Some, None, refl, sym, ap, subst, arith}
-use Rattle.std.specs.Prelude.{nat_le}
-use Rattle.std.specs.List.{AllByRecursion, AllZip}
-use Rattle.std.specs.List.Sorted.{IsStrictlyIncreasing}
-use Rattle.std.proofs.lemmas.Bool.{cases_lt}
+use Rattle.std.proofs.Common.{◌≡◌, ◌∙◌, ℕ, zero, suc, ◌<◌, ◌≤◌, ◌⊎◌, inl, inr, Bool, true, false, List, ◌∷◌, ◌++◌, reverse, Option, Some, None, refl, sym, ap, subst, arith}
+use Rattle.std.specs.List.{AllByRecursion}
 use Rattle.sub_base.specs.declared.profile.Profile.{Profile}
 use Rattle.cue_list.specs.Sound.{IsTick}
 use Rattle.cue_list.specs.declared.script.Script.{Script}
@@ -12,26 +9,22 @@ use Rattle.page_epoch.specs.Plan.{IsPlan}
 use Rattle.page_epoch.specs.States.{is_whole}
 use Rattle.page_epoch.specs.declared.planned_set.PlannedSet.{PlannedSet}
 use Rattle.decoder_model.specs.Kept.{lifted_time, last_time, epoch_of}
-use Rattle.decoder_model.specs.Readings.{Content, Reading, IsDeliveryRead, AreDeliveriesRead}
-use Rattle.decoder_model.specs.Sets.{Delivery, lost}
+use Rattle.decoder_model.specs.Readings.{Content, Reading}
+use Rattle.decoder_model.specs.Sets.{Delivery}
 use Rattle.decoder_model.specs.Shown.{View, Agrees, view_at}
 use Rattle.decoder_model.specs.Verdict.{verdict_on_kept, sets_since, known_epoch}
-use Rattle.decoder_model.proofs.SentSets.{TimedSet, size_of_units, delivered}
-use Rattle.decoder_model.proofs.Views.{view_before}
+use Rattle.decoder_model.proofs.SentSets.{TimedSet, size_of_units}
 use Rattle.shown_plan.proofs.Fair.{fair}
 use Rattle.shown_plan.proofs.Runs.{IsRun, begins, goes_on, RunKeeps, run_keeps}
-use Rattle.shown_stream.specs.HoldsWhole.{HoldsSet, HoldsWhole}
+use Rattle.shown_stream.specs.HoldsWhole.{HoldsSet}
 use Rattle.shown_stream.specs.Shows.{authored_view}
-use Rattle.shown_stream.proofs.ComingSets.{SetComes, reading_of, is_read, turned_more}
-use Rattle.shown_stream.proofs.EnteredRuns.{turned}
-use Rattle.shown_stream.proofs.HeldSets.{holds_next, kept_holds}
-use Rattle.shown_stream.proofs.LostSets.{losts, count_before, all_come, some_come, part_of_set, IsMiddle, Bound, MissedOut, goes_by, stays_open, SetOut, set_whole, set_missed, set_out, NothingOut, nothing_out}
-use Rattle.shown_stream.proofs.LostSteps.{Pushed, push_losts, SetSent, KeptPart, open_part, BrokenPart, later_part}
+use Rattle.shown_stream.proofs.ComingSets.{SetComes, reading_of, turned_more}
+use Rattle.shown_stream.proofs.HeldSets.{kept_holds}
+use Rattle.shown_stream.proofs.LostSets.{count_before}
 use Rattle.shown_stream.proofs.LostUnits.{Kind, Fresh, Joined, Apart, Steps, missed_from}
-use Rattle.shown_stream.proofs.PlannedOrder.{rest_rises, all_above}
 use Rattle.shown_stream.proofs.PlannedTimes.{pts_of}
 use Rattle.shown_stream.proofs.RunViews.{IsBefore, run_shows}
-use Rattle.shown_stream.proofs.ShownSets.{IsAheadOf, kept_at, last_is, verdict_is, sets_are, is_normal, unknown_with, page_behind, IsShownSet, shown_set}
+use Rattle.shown_stream.proofs.ShownSets.{IsAheadOf, verdict_is, sets_are, is_normal, unknown_with, IsShownSet, shown_set}
 
 -- ---- what is known in a receiver
 

@@ -1,5 +1,5 @@
 -- The sets of a stream of which some packets are lost: those that come whole, later units of others, and losses.
-use Rattle.std.proofs.Common.{◌≡◌, ◌∙◌, ℕ, zero, suc, ◌+◌, ◌<◌, ◌≤◌, ◌⊎◌, inl, inr, Bool, true, false, ◌&&◌, ◌||◌, eqb, ltb, cond, List, [], ◌∷◌, ◌++◌, length, map, take, drop, replicate, Option, Some, None, refl, sym, ap, subst, arith, append-nil, append_assoc, length-drop}
+use Rattle.std.proofs.Common.{◌≡◌, ◌∙◌, ℕ, zero, suc, ◌+◌, ◌<◌, ◌≤◌, ◌⊎◌, inl, inr, Bool, true, false, eqb, cond, List, [], ◌∷◌, ◌++◌, length, map, take, drop, replicate, Some, None, refl, sym, ap, subst, arith, length-drop}
 use Rattle.std.specs.Prelude.{find}
 use Rattle.std.specs.Bool.{if◌then◌else◌}
 use Rattle.std.specs.List.{AllByRecursion, AllZip, list_all, list_any, sum_by}
@@ -10,7 +10,7 @@ use Rattle.stream_syntax.specs.DataField.{Frame, segment}
 use Rattle.decoder_model.specs.Arrivals.{PesUnit, Arrival, loss, unit}
 use Rattle.decoder_model.specs.Frames.{segments_in}
 use Rattle.decoder_model.specs.Sets.{Stretch, loss_between, run, runs_of, joined_to, Delivery, lost, whole, is_ended, frames_in, size_in, is_followed, set_of, sets_in}
-use Rattle.decoder_model.proofs.SentSets.{SetUnit, TimedSet, TimedUnit, timed, timed_units, segments_of_units, size_of_units, all_segments, IsBefore, AreSetUnits, IsTimedSet, IsApart, HaveDifferentTimes, IsPlaced, unit_of, delivered, handed_whole, first_time, same_time, run_frames, run_size, no_end_among, not_ended, none_ends, front_bytes, front_not_ended, segments_are, find-map}
+use Rattle.decoder_model.proofs.SentSets.{SetUnit, TimedSet, TimedUnit, timed, timed_units, segments_of_units, IsTimedSet, IsApart, IsPlaced, unit_of, delivered, handed_whole, first_time, same_time, run_frames, run_size, none_ends, front_bytes, front_not_ended, segments_are, find-map}
 use Rattle.shown_stream.proofs.LateSets.{rest_of_set, rest_is_set}
 use Rattle.shown_stream.proofs.LostUnits.{Kind, Fresh, Joined, Apart, Steps, no_step, more_steps, missed_from, losses, losses-add, Arrive, none_arrive, one_arrives, one_missed, lost_before}
 
@@ -238,8 +238,8 @@ module _ (coded page : ℕ) where
       → ((behind ≡ []) × Arrive Apart (timed_units sets) come []) ⊎ ((rest : List Stretch) × (behind ≡ loss_between ∷ rest)) → MissedOut Apart set sets come (sets_in coded true behind) → MissedOut (missed_from kind) set sets come (sets_in coded true (run first more ∷ behind))
   open_out kind set k p sets come first more behind is within placed (inl none) out =
       stays_open 0 k p none.1 (
-        ap (λ front. front ++ sets_in coded true behind) (handed_open set k p first more (is_followed true behind) is within placed)
-        ∙ ap (λ all. (if is_followed true all then delivered (part_of_set k p set) ∷ [] else []) ++ sets_in coded true all) none.0)
+      ap (λ front. front ++ sets_in coded true behind) (handed_open set k p first more (is_followed true behind) is within placed)
+      ∙ ap (λ all. (if is_followed true all then delivered (part_of_set k p set) ∷ [] else []) ++ sets_in coded true all) none.0)
   open_out kind set k p sets come first more behind is within placed (inr some) out =
       let same : sets_in coded true (run first more ∷ behind) ≡ sets_in coded true behind =
       ap (λ front. front ++ sets_in coded true behind) (handed_open set k p first more (is_followed true behind) is within placed)
@@ -274,13 +274,15 @@ module _ (coded page : ℕ) where
             where
               by_ends : (group : Group set units sets more (runs_of left)) → GroupEnds set units sets more group.found group.behind → Group set (one ∷ units) sets (true ∷ more) (joined_to (unit_of place set.time one) (runs_of left))
               by_ends group (group_all all placed bound) = record {
-                found = unit_of place set.time one ∷ group.found; behind = group.behind;
+                found = unit_of place set.time one ∷ group.found;
+                behind = group.behind;
                 are = ap (joined_to (unit_of place set.time one)) group.are ∙ joins place set.time one group.found units group.behind placed group.other;
                 other = group.other;
                 ends = group_all all ((place, refl), placed) bound;
               }
               by_ends group (group_part p within all placed led out) = record {
-                found = unit_of place set.time one ∷ group.found; behind = group.behind;
+                found = unit_of place set.time one ∷ group.found;
+                behind = group.behind;
                 are = ap (joined_to (unit_of place set.time one)) group.are ∙ joins place set.time one group.found (take p units) group.behind placed group.other;
                 other = group.other;
                 ends = group_part (suc p) (omega (arith, within)) all ((place, refl), placed) led out;
@@ -329,7 +331,9 @@ module _ (coded page : ℕ) where
 
           grouped : (arrivals : List Arrival) → Arrive Joined (timed set.time one ∷ (map (timed set.time) units ++ timed_units sets)) (false ∷ more) arrivals → Group set (one ∷ units) sets (false ∷ more) (runs_of arrivals)
           grouped arrivals arrive = record {
-            found = []; behind = runs_of arrivals; are = refl;
+            found = [];
+            behind = runs_of arrivals;
+            are = refl;
             other = led_is (led arrivals arrive);
             ends = group_part 0 (omega arith) refl tt (led arrivals arrive) (missed Joined arrivals arrive);
           }

@@ -1,25 +1,23 @@
 -- What losses, later units of a set and units of an open set change in a receiver.
-use Rattle.std.proofs.Common.{◌≡◌, ◌∙◌, ℕ, zero, suc, ◌+◌, ◌%◌, ◌<◌, ◌≤◌, List, [], ◌∷◌, ◌++◌, length, take, drop, map, reverse, Option, Some, None, refl, sym, ap, subst, arith}
+use Rattle.std.proofs.Common.{◌≡◌, ◌∙◌, ℕ, zero, suc, ◌%◌, ◌<◌, ◌≤◌, List, [], ◌∷◌, ◌++◌, take, drop, reverse, Option, Some, None, refl, ap, arith}
 use Rattle.std.specs.Option.{option_or}
 use Rattle.sub_base.specs.declared.profile.Profile.{Profile}
 use Rattle.cue_list.specs.declared.script.Script.{Script}
-use Rattle.page_epoch.specs.Plan.{IsPlan}
 use Rattle.page_epoch.specs.declared.planned_set.PlannedSet.{PlannedSet}
 use Rattle.decoder_model.specs.Kept.{time_round, lifted_behind, lifted_time, last_time, epoch_of}
 use Rattle.decoder_model.specs.Readings.{Reading, AreReadings, IsDeliveryRead, AreDeliveriesRead}
 use Rattle.decoder_model.specs.Sets.{Delivery, lost, whole}
 use Rattle.decoder_model.specs.Shown.{view_at}
-use Rattle.decoder_model.specs.Verdict.{verdict_on_kept, sets_since, known_epoch}
+use Rattle.decoder_model.specs.Verdict.{sets_since, known_epoch}
 use Rattle.decoder_model.specs.declared.set_end.SetEnd.TheVariants.{Broken}
 use Rattle.decoder_model.specs.declared.set_fault.SetFault.TheVariants.{NoPage}
 use Rattle.decoder_model.proofs.SentSets.{SetUnit, TimedSet, segments_of_units, size_of_units, all_segments, delivered}
-use Rattle.decoder_model.proofs.Views.{view_without, view_before}
+use Rattle.decoder_model.proofs.Views.{view_without}
 use Rattle.shown_stream.specs.HoldsWhole.{HoldsSet, HoldsWhole}
 use Rattle.shown_stream.proofs.ComingSets.{SetComes}
 use Rattle.shown_stream.proofs.CompiledSets.{IsSentAs}
 use Rattle.shown_stream.proofs.CompiledShown.{part_read, rest_read}
 use Rattle.shown_stream.proofs.EnteredRuns.{turned}
-use Rattle.shown_stream.proofs.HeldSets.{holds_next}
 use Rattle.shown_stream.proofs.LateRest.{IsPlannedWell, rest_is_broken}
 use Rattle.shown_stream.proofs.LateSets.{rest_of_set}
 use Rattle.shown_stream.proofs.LostSets.{losts, part_of_set}

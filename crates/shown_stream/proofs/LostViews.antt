@@ -1,5 +1,5 @@
 -- All sets of a plan of which some packets are lost, as a receiver gets them: at a good tick it shows what is authored.
-use Rattle.std.proofs.Common.{◌≡◌, ◌∙◌, ℕ, zero, suc, ◌<◌, ◌≤◌, ◌⊎◌, inl, inr, Bool, true, false, ◌&&◌, ◌||◌, cond, List, [], ◌∷◌, ◌++◌, length, drop, refl, sym, ap, subst, arith}
+use Rattle.std.proofs.Common.{◌≡◌, ◌∙◌, ℕ, ◌<◌, ◌≤◌, ◌⊎◌, inl, inr, Bool, true, false, ◌&&◌, ◌||◌, cond, List, [], ◌∷◌, ◌++◌, length, drop, refl, sym, ap, subst, arith}
 use Rattle.std.specs.Prelude.{nat_le}
 use Rattle.std.specs.List.{AllByRecursion}
 use Rattle.std.proofs.lemmas.Bool.{cases_lt}
@@ -19,7 +19,7 @@ use Rattle.shown_stream.specs.Shows.{authored_view}
 use Rattle.shown_stream.proofs.EnteredRuns.{turned}
 use Rattle.shown_stream.proofs.LostRuns.{IsRunning}
 use Rattle.shown_stream.proofs.LostSets.{all_come, Bound}
-use Rattle.shown_stream.proofs.LostUnits.{Kind, Fresh, Joined, Apart, Arrive, none_arrive}
+use Rattle.shown_stream.proofs.LostUnits.{Kind, Joined, Arrive, none_arrive}
 use Rattle.shown_stream.proofs.LostWalk.{Before, IsFit, After, after, turned-both}
 use Rattle.shown_stream.proofs.PlannedTimes.{pts_of}
 use Rattle.shown_stream.proofs.RunViews.{IsBefore}

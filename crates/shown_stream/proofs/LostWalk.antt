@@ -1,29 +1,26 @@
 -- A set of the plan more of a stream of which some packets are lost, as a receiver gets it.
-use Rattle.std.proofs.Common.{◌≡◌, ◌∙◌, ℕ, zero, suc, ◌+◌, ◌<◌, ◌≤◌, ◌⊎◌, inl, inr, Bool, true, false, ◌&&◌, ◌||◌, cond, List, [], ◌∷◌, ◌++◌, length, map, take, drop, reverse, Option, Some, None, refl, sym, ap, subst, arith, append-nil, append_assoc}
-use Rattle.std.specs.List.{AllByRecursion, AllZip}
+use Rattle.std.proofs.Common.{◌≡◌, ◌∙◌, ℕ, ◌<◌, ◌≤◌, ◌⊎◌, inl, inr, Bool, true, false, List, [], ◌∷◌, ◌++◌, length, drop, reverse, None, refl, sym, ap, subst, append-nil, append_assoc}
+use Rattle.std.specs.List.{AllByRecursion}
 use Rattle.sub_base.specs.declared.profile.Profile.{Profile}
 use Rattle.cue_list.specs.Sound.{IsTick}
 use Rattle.cue_list.specs.declared.script.Script.{Script}
 use Rattle.page_epoch.specs.Plan.{IsPlan}
 use Rattle.page_epoch.specs.States.{is_whole}
 use Rattle.page_epoch.specs.declared.planned_set.PlannedSet.{PlannedSet}
-use Rattle.decoder_model.specs.Kept.{lifted_time, last_time}
-use Rattle.decoder_model.specs.Readings.{Content, Reading, IsDeliveryRead, AreDeliveriesRead}
-use Rattle.decoder_model.specs.Sets.{Delivery, lost}
+use Rattle.decoder_model.specs.Readings.{Reading, AreDeliveriesRead}
+use Rattle.decoder_model.specs.Sets.{Delivery}
 use Rattle.decoder_model.specs.Shown.{Agrees, view_at}
-use Rattle.decoder_model.specs.Verdict.{known_epoch}
 use Rattle.decoder_model.proofs.SentSets.{TimedSet, IsTimedSet, IsApart, delivered}
 use Rattle.decoder_model.proofs.Views.{view_before}
-use Rattle.shown_stream.specs.HoldsWhole.{HoldsSet, HoldsWhole}
+use Rattle.shown_stream.specs.HoldsWhole.{HoldsWhole}
 use Rattle.shown_stream.specs.Shows.{authored_view}
 use Rattle.shown_stream.proofs.ComingSets.{reading_of, is_read, turned_more}
 use Rattle.shown_stream.proofs.EnteredRuns.{turned}
 use Rattle.shown_stream.proofs.HeldSets.{holds_next}
-use Rattle.shown_stream.proofs.LateSets.{rest_of_set}
-use Rattle.shown_stream.proofs.LostRuns.{IsRunning, IsUnknown, KnownBy, RunsOn, WholeAfter, whole_after, none_known_of, LastBy, Ahead, ahead_by, last_passed, known_pushed, known_before}
-use Rattle.shown_stream.proofs.LostSets.{losts, count_before, all_come, some_come, part_of_set, IsMiddle, Bound, MissedOut, goes_by, stays_open, SetOut, set_whole, set_missed, set_out, NothingOut, nothing_out}
-use Rattle.shown_stream.proofs.LostSteps.{Pushed, push_losts, SetSent, KeptPart, open_part, BrokenPart, later_part}
-use Rattle.shown_stream.proofs.LostUnits.{Kind, Fresh, Joined, Apart, Steps, missed_from}
+use Rattle.shown_stream.proofs.LostRuns.{IsRunning, KnownBy, RunsOn, whole_after, none_known_of, LastBy, ahead_by, last_passed, known_pushed, known_before}
+use Rattle.shown_stream.proofs.LostSets.{losts, count_before, all_come, some_come, part_of_set, Bound, MissedOut, goes_by, stays_open, SetOut, set_whole, set_missed, set_out, NothingOut, nothing_out}
+use Rattle.shown_stream.proofs.LostSteps.{push_losts, SetSent, open_part, BrokenPart, later_part}
+use Rattle.shown_stream.proofs.LostUnits.{Kind, Joined, Apart, missed_from}
 use Rattle.shown_stream.proofs.PlannedTimes.{pts_of}
 use Rattle.shown_stream.proofs.RunViews.{IsBefore}
 use Rattle.shown_stream.proofs.ShownSets.{IsAheadOf, kept_at, last_is}

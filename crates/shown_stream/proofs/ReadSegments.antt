@@ -1,9 +1,8 @@
 -- The segments of a set of a plan, as they are read: none has a fault, and what they stand for is what the plan says.
 use Rattle.std.proofs.Common.{◌≡◌, ◌∙◌, ℕ, ◌≤◌, eqb, List, [], ◌∷◌, ◌++◌, map, None, refl, sym, ap, subst, append_assoc}
-use Rattle.std.specs.Prelude.{slice_get, All}
+use Rattle.std.specs.Prelude.{All}
 use Rattle.std.specs.List.{AllByRecursion, AllZip}
 use Rattle.std.specs.Option.{option_or, is_some}
-use Rattle.std.proofs.lemmas.List.{map-append}
 use Rattle.std.proofs.lemmas.List.Elements.{recursion_from_All}
 use Rattle.sub_base.specs.Depth.{bits_of}
 use Rattle.sub_base.specs.Lists.{first_given, with_earlier}
@@ -29,7 +28,7 @@ use Rattle.shown_plan.proofs.Fair.{IsFairCue}
 use Rattle.shown_plan.proofs.FaultFree.{page_value}
 use Rattle.shown_plan.proofs.ReadSets.{plain, IsDrawnObject, IsReadSet}
 use Rattle.shown_stream.proofs.DrawnObject.{object_draws}
-use Rattle.shown_stream.proofs.LateRest.{IsOther, HaveOtherRegions, AreOther, IsPlannedWell, same_value, not_faulty, one_earlier, none_earlier, no_fault_read, regions_other, objects_no_region, cluts_no_region}
+use Rattle.shown_stream.proofs.LateRest.{IsOther, HaveOtherRegions, IsPlannedWell, same_value, not_faulty, one_earlier, none_earlier, no_fault_read, regions_other, objects_no_region, cluts_no_region}
 use Rattle.shown_stream.proofs.LateSegments.{IsLater, behind_page, later_behind_page, both_hold, regrouped}
 
 -- ---- what is read

@@ -1,8 +1,6 @@
 -- A set of a plan more in a receiver: it is kept at its own time; where no epoch is known and it is normal nothing is shown, and
 -- behind a run of the plan's sets its own page is.
-use Rattle.std.proofs.Common.{◌≡◌, ◌∙◌, ℕ, ◌+◌, ◌%◌, ◌==◌, ◌<◌, ◌≤◌, ◌⊎◌, inl, inr, Bool, true, false, List, [], ◌∷◌, Option, Some, None, refl, sym, ap, subst, arith}
-use Rattle.std.specs.Prelude.{nat_le}
-use Rattle.std.specs.Bool.{if◌then◌else◌}
+use Rattle.std.proofs.Common.{◌≡◌, ◌∙◌, ℕ, ◌+◌, ◌%◌, ◌==◌, ◌<◌, ◌≤◌, ◌⊎◌, inl, inr, false, List, [], ◌∷◌, Option, Some, None, refl, sym, ap, subst}
 use Rattle.std.specs.Option.{option_or}
 use Rattle.std.proofs.lemmas.Bool.{cases_lt}
 use Rattle.sub_base.specs.declared.profile.Profile.{Profile}
@@ -15,7 +13,7 @@ use Rattle.page_epoch.specs.declared.planned_set.PlannedSet.{PlannedSet}
 use Rattle.decoder_model.specs.BehindLoss.{IsNormal, IsWaitingOrBroken}
 use Rattle.decoder_model.specs.Contents.{page_in_set}
 use Rattle.decoder_model.specs.Faults.{contents_in}
-use Rattle.decoder_model.specs.Kept.{time_round, lifted_behind, lifted_after, lifted_time, last_time, epoch_of}
+use Rattle.decoder_model.specs.Kept.{time_round, lifted_behind, lifted_time, last_time, epoch_of}
 use Rattle.decoder_model.specs.Readings.{Content, Reading}
 use Rattle.decoder_model.specs.Sets.{Delivery, whole}
 use Rattle.decoder_model.specs.Shown.{IsClear, Standing, scene_in, standing_with, standing_after, view_of, view_at}
@@ -27,7 +25,6 @@ use Rattle.decoder_model.proofs.Lifts.{lifted_first, lifted_next}
 use Rattle.decoder_model.proofs.SentSets.{TimedSet, size_of_units}
 use Rattle.decoder_model.proofs.Views.{view_before, view_with, view_of_shown}
 use Rattle.shown_plan.proofs.FaultFree.{page_value, page_is}
-use Rattle.shown_plan.proofs.ReadSets.{IsReadSet}
 use Rattle.shown_plan.proofs.Runs.{has_its_state, RunKeeps}
 use Rattle.shown_stream.proofs.ComingSets.{SetComes, reading_of}
 
