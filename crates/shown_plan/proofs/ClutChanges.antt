@@ -1,19 +1,14 @@
 -- Whether a set sends a CLUT, and the version of a CLUT, by the colour rows of an epoch.
-use Rattle.std.proofs.Common.{◌≡◌, ◌≢◌, ◌∙◌, ◌⊎◌, inl, inr, ℕ, zero, suc, ◌+◌, ◌-◌, ◌%◌, ◌==◌, ◌<◌, ◌≤◌, nat_le, Bool, true, false, ◌&&◌, cond, List, [], ◌∷◌, ◌++◌, length, map, filter, get_or, Option, Some, None, unwrap_or, refl, sym, ap, subst, arith}
+use Rattle.std.proofs.Common.{◌≡◌, ◌≢◌, ◌∙◌, ◌⊎◌, inl, inr, ℕ, zero, suc, ◌-◌, ◌%◌, ◌==◌, ◌<◌, ◌≤◌, nat_le, Bool, true, false, cond, List, [], ◌∷◌, get_or, Option, Some, None, refl, sym, ap, subst, arith}
 use Rattle.std.specs.Prelude.{All}
-use Rattle.std.specs.List.{AllPairs, Contains, count_by, list_any, range_with_len}
+use Rattle.std.specs.List.{Contains, count_by}
 use Rattle.std.specs.Option.{option_or, option_map}
 use Rattle.std.proofs.lemmas.Bool.Decides.{nat_tests}
 use Rattle.std.proofs.lemmas.List.Elements.{All-filter, All-contains_itself}
-use Rattle.std.proofs.lemmas.List.FromFn.{length-range_with_len, get_or-range_with_len}
-use Rattle.std.proofs.lemmas.List.Kept.{AllPairs-filter}
-use Rattle.sub_base.specs.declared.colour.Colour.{Colour}
 use Rattle.cue_list.specs.declared.epoch.ColourRow.{ColourRow}
-use Rattle.page_epoch.proofs.ClutLaws.{clut_course-more, version_sent}
 use Rattle.page_epoch.proofs.CountLaws.{count_cons, count_none}
 use Rattle.page_epoch.proofs.ListLaws.{filter_agree, filter_none}
-use Rattle.page_epoch.proofs.RowLaws.{entry_of}
-use Rattle.page_epoch.specs.Courses.{version_of_count, clut_course, clut_after}
+use Rattle.page_epoch.specs.Courses.{version_of_count, clut_course}
 use Rattle.page_epoch.specs.SentCluts.{row_at, rows_of_clut, is_of_entry, rows_of_entry, latest_place, by_tick, defined_rows, is_changed, clut_version, rows_from}
 use Rattle.page_epoch.specs.declared.clut_rows.Entry.{Entry}
 use Rattle.shown_plan.proofs.ClutRows.{AreSeenRows, latest_none, latest_greatest, row_changes, changed_row, defined_own, row_defined}

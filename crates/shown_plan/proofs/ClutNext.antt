@@ -1,29 +1,20 @@
 -- Each CLUT of an epoch behind one set of the plan more: its version, and the colours of its entries.
-use Rattle.std.proofs.Common.{◌≡◌, ◌≢◌, ◌∙◌, ◌⊎◌, inl, inr, ℕ, zero, suc, ◌+◌, ◌-◌, ◌%◌, ◌==◌, ◌<◌, ◌≤◌, Bool, true, false, not, ◌&&◌, cond, eqb, List, [], ◌∷◌, ◌++◌, length, map, filter, reverse, get_or, Option, Some, None, unwrap_or, refl, sym, ap, subst, arith}
+use Rattle.std.proofs.Common.{◌≡◌, ◌≢◌, ◌∙◌, ℕ, Bool, true, false, cond, eqb, List, [], ◌∷◌, ◌++◌, map, filter, reverse, get_or, Option, Some, None, refl, sym, ap, arith}
 use Rattle.std.specs.Prelude.{All}
-use Rattle.std.specs.List.{AllZip, AllPairs, Contains, count_by, flat_map, list_any, range_with_len}
-use Rattle.std.specs.Option.{option_or, option_map, option_and_then}
+use Rattle.std.specs.List.{AllZip}
+use Rattle.std.specs.Option.{option_or, option_and_then}
 use Rattle.std.proofs.lemmas.Bool.Decides.{nat_tests}
 use Rattle.std.proofs.lemmas.List.{reverse-append, append_assoc, map-append}
-use Rattle.std.proofs.lemmas.List.Elements.{All-head, All-tail, All-cons, All-append, All-map, All-filter, filter-append}
-use Rattle.std.proofs.lemmas.List.FromFn.{length-range_with_len, get_or-range_with_len}
-use Rattle.std.proofs.lemmas.List.Kept.{AllPairs-filter}
-use Rattle.sub_base.specs.Depth.{code_count}
+use Rattle.std.proofs.lemmas.List.Elements.{All-cons, All-append, All-map, All-filter, filter-append}
 use Rattle.sub_base.specs.Lists.{first_given, last_given}
 use Rattle.sub_base.specs.Picture.{Picture}
-use Rattle.sub_base.specs.declared.colour.Colour.{Colour}
 use Rattle.sub_base.specs.declared.depth.Depth.{Depth}
 use Rattle.stream_syntax.specs.Segments.{Clut}
 use Rattle.stream_syntax.specs.declared.page.State.{State}
 use Rattle.stream_syntax.specs.declared.page.State.TheVariants.{Normal, Acquisition, ModeChange}
-use Rattle.cue_list.specs.declared.epoch.ColourRow.{ColourRow}
 use Rattle.cue_list.specs.declared.epoch.Epoch.{Epoch}
 use Rattle.cue_list.specs.declared.script.Script.{Script}
-use Rattle.page_epoch.proofs.ClutLaws.{clut_course-more, version_sent}
 use Rattle.page_epoch.proofs.ListLaws.{All-none}
-use Rattle.page_epoch.proofs.RowLaws.{entry_of}
-use Rattle.page_epoch.specs.Courses.{clut_course, clut_after}
-use Rattle.page_epoch.specs.SentCluts.{row_at, rows_of_clut, defined_rows, is_changed, clut_version as planned_version, clut_with, rows_from, sent_clut, named_cluts, sent_cluts, clut_count}
 use Rattle.page_epoch.specs.declared.planned_set.PlannedSet.{PlannedSet}
 use Rattle.page_epoch.specs.declared.planned_set.SentClut.{SentClut}
 use Rattle.page_epoch.specs.declared.planned_set.SentRegion.{SentRegion}
@@ -32,15 +23,11 @@ use Rattle.decoder_model.specs.Contents.{clut_named}
 use Rattle.decoder_model.specs.Ink.{colour_by_entry, colour_by_clut, colour_by_segment}
 use Rattle.decoder_model.specs.Readings.{Content}
 use Rattle.decoder_model.specs.Taken.{segments_of, taken_among, has_new_version, clut_version, last_clut}
-use Rattle.decoder_model.proofs.Searches.{first_given-append, first_given-all_none, option_or-assoc}
-use Rattle.shown_plan.proofs.ClutChanges.{changes_send, still_not_sent, version_known, defined_known, undefined_unknown, AreBetween, latest_unchanged, given_upon}
-use Rattle.shown_plan.proofs.ClutRows.{AreSeenRows}
-use Rattle.shown_plan.proofs.ColourRows.{latest_of, colour_at, given_latest}
+use Rattle.decoder_model.proofs.Searches.{first_given-append, first_given-all_none}
 use Rattle.shown_plan.proofs.Ordered.{displays_in, page_content, region_content, clut_content}
 use Rattle.shown_plan.proofs.OwnIds.{AreSingle}
 use Rattle.shown_plan.proofs.Parts.{HasPart}
 use Rattle.shown_plan.proofs.ReadSets.{plain, IsReadSet, IsDrawnObject}
-use Rattle.shown_plan.proofs.SentColours.{is_sent_row, rows_give}
 use Rattle.shown_plan.proofs.SetView.{keeps, reversed_all, taken_now}
 
 -- ---- a set, as a CLUT sees it

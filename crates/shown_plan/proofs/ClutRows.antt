@@ -1,25 +1,21 @@
 -- Which CLUTs a set sends, and the latest rows of their entries from instant to instant.
-use Rattle.std.proofs.Common.{◌≡◌, ◌≢◌, ◌∙◌, ◌⊎◌, inl, inr, ℕ, zero, suc, ◌+◌, ◌-◌, ◌%◌, ◌==◌, ◌<◌, ◌≤◌, nat_le, Bool, true, false, ◌&&◌, cond, List, [], ◌∷◌, ◌++◌, length, map, filter, get_or, Option, Some, None, unwrap_or, refl, sym, ap, subst, arith}
+use Rattle.std.proofs.Common.{◌≡◌, ℕ, ◌==◌, ◌<◌, ◌≤◌, nat_le, Bool, true, false, ◌&&◌, cond, List, [], ◌∷◌, length, filter, get_or, Option, Some, None, refl, sym, subst, arith}
 use Rattle.std.specs.Prelude.{All}
-use Rattle.std.specs.List.{Contains, count_by, flat_map, list_any}
-use Rattle.std.specs.Option.{option_or, option_map, option_to_list}
+use Rattle.std.specs.List.{Contains}
+use Rattle.std.specs.Option.{option_to_list}
 use Rattle.std.proofs.lemmas.Bool.Decides.{nat_tests}
-use Rattle.std.proofs.lemmas.List.Elements.{All-head, All-tail, All-cons, All-filter, All-contains_itself, Contains-append_left, Contains-append_right}
+use Rattle.std.proofs.lemmas.List.Elements.{All-cons, All-filter, All-contains_itself}
 use Rattle.std.proofs.lemmas.List.Folds.{list_any_at}
 use Rattle.sub_base.specs.Depth.{bits_of, code_count}
-use Rattle.sub_base.specs.declared.colour.Colour.{Colour}
 use Rattle.cue_list.specs.declared.epoch.ColourRow.{ColourRow}
-use Rattle.page_epoch.proofs.ClutLaws.{clut_course-more, version_sent}
-use Rattle.page_epoch.proofs.CountLaws.{count_cons, count_none}
-use Rattle.page_epoch.proofs.ListLaws.{All-none, All-pieces, filter_agree, filter_none}
+use Rattle.page_epoch.proofs.ListLaws.{All-none, All-pieces}
 use Rattle.page_epoch.proofs.RowLaws.{entry_of, latest_in, own_within}
 use Rattle.page_epoch.specs.Live.{places_below}
-use Rattle.page_epoch.specs.Courses.{version_of_count, clut_course}
-use Rattle.page_epoch.specs.SentCluts.{no_row, row_at, all_entries, rows_of_clut, is_of_entry, rows_of_entry, later_place, latest_place, by_tick, row_by, defined_rows, is_changed, clut_version, rows_from}
+use Rattle.page_epoch.specs.SentCluts.{no_row, row_at, all_entries, rows_of_clut, is_of_entry, rows_of_entry, later_place, latest_place, by_tick, row_by, defined_rows, is_changed}
 use Rattle.page_epoch.specs.declared.clut_rows.Entry.{Entry}
-use Rattle.shown_plan.proofs.ColourRows.{latest_of, colour_at, given_latest, latest_kept, latest_is_own, is_entry}
+use Rattle.shown_plan.proofs.ColourRows.{latest_is_own, is_entry}
 use Rattle.shown_plan.proofs.Lists.{all_at, kept_one, kept_pass, any_place, place_there, piece_there}
-use Rattle.shown_plan.proofs.SentColours.{is_an_entry, is_sent_row}
+use Rattle.shown_plan.proofs.SentColours.{is_an_entry}
 
 -- ---- the latest row
 

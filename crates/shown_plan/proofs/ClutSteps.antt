@@ -1,11 +1,10 @@
 -- The version and the colours of each CLUT of an epoch behind one set of the plan more are the plan's.
-use Rattle.std.proofs.Common.{◌≡◌, ◌≢◌, ◌∙◌, ◌⊎◌, inl, inr, ℕ, zero, suc, ◌+◌, ◌-◌, ◌%◌, ◌==◌, ◌<◌, ◌≤◌, Bool, true, false, not, cond, eqb, List, [], ◌∷◌, length, map, filter, reverse, Option, Some, None, refl, sym, ap, subst, arith}
+use Rattle.std.proofs.Common.{◌≡◌, ◌≢◌, ◌∙◌, ℕ, ◌+◌, ◌-◌, ◌%◌, ◌==◌, ◌<◌, Bool, true, false, not, cond, eqb, List, [], ◌∷◌, map, filter, reverse, Option, Some, None, refl, sym, ap, subst, arith}
 use Rattle.std.specs.List.{Contains, count_by}
 use Rattle.std.specs.Option.{option_or, option_map}
 use Rattle.std.proofs.lemmas.Bool.Decides.{nat_tests}
 use Rattle.sub_base.specs.Depth.{code_count}
-use Rattle.sub_base.specs.Lists.{first_given, last_given}
-use Rattle.sub_base.specs.declared.colour.Colour.{Colour}
+use Rattle.sub_base.specs.Lists.{last_given}
 use Rattle.sub_base.specs.declared.depth.Depth.{Depth}
 use Rattle.cue_list.specs.declared.epoch.ColourRow.{ColourRow}
 use Rattle.cue_list.specs.declared.epoch.Epoch.{Epoch}
@@ -15,12 +14,12 @@ use Rattle.page_epoch.specs.Courses.{clut_course, clut_after, next_version}
 use Rattle.page_epoch.specs.SentCluts.{defined_rows, is_changed, clut_version as planned_version, clut_with, rows_from, sent_clut}
 use Rattle.page_epoch.specs.declared.planned_set.SentClut.{SentClut}
 use Rattle.set_coder.specs.SetSegments.{clut_entry_of}
-use Rattle.decoder_model.specs.Ink.{colour_by_entry, colour_by_segment}
+use Rattle.decoder_model.specs.Ink.{colour_by_entry}
 use Rattle.decoder_model.specs.Readings.{Content}
 use Rattle.decoder_model.specs.Taken.{has_new_version, clut_version, last_clut}
 use Rattle.decoder_model.proofs.Searches.{option_or-none}
 use Rattle.shown_plan.proofs.ClutChanges.{changes_send, still_not_sent, version_known, defined_known, undefined_unknown, AreBetween, latest_unchanged, given_upon}
-use Rattle.shown_plan.proofs.ClutNext.{IsClutView, sent_clut_value, untaken, taken_clut, own_kept}
+use Rattle.shown_plan.proofs.ClutNext.{IsClutView, untaken, taken_clut, own_kept}
 use Rattle.shown_plan.proofs.ClutRows.{AreSeenRows}
 use Rattle.shown_plan.proofs.ColourRows.{latest_of, colour_at, given_latest}
 use Rattle.shown_plan.proofs.Keeps.{KeepsClut}

@@ -1,28 +1,22 @@
 -- The colour of an entry of a CLUT: what the rows that a set sends give it, and what is authored.
-use Rattle.std.proofs.Common.{◌≡◌, ◌≢◌, ◌∙◌, ℕ, zero, suc, ◌+◌, ◌==◌, ◌<◌, ◌≤◌, nat_le, Bool, true, false, ◌&&◌, ◌||◌, cond, eqb, List, [], ◌∷◌, ◌++◌, length, map, filter, get_or, Option, Some, None, unwrap_or, refl, sym, ap, subst, arith}
+use Rattle.std.proofs.Common.{◌≡◌, ◌∙◌, ℕ, ◌==◌, nat_le, Bool, true, false, ◌&&◌, ◌||◌, cond, List, [], ◌∷◌, length, map, filter, get_or, Option, Some, None, unwrap_or, refl, sym, ap, subst, arith}
 use Rattle.std.specs.Prelude.{All}
-use Rattle.std.specs.List.{flat_map, list_any, range_with_len}
+use Rattle.std.specs.List.{flat_map, list_any}
 use Rattle.std.specs.Option.{option_or, option_map, option_to_list}
 use Rattle.std.proofs.lemmas.Bool.Decides.{nat_tests}
-use Rattle.std.proofs.lemmas.List.{length-map}
 use Rattle.std.proofs.lemmas.List.Elements.{All-head, All-tail, All-cons, All-filter}
-use Rattle.std.proofs.lemmas.List.FromFn.{length-range_with_len, get_or-range_with_len}
 use Rattle.sub_base.specs.Colour.{default_of}
-use Rattle.sub_base.specs.Depth.{bits_of, code_count}
+use Rattle.sub_base.specs.Depth.{bits_of}
 use Rattle.sub_base.specs.Lists.{last_given}
 use Rattle.sub_base.specs.declared.colour.Colour.{Colour}
 use Rattle.sub_base.specs.declared.depth.Depth.{Depth}
-use Rattle.sub_base.specs.declared.depth.Depth.TheVariants.{Two, Four, Eight}
 use Rattle.cue_list.specs.Authored.{sets_entry, later_row, latest_row, colour_or_default, authored_colour}
 use Rattle.cue_list.specs.declared.epoch.ColourRow.{ColourRow}
-use Rattle.cue_list.specs.declared.epoch.Epoch.{Epoch}
 use Rattle.page_epoch.proofs.ListLaws.{All-none, map_kept, places_back}
 use Rattle.page_epoch.proofs.RowLaws.{entry_of}
 use Rattle.page_epoch.specs.Live.{places_below}
-use Rattle.page_epoch.specs.SentCluts.{no_row, row_at, entries_at, all_entries, rows_of_clut, is_of_entry, rows_of_entry, later_place, latest_place, by_tick, row_by, defined_rows, rows_from}
+use Rattle.page_epoch.specs.SentCluts.{no_row, row_at, rows_of_clut, is_of_entry, rows_of_entry, later_place, latest_place, by_tick, row_by}
 use Rattle.page_epoch.specs.declared.clut_rows.Entry.{Entry}
-use Rattle.set_coder.specs.SetSegments.{clut_entry_of}
-use Rattle.decoder_model.specs.Ink.{colour_by_entry}
 use Rattle.decoder_model.proofs.Searches.{option_or-none, last_given-append}
 
 -- ---- authored colours by places

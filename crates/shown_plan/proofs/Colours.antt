@@ -1,6 +1,6 @@
 -- The colour of each place of a receiver's picture behind a run is the authored one.
-use Rattle.std.proofs.Common.{◌≡◌, ◌≢◌, ◌∙◌, ◌⊎◌, inl, inr, ℕ, zero, suc, ◌+◌, ◌-◌, ◌*◌, ◌==◌, ◌&&◌, ◌||◌, ◌<◌, ◌≤◌, nat_le, nat_lt, Bool, true, false, not, cond, eqb, List, [], ◌∷◌, ◌++◌, length, map, filter, reverse, get_or, Option, Some, None, unwrap_or, refl, sym, ap, subst, arith}
-use Rattle.std.specs.Prelude.{All, find, IsSome}
+use Rattle.std.proofs.Common.{◌≡◌, ◌≢◌, ◌∙◌, ◌⊎◌, inl, inr, ℕ, suc, ◌+◌, ◌-◌, ◌*◌, ◌==◌, ◌&&◌, ◌||◌, ◌<◌, ◌≤◌, nat_le, nat_lt, Bool, true, false, not, cond, List, [], ◌∷◌, map, filter, reverse, get_or, Option, Some, None, unwrap_or, refl, sym, ap, subst, arith}
+use Rattle.std.specs.Prelude.{All, find}
 use Rattle.std.specs.List.{AllPairs, Contains, list_any}
 use Rattle.std.specs.Option.{option_or}
 use Rattle.std.proofs.lemmas.Bool.Decides.{nat_tests}
@@ -10,47 +10,36 @@ use Rattle.std.proofs.lemmas.List.Folds.{list_any_at, list_any_none}
 use Rattle.std.proofs.lemmas.List.Sorted.{Contains-permutation}
 use Rattle.sub_base.specs.Colour.{clear}
 use Rattle.sub_base.specs.Depth.{bits_of, code_count}
-use Rattle.sub_base.specs.Lists.{first_given, last_given}
+use Rattle.sub_base.specs.Lists.{last_given}
 use Rattle.sub_base.specs.Picture.{Picture, IsPicture, code_at}
 use Rattle.sub_base.specs.declared.colour.Colour.{Colour}
 use Rattle.sub_base.specs.declared.depth.Depth.{Depth}
 use Rattle.sub_base.specs.declared.depth.Depth.TheVariants.{Two, Four, Eight}
-use Rattle.sub_base.specs.declared.profile.Profile.{Profile}
-use Rattle.stream_syntax.specs.Segments.{Page, Display, Region as KnownRegion}
 use Rattle.stream_syntax.specs.declared.page.PageEntry.{PageEntry}
-use Rattle.cue_list.specs.Authored.{is_live, live_cues, code_of, covers, shows, code_shown, authored_code, authored_colour, lies_in, colour_with, colour_in as authored_in, colour_in_epoch, authored_at, epoch_at, picture_at_place}
-use Rattle.cue_list.specs.Sound.{FitsRegion, ticks_of}
+use Rattle.cue_list.specs.Authored.{is_live, live_cues, code_of, covers, shows, code_shown, authored_code, authored_colour, lies_in, colour_with, colour_in as authored_in, picture_at_place}
 use Rattle.cue_list.specs.declared.epoch.Cue.{Cue}
 use Rattle.cue_list.specs.declared.epoch.Epoch.{Epoch}
 use Rattle.cue_list.specs.declared.epoch.Region.{Region}
 use Rattle.cue_list.specs.declared.script.Script.{Script}
 use Rattle.page_epoch.proofs.ListLaws.{All-none}
-use Rattle.page_epoch.specs.Instants.{named_ticks}
 use Rattle.page_epoch.specs.Live.{cue_at, has_some, live_places}
 use Rattle.page_epoch.specs.Sendable.{HasRegion}
 use Rattle.page_epoch.specs.SentRegions.{AreShown}
-use Rattle.page_epoch.specs.declared.planned_set.PlannedSet.{PlannedSet}
 use Rattle.set_coder.specs.SetSegments.{region_of, page_entry_of}
-use Rattle.decoder_model.specs.Faults.{display_or_default, display_in_force}
 use Rattle.decoder_model.specs.Ink.{ink_of}
 use Rattle.decoder_model.specs.Pixels.{pixel_of}
 use Rattle.decoder_model.specs.Readings.{Content}
-use Rattle.decoder_model.specs.Shown.{Scene, scene_in, window_of, is_in_window, is_inside, colour_in, colour_through, colour_by_entry, colour_at}
-use Rattle.decoder_model.specs.Taken.{Taken, segments_of, taken_among, taken_of, taken_region, last_region}
-use Rattle.decoder_model.proofs.TakenSets.{taken_all, taken_display}
+use Rattle.decoder_model.specs.Shown.{is_inside, colour_in, colour_through}
+use Rattle.decoder_model.specs.Taken.{taken_among, taken_of, last_region}
+use Rattle.decoder_model.proofs.TakenSets.{taken_all}
 use Rattle.shown_plan.proofs.Fair.{IsFairEpoch, IsFairCue}
-use Rattle.shown_plan.proofs.FaultFree.{page_value, page_is}
 use Rattle.shown_plan.proofs.Holds.{ink_is, pixel_is, shown_live}
-use Rattle.shown_plan.proofs.Keeps.{IsSent, KeepsRegion, KeepsClut, Keeps}
+use Rattle.shown_plan.proofs.Keeps.{IsSent, KeepsRegion, Keeps}
 use Rattle.shown_plan.proofs.Lists.{all_at, kept_one, kept_pass, mapped_there}
 use Rattle.shown_plan.proofs.Painted.{live_are}
-use Rattle.shown_plan.proofs.PlannedSets.{IsInEpoch}
-use Rattle.shown_plan.proofs.Runs.{RunKeeps}
 use Rattle.shown_plan.proofs.SetFits.{last_sent}
 use Rattle.shown_plan.proofs.SetView.{reversed_all}
 use Rattle.shown_plan.proofs.SetPixels.{own_region, authored_itself}
-use Rattle.shown_plan.proofs.StillPictures.{AreStill, live_still, colour_still, epoch_is, epoch_still}
-use Rattle.shown_plan.specs.HoldsScript.{display_of_script}
 
 -- ---- codes are of the region's depth
 

@@ -1,26 +1,24 @@
 -- What is used of a script's soundness. A script tells it truncated; all of this is of equations and comparisons, so it is had
 -- once for all.
-use Rattle.std.proofs.Common.{◌≡◌, ◌≢◌, ◌∙◌, ◌⊎◌, inl, inr, ℕ, ◌+◌, ◌-◌, ◌*◌, ◌/◌, ◌==◌, ◌<◌, ◌≤◌, ◌^◌, nat_le, nat_lt, ◌&&◌, Bool, true, false, List, [], ◌∷◌, ◌++◌, length, map, get_or, Some, refl, sym, ap, subst, arith}
-use Rattle.std.specs.Prelude.{All, find}
-use Rattle.std.specs.List.{AllPairs, Contains, flat_map}
+use Rattle.std.proofs.Common.{◌≡◌, ◌≢◌, ◌⊎◌, inl, inr, ℕ, ◌+◌, ◌*◌, ◌/◌, ◌<◌, ◌≤◌, Bool, true, false, List, get_or, refl, sym, subst, arith}
+use Rattle.std.specs.Prelude.{All}
+use Rattle.std.specs.List.{AllPairs}
 use Rattle.std.proofs.Math.Logic.{∥∥₁_elim}
 use Rattle.std.proofs.Props.{props}
 use Rattle.std.proofs.lemmas.Bool.Decides.{nat_tests}
-use Rattle.std.proofs.lemmas.List.Elements.{All-cons, All-append, All-map, All-weaker}
-use Rattle.sub_base.specs.Depth.{bits_of, code_count}
+use Rattle.sub_base.specs.Depth.{code_count}
 use Rattle.sub_base.specs.Picture.{Picture, IsPicture}
 use Rattle.cue_list.specs.Authored.{lies_in, picture_at_place}
-use Rattle.cue_list.specs.Sound.{IsSound, IsEpoch, IsRegion, IsColourRow, IsCue, FitsRegion, Follows, AreApart, ticks_of, ticks_of_cue}
+use Rattle.cue_list.specs.Sound.{IsSound, IsEpoch, IsRegion, IsCue, FitsRegion, Follows, AreApart, ticks_of}
 use Rattle.cue_list.specs.declared.epoch.ColourRow.{ColourRow}
 use Rattle.cue_list.specs.declared.epoch.Cue.{Cue}
 use Rattle.cue_list.specs.declared.epoch.Epoch.{Epoch}
 use Rattle.cue_list.specs.declared.epoch.Region.{Region}
 use Rattle.cue_list.specs.declared.script.Script.{Script}
 use Rattle.page_epoch.proofs.SoundLaws.{epoch_ticks, plain}
-use Rattle.page_epoch.specs.Live.{no_cue, cue_at}
 use Rattle.page_epoch.specs.Sendable.{HasRegion}
 use Rattle.page_epoch.specs.Sweeps.{IsPlain}
-use Rattle.set_coder.specs.SetSegments.{region_of, picture_of_cue}
+use Rattle.set_coder.specs.SetSegments.{region_of}
 
 -- a cue: it lies in a region of its epoch, from the epoch's start on
 pub record IsFairCue (pictures : List Picture) (epoch : Epoch) (cue : Cue) : Type 0 where

@@ -1,22 +1,19 @@
 -- A set of the plan, read, has no fault behind what a receiver has of its epoch, in a profile that has what the plan needs.
-use Rattle.std.proofs.Common.{◌≡◌, ◌≢◌, ◌∙◌, ℕ, suc, ◌+◌, ◌==◌, ◌||◌, ◌<◌, ◌≤◌, nat_lt, Bool, true, false, cond, List, [], ◌∷◌, ◌++◌, length, map, reverse, get_or, sum_by, Option, Some, None, refl, sym, ap, subst, arith}
+use Rattle.std.proofs.Common.{◌≡◌, ◌∙◌, ℕ, ◌≤◌, nat_lt, Bool, true, false, cond, List, [], ◌∷◌, ◌++◌, length, map, reverse, get_or, sum_by, Option, Some, None, refl, sym, ap, subst, arith}
 use Rattle.std.specs.Prelude.{All}
-use Rattle.std.specs.List.{AllZip, Contains}
 use Rattle.std.specs.Option.{option_or, option_and_then, is_none, is_some}
 use Rattle.std.proofs.lemmas.Bool.Decides.{nat_tests}
 use Rattle.std.proofs.lemmas.List.{length-map}
 use Rattle.std.proofs.lemmas.List.Elements.{All-head, All-tail}
 use Rattle.sub_base.specs.Lists.{first_given}
-use Rattle.sub_base.specs.Picture.{Picture}
 use Rattle.sub_base.specs.declared.profile.Profile.{Profile}
-use Rattle.stream_syntax.specs.Segments.{SegmentValue, end_of_set, Page, Region}
-use Rattle.stream_syntax.specs.declared.page.PageEntry.{PageEntry}
+use Rattle.stream_syntax.specs.Segments.{end_of_set, Page, Region}
 use Rattle.stream_syntax.specs.declared.page.State.{State}
 use Rattle.stream_syntax.specs.declared.page.State.TheVariants.{Normal, Acquisition, ModeChange}
 use Rattle.cue_list.specs.declared.epoch.Epoch.{Epoch}
 use Rattle.cue_list.specs.declared.epoch.Region.{Region as AuthoredRegion}
 use Rattle.cue_list.specs.declared.script.Script.{Script}
-use Rattle.page_epoch.specs.Needs.{clut_nodes, node_need, pixel_need}
+use Rattle.page_epoch.specs.Needs.{node_need, pixel_need}
 use Rattle.page_epoch.specs.Plan.{HasDisplay}
 use Rattle.page_epoch.specs.Sendable.{HasRegion}
 use Rattle.page_epoch.specs.SentCluts.{sent_cluts}
@@ -30,19 +27,19 @@ use Rattle.decoder_model.specs.Contents.{page_of, display_of, page_in_set, displ
 use Rattle.decoder_model.specs.Faults.{display_fault, unknown_region, page_fault, first_fault_by, region_changed, pixels_full, composition_fault, object_too_deep, epoch_fault}
 use Rattle.decoder_model.specs.Nodes.{region_ids, listings_held, clut_ids, table_entries, nodes_of}
 use Rattle.decoder_model.specs.Readings.{Content}
-use Rattle.decoder_model.specs.Taken.{Taken, segments_of, taken_among, taken_of, last_region, region_version}
-use Rattle.decoder_model.specs.declared.set_fault.SetFault.{SetFault}
-use Rattle.decoder_model.specs.declared.set_fault.SetFault.TheVariants.{DisplayTooLarge, NoSuchRegion, CompositionFull}
+use Rattle.decoder_model.specs.Taken.{segments_of, taken_among, taken_of, last_region, region_version}
+use Rattle.decoder_model.specs.declared.set_fault.SetFault.TheVariants.{NoSuchRegion, CompositionFull}
 use Rattle.decoder_model.proofs.Searches.{first_given-append, first_given-all_none}
 use Rattle.decoder_model.proofs.SoleCue.{six_none}
 use Rattle.decoder_model.proofs.TakenLaws.{taken_region_version}
 use Rattle.decoder_model.proofs.TakenSets.{taken_all}
-use Rattle.shown_plan.proofs.Keeps.{IsSent, KeepsRegion, KeepsClut, Keeps}
-use Rattle.shown_plan.proofs.KeepsOn.{rows_seen}
+use Rattle.shown_plan.proofs.Fair.{IsFairEpoch}
+use Rattle.shown_plan.proofs.Keeps.{IsSent, KeepsRegion, Keeps}
+use Rattle.shown_plan.proofs.KeepsOn.{IsPlannedIn, rows_seen}
 use Rattle.shown_plan.proofs.KeepsStep.{IsReadIn}
 use Rattle.shown_plan.proofs.Lists.{all_at, sum_ones}
-use Rattle.shown_plan.proofs.Ordered.{IsKind, displays_in, page_content, region_content, clut_content, objects_are, contents_are}
-use Rattle.shown_plan.proofs.ReadSets.{plain, IsDrawnObject, IsReadSet}
+use Rattle.shown_plan.proofs.Ordered.{displays_in, page_content, region_content, clut_content, objects_are, contents_are}
+use Rattle.shown_plan.proofs.ReadSets.{plain, IsReadSet}
 use Rattle.shown_plan.proofs.SetFits.{shapes_stay, depths_fit}
 use Rattle.shown_plan.proofs.SetNodes.{listings_within, cluts_within, entries_within}
 use Rattle.shown_plan.proofs.SetPixels.{ids_of, own_region, AreKnownIds, known_ids, ids_within, pixels_fit}
@@ -126,10 +123,10 @@ regions_known script epoch tick earlier segments (id ∷ shown) kept has =
     known : unknown_region segments (page_entry_of epoch id) ≡ None
     known = ap (λ b. cond b (Some (NoSuchRegion id)) None) (there (last_region id segments) (taken_region_version id segments))
 
-nodes_fit : (script : Script) (epoch : Epoch) (set : PlannedSet) (earlier : List ℕ) (contents : List Content) (segments : List Content) (page : Page) (profile : Profile) → IsReadIn script epoch set earlier contents → Keeps script epoch set.pts earlier segments
-    → page ≡ page_value script epoch set → node_need epoch (set.pts ∷ earlier) (length set.shown) ≤ profile.nodes → composition_fault profile (taken_of segments) page ≡ None
-nodes_fit script epoch set earlier contents segments page profile is kept page_of_set enough =
-    ap (λ b. cond b (Some (CompositionFull (nodes_of (taken_of segments) page))) None) (let test : nat_lt profile.nodes (nodes_of (taken_of segments) page) ≡ false = (let low = most in grind (arith, nat_tests)) in test)
+-- the nodes that a receiver has behind a set are no more than the plan counts
+pub nodes_within : (script : Script) (epoch : Epoch) (set : PlannedSet) (earlier : List ℕ) (segments : List Content) (page : Page) → IsFairEpoch script.width script.height script.pictures epoch → IsPlannedIn epoch set earlier
+    → Keeps script epoch set.pts earlier segments → page ≡ page_value script epoch set → nodes_of (taken_of segments) page ≤ node_need epoch (set.pts ∷ earlier) (length set.shown)
+nodes_within script epoch set earlier segments page is_fair planned kept page_of_set = omega (arith, entries, regions, listings, cluts, in_tables)
   where
     taken : List Content
     taken = taken_among segments
@@ -150,13 +147,17 @@ nodes_fit script epoch set earlier contents segments page profile is kept page_o
     listings = listings_within script.pictures epoch set.pts earlier taken are kept.regions
 
     cluts : length (clut_ids (taken_of segments)) ≤ length (sent_cluts epoch.colours true (set.pts ∷ earlier))
-    cluts = cluts_within epoch set.pts earlier taken is.fair.cluts (λ clut. rows_seen script.width script.height script.pictures epoch clut set.pts earlier is.fair is.planned.seen) kept.cluts
+    cluts = cluts_within epoch set.pts earlier taken is_fair.cluts (λ clut. rows_seen script.width script.height script.pictures epoch clut set.pts earlier is_fair planned.seen) kept.cluts
 
     in_tables : length (table_entries (taken_of segments)) ≤ sum_by (λ (sent : SentClut). length sent.rows) (sent_cluts epoch.colours true (set.pts ∷ earlier))
-    in_tables = entries_within epoch set.pts earlier taken is.fair.cluts (λ clut. rows_seen script.width script.height script.pictures epoch clut set.pts earlier is.fair is.planned.seen) sent
+    in_tables = entries_within epoch set.pts earlier taken is_fair.cluts (λ clut. rows_seen script.width script.height script.pictures epoch clut set.pts earlier is_fair planned.seen) sent
 
-    most : nodes_of (taken_of segments) page ≤ profile.nodes
-    most = omega (arith, enough, entries, regions, listings, cluts, in_tables)
+nodes_fit : (script : Script) (epoch : Epoch) (set : PlannedSet) (earlier : List ℕ) (contents : List Content) (segments : List Content) (page : Page) (profile : Profile) → IsReadIn script epoch set earlier contents → Keeps script epoch set.pts earlier segments
+    → page ≡ page_value script epoch set → node_need epoch (set.pts ∷ earlier) (length set.shown) ≤ profile.nodes → composition_fault profile (taken_of segments) page ≡ None
+nodes_fit script epoch set earlier contents segments page profile is kept page_of_set enough =
+    let within = nodes_within script epoch set earlier segments page is.fair is.planned kept page_of_set in
+    let test : nat_lt profile.nodes (nodes_of (taken_of segments) page) ≡ false = (let low : nodes_of (taken_of segments) page ≤ profile.nodes = omega (arith, within, enough) in grind (arith, nat_tests)) in
+    ap (λ b. cond b (Some (CompositionFull (nodes_of (taken_of segments) page))) None) test
 
 -- ---- all of them
 

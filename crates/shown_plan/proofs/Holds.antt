@@ -1,9 +1,8 @@
 -- Behind a run the page memory of a receiver holds the script.
-use Rattle.std.proofs.Common.{◌≡◌, ◌∙◌, ℕ, zero, suc, ◌+◌, ◌<◌, true, List, [], ◌∷◌, length, map, filter, get_or, Some, refl, sym, ap, subst, arith, unwrap_or}
+use Rattle.std.proofs.Common.{◌≡◌, ◌∙◌, ℕ, zero, suc, ◌<◌, ◌≤◌, true, List, [], ◌∷◌, length, map, filter, get_or, Some, refl, sym, ap, subst, arith, unwrap_or}
 use Rattle.std.specs.Prelude.{All}
 use Rattle.std.specs.List.{Contains}
 use Rattle.std.proofs.lemmas.List.Elements.{All-contains_itself}
-use Rattle.std.proofs.lemmas.List.Sorted.{Contains-permutation}
 use Rattle.sub_base.specs.Colour.{default_of}
 use Rattle.sub_base.specs.Depth.{code_count}
 use Rattle.sub_base.specs.declared.depth.Depth.{Depth}
@@ -14,11 +13,13 @@ use Rattle.cue_list.specs.Authored.{authored_code, authored_colour, live_cues}
 use Rattle.cue_list.specs.declared.epoch.Epoch.{Epoch}
 use Rattle.cue_list.specs.declared.epoch.Region.{Region}
 use Rattle.cue_list.specs.declared.script.Script.{Script}
+use Rattle.page_epoch.specs.Needs.{pixel_need, node_need}
 use Rattle.page_epoch.specs.Live.{has_some, live_places}
 use Rattle.page_epoch.specs.SentRegions.{AreShown}
 use Rattle.page_epoch.specs.declared.planned_set.PlannedSet.{PlannedSet}
 use Rattle.set_coder.specs.SetSegments.{region_of}
 use Rattle.decoder_model.specs.Contents.{page_in_set}
+use Rattle.decoder_model.specs.Free.{pixels_held, nodes_with_page, nodes_held}
 use Rattle.decoder_model.specs.Ink.{ink_of}
 use Rattle.decoder_model.specs.Nodes.{region_ids}
 use Rattle.decoder_model.specs.Pixels.{pixel_of}
@@ -26,13 +27,13 @@ use Rattle.decoder_model.specs.Readings.{Content}
 use Rattle.decoder_model.specs.Taken.{segments_of, taken_among, taken_of}
 use Rattle.decoder_model.proofs.TakenSets.{taken_all}
 use Rattle.shown_plan.proofs.ColourRows.{authored_by_place}
-use Rattle.shown_plan.proofs.FaultFree.{page_value, page_is}
-use Rattle.shown_plan.proofs.Keeps.{IsSent, KeepsRegion, KeepsClut, Keeps}
-use Rattle.shown_plan.proofs.Lists.{all_at, kept_pass, mapped_there}
+use Rattle.shown_plan.proofs.FaultFree.{page_value, page_is, nodes_within}
+use Rattle.shown_plan.proofs.Keeps.{IsSent, KeepsRegion, KeepsClut}
+use Rattle.shown_plan.proofs.Lists.{all_at, kept_pass}
 use Rattle.shown_plan.proofs.PlannedSets.{IsInEpoch}
 use Rattle.shown_plan.proofs.Runs.{RunKeeps}
 use Rattle.shown_plan.proofs.SetFits.{last_sent}
-use Rattle.shown_plan.proofs.SetPixels.{ids_of, authored_itself, known_ids, known_contains}
+use Rattle.shown_plan.proofs.SetPixels.{pixels_within, authored_itself, known_ids, known_contains}
 use Rattle.shown_plan.specs.HoldsScript.{IsKnownRegion, HoldsScript}
 
 -- the colour of an entry is the authored one
@@ -109,3 +110,22 @@ keeps_holds script profile past set latest before kept page found =
           clut = mine.0.clut ∙ ap (λ (r : Region). r.clut) itself;
           version = has.version;
         })
+
+-- ---- memory
+
+-- the bytes and nodes that a receiver holds behind a run are at most what the plan needs for its last set
+pub record IsWithinNeed (script : Script) (profile : Profile) (past : List PlannedSet) (set : PlannedSet) (epoch_sets : List (List Content)) : Type 0 where
+  pub place : IsInEpoch script profile past set
+  pub pixels : pixels_held (Some epoch_sets) ≤ pixel_need place.epoch.regions
+  pub nodes : nodes_held (Some epoch_sets) ≤ node_need place.epoch (set.pts ∷ place.earlier) (length set.shown)
+
+pub memory_within : (script : Script) (profile : Profile) (past : List PlannedSet) (set : PlannedSet) (latest : List Content) (before : List (List Content)) (kept : RunKeeps script profile past set latest before)
+    → IsWithinNeed script profile past set (latest ∷ kept.older)
+memory_within script profile past set latest before kept =
+    record {
+      place = kept.place;
+      pixels = pixels_within kept.place.epoch (taken_among (segments_of (latest ∷ kept.older))) kept.place.fair.apart
+          (known_ids kept.place.epoch set.pts (taken_among (segments_of (latest ∷ kept.older))) (taken_all (IsSent kept.place.epoch set.pts) (segments_of (latest ∷ kept.older)) kept.keeps.each));
+      nodes = (let within = nodes_within script kept.place.epoch set kept.place.earlier (segments_of (latest ∷ kept.older)) (page_value script kept.place.epoch set) kept.place.fair kept.place.planned kept.keeps refl in
+          let page = ap (nodes_with_page (taken_of (segments_of (latest ∷ kept.older)))) (page_is script kept.place.epoch set latest kept.read) in omega (arith, within, page));
+    }

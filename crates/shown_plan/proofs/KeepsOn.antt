@@ -1,55 +1,39 @@
 -- One set of the plan more: what a receiver has of the epoch is as the plan says, behind it as behind the set before.
-use Rattle.std.proofs.Common.{◌≡◌, ◌≢◌, ◌∙◌, ◌⊎◌, inl, inr, ℕ, zero, suc, ◌+◌, ◌==◌, ◌<◌, ◌≤◌, Bool, true, false, cond, List, [], ◌∷◌, ◌++◌, length, map, filter, reverse, get_or, Option, Some, None, refl, sym, ap, subst, arith}
+use Rattle.std.proofs.Common.{◌≡◌, ◌⊎◌, inl, inr, ℕ, zero, suc, ◌==◌, ◌<◌, ◌≤◌, Bool, true, false, List, [], ◌∷◌, ◌++◌, length, map, reverse, get_or, refl, sym, subst, arith}
 use Rattle.std.specs.Prelude.{All}
 use Rattle.std.specs.List.{AllPairs, AllZip, Contains, flat_map}
-use Rattle.std.specs.Option.{option_or}
 use Rattle.std.proofs.lemmas.Bool.Decides.{nat_tests}
 use Rattle.std.proofs.lemmas.List.{length-map, get_or-map}
-use Rattle.std.proofs.lemmas.List.Elements.{All-head, All-tail, All-cons, All-append, All-map, All-filter, All-contains_itself, Contains-append_left, Contains-append_right}
-use Rattle.sub_base.specs.Depth.{code_count}
-use Rattle.sub_base.specs.Lists.{first_given}
-use Rattle.sub_base.specs.Picture.{Picture, IsPicture}
+use Rattle.std.proofs.lemmas.List.Elements.{All-cons, All-append, All-map, All-filter, All-contains_itself, Contains-append_left, Contains-append_right}
+use Rattle.sub_base.specs.Picture.{Picture}
 use Rattle.stream_syntax.specs.Segments.{SegmentValue, of_page, of_region, of_clut, of_object, of_display, end_of_set, passed_over}
 use Rattle.stream_syntax.specs.declared.page.State.{State}
 use Rattle.stream_syntax.specs.declared.page.State.TheVariants.{Normal, Acquisition, ModeChange}
 use Rattle.cue_list.specs.Sound.{ticks_of, ticks_of_cue}
 use Rattle.cue_list.specs.declared.epoch.ColourRow.{ColourRow}
 use Rattle.cue_list.specs.declared.epoch.Epoch.{Epoch}
-use Rattle.cue_list.specs.declared.epoch.Region.{Region}
 use Rattle.cue_list.specs.declared.script.Script.{Script}
 use Rattle.page_epoch.proofs.ListLaws.{All-none, All-pieces}
 use Rattle.page_epoch.proofs.RowLaws.{own_within}
 use Rattle.page_epoch.specs.Live.{places_below}
 use Rattle.page_epoch.specs.Plan.{IsCarried}
-use Rattle.page_epoch.specs.Sendable.{HasRegion, IsSendableRegion, IsSendableIn}
+use Rattle.page_epoch.specs.Sendable.{IsSendableRegion, IsSendableIn}
 use Rattle.page_epoch.specs.SentCluts.{no_row, row_at, rows_of_clut, defined_rows, rows_from, clut_with, sent_clut, named_cluts, sent_cluts, clut_version}
-use Rattle.page_epoch.specs.SentRegions.{sent_region, AreSentRegions}
 use Rattle.page_epoch.specs.States.{is_whole}
 use Rattle.page_epoch.specs.declared.planned_set.PlannedSet.{PlannedSet}
 use Rattle.page_epoch.specs.declared.planned_set.SentClut.{SentClut}
 use Rattle.page_epoch.specs.declared.planned_set.SentRegion.{SentRegion}
-use Rattle.set_coder.specs.SetSegments.{display_of as display_segments, picture_of_cue, clut_entry_of}
-use Rattle.decoder_model.specs.Contents.{object_of, display_of}
+use Rattle.set_coder.specs.SetSegments.{display_of as display_segments, clut_entry_of}
 use Rattle.decoder_model.specs.Readings.{Content}
-use Rattle.decoder_model.specs.Taken.{segments_of, taken_among, last_display}
-use Rattle.decoder_model.proofs.Searches.{first_given-append, first_given-all_none}
-use Rattle.decoder_model.proofs.TakenSets.{taken_display, taken_all}
-use Rattle.shown_plan.proofs.CarriedSets.{ListsOwn, all_list_own, regions_single, cluts_single, clut_part, own_listed}
+use Rattle.shown_plan.proofs.CarriedSets.{ListsOwn, all_list_own}
 use Rattle.shown_plan.proofs.ClutChanges.{AreBetween}
-use Rattle.shown_plan.proofs.ClutNext.{clut_view}
 use Rattle.shown_plan.proofs.ClutRows.{AreSeenRows, defined_own}
-use Rattle.shown_plan.proofs.ClutSteps.{clut_first, clut_next}
 use Rattle.shown_plan.proofs.Fair.{IsFairEpoch}
-use Rattle.shown_plan.proofs.Keeps.{IsSentRegion, IsSentEntry, IsSentObject, IsSentBy, IsSent, KeepsRegion, KeepsClut, Keeps, KeepsBefore}
+use Rattle.shown_plan.proofs.Keeps.{IsSentEntry, IsSentBy, IsSent}
 use Rattle.shown_plan.proofs.Lists.{all_at, kept_pass}
-use Rattle.shown_plan.proofs.Ordered.{IsKind, displays_in, page_content, region_content, clut_content, objects_are}
-use Rattle.shown_plan.proofs.Parts.{HasPart, HaveOwnIds, region_part}
-use Rattle.shown_plan.proofs.ReadSets.{plain, IsDrawnObject, IsReadSet}
-use Rattle.shown_plan.proofs.RegionNext.{IsDrawnFor, region_first, region_next}
-use Rattle.shown_plan.proofs.RegionOn.{HasVersionZero}
-use Rattle.shown_plan.proofs.RegionViews.{region_view}
-use Rattle.shown_plan.proofs.SetView.{newest, newest_first, reversed_all, reverse_map}
-use Rattle.shown_plan.specs.HoldsScript.{display_of_script}
+use Rattle.shown_plan.proofs.Ordered.{displays_in, page_content, region_content, clut_content}
+use Rattle.shown_plan.proofs.ReadSets.{plain, IsDrawnObject}
+use Rattle.shown_plan.proofs.SetView.{newest, reversed_all, reverse_map}
 
 -- ---- what is used of a script and its plan
 

@@ -1,12 +1,10 @@
 -- What a receiver has of an epoch behind a set of the plan, from what it had behind the set before.
-use Rattle.std.proofs.Common.{◌≡◌, ◌≢◌, ◌∙◌, ℕ, suc, ◌+◌, ◌<◌, ◌≤◌, Bool, true, false, cond, List, [], ◌∷◌, ◌++◌, length, map, reverse, get_or, Option, Some, None, refl, sym, ap, subst, arith}
+use Rattle.std.proofs.Common.{◌≡◌, ◌∙◌, ℕ, ◌<◌, Bool, true, false, cond, List, [], ◌∷◌, ◌++◌, map, reverse, get_or, Option, Some, None, refl, sym, ap, subst, arith}
 use Rattle.std.specs.Prelude.{All}
 use Rattle.std.specs.List.{AllZip, Contains}
 use Rattle.std.specs.Option.{option_or, is_some}
 use Rattle.std.proofs.lemmas.List.{append-nil}
 use Rattle.std.proofs.lemmas.List.Elements.{All-append, All-contains_itself}
-use Rattle.sub_base.specs.Lists.{first_given}
-use Rattle.sub_base.specs.Picture.{Picture, IsPicture}
 use Rattle.stream_syntax.specs.Segments.{SegmentValue, of_page, of_region, of_clut, of_object, of_display, end_of_set, passed_over, Object}
 use Rattle.stream_syntax.specs.declared.page.State.{State}
 use Rattle.stream_syntax.specs.declared.page.State.TheVariants.{Normal, Acquisition, ModeChange}
@@ -20,8 +18,8 @@ use Rattle.page_epoch.specs.States.{is_whole}
 use Rattle.page_epoch.specs.declared.planned_set.PlannedSet.{PlannedSet}
 use Rattle.page_epoch.specs.declared.planned_set.SentClut.{SentClut}
 use Rattle.page_epoch.specs.declared.planned_set.SentRegion.{SentRegion}
-use Rattle.set_coder.specs.SetSegments.{display_of as display_segments, picture_of_cue}
-use Rattle.decoder_model.specs.Contents.{object_of, display_of}
+use Rattle.set_coder.specs.SetSegments.{display_of as display_segments}
+use Rattle.decoder_model.specs.Contents.{display_of}
 use Rattle.decoder_model.specs.Readings.{Content}
 use Rattle.decoder_model.specs.Taken.{segments_of, taken_among, last_region, last_display}
 use Rattle.decoder_model.proofs.Searches.{first_given-append, first_given-all_none}
@@ -31,9 +29,9 @@ use Rattle.shown_plan.proofs.CarriedSets.{regions_single, cluts_single, clut_par
 use Rattle.shown_plan.proofs.ClutNext.{IsClutView, clut_view}
 use Rattle.shown_plan.proofs.ClutSteps.{clut_first, clut_next}
 use Rattle.shown_plan.proofs.Fair.{IsFairEpoch}
-use Rattle.shown_plan.proofs.Keeps.{IsSent, IsSentBy, KeepsRegion, KeepsClut, Keeps, KeepsBefore}
-use Rattle.shown_plan.proofs.KeepsOn.{AreSeen, IsPlannedIn, rows_seen, rows_between, later_sent, newest_sent}
-use Rattle.shown_plan.proofs.Ordered.{IsKind, displays_in, page_content, region_content, clut_content, objects_are}
+use Rattle.shown_plan.proofs.Keeps.{IsSent, IsSentBy, Keeps}
+use Rattle.shown_plan.proofs.KeepsOn.{IsPlannedIn, rows_seen, rows_between, later_sent, newest_sent}
+use Rattle.shown_plan.proofs.Ordered.{displays_in, page_content, region_content, clut_content, objects_are}
 use Rattle.shown_plan.proofs.OwnIds.{AreSingle}
 use Rattle.shown_plan.proofs.Parts.{HasPart, region_part}
 use Rattle.shown_plan.proofs.ReadSets.{plain, IsDrawnObject, IsReadSet}

@@ -32,3 +32,4 @@ pub mod Holds
 pub mod Colours
 pub mod Pictures
 pub mod InTime
+pub mod ComesBack

@@ -1,5 +1,5 @@
 -- Behind a region's segment that lists cues, the objects of a set paint these cues in their order, each once.
-use Rattle.std.proofs.Common.{◌≡◌, ◌≢◌, ◌∙◌, ℕ, zero, suc, ◌+◌, ◌==◌, ◌<◌, ◌≤◌, Bool, true, false, cond, eqb, List, [], ◌∷◌, ◌++◌, length, map, filter, reverse, get_or, Option, Some, None, refl, sym, ap, subst, arith}
+use Rattle.std.proofs.Common.{◌≡◌, ◌≢◌, ◌∙◌, ℕ, zero, suc, ◌==◌, ◌<◌, Bool, true, false, cond, eqb, List, [], ◌∷◌, ◌++◌, map, filter, reverse, get_or, Some, None, refl, sym, ap, arith}
 use Rattle.std.specs.Prelude.{All}
 use Rattle.std.specs.List.{AllZip, Contains}
 use Rattle.std.specs.Option.{option_or}
@@ -12,11 +12,11 @@ use Rattle.stream_syntax.specs.Segments.{of_object, Region, Object}
 use Rattle.stream_syntax.specs.declared.region.Listing.{Listing}
 use Rattle.cue_list.specs.declared.epoch.Epoch.{Epoch}
 use Rattle.page_epoch.specs.Live.{cue_at}
-use Rattle.set_coder.specs.SetSegments.{region_of, picture_of_cue, depth_of_cue, listing_of, object_of}
-use Rattle.decoder_model.specs.Contents.{region_named, object_named, object_of as object_in_segment}
+use Rattle.set_coder.specs.SetSegments.{region_of, picture_of_cue, depth_of_cue, listing_of}
+use Rattle.decoder_model.specs.Contents.{region_named, object_named}
 use Rattle.decoder_model.specs.Pixels.{object_version, since_region, is_painting, listings_naming, listings_by, painted_listings, code_by_listing, code_by_listings, depth_of, code_by_segment, last_code}
 use Rattle.decoder_model.specs.Readings.{Content}
-use Rattle.decoder_model.specs.Taken.{Taken, has_new_version, taken_region, last_region}
+use Rattle.decoder_model.specs.Taken.{has_new_version, last_region}
 use Rattle.decoder_model.proofs.Searches.{option_or-assoc}
 use Rattle.decoder_model.proofs.TakenSets.{since_behind, last_behind}
 use Rattle.shown_plan.proofs.Painted.{code_by_cue, cue_paints}

@@ -1,12 +1,12 @@
 -- The segments of a set as they are handled: display, page, regions, CLUTs and objects.
-use Rattle.std.proofs.Common.{◌≡◌, ◌∙◌, ℕ, Bool, true, false, cond, List, [], ◌∷◌, ◌++◌, map, filter, Option, Some, None, refl, sym, ap, subst, arith}
+use Rattle.std.proofs.Common.{◌≡◌, ◌∙◌, ℕ, Bool, true, false, cond, List, [], ◌∷◌, ◌++◌, map, filter, refl, ap}
 use Rattle.std.specs.Prelude.{All}
 use Rattle.std.specs.List.{AllZip}
 use Rattle.std.specs.Option.{is_some}
 use Rattle.std.proofs.lemmas.List.{append-nil, map-append, append_assoc}
-use Rattle.std.proofs.lemmas.List.Elements.{filter-append, All-head, All-tail, All-cons, All-map}
+use Rattle.std.proofs.lemmas.List.Elements.{filter-append, All-head, All-tail, All-cons}
 use Rattle.sub_base.specs.Picture.{Picture}
-use Rattle.stream_syntax.specs.Segments.{SegmentValue, of_page, of_region, of_clut, of_object, of_display, end_of_set}
+use Rattle.stream_syntax.specs.Segments.{SegmentValue, end_of_set}
 use Rattle.stream_syntax.specs.declared.page.State.{State}
 use Rattle.stream_syntax.specs.declared.page.State.TheVariants.{Normal, Acquisition, ModeChange}
 use Rattle.cue_list.specs.declared.epoch.Epoch.{Epoch}

@@ -1,22 +1,20 @@
 -- What the objects of a display set write to a region: the codes of the cues that the region lists.
-use Rattle.std.proofs.Common.{◌≡◌, ◌≢◌, ◌∙◌, ◌⊎◌, inl, inr, ℕ, suc, ◌+◌, ◌-◌, ◌==◌, ◌<◌, ◌≤◌, nat_le, nat_lt, Bool, true, false, not, ◌&&◌, cond, eqb, List, [], ◌∷◌, ◌++◌, length, map, filter, reverse, Option, Some, None, unwrap_or, refl, sym, ap, subst, arith}
-use Rattle.std.specs.Prelude.{All, find}
-use Rattle.std.specs.List.{AllZip}
+use Rattle.std.proofs.Common.{◌≡◌, ◌∙◌, ℕ, ◌+◌, ◌-◌, ◌==◌, ◌<◌, ◌≤◌, nat_le, nat_lt, Bool, true, false, not, ◌&&◌, cond, List, [], ◌∷◌, ◌++◌, length, map, filter, reverse, Option, Some, None, unwrap_or, refl, sym, ap, arith}
+use Rattle.std.specs.Prelude.{find}
 use Rattle.std.specs.Option.{option_or, option_map}
 use Rattle.std.proofs.lemmas.List.{reverse-append}
 use Rattle.std.proofs.lemmas.Bool.Decides.{nat_tests}
 use Rattle.sub_base.specs.Lists.{last_given}
 use Rattle.sub_base.specs.Picture.{Picture, IsPicture}
-use Rattle.cue_list.specs.Authored.{code_of, covers, shows, code_shown, authored_code, live_cues, is_live, picture_at_place}
+use Rattle.cue_list.specs.Authored.{code_of, covers, shows, code_shown, authored_code, live_cues, is_live}
 use Rattle.cue_list.specs.declared.epoch.Cue.{Cue}
 use Rattle.cue_list.specs.declared.epoch.Epoch.{Epoch}
-use Rattle.page_epoch.specs.Live.{cue_at, no_cue, places_below, own_places, live_places}
+use Rattle.page_epoch.specs.Live.{cue_at, no_cue, places_below, live_places}
 use Rattle.set_coder.specs.SetSegments.{picture_of_cue, depth_of_cue, listing_of}
 use Rattle.decoder_model.specs.Pixels.{code_by_listing}
 use Rattle.decoder_model.specs.Readings.{Content}
-use Rattle.decoder_model.proofs.DrawnLines.{left_by}
-use Rattle.decoder_model.proofs.DrawnPictures.{FieldsDraw, in_picture, IsOutside, left_of, right_of, above, below, outside_picture}
-use Rattle.page_epoch.proofs.ListLaws.{places_back, map_kept, filter_agree}
+use Rattle.decoder_model.proofs.DrawnPictures.{in_picture, IsOutside, left_of, right_of, above, below, outside_picture}
+use Rattle.page_epoch.proofs.ListLaws.{places_back, map_kept}
 use Rattle.shown_plan.proofs.ReadSets.{IsDrawnObject}
 
 -- the code that the cue at a place shows there, where it shows one of its own

@@ -1,8 +1,7 @@
 -- The picture that a receiver shows behind a run is the authored one, until the next named tick.
-use Rattle.std.proofs.Common.{◌≡◌, ◌≢◌, ◌∙◌, ◌⊎◌, inl, inr, ℕ, zero, suc, ◌+◌, ◌-◌, ◌*◌, ◌/◌, ◌==◌, ◌&&◌, ◌<◌, ◌≤◌, nat_le, Bool, true, false, cond, List, [], ◌∷◌, ◌++◌, length, map, get_or, Option, Some, None, unwrap_or, refl, sym, ap, subst, arith}
-use Rattle.std.specs.Prelude.{All, find}
+use Rattle.std.proofs.Common.{◌≡◌, ◌≢◌, ◌∙◌, ◌⊎◌, inl, inr, ℕ, zero, suc, ◌+◌, ◌-◌, ◌*◌, ◌==◌, ◌<◌, ◌≤◌, Bool, true, false, cond, List, [], ◌∷◌, map, get_or, Option, Some, None, unwrap_or, refl, sym, ap, subst, arith}
+use Rattle.std.specs.Prelude.{find}
 use Rattle.std.specs.List.{Contains, flat_map, range_with_len}
-use Rattle.std.specs.Option.{option_or}
 use Rattle.std.proofs.lemmas.Bool.Decides.{nat_tests}
 use Rattle.std.proofs.lemmas.List.Elements.{All-contains_itself}
 use Rattle.sub_base.specs.Colour.{clear}
@@ -10,9 +9,9 @@ use Rattle.sub_base.specs.Lists.{last_given}
 use Rattle.sub_base.specs.Picture.{Picture}
 use Rattle.sub_base.specs.declared.colour.Colour.{Colour}
 use Rattle.sub_base.specs.declared.profile.Profile.{Profile}
-use Rattle.stream_syntax.specs.Segments.{Page, Display}
+use Rattle.stream_syntax.specs.Segments.{Page}
 use Rattle.stream_syntax.specs.declared.page.PageEntry.{PageEntry}
-use Rattle.cue_list.specs.Authored.{live_cues, authored_code, authored_colour, lies_in, colour_with, colour_in as authored_in, colour_in_epoch, epoch_at, authored_at, authored_picture}
+use Rattle.cue_list.specs.Authored.{live_cues, authored_code, lies_in, colour_with, colour_in as authored_in, colour_in_epoch, authored_at, authored_picture}
 use Rattle.cue_list.specs.Sound.{ticks_of}
 use Rattle.cue_list.specs.declared.epoch.Cue.{Cue}
 use Rattle.cue_list.specs.declared.epoch.Epoch.{Epoch}
@@ -24,14 +23,14 @@ use Rattle.set_coder.specs.SetSegments.{time_out_of, page_entry_of}
 use Rattle.decoder_model.specs.Contents.{page_in_set}
 use Rattle.decoder_model.specs.Faults.{display_or_default, display_in_force}
 use Rattle.decoder_model.specs.Readings.{Content}
-use Rattle.decoder_model.specs.Shown.{Plane, View, nothing, plane, IsClear, Agrees, Scene, scene_in, window_of, is_in_window, colour_by_entry, colour_at, row_of, plane_of, Standing, until_of, is_over_at, view_of}
-use Rattle.decoder_model.specs.Taken.{segments_of, taken_among, taken_of}
+use Rattle.decoder_model.specs.Shown.{Plane, nothing, plane, IsClear, Agrees, Scene, scene_in, window_of, is_in_window, colour_by_entry, colour_at, plane_of, Standing, until_of, is_over_at, view_of}
+use Rattle.decoder_model.specs.Taken.{segments_of, taken_of}
 use Rattle.decoder_model.proofs.Planes.{same_rows, all_clear}
 use Rattle.decoder_model.proofs.TakenSets.{taken_display}
 use Rattle.shown_plan.proofs.Colours.{entries_give, last_mapped_entries}
 use Rattle.shown_plan.proofs.FaultFree.{page_value, page_is}
 use Rattle.shown_plan.proofs.Lists.{all_at, piece_there}
-use Rattle.shown_plan.proofs.PlannedSets.{IsInEpoch, there_at}
+use Rattle.shown_plan.proofs.PlannedSets.{there_at}
 use Rattle.shown_plan.proofs.Runs.{RunKeeps}
 use Rattle.shown_plan.proofs.StillPictures.{AreStill, live_still, colour_still, epoch_is, epoch_still}
 use Rattle.shown_plan.specs.HoldsScript.{display_of_script}

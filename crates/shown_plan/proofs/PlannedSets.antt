@@ -1,31 +1,29 @@
 -- Each set of a plan in its epoch, and beside the set before it.
-use Rattle.std.proofs.Common.{◌≡◌, ◌≢◌, ◌∙◌, ◌⊎◌, inl, inr, ℕ, zero, suc, ◌+◌, ◌==◌, ◌<◌, ◌≤◌, nat_le, Bool, true, false, not, ◌||◌, cond, List, [], ◌∷◌, ◌++◌, length, map, take, drop, reverse, get_or, Some, None, refl, sym, ap, subst, arith}
+use Rattle.std.proofs.Common.{◌≡◌, ◌≢◌, ◌∙◌, ◌⊎◌, inl, inr, ℕ, zero, suc, ◌==◌, ◌<◌, ◌≤◌, nat_le, Bool, true, false, not, ◌||◌, cond, List, [], ◌∷◌, ◌++◌, length, map, take, reverse, get_or, Some, refl, sym, ap, subst, arith}
 use Rattle.std.specs.Prelude.{All, slice_get, take_while}
-use Rattle.std.specs.List.{AllPairs, Contains, flat_map}
+use Rattle.std.specs.List.{AllPairs, Contains}
 use Rattle.std.proofs.lemmas.Bool.Decides.{nat_tests}
-use Rattle.std.proofs.lemmas.List.{length-map, map-append, reverse-append, take_all, length-append}
-use Rattle.std.proofs.lemmas.List.Elements.{All-head, All-tail, All-cons, All-append, Contains-append_left, Contains-append_right, Contains-append_cases, All-contains_itself}
+use Rattle.std.proofs.lemmas.List.{map-append, reverse-append, take_all}
+use Rattle.std.proofs.lemmas.List.Elements.{All-head, All-tail, All-cons, Contains-append_left, Contains-append_right, Contains-append_cases, All-contains_itself}
 use Rattle.std.proofs.lemmas.List.Kept.{AllPairs-from_increasing, AllPairs-cons}
 use Rattle.std.proofs.lemmas.List.Sums.{take_while-cons}
-use Rattle.std.proofs.lemmas.Option.{slice_get_within}
 use Rattle.sub_base.specs.declared.profile.Profile.{Profile}
-use Rattle.stream_syntax.specs.declared.page.State.{State}
 use Rattle.stream_syntax.specs.declared.page.State.TheVariants.{Normal, Acquisition, ModeChange}
 use Rattle.cue_list.specs.Sound.{ticks_of}
 use Rattle.cue_list.specs.declared.epoch.Epoch.{Epoch}
 use Rattle.cue_list.specs.declared.script.Script.{Script}
 use Rattle.page_epoch.proofs.ListLaws.{All-none}
 use Rattle.page_epoch.proofs.SendLaws.{sendable_all}
-use Rattle.page_epoch.specs.Instants.{named_ticks, is_named, IsInstant, AreInstants}
+use Rattle.page_epoch.specs.Instants.{is_named, IsInstant}
 use Rattle.page_epoch.specs.Needs.{pixel_need, node_need}
-use Rattle.page_epoch.specs.Plan.{IsEpochAt, IsCarried, IsNext, Needs, Fits, HasDisplay, Stands, AreFirstSets, ArePlanned, IsPlan}
+use Rattle.page_epoch.specs.Plan.{IsEpochAt, IsNext, Fits, Stands, ArePlanned, IsPlan}
 use Rattle.page_epoch.specs.Sendable.{IsSendableIn, IsSendable}
-use Rattle.page_epoch.specs.States.{is_whole, is_due, last_whole, state_of, seen_of}
+use Rattle.page_epoch.specs.States.{is_due, last_whole, state_of, seen_of}
 use Rattle.page_epoch.specs.declared.planned_set.PlannedSet.{PlannedSet}
 use Rattle.shown_plan.proofs.Fair.{IsFairEpoch, IsFair}
 use Rattle.shown_plan.proofs.FaultFree.{HasRoom}
-use Rattle.shown_plan.proofs.KeepsOn.{AreSeen, IsPlannedIn}
-use Rattle.shown_plan.proofs.Lists.{all_at, mapped_there, piece_there}
+use Rattle.shown_plan.proofs.KeepsOn.{IsPlannedIn}
+use Rattle.shown_plan.proofs.Lists.{all_at, piece_there}
 use Rattle.shown_plan.proofs.SetView.{reverse_map, reversed_all, pairs_append}
 
 -- the presentation times of sets

@@ -1,8 +1,7 @@
 -- Each region of an epoch behind one set of the plan more, whatever the set sends of it.
-use Rattle.std.proofs.Common.{◌≡◌, ◌≢◌, ◌∙◌, ℕ, zero, suc, ◌+◌, ◌%◌, ◌==◌, ◌<◌, ◌≤◌, Bool, true, false, not, ◌&&◌, cond, eqb, List, [], ◌∷◌, ◌++◌, length, map, filter, reverse, get_or, drop, take, Option, Some, None, refl, sym, ap, subst, arith}
+use Rattle.std.proofs.Common.{◌≡◌, ◌≢◌, ◌∙◌, ℕ, zero, suc, ◌+◌, ◌%◌, ◌<◌, Bool, true, false, not, ◌&&◌, cond, eqb, List, [], ◌∷◌, ◌++◌, length, map, filter, reverse, get_or, drop, take, Option, Some, None, refl, sym, ap, subst, arith}
 use Rattle.std.specs.Prelude.{All, nat_lt, nat_eq}
-use Rattle.std.specs.List.{AllPairs, AllZip, starts_with}
-use Rattle.std.specs.Str.{bytes_eq}
+use Rattle.std.specs.List.{AllZip, starts_with}
 use Rattle.std.proofs.lemmas.Slice.Eq.{bytes_eq-Decides}
 use Rattle.std.proofs.lemmas.Bool.Decides.{nat_tests}
 use Rattle.std.proofs.lemmas.List.{append_assoc, take-append-drop}
@@ -27,7 +26,7 @@ use Rattle.shown_plan.proofs.ObjectsPaint.{is_own}
 use Rattle.shown_plan.proofs.Ordered.{region_content}
 use Rattle.shown_plan.proofs.ReadSets.{IsDrawnObject}
 use Rattle.shown_plan.proofs.RegionOn.{HasVersionZero, idle_object, drawn_anew, drawn_on, left_still}
-use Rattle.shown_plan.proofs.RegionSteps.{DrawsListed, with_own, region_taken, sent_value, all_idle, objects_no_regions}
+use Rattle.shown_plan.proofs.RegionSteps.{with_own, region_taken, all_idle, objects_no_regions}
 use Rattle.shown_plan.proofs.RegionViews.{IsAside, IsRegionView}
 use Rattle.shown_plan.proofs.SetView.{keeps, reversed_all}
 

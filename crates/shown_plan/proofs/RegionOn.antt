@@ -1,43 +1,36 @@
 -- A region behind one set of the plan more is as the plan counts it.
-use Rattle.std.proofs.Common.{◌≡◌, ◌≢◌, ◌∙◌, ◌⊎◌, inl, inr, ℕ, suc, ◌+◌, ◌-◌, ◌%◌, ◌==◌, ◌<◌, ◌≤◌, Bool, true, false, not, ◌&&◌, cond, eqb, List, [], ◌∷◌, ◌++◌, length, map, filter, reverse, get_or, drop, take, Option, Some, None, unwrap_or, refl, sym, ap, subst, arith}
-use Rattle.std.specs.Prelude.{All, IsSome, nat_lt, nat_eq, take_while}
-use Rattle.std.specs.List.{AllZip, Contains, starts_with, list_any}
-use Rattle.std.specs.Option.{option_or, is_some, is_none}
-use Rattle.std.specs.Str.{bytes_eq}
+use Rattle.std.proofs.Common.{◌≡◌, ◌≢◌, ◌∙◌, inl, inr, ℕ, ◌+◌, ◌%◌, ◌==◌, ◌<◌, ◌≤◌, Bool, true, false, not, ◌&&◌, cond, eqb, List, [], ◌∷◌, ◌++◌, length, map, get_or, drop, Option, Some, None, unwrap_or, refl, sym, ap, subst, arith}
+use Rattle.std.specs.Prelude.{All, IsSome}
+use Rattle.std.specs.List.{list_any}
+use Rattle.std.specs.Option.{option_or}
 use Rattle.std.proofs.lemmas.Slice.Eq.{bytes_eq-Decides}
 use Rattle.std.proofs.lemmas.Bool.Decides.{nat_tests}
-use Rattle.std.proofs.lemmas.List.{append_assoc, length-map, length-drop, take-append-drop}
-use Rattle.std.proofs.lemmas.List.Elements.{All-head, All-tail, All-cons, All-append, All-take}
+use Rattle.std.proofs.lemmas.List.{length-map, length-drop}
+use Rattle.std.proofs.lemmas.List.Elements.{All-head, All-tail, All-take}
 use Rattle.sub_base.specs.Lists.{first_given, last_given}
-use Rattle.sub_base.specs.Picture.{Picture, IsPicture}
+use Rattle.sub_base.specs.Picture.{Picture}
 use Rattle.sub_base.specs.declared.depth.Depth.{Depth}
 use Rattle.sub_base.specs.declared.depth.Depth.TheVariants.{Two, Four, Eight}
-use Rattle.stream_syntax.specs.Segments.{of_region, Region, Object}
+use Rattle.stream_syntax.specs.Segments.{Region, Object}
 use Rattle.stream_syntax.specs.declared.region.Listing.{Listing}
-use Rattle.cue_list.specs.Authored.{authored_code, live_cues}
+use Rattle.cue_list.specs.Authored.{authored_code}
 use Rattle.cue_list.specs.declared.epoch.Epoch.{Epoch}
 use Rattle.cue_list.specs.declared.epoch.Region.{Region as AuthoredRegion}
-use Rattle.page_epoch.proofs.ListLaws.{All-none}
 use Rattle.page_epoch.proofs.RegionLaws.{version-more, held-more}
-use Rattle.page_epoch.specs.Courses.{held_after}
 use Rattle.page_epoch.specs.Live.{cue_at, has_some, is_same, live_places}
-use Rattle.page_epoch.specs.SentRegions.{is_risen, is_extended, region_version, live_before, held, filled, extended, sent_region}
+use Rattle.page_epoch.specs.SentRegions.{is_risen, region_version, live_before, held, filled, extended}
 use Rattle.page_epoch.specs.declared.planned_set.SentRegion.{SentRegion}
-use Rattle.set_coder.specs.SetSegments.{listing_of, picture_of_cue}
+use Rattle.set_coder.specs.SetSegments.{listing_of}
 use Rattle.decoder_model.specs.Contents.{where_passes, region_named, object_named, object_of}
 use Rattle.decoder_model.specs.Pixels.{since_region, last_code, code_by_fill, fill_code}
 use Rattle.decoder_model.specs.Readings.{Content}
-use Rattle.decoder_model.specs.Taken.{has_new_version, region_version as known_version, last_region}
+use Rattle.decoder_model.specs.Taken.{last_region}
 use Rattle.decoder_model.proofs.IdleSegments.{HasHad, IsUsedUp, IsIdle, idle_code}
 use Rattle.decoder_model.proofs.Searches.{first_given-append, last_given-append}
 use Rattle.decoder_model.proofs.TakenSets.{since_behind, last_behind}
 use Rattle.shown_plan.proofs.Keeps.{HasObject, KeepsRegion, last_code_or_zero}
-use Rattle.shown_plan.proofs.Ordered.{region_content}
 use Rattle.shown_plan.proofs.Painted.{code_by_cue, live_are, authored_last}
-use Rattle.shown_plan.proofs.ReadSets.{IsDrawnObject}
-use Rattle.shown_plan.proofs.RegionSteps.{DrawsListed, with_own, IsTakenRegion, region_taken, sent_value, some_or_second, all_idle}
-use Rattle.shown_plan.proofs.RegionViews.{IsAside, IsRegionView}
-use Rattle.shown_plan.proofs.SetView.{keeps, reversed_all}
+use Rattle.shown_plan.proofs.RegionSteps.{IsTakenRegion, sent_value, some_or_second}
 
 -- ---- objects that a region has had
 

@@ -1,37 +1,34 @@
 -- One region behind one set of the plan more: drawn anew, drawn on, or left as it was.
-use Rattle.std.proofs.Common.{◌≡◌, ◌≢◌, ◌∙◌, ◌⊎◌, inl, inr, ℕ, zero, suc, ◌+◌, ◌==◌, ◌<◌, ◌≤◌, Bool, true, false, cond, eqb, List, [], ◌∷◌, ◌++◌, length, map, filter, reverse, get_or, drop, Option, Some, None, unwrap_or, refl, sym, ap, subst, arith}
+use Rattle.std.proofs.Common.{◌≡◌, ◌∙◌, ℕ, zero, suc, ◌==◌, ◌<◌, Bool, true, false, cond, eqb, List, [], ◌∷◌, ◌++◌, length, map, filter, reverse, get_or, Option, Some, None, refl, sym, ap, subst, arith}
 use Rattle.std.specs.Prelude.{All, IsSome}
 use Rattle.std.specs.List.{AllZip, Contains}
 use Rattle.std.specs.Prelude.{take_while}
 use Rattle.std.specs.Option.{option_or, is_some, is_none}
 use Rattle.std.proofs.lemmas.Bool.Decides.{nat_tests}
-use Rattle.std.proofs.lemmas.List.{reverse-append, append_assoc, append-nil, length-map}
-use Rattle.std.proofs.lemmas.List.Elements.{All-head, All-tail, All-cons, All-append, All-map, All-filter, All-contains_itself}
+use Rattle.std.proofs.lemmas.List.{reverse-append, append-nil}
+use Rattle.std.proofs.lemmas.List.Elements.{All-cons, All-map}
 use Rattle.std.proofs.lemmas.List.Sums.{take_while-cons}
 use Rattle.sub_base.specs.Lists.{first_given, last_given}
 use Rattle.sub_base.specs.Picture.{Picture, IsPicture}
-use Rattle.stream_syntax.specs.Segments.{of_region, of_object, Region, Object}
+use Rattle.stream_syntax.specs.Segments.{Region, Object}
 use Rattle.stream_syntax.specs.declared.region.Listing.{Listing}
-use Rattle.cue_list.specs.Authored.{authored_code, live_cues}
 use Rattle.cue_list.specs.declared.epoch.Epoch.{Epoch}
-use Rattle.cue_list.specs.declared.epoch.Region.{Region as AuthoredRegion}
 use Rattle.page_epoch.proofs.ListLaws.{All-none}
-use Rattle.page_epoch.specs.Live.{cue_at, has_some, live_places}
-use Rattle.page_epoch.specs.SentRegions.{region_version, held}
+use Rattle.page_epoch.specs.Live.{cue_at}
 use Rattle.page_epoch.specs.declared.planned_set.SentRegion.{SentRegion}
-use Rattle.set_coder.specs.SetSegments.{region_of, listing_of, region_segment_of, picture_of_cue}
-use Rattle.decoder_model.specs.Contents.{where_passes, region_named, object_named, object_of}
+use Rattle.set_coder.specs.SetSegments.{region_of, listing_of, picture_of_cue}
+use Rattle.decoder_model.specs.Contents.{where_passes, region_named, object_named}
 use Rattle.decoder_model.specs.Pixels.{since_region, last_code, code_by_fill}
 use Rattle.decoder_model.specs.Readings.{Content}
 use Rattle.decoder_model.specs.Taken.{last_region}
 use Rattle.decoder_model.proofs.IdleSegments.{IsIdle, idle_code, aside_is_idle}
-use Rattle.decoder_model.proofs.Searches.{first_given-append, first_given-all_none, last_given-append, option_or-assoc}
+use Rattle.decoder_model.proofs.Searches.{first_given-append, first_given-all_none}
 use Rattle.decoder_model.proofs.TakenSets.{since_behind, last_behind}
-use Rattle.shown_plan.proofs.Keeps.{AreRising, HasObject, KeepsRegion, last_code_or_zero}
+use Rattle.shown_plan.proofs.Keeps.{AreRising, HasObject}
 use Rattle.shown_plan.proofs.ObjectsPaint.{is_own, AreOnce, IsFresh, are_listed, objects_paint, object_itself, rise_head}
 use Rattle.shown_plan.proofs.Lists.{kept_contains, kept_pass, of_all, filter_inside}
 use Rattle.shown_plan.proofs.Ordered.{region_content}
-use Rattle.shown_plan.proofs.Painted.{code_by_cue, authored_last}
+use Rattle.shown_plan.proofs.Painted.{code_by_cue}
 use Rattle.shown_plan.proofs.ReadSets.{IsDrawnObject}
 use Rattle.shown_plan.proofs.RegionViews.{IsAside}
 use Rattle.shown_plan.proofs.SetView.{reversed_all}

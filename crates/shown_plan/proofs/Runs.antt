@@ -1,11 +1,10 @@
 -- Sets of a plan that follow each other without a hole, as a receiver keeps them: each is shown, and what the receiver has is as
 -- the plan says. Lists have the latest first.
-use Rattle.std.proofs.Common.{◌≡◌, ◌≢◌, ◌∙◌, ◌⊎◌, inl, inr, ℕ, suc, ◌+◌, ◌==◌, ◌||◌, ◌<◌, ◌≤◌, Bool, true, false, cond, List, [], ◌∷◌, ◌++◌, length, map, reverse, get_or, Option, Some, None, refl, sym, ap, subst, arith}
+use Rattle.std.proofs.Common.{◌≡◌, ◌≢◌, ◌∙◌, ◌⊎◌, inl, inr, ℕ, suc, ◌==◌, ◌||◌, ◌<◌, Bool, true, false, List, [], ◌∷◌, ◌++◌, map, reverse, get_or, Option, Some, None, refl, sym, ap, subst, arith}
 use Rattle.std.specs.Prelude.{All, slice_get, filter_map}
 use Rattle.std.specs.List.{AllPairs, cons_option, list_any}
 use Rattle.std.specs.Option.{is_some}
-use Rattle.std.proofs.lemmas.Bool.Decides.{nat_tests}
-use Rattle.std.proofs.lemmas.List.{reverse-append, reverse-reverse, append_assoc, append-nil, map-append}
+use Rattle.std.proofs.lemmas.List.{reverse-append, reverse-reverse, append_assoc, map-append}
 use Rattle.std.proofs.lemmas.List.Elements.{All-head, All-tail, filter_map-append}
 use Rattle.sub_base.specs.declared.profile.Profile.{Profile}
 use Rattle.stream_syntax.specs.Segments.{Page, end_of_set, state_number}
@@ -19,7 +18,7 @@ use Rattle.page_epoch.specs.declared.planned_set.PlannedSet.{PlannedSet}
 use Rattle.page_epoch.specs.declared.planned_set.SentClut.{SentClut}
 use Rattle.page_epoch.specs.declared.planned_set.SentRegion.{SentRegion}
 use Rattle.set_coder.specs.SetSegments.{display_of as display_segments}
-use Rattle.decoder_model.specs.Contents.{page_of, page_in_set, has_state}
+use Rattle.decoder_model.specs.Contents.{page_of, has_state}
 use Rattle.decoder_model.specs.Faults.{contents_in, segment_fault}
 use Rattle.decoder_model.specs.Kept.{epoch_of}
 use Rattle.decoder_model.specs.Readings.{Content, Reading}
@@ -33,7 +32,7 @@ use Rattle.shown_plan.proofs.Keeps.{Keeps}
 use Rattle.shown_plan.proofs.KeepsOn.{IsPlannedIn}
 use Rattle.shown_plan.proofs.KeepsStep.{IsReadIn, keeps_first, keeps_next}
 use Rattle.shown_plan.proofs.Ordered.{displays_in, page_content, region_content, clut_content, objects_are, contents_are}
-use Rattle.shown_plan.proofs.PlannedSets.{times_of, HasTimes, has_times, IsInEpoch, in_epoch, IsAfter, goes_after}
+use Rattle.shown_plan.proofs.PlannedSets.{times_of, has_times, IsInEpoch, in_epoch, goes_after}
 use Rattle.shown_plan.proofs.ReadSets.{plain, IsReadSet}
 
 -- The sets of the plan up to one, and the kept sets since the last loss or broken set up to it. The run begins with a set that

@@ -1,25 +1,21 @@
 -- The colour that a CLUT segment of a set gives an entry: that of its latest row.
-use Rattle.std.proofs.Common.{◌≡◌, ◌≢◌, ◌∙◌, ℕ, zero, suc, ◌+◌, ◌==◌, ◌<◌, ◌≤◌, nat_le, Bool, true, false, ◌&&◌, ◌||◌, cond, eqb, List, [], ◌∷◌, ◌++◌, length, map, filter, get_or, Option, Some, None, refl, sym, ap, subst, arith}
-use Rattle.std.specs.List.{flat_map, list_any, range_with_len}
-use Rattle.std.specs.Option.{option_or, option_map}
+use Rattle.std.proofs.Common.{◌≡◌, ◌∙◌, ℕ, ◌+◌, ◌==◌, ◌<◌, Bool, true, false, ◌&&◌, ◌||◌, cond, List, [], ◌∷◌, ◌++◌, map, filter, Option, Some, None, refl, ap, arith}
+use Rattle.std.specs.List.{list_any, range_with_len}
+use Rattle.std.specs.Option.{option_or}
 use Rattle.std.proofs.lemmas.Bool.Decides.{nat_tests}
-use Rattle.std.proofs.lemmas.List.{length-map, get_or-map}
+use Rattle.std.proofs.lemmas.List.{get_or-map}
 use Rattle.std.proofs.lemmas.List.Folds.{list_any-append, list_any_at}
 use Rattle.std.proofs.lemmas.List.FromFn.{length-range_with_len, get_or-range_with_len}
 use Rattle.sub_base.specs.Depth.{bits_of, code_count}
 use Rattle.sub_base.specs.Lists.{last_given}
-use Rattle.sub_base.specs.declared.colour.Colour.{Colour}
 use Rattle.sub_base.specs.declared.depth.Depth.{Depth}
 use Rattle.sub_base.specs.declared.depth.Depth.TheVariants.{Two, Four, Eight}
-use Rattle.stream_syntax.specs.Segments.{Clut}
-use Rattle.stream_syntax.specs.declared.clut.ClutEntry.{ClutEntry}
 use Rattle.cue_list.specs.declared.epoch.ColourRow.{ColourRow}
 use Rattle.cue_list.specs.declared.epoch.Epoch.{Epoch}
 use Rattle.page_epoch.proofs.RowLaws.{entry_of, length-entries_at}
 use Rattle.page_epoch.specs.SentCluts.{row_at, entries_at, all_entries, is_of_entry, defined_rows, rows_from}
-use Rattle.page_epoch.specs.declared.clut_rows.Entry.{Entry}
 use Rattle.set_coder.specs.SetSegments.{clut_entry_of}
-use Rattle.decoder_model.specs.Ink.{is_in_table, colour_by_entry, colour_by_clut}
+use Rattle.decoder_model.specs.Ink.{is_in_table, colour_by_entry}
 use Rattle.shown_plan.proofs.ColourRows.{latest_of, colour_at, given_by, given_latest, is_entry, given_all_entries}
 
 -- ---- each entry that a depth has is one of all entries

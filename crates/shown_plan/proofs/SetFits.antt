@@ -1,25 +1,21 @@
 -- A set of the plan, read, has no fault behind what a receiver has of its epoch: the tests of its segments one by one.
-use Rattle.std.proofs.Common.{◌≡◌, ◌≢◌, ◌∙◌, ◌⊎◌, inl, inr, ℕ, suc, ◌+◌, ◌-◌, ◌==◌, ◌&&◌, ◌||◌, ◌<◌, ◌≤◌, nat_lt, Bool, true, false, cond, eqb, List, [], ◌∷◌, ◌++◌, length, map, reverse, get_or, Option, Some, None, refl, sym, ap, subst, arith}
-use Rattle.std.specs.Prelude.{All, find}
-use Rattle.std.specs.List.{AllZip, Contains}
-use Rattle.std.specs.Option.{option_or, option_map, option_and_then, is_some, is_none}
+use Rattle.std.proofs.Common.{◌≡◌, ◌≢◌, ◌∙◌, ℕ, ◌==◌, Bool, true, false, cond, eqb, List, [], ◌∷◌, ◌++◌, length, map, reverse, get_or, Option, Some, None, refl, sym, ap, subst, arith}
+use Rattle.std.specs.Prelude.{All}
 use Rattle.std.proofs.lemmas.Bool.Decides.{nat_tests}
 use Rattle.std.proofs.lemmas.List.{reverse-append, append_assoc}
-use Rattle.std.proofs.lemmas.List.Elements.{All-head, All-tail, All-cons, All-append, All-contains_itself, Contains-append_left, Contains-append_right}
+use Rattle.std.proofs.lemmas.List.Elements.{All-head, All-tail, All-contains_itself, Contains-append_right}
 use Rattle.sub_base.specs.Depth.{bits_of}
-use Rattle.sub_base.specs.Lists.{first_given}
 use Rattle.sub_base.specs.declared.depth.Depth.{Depth}
 use Rattle.stream_syntax.specs.Segments.{SegmentValue, of_page, of_region, of_clut, of_object, of_display, end_of_set, passed_over, Region, Object}
 use Rattle.stream_syntax.specs.declared.region.Listing.{Listing}
 use Rattle.cue_list.specs.declared.epoch.Epoch.{Epoch}
 use Rattle.page_epoch.specs.Live.{cue_at}
 use Rattle.set_coder.specs.SetSegments.{region_of as authored_region, listing_of, depth_of_cue}
-use Rattle.decoder_model.specs.Contents.{region_of, object_of, region_named, in_order}
-use Rattle.decoder_model.specs.Faults.{has_same_shape, changed_from, changed_region, region_changed, depth_fault, fault_in_region, fault_in_regions, object_too_deep, all_region_ids, too_deep_at, too_deep_fault, first_fault_by}
+use Rattle.decoder_model.specs.Contents.{region_named, in_order}
+use Rattle.decoder_model.specs.Faults.{has_same_shape, changed_from, region_changed, depth_fault, fault_in_region, object_too_deep, all_region_ids, too_deep_at, first_fault_by}
 use Rattle.decoder_model.specs.Pixels.{depth_of, listings_naming, listings_by, painted_listings, is_painting}
 use Rattle.decoder_model.specs.Readings.{Content}
 use Rattle.decoder_model.specs.Taken.{Taken, taken_among, taken_of, taken_region, is_taken, last_region}
-use Rattle.decoder_model.specs.declared.set_fault.SetFault.{SetFault}
 use Rattle.decoder_model.specs.declared.set_fault.SetFault.TheVariants.{RegionChanged}
 use Rattle.decoder_model.proofs.NoFaults.{no_fault_by}
 use Rattle.decoder_model.proofs.Searches.{first_given-none}

@@ -1,43 +1,42 @@
 -- The listings, CLUTs and table entries that a receiver has of an epoch take no more nodes than the plan says.
-use Rattle.std.proofs.Common.{◌≡◌, ◌≢◌, ◌∙◌, ◌⊎◌, inl, inr, ℕ, zero, suc, ◌+◌, ◌==◌, ◌&&◌, ◌<◌, ◌≤◌, nat_lt, Bool, true, false, cond, eqb, List, [], ◌∷◌, ◌++◌, length, map, get_or, sum_by, Option, Some, None, refl, sym, ap, subst, arith}
+use Rattle.std.proofs.Common.{◌≡◌, ◌∙◌, ℕ, zero, suc, ◌==◌, ◌&&◌, ◌<◌, ◌≤◌, nat_lt, Bool, true, false, cond, eqb, List, [], ◌∷◌, length, map, get_or, sum_by, Option, Some, None, refl, sym, ap, subst, arith}
 use Rattle.std.specs.Prelude.{All, filter_map}
-use Rattle.std.specs.List.{AllPairs, Contains, cons_option, flat_map, list_any, range_with_len}
+use Rattle.std.specs.List.{Contains, cons_option, flat_map, list_any, range_with_len}
 use Rattle.std.specs.Option.{option_or, option_and_then}
 use Rattle.std.proofs.lemmas.Bool.Decides.{nat_tests}
 use Rattle.std.proofs.lemmas.List.{length-map, length-append}
 use Rattle.std.proofs.lemmas.List.Elements.{All-head, All-tail, All-cons, All-append, All-contains_itself}
 use Rattle.std.proofs.lemmas.List.Folds.{list_any_at}
-use Rattle.std.proofs.lemmas.List.Sums.{sum_by-cons, sum_by-append}
+use Rattle.std.proofs.lemmas.List.Sums.{sum_by-cons}
 use Rattle.sub_base.specs.Depth.{bits_of, code_count}
-use Rattle.sub_base.specs.Lists.{first_given, different}
+use Rattle.sub_base.specs.Lists.{different}
 use Rattle.sub_base.specs.Picture.{Picture}
 use Rattle.sub_base.specs.declared.depth.Depth.{Depth}
 use Rattle.sub_base.specs.declared.depth.Depth.TheVariants.{Two, Four, Eight}
-use Rattle.stream_syntax.specs.Segments.{SegmentValue, of_page, of_region, of_clut, of_object, of_display, end_of_set, passed_over, Region, Clut}
+use Rattle.stream_syntax.specs.Segments.{SegmentValue, of_page, of_region, of_clut, of_object, of_display, end_of_set, passed_over, Clut}
 use Rattle.stream_syntax.specs.declared.clut.ClutEntry.{ClutEntry}
 use Rattle.cue_list.specs.declared.epoch.ColourRow.{ColourRow}
 use Rattle.cue_list.specs.declared.epoch.Epoch.{Epoch}
 use Rattle.cue_list.specs.declared.epoch.Region.{Region as AuthoredRegion}
-use Rattle.page_epoch.proofs.ListLaws.{All-none, All-one, All-pieces, sum_mapped}
+use Rattle.page_epoch.proofs.ListLaws.{All-none, All-pieces, sum_mapped}
 use Rattle.page_epoch.proofs.RowLaws.{entry_of, own_within}
 use Rattle.page_epoch.specs.Live.{places_below}
-use Rattle.page_epoch.specs.Needs.{clut_nodes}
-use Rattle.page_epoch.specs.SentCluts.{no_row, row_at, rows_of_clut, rows_of_entry, is_of_entry, latest_place, by_tick, defined_rows, clut_with, clut_version as planned_version, clut_count, sent_clut, named_cluts, sent_cluts}
+use Rattle.page_epoch.specs.SentCluts.{no_row, row_at, rows_of_clut, is_of_entry, defined_rows, clut_with, clut_version as planned_version, clut_count, sent_clut, named_cluts, sent_cluts}
 use Rattle.page_epoch.specs.SentRegions.{held}
 use Rattle.page_epoch.specs.declared.planned_set.SentClut.{SentClut}
 use Rattle.set_coder.specs.SetSegments.{clut_entry_of}
-use Rattle.decoder_model.specs.Contents.{region_of, clut_of, clut_named}
+use Rattle.decoder_model.specs.Contents.{clut_of, clut_named}
 use Rattle.decoder_model.specs.Ink.{is_in_table}
 use Rattle.decoder_model.specs.Nodes.{is_same, region_ids, clut_id, clut_ids, TableEntry, is_same_entry, in_table, in_tables, entries_of_clut, table_entries, listing_count, listings_held}
 use Rattle.decoder_model.specs.Readings.{Content}
-use Rattle.decoder_model.specs.Taken.{Taken, last_region, last_clut, clut_version}
+use Rattle.decoder_model.specs.Taken.{last_region, last_clut, clut_version}
 use Rattle.decoder_model.proofs.NoFaults.{sum_within}
 use Rattle.shown_plan.proofs.CarriedSets.{in_range}
 use Rattle.shown_plan.proofs.ClutChanges.{undefined_unknown}
 use Rattle.shown_plan.proofs.ClutRows.{AreSeenRows, defined_own, row_defined}
 use Rattle.shown_plan.proofs.Keeps.{IsSentEntry, IsSentBy, IsSent, KeepsRegion, KeepsClut}
-use Rattle.shown_plan.proofs.Lists.{all_at, kept_one, kept_pass, place_there, piece_there, mapped_there, sum_same, sum_below, sum_ones, different_all, different_pairs}
-use Rattle.shown_plan.proofs.SetPixels.{ids_of, own_region, IsKnownId, AreKnownIds, ids_within}
+use Rattle.shown_plan.proofs.Lists.{all_at, kept_one, kept_pass, place_there, piece_there, mapped_there, sum_below, sum_ones, different_all, different_pairs}
+use Rattle.shown_plan.proofs.SetPixels.{own_region, IsKnownId, AreKnownIds, ids_within}
 
 -- ---- listings
 

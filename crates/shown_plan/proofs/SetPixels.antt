@@ -1,33 +1,30 @@
 -- The regions that a receiver has of an epoch are the epoch's, each once, and need no more bytes than the plan says.
-use Rattle.std.proofs.Common.{◌≡◌, ◌≢◌, ◌∙◌, ◌⊎◌, inl, inr, ℕ, zero, suc, ◌+◌, ◌-◌, ◌*◌, ◌/◌, ◌==◌, ◌&&◌, ◌<◌, ◌≤◌, nat_lt, Bool, true, false, cond, eqb, List, [], ◌∷◌, ◌++◌, length, map, reverse, get_or, sum_by, Option, Some, None, refl, sym, ap, subst, arith}
+use Rattle.std.proofs.Common.{◌≡◌, ◌≢◌, ◌∙◌, ℕ, zero, suc, ◌+◌, ◌-◌, ◌*◌, ◌/◌, ◌==◌, ◌&&◌, ◌≤◌, nat_lt, Bool, true, false, cond, eqb, List, [], ◌∷◌, ◌++◌, map, reverse, get_or, sum_by, Option, Some, None, refl, sym, ap, subst, arith}
 use Rattle.std.specs.Prelude.{All, find, filter_map, IsSome}
 use Rattle.std.specs.List.{AllPairs, Contains, cons_option}
 use Rattle.std.specs.Option.{option_or, option_and_then, is_none}
 use Rattle.std.proofs.lemmas.Bool.Decides.{nat_tests}
-use Rattle.std.proofs.lemmas.List.Elements.{All-head, All-tail, All-cons, All-contains_itself}
+use Rattle.std.proofs.lemmas.List.Elements.{All-cons, All-contains_itself}
 use Rattle.std.proofs.lemmas.List.Kept.{AllPairs-cons}
 use Rattle.std.proofs.lemmas.List.Sums.{sum_by-cons}
 use Rattle.sub_base.specs.Depth.{bits_of}
-use Rattle.sub_base.specs.Lists.{first_given, different}
 use Rattle.sub_base.specs.declared.profile.Profile.{Profile}
 use Rattle.stream_syntax.specs.Segments.{SegmentValue, of_page, of_region, of_clut, of_object, of_display, end_of_set, passed_over, Region}
 use Rattle.cue_list.specs.declared.epoch.Epoch.{Epoch}
 use Rattle.cue_list.specs.declared.epoch.Region.{Region as AuthoredRegion}
 use Rattle.page_epoch.proofs.ListLaws.{All-none, sum_mapped}
 use Rattle.page_epoch.specs.Needs.{region_pixels, pixel_need}
-use Rattle.page_epoch.specs.Sendable.{HasRegion}
 use Rattle.set_coder.specs.SetSegments.{region_or_none, region_of as authored_region}
-use Rattle.decoder_model.specs.Contents.{region_of, region_in, region_named, in_order}
+use Rattle.decoder_model.specs.Contents.{region_of, region_named, in_order}
 use Rattle.decoder_model.specs.Faults.{first_fault_by, pixels_full, region_too_large}
 use Rattle.decoder_model.specs.Nodes.{is_same, region_id, region_ids, pixel_bytes, bytes_of_region, pixels_used}
 use Rattle.decoder_model.specs.Readings.{Content}
-use Rattle.decoder_model.specs.Taken.{Taken, taken_among, taken_of, taken_region, last_region}
-use Rattle.decoder_model.specs.declared.set_fault.SetFault.{SetFault}
+use Rattle.decoder_model.specs.Taken.{taken_among, taken_of, last_region}
 use Rattle.decoder_model.specs.declared.set_fault.SetFault.TheVariants.{PixelFull}
 use Rattle.decoder_model.proofs.NoFaults.{no_fault_by, sum_within}
 use Rattle.decoder_model.proofs.TakenSets.{taken_all}
 use Rattle.shown_plan.proofs.Keeps.{IsSentRegion, IsSentBy, IsSent}
-use Rattle.shown_plan.proofs.Lists.{all_at, mapped_there, sum_same, sum_below, different_all, different_pairs}
+use Rattle.shown_plan.proofs.Lists.{mapped_there, sum_same, different_all, different_pairs}
 use Rattle.shown_plan.proofs.Parts.{HaveOwnIds}
 use Rattle.shown_plan.proofs.SetFits.{before_sent, last_sent}
 

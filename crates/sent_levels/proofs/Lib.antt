@@ -1,0 +1,6 @@
+pub mod EnteredCalls
+pub mod EnteredSums
+pub mod EnteredLevels
+pub mod EnteredLess
+pub mod EnteredWithin
+pub mod WholeLevels
