@@ -1,42 +1,30 @@
 -- A receiver of a compiled stream of which some packets are lost shows at each good tick what the script authors, and its page memory
 -- holds the script behind each set that comes whole and whose epoch is known.
-use Rattle.std.proofs.Common.{◌≡◌, ◌∙◌, ℕ, zero, suc, ◌+◌, ◌-◌, ◌<◌, ◌≤◌, ◌⊎◌, inl, inr, Bool, true, false, ◌&&◌, ◌||◌, not, cond, List, [], ◌∷◌, ◌++◌, length, map, filter, take, drop, get_or, reverse, Some, None, refl, sym, ap, subst, arith, All, append-nil, length-drop, length-append}
-use Rattle.std.specs.Prelude.{nat_le, slice_get, slice_index}
-use Rattle.std.specs.List.{AllByRecursion, AllZip, list_all, list_any}
+use Rattle.std.proofs.Common.{◌≡◌, ◌∙◌, ℕ, zero, suc, ◌+◌, ◌-◌, ◌<◌, ◌≤◌, ◌⊎◌, inl, inr, Bool, true, false, ◌&&◌, ◌||◌, not, cond, List, [], ◌∷◌, ◌++◌, length, map, filter, take, drop, reverse, Some, None, refl, sym, ap, subst, arith, length-append}
+use Rattle.std.specs.Prelude.{nat_le, slice_get}
+use Rattle.std.specs.List.{AllByRecursion, list_all, list_any}
 use Rattle.std.specs.Option.{is_none}
 use Rattle.std.proofs.lemmas.Bool.{cases_lt}
 use Rattle.std.proofs.lemmas.Bool.Decides.{nat_tests}
 use Rattle.std.proofs.lemmas.List.{reverse-append}
-use Rattle.std.proofs.lemmas.List.Elements.{recursion_from_All}
-use Rattle.std.proofs.lemmas.Option.{slice_get_within}
-use Rattle.sub_base.specs.Pace.{pace_of}
-use Rattle.sub_base.specs.Profile.{profile_of}
-use Rattle.sub_base.specs.declared.load.WriteLoad.{WriteLoad}
-use Rattle.sub_base.specs.declared.pace.Pace.{Pace}
 use Rattle.sub_base.specs.declared.profile.Profile.{Profile}
-use Rattle.sub_base.specs.declared.profile.ProfileName.{ProfileName}
 use Rattle.stream_syntax.specs.TransportPackets.{packet_fault}
 use Rattle.cue_list.specs.declared.script.Script.{Script}
 use Rattle.page_epoch.specs.States.{is_whole}
 use Rattle.page_epoch.specs.declared.planned_set.PlannedSet.{PlannedSet}
-use Rattle.schedule.specs.Packets.{first_packet, packets_of}
-use Rattle.schedule.specs.Slots.{Timetable, IsSchedule, start_of, slots_of}
-use Rattle.schedule.proofs.SumLaws.{sum_below-suc}
-use Rattle.decoder_model.specs.Arrivals.{packets_taken, arrivals_of}
-use Rattle.decoder_model.specs.Sets.{Delivery, has_ended, runs_of, sets_in, sets_of}
-use Rattle.decoder_model.specs.Streams.{Sending, received_of, SentSet, IsReceived, IsGoodTick, IsCutTo}
+use Rattle.schedule.specs.Slots.{Timetable, slots_of}
+use Rattle.decoder_model.specs.Arrivals.{arrivals_of}
+use Rattle.decoder_model.specs.Sets.{has_ended, runs_of, sets_in, sets_of}
+use Rattle.decoder_model.specs.Streams.{Sending, received_of, SentSet, IsReceived}
 use Rattle.decoder_model.proofs.SentSets.{TimedSet}
 use Rattle.decoder_model.proofs.SentUnits.{all_taken}
-use Rattle.shown_stream.specs.SentSets.{sent_set, sent_from, sent_sets, is_received_at, times_received}
+use Rattle.shown_stream.specs.SentSets.{sent_set, sent_from, is_received_at, times_received}
 use Rattle.shown_stream.proofs.LateTicks.{at_seam}
-use Rattle.shown_stream.proofs.LostFits.{flags_at, AreTold, are_fit}
 use Rattle.shown_stream.proofs.LostPieces.{is_there, there_at, flow}
 use Rattle.shown_stream.proofs.LostPlaces.{all_of, some_of}
 use Rattle.shown_stream.proofs.LostSets.{all_come}
 use Rattle.shown_stream.proofs.LostViews.{GoodFrom, AreFit}
-use Rattle.shown_stream.proofs.LostWalk.{IsFit}
 use Rattle.shown_stream.proofs.PlannedTimes.{pts_of}
-use Rattle.shown_stream.proofs.ShownSets.{IsAheadOf}
 
 -- ---- flags and places
 

@@ -1,5 +1,5 @@
 -- Of a stream that is shortly cut at most 14 pieces are missing between two that come.
-use Rattle.std.proofs.Common.{◌≡◌, ◌∙◌, ℕ, zero, suc, ◌+◌, ◌-◌, ◌%◌, ◌≤◌, Bool, true, false, ◌&&◌, ◌||◌, not, cond, List, [], ◌∷◌, ◌++◌, length, map, Option, Some, None, refl, sym, ap, subst, arith, append_assoc, append-nil}
+use Rattle.std.proofs.Common.{◌≡◌, ◌∙◌, ℕ, ◌+◌, ◌-◌, ◌%◌, Bool, true, false, ◌&&◌, ◌||◌, not, cond, List, [], ◌∷◌, ◌++◌, length, map, Option, Some, None, refl, sym, ap, subst, arith, append_assoc}
 use Rattle.std.specs.Prelude.{count_by}
 use Rattle.std.specs.List.{AllByRecursion, list_any}
 use Rattle.std.proofs.lemmas.Bool.{false≢true}
@@ -107,16 +107,18 @@ near_from pid from number (piece ∷ pieces) (slot ∷ slots) all sendings since
             let told = is_there_by pid parts.one true payload is in
             let placed : all ≡ by_now.before ++ by_now.first ∷ ((by_now.between ++ parts.nulls) ++ parts.one ∷ parts.rest) =
             by_now.placed ∙ ap (λ rest. by_now.before ++ by_now.first ∷ (by_now.between ++ rest)) parts.are ∙ regroup by_now.before by_now.between parts.nulls by_now.first parts.one parts.rest in
-            let few = short by_now.before (by_now.between ++ parts.nulls) parts.rest by_now.first parts.one placed by_now.come told.0 (any-append (is_received pid) by_now.between parts.nulls by_now.none aside.0) in
-            (omega (arith, few, count-append (is_missed pid) by_now.between parts.nulls, by_now.count, aside.1), onward (Some 0) (record {
-              before = by_now.before ++ by_now.first ∷ (by_now.between ++ parts.nulls);
-              first = parts.one;
-              between = [];
-              placed = placed ∙ sym (append_assoc by_now.before (by_now.first ∷ (by_now.between ++ parts.nulls)) (parts.one ∷ parts.rest));
-              come = told.0;
-              none = refl;
-              count = refl;
-            }))
+            let few = short by_now.before (by_now.between ++ parts.nulls) parts.rest by_now.first parts.one placed by_now.come told.0 (any-append (is_received pid) by_now.between parts.nulls by_now.none aside.0) in (
+              omega (arith, few, count-append (is_missed pid) by_now.between parts.nulls, by_now.count, aside.1),
+              onward (Some 0) (record {
+                before = by_now.before ++ by_now.first ∷ (by_now.between ++ parts.nulls);
+                first = parts.one;
+                between = [];
+                placed = placed ∙ sym (append_assoc by_now.before (by_now.first ∷ (by_now.between ++ parts.nulls)) (parts.one ∷ parts.rest));
+                come = told.0;
+                none = refl;
+                count = refl;
+              }),
+            )
         step false is (Some k) by_now =
             let told = is_there_by pid parts.one false payload is in
             let next : List Sending = (by_now.between ++ parts.nulls) ++ parts.one ∷ [] in

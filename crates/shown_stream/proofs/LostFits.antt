@@ -1,5 +1,5 @@
 -- What is used of the sets of a compiled stream of which some packets are lost.
-use Rattle.std.proofs.Common.{◌≡◌, ◌∙◌, ℕ, zero, suc, ◌+◌, ◌<◌, ◌≤◌, Bool, true, false, List, [], ◌∷◌, ◌++◌, length, map, take, drop, get_or, reverse, None, Some, refl, sym, ap, subst, arith, length-append}
+use Rattle.std.proofs.Common.{◌≡◌, ◌∙◌, ℕ, suc, ◌+◌, ◌<◌, ◌≤◌, Bool, true, List, [], ◌∷◌, ◌++◌, length, take, drop, get_or, reverse, None, Some, refl, sym, ap, subst, arith, length-append}
 use Rattle.std.specs.Prelude.{slice_get}
 use Rattle.std.specs.List.{AllByRecursion, AllZip}
 use Rattle.std.specs.List.Sorted.{IsStrictlyIncreasing}
@@ -15,11 +15,10 @@ use Rattle.decoder_model.proofs.SentSets.{TimedSet, IsTimedSet, HaveDifferentTim
 use Rattle.shown_stream.specs.Compiled.{all_units}
 use Rattle.shown_stream.specs.SlotStream.{pieces_of, all_pieces}
 use Rattle.shown_stream.proofs.ComingSets.{SetComes}
-use Rattle.shown_stream.proofs.CompiledSets.{IsSentAs, AreSentAs}
+use Rattle.shown_stream.proofs.CompiledSets.{AreSentAs}
 use Rattle.shown_stream.proofs.LatePlaces.{same_many}
 use Rattle.shown_stream.proofs.LateRest.{IsPlannedWell}
 use Rattle.shown_stream.proofs.LostPlaces.{all_of, some_of, all_whole, some_whole, whole-append, length-whole}
-use Rattle.shown_stream.proofs.LostSets.{all_come, some_come}
 use Rattle.shown_stream.proofs.LostUnits.{come_whole}
 use Rattle.shown_stream.proofs.LostViews.{AreFit}
 use Rattle.shown_stream.proofs.LostWalk.{IsFit}
@@ -58,10 +57,12 @@ module _ (script : Script) (profile : Profile) (anchor origin page : ℕ) (sets 
   are_fit number plan [] (packets ∷ units) sent flags low many are come timed some apart within rise whole long told = absurd are
   are_fit number plan (set ∷ left) [] sent flags low many are come timed some apart within rise whole long told = absurd are
   are_fit number plan (set ∷ left) (packets ∷ units) [] flags low many are come timed some apart within rise whole long told = absurd are
-  are_fit number plan (set ∷ left) (packets ∷ units) (one ∷ sent) flags low many are come timed some apart within rise whole long told =
-      (fit, subst (AreFit script profile anchor origin page sets ComesWhole (set ∷ plan) left sent) (sym dropped)
-      (are_fit (number + 1) (set ∷ plan) left units sent (drop count flags) low (ap length (reverse-append (set ∷ []) plan) ∙ omega (arith, length-append (reverse plan) (set ∷ []), many)) are.1 come.1 timed.1 some.1 apart.1 within.1
-      (rest_rises set.pts (pts_of left) rise) units_are.1 (omega (arith, long, total, length-drop count flags)) rest))
+  are_fit number plan (set ∷ left) (packets ∷ units) (one ∷ sent) flags low many are come timed some apart within rise whole long told = (
+    fit,
+    subst (AreFit script profile anchor origin page sets ComesWhole (set ∷ plan) left sent) (sym dropped)
+        (are_fit (number + 1) (set ∷ plan) left units sent (drop count flags) low (ap length (reverse-append (set ∷ []) plan) ∙ omega (arith, length-append (reverse plan) (set ∷ []), many)) are.1 come.1 timed.1 some.1 apart.1 within.1
+        (rest_rises set.pts (pts_of left) rise) units_are.1 (omega (arith, long, total, length-drop count flags)) rest),
+  )
     where
       count : ℕ
       count = length (all_pieces packets)

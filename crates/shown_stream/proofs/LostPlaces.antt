@@ -1,20 +1,11 @@
 -- Of which sets all units come, and of which some, by the places of their packets.
-use Rattle.std.proofs.Common.{◌≡◌, ◌∙◌, ℕ, zero, suc, ◌+◌, ◌-◌, ◌<◌, ◌≤◌, Bool, true, false, ◌&&◌, ◌||◌, List, [], ◌∷◌, ◌++◌, length, map, take, drop, refl, sym, ap, subst, arith, length-append, length-drop}
+use Rattle.std.proofs.Common.{◌≡◌, ◌∙◌, ℕ, zero, suc, ◌+◌, ◌≤◌, Bool, true, false, ◌&&◌, ◌||◌, List, [], ◌∷◌, ◌++◌, length, take, drop, refl, sym, ap, subst, arith, length-append, length-drop}
 use Rattle.std.specs.List.{AllByRecursion, list_all, list_any}
-use Rattle.std.proofs.lemmas.List.{drop-drop, drop-map, take-map}
+use Rattle.std.proofs.lemmas.List.{drop-drop}
 use Rattle.stream_syntax.specs.Cutting.{IsUnit}
-use Rattle.sub_base.specs.declared.load.WriteLoad.{WriteLoad}
-use Rattle.sub_base.specs.declared.pace.Pace.{Pace}
-use Rattle.schedule.specs.Packets.{first_packet}
-use Rattle.schedule.specs.Slots.{Timetable, IsSchedule, slots_of, start_of}
-use Rattle.decoder_model.specs.Streams.{Sending}
-use Rattle.shown_stream.specs.Compiled.{AreSizedAs, all_units}
 use Rattle.shown_stream.specs.SlotStream.{pieces_of, all_pieces, piece_count}
-use Rattle.shown_stream.proofs.CompiledPackets.{length-pieces_of, count_before}
-use Rattle.shown_stream.proofs.LostPieces.{is_there, there_at}
-use Rattle.shown_stream.proofs.LostSets.{all_come, some_come}
+use Rattle.shown_stream.proofs.CompiledPackets.{length-pieces_of}
 use Rattle.shown_stream.proofs.LostUnits.{come_whole}
-use Rattle.shown_stream.proofs.SentPlaces.{start_is}
 
 abbrev pub all_of : List Bool → Bool
 all_of come = list_all (λ b. b) come

@@ -238,8 +238,8 @@ module _ (coded page : ℕ) where
       → ((behind ≡ []) × Arrive Apart (timed_units sets) come []) ⊎ ((rest : List Stretch) × (behind ≡ loss_between ∷ rest)) → MissedOut Apart set sets come (sets_in coded true behind) → MissedOut (missed_from kind) set sets come (sets_in coded true (run first more ∷ behind))
   open_out kind set k p sets come first more behind is within placed (inl none) out =
       stays_open 0 k p none.1 (
-        ap (λ front. front ++ sets_in coded true behind) (handed_open set k p first more (is_followed true behind) is within placed)
-        ∙ ap (λ all. (if is_followed true all then delivered (part_of_set k p set) ∷ [] else []) ++ sets_in coded true all) none.0)
+      ap (λ front. front ++ sets_in coded true behind) (handed_open set k p first more (is_followed true behind) is within placed)
+      ∙ ap (λ all. (if is_followed true all then delivered (part_of_set k p set) ∷ [] else []) ++ sets_in coded true all) none.0)
   open_out kind set k p sets come first more behind is within placed (inr some) out =
       let same : sets_in coded true (run first more ∷ behind) ≡ sets_in coded true behind =
       ap (λ front. front ++ sets_in coded true behind) (handed_open set k p first more (is_followed true behind) is within placed)
@@ -274,13 +274,15 @@ module _ (coded page : ℕ) where
             where
               by_ends : (group : Group set units sets more (runs_of left)) → GroupEnds set units sets more group.found group.behind → Group set (one ∷ units) sets (true ∷ more) (joined_to (unit_of place set.time one) (runs_of left))
               by_ends group (group_all all placed bound) = record {
-                found = unit_of place set.time one ∷ group.found; behind = group.behind;
+                found = unit_of place set.time one ∷ group.found;
+                behind = group.behind;
                 are = ap (joined_to (unit_of place set.time one)) group.are ∙ joins place set.time one group.found units group.behind placed group.other;
                 other = group.other;
                 ends = group_all all ((place, refl), placed) bound;
               }
               by_ends group (group_part p within all placed led out) = record {
-                found = unit_of place set.time one ∷ group.found; behind = group.behind;
+                found = unit_of place set.time one ∷ group.found;
+                behind = group.behind;
                 are = ap (joined_to (unit_of place set.time one)) group.are ∙ joins place set.time one group.found (take p units) group.behind placed group.other;
                 other = group.other;
                 ends = group_part (suc p) (omega (arith, within)) all ((place, refl), placed) led out;
@@ -329,7 +331,9 @@ module _ (coded page : ℕ) where
 
           grouped : (arrivals : List Arrival) → Arrive Joined (timed set.time one ∷ (map (timed set.time) units ++ timed_units sets)) (false ∷ more) arrivals → Group set (one ∷ units) sets (false ∷ more) (runs_of arrivals)
           grouped arrivals arrive = record {
-            found = []; behind = runs_of arrivals; are = refl;
+            found = [];
+            behind = runs_of arrivals;
+            are = refl;
             other = led_is (led arrivals arrive);
             ends = group_part 0 (omega arith) refl tt (led arrivals arrive) (missed Joined arrivals arrive);
           }

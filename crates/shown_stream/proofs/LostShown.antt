@@ -1,7 +1,7 @@
 -- A receiver of a compiled stream of which some packets are lost shows at each good tick what the script authors, and its page memory
 -- holds the script behind each set that comes whole and whose epoch is known.
-use Rattle.std.proofs.Common.{◌≡◌, ◌∙◌, ℕ, suc, ◌+◌, ◌-◌, ◌<◌, ◌≤◌, inl, Bool, true, false, List, [], ◌∷◌, ◌++◌, length, map, take, drop, get_or, reverse, None, Some, refl, sym, ap, subst, arith, append-nil}
-use Rattle.std.specs.Prelude.{slice_get, slice_index}
+use Rattle.std.proofs.Common.{◌≡◌, ◌∙◌, ℕ, suc, ◌+◌, ◌-◌, ◌<◌, ◌≤◌, inl, Bool, true, false, List, [], ◌∷◌, length, take, drop, get_or, reverse, None, refl, sym, ap, subst, arith, append-nil}
+use Rattle.std.specs.Prelude.{slice_index}
 use Rattle.std.specs.List.{AllByRecursion, list_all, list_any}
 use Rattle.std.proofs.lemmas.List.Elements.{recursion_from_All}
 use Rattle.std.proofs.lemmas.Option.{slice_get_within}
@@ -14,7 +14,7 @@ use Rattle.stream_syntax.specs.TransportPackets.{packet_fault}
 use Rattle.stream_syntax.specs.Units.{last_counter, hand_after}
 use Rattle.cue_list.specs.declared.script.Script.{Script}
 use Rattle.page_epoch.specs.declared.planned_set.PlannedSet.{PlannedSet}
-use Rattle.schedule.specs.Packets.{first_packet, packets_of}
+use Rattle.schedule.specs.Packets.{packets_of}
 use Rattle.schedule.specs.Slots.{Timetable, start_of, slots_of}
 use Rattle.schedule.proofs.SumLaws.{sum_below-suc}
 use Rattle.decoder_model.specs.Arrivals.{Arrival}
@@ -34,16 +34,16 @@ use Rattle.shown_stream.specs.SlotStream.{Piece, all_pieces, IsPiece}
 use Rattle.shown_stream.proofs.ComingSets.{all_come}
 use Rattle.shown_stream.proofs.CompiledPackets.{packets_in, ArePackets, are_packets, as_many, count_pieces, count_before, count_of_set}
 use Rattle.shown_stream.proofs.CompiledShown.{new_receiver, no_time, low_origin}
-use Rattle.shown_stream.proofs.EnteredRuns.{turned, turned_is}
+use Rattle.shown_stream.proofs.EnteredRuns.{turned_is}
 use Rattle.shown_stream.proofs.HeldSets.{holds_none}
-use Rattle.shown_stream.proofs.LaidPackets.{laid, IsAhead}
+use Rattle.shown_stream.proofs.LaidPackets.{IsAhead}
 use Rattle.shown_stream.proofs.LatePlaces.{count_sets}
 use Rattle.shown_stream.proofs.LateStream.{no_counter}
 use Rattle.shown_stream.proofs.LostCompiled.{all_there, some_there, there-take, there-drop, length-there, suits_received, good_from, received_sound, sets_by_flow}
 use Rattle.shown_stream.proofs.LostCuts.{near_from}
 use Rattle.shown_stream.proofs.LostFits.{flags_at, AreTold, are_fit}
-use Rattle.shown_stream.proofs.LostPieces.{there_at, flow, Walk, walked}
-use Rattle.shown_stream.proofs.LostUnits.{Fresh, AreNear, Arrive, Walking, come_whole, units_arrive}
+use Rattle.shown_stream.proofs.LostPieces.{there_at, flow, walked}
+use Rattle.shown_stream.proofs.LostUnits.{Fresh, Arrive, Walking, come_whole, units_arrive}
 use Rattle.shown_stream.proofs.LostViews.{AreFit, Ends, GoodFrom, good_ends}
 use Rattle.shown_stream.proofs.LostWalk.{Before}
 use Rattle.shown_stream.proofs.OneView.{same_past}
