@@ -94,7 +94,7 @@ latest_still colours clut before tick entry rise between none =
     same place other side = by (nat_le (row_at colours place).tick tick) (nat_le (row_at colours place).tick before) refl refl
       where
         late : (row_at colours place).tick ≤ tick → before < (row_at colours place).tick → ⊥
-        late low high = elim (side low) [ | inl at ↦ other at | inr early ↦ absurd (omega arith) ]
+        late low high = elim (side low) [ inl at ↦ other at | inr early ↦ absurd (omega arith) ]
 
         by : (a b : Bool) → nat_le (row_at colours place).tick tick ≡ a → nat_le (row_at colours place).tick before ≡ b → a ≡ b
         by true true ea eb = refl
@@ -126,7 +126,7 @@ given_upon colours whole clut before tick entry rise between = by whole (latest_
         latest (Some top) is other place listed at =
             (let high = all_at (λ place. (row_at colours place).tick ≤ (row_at colours top).tick) (by_tick colours tick (rows_of_entry colours clut entry)) place (latest_greatest colours (by_tick colours tick (rows_of_entry colours clut entry)) top is) listed in
             let low : (row_at colours top).tick ≤ tick = latest_kept colours (λ place. (row_at colours place).tick ≤ tick) (by_tick colours tick (rows_of_entry colours clut entry)) top
-                (λ k d within. (let short : nat_le (row_at colours (get_or (by_tick colours tick (rows_of_entry colours clut entry)) k d)).tick tick ≡ true = kept_pass (λ place. nat_le (row_at colours place).tick tick) (rows_of_entry colours clut entry) k d within in grind (arith, nat_tests))) is in
+            (λ k d within. (let short : nat_le (row_at colours (get_or (by_tick colours tick (rows_of_entry colours clut entry)) k d)).tick tick ≡ true = kept_pass (λ place. nat_le (row_at colours place).tick tick) (rows_of_entry colours clut entry) k d within in grind (arith, nat_tests))) is in
             other top refl (omega (arith, high, low, at)))
 
     stays : (found : Option ℕ) → latest_of colours clut entry tick ≡ found → ((place : ℕ) → found ≡ Some place → (row_at colours place).tick ≢ tick) → latest_of colours clut entry before ≡ found

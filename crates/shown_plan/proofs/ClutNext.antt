@@ -151,7 +151,7 @@ pub taken_clut : (epoch : Epoch) (sent : SentClut) (own : List SentClut) (taken 
     ≡ option_or (last_given (colour_by_entry depth number) (map (clut_entry_of epoch) sent.rows)) (first_given (colour_by_segment sent.clut depth number) taken))
 taken_clut epoch sent own taken now view one = (
   found (clut_named sent.clut) view.aside_above
-  ∙ ap (λ found. option_or found (last_clut sent.clut (view.below ++ taken))) (itself epoch sent),
+      ∙ ap (λ found. option_or found (last_clut sent.clut (view.below ++ taken))) (itself epoch sent),
   λ depth number.
       found (colour_by_segment sent.clut depth number) (each depth number view.above view.aside_above)
       ∙ ap (λ named. option_or (option_and_then (colour_by_clut depth number) named) (first_given (colour_by_segment sent.clut depth number) (view.below ++ taken))) (itself epoch sent)

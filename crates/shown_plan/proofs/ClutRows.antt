@@ -70,10 +70,11 @@ row_changes colours clut tick place there at =
 -- and a CLUT that changes at a tick has a row there
 pub changed_row : (colours : List ColourRow) (clut tick : ℕ) → is_changed colours clut tick ≡ true → (place : ℕ) × Contains (rows_of_clut colours clut) place × ((row_at colours place).tick ≡ tick)
 changed_row colours clut tick changed =
-    let at = any_place (λ (row : ColourRow). (row.clut == clut) && (row.tick == tick)) colours no_row changed in
-    (at.0,
-    kept_one (λ place. (row_at colours place).clut == clut) (places_below (length colours)) at.0 (place_there (length colours) at.0 at.1) (first_of ((row_at colours at.0).clut == clut) ((row_at colours at.0).tick == tick) at.2),
-    second_of at.0 ((row_at colours at.0).clut == clut) at.2)
+    let at = any_place (λ (row : ColourRow). (row.clut == clut) && (row.tick == tick)) colours no_row changed in (
+      at.0,
+      kept_one (λ place. (row_at colours place).clut == clut) (places_below (length colours)) at.0 (place_there (length colours) at.0 at.1) (first_of ((row_at colours at.0).clut == clut) ((row_at colours at.0).tick == tick) at.2),
+      second_of at.0 ((row_at colours at.0).clut == clut) at.2,
+    )
   where
     first_of : (a b : Bool) → (a && b) ≡ true → a ≡ true
     first_of true b e = refl
@@ -95,7 +96,7 @@ defined_own colours clut tick =
     of_entry entry = latest_in (IsOwnBy colours clut tick) colours (by_tick colours tick (rows_of_entry colours clut entry))
         (λ k d within. (
           All-filter (λ place. nat_le (row_at colours place).tick tick) (Contains (rows_of_clut colours clut)) (rows_of_entry colours clut entry)
-          (All-filter (λ place. is_of_entry entry (row_at colours place)) (Contains (rows_of_clut colours clut)) (rows_of_clut colours clut) (All-contains_itself (rows_of_clut colours clut))) k d within,
+              (All-filter (λ place. is_of_entry entry (row_at colours place)) (Contains (rows_of_clut colours clut)) (rows_of_clut colours clut) (All-contains_itself (rows_of_clut colours clut))) k d within,
           (let low = kept_pass (λ place. nat_le (row_at colours place).tick tick) (rows_of_entry colours clut entry) k d within in grind (arith, nat_tests)),
         ))
 
@@ -111,12 +112,13 @@ row_defined colours clut tick earlier place rows there by_then =
     let listed = kept_one (λ place. nat_le (row_at colours place).tick tick) (rows_of_entry colours clut entry) place (kept_one (λ place. is_of_entry entry (row_at colours place)) (rows_of_clut colours clut) place there mine) low in
     let latest = found_latest (by_tick colours tick (rows_of_entry colours clut entry)) place listed in
     let known = all_at (λ place. (row_at colours place).entry < code_count (row_at colours place).depth) (rows_of_clut colours clut) place rows.entries there in
-    let at = any_place (is_entry entry) all_entries entry (is_an_entry row.depth row.entry known) in
-    (latest.0,
-    piece_there (λ (other : Entry). row_by colours tick (rows_of_entry colours clut other)) all_entries (get_or all_entries at.0 entry) latest.0 (All-contains_itself all_entries at.0 entry at.1)
-    (subst (λ (places : List ℕ). Contains (row_by colours tick places) latest.0) (sym (same_rows entry (get_or all_entries at.0 entry) at.2)) (subst (λ (found : Option ℕ). Contains (option_to_list found) latest.0) (sym latest.1) (0, omega arith, refl))),
-    all_at (λ place. (row_at colours place).tick ≤ (row_at colours latest.0).tick) (by_tick colours tick (rows_of_entry colours clut entry)) place (latest_greatest colours (by_tick colours tick (rows_of_entry colours clut entry)) latest.0 latest.1) listed,
-    latest_is_own colours clut tick entry latest.0 latest.1)
+    let at = any_place (is_entry entry) all_entries entry (is_an_entry row.depth row.entry known) in (
+      latest.0,
+      piece_there (λ (other : Entry). row_by colours tick (rows_of_entry colours clut other)) all_entries (get_or all_entries at.0 entry) latest.0 (All-contains_itself all_entries at.0 entry at.1)
+          (subst (λ (places : List ℕ). Contains (row_by colours tick places) latest.0) (sym (same_rows entry (get_or all_entries at.0 entry) at.2)) (subst (λ (found : Option ℕ). Contains (option_to_list found) latest.0) (sym latest.1) (0, omega arith, refl))),
+      all_at (λ place. (row_at colours place).tick ≤ (row_at colours latest.0).tick) (by_tick colours tick (rows_of_entry colours clut entry)) place (latest_greatest colours (by_tick colours tick (rows_of_entry colours clut entry)) latest.0 latest.1) listed,
+      latest_is_own colours clut tick entry latest.0 latest.1,
+    )
   where
     found_latest : (places : List ℕ) (place : ℕ) → Contains places place → (found : ℕ) × (latest_place colours places ≡ Some found)
     found_latest [] place there = absurd (omega (arith, there.1))

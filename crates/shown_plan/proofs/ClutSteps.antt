@@ -56,7 +56,7 @@ clut_first epoch id tick earlier now rows view = by (defined_rows epoch.colours 
         (let sent : SentClut = record { clut = id; version = planned_version epoch.colours id (tick ∷ earlier); rows = place ∷ places } in
         let one : clut_with id (planned_version epoch.colours id (tick ∷ earlier)) (defined_rows epoch.colours id tick) ≡ sent ∷ [] = ap (clut_with id (planned_version epoch.colours id (tick ∷ earlier))) is in
         let known = taken_clut epoch sent (clut_with id (planned_version epoch.colours id (tick ∷ earlier)) (defined_rows epoch.colours id tick)) [] now view
-            (ap (λ (own : List SentClut). filter (keeps []) (map (clut_content epoch) (reverse own))) one ∙ own_kept epoch [] sent true refl) in
+        (ap (λ (own : List SentClut). filter (keeps []) (map (clut_content epoch) (reverse own))) one ∙ own_kept epoch [] sent true refl) in
         record {
           version = ap clut_version known.0 ∙ sym (defined_known epoch.colours id tick place earlier rows (subst (λ (all : List ℕ). Contains all place) (sym is) (0, omega arith, refl)));
           inks = λ depth number small.
@@ -116,8 +116,8 @@ clut_next epoch whole id tick before more taken now rise between rows view kept 
         (let sent : SentClut = record { clut = id; version = version; rows = place ∷ places } in
         let course : clut_course epoch.colours (tick ∷ before ∷ more) id ≡ Some version = version_known epoch.colours id tick (tick ∷ before ∷ more) (0, omega arith, refl) changed in
         let new : has_new_version version (clut_version (last_clut id taken)) ≡ true =
-            ap (has_new_version version) kept.version
-            ∙ next_is_new (clut_course epoch.colours (before ∷ more) id) version (λ last known. course_small epoch.colours id last (before ∷ more) known) (sym course ∙ course_on true changed) in
+        ap (has_new_version version) kept.version
+        ∙ next_is_new (clut_course epoch.colours (before ∷ more) id) version (λ last known. course_small epoch.colours id last (before ∷ more) known) (sym course ∙ course_on true changed) in
         let known = taken_clut epoch sent own taken now view (ap (λ (places : List ℕ). filter (keeps taken) (map (clut_content epoch) (reverse (clut_with id version places)))) is ∙ own_kept epoch taken sent true new) in
         record {
           version = ap clut_version known.0 ∙ sym course;

@@ -82,9 +82,10 @@ code_small width height pictures epoch region tick x y fair there = by (find (λ
   where
     own : All (λ (cue : Cue). (cue.region ≡ region.id) × IsFairCue pictures epoch cue) (live_cues epoch.cues region.id tick)
     own k d within =
-        (let mine : ((get_or (live_cues epoch.cues region.id tick) k d).region == region.id) && is_live tick (get_or (live_cues epoch.cues region.id tick) k d) ≡ true = kept_pass (λ (cue : Cue). (cue.region == region.id) && is_live tick cue) epoch.cues k d within in
-        (first_of ((get_or (live_cues epoch.cues region.id tick) k d).region == region.id) (is_live tick (get_or (live_cues epoch.cues region.id tick) k d)) (get_or (live_cues epoch.cues region.id tick) k d).region refl mine,
-        All-filter (λ (cue : Cue). (cue.region == region.id) && is_live tick cue) (IsFairCue pictures epoch) epoch.cues fair.cues k d within))
+        (let mine : ((get_or (live_cues epoch.cues region.id tick) k d).region == region.id) && is_live tick (get_or (live_cues epoch.cues region.id tick) k d) ≡ true = kept_pass (λ (cue : Cue). (cue.region == region.id) && is_live tick cue) epoch.cues k d within in (
+          first_of ((get_or (live_cues epoch.cues region.id tick) k d).region == region.id) (is_live tick (get_or (live_cues epoch.cues region.id tick) k d)) (get_or (live_cues epoch.cues region.id tick) k d).region refl mine,
+          All-filter (λ (cue : Cue). (cue.region == region.id) && is_live tick cue) (IsFairCue pictures epoch) epoch.cues fair.cues k d within,
+        ))
       where
         first_of : (a b : Bool) (n : ℕ) → (n == region.id) ≡ a → (a && b) ≡ true → n ≡ region.id
         first_of true b n e both = grind (arith, nat_tests)
@@ -107,7 +108,7 @@ code_small width height pictures epoch region tick x y fair there = by (find (λ
     by (Some cue) e =
         (let at = found_cue (λ cue. shows pictures cue x y) (reverse (live_cues epoch.cues region.id tick)) cue e in
         let mine = all_at (λ (cue : Cue). (cue.region ≡ region.id) × IsFairCue pictures epoch cue) (reverse (live_cues epoch.cues region.id tick)) cue
-            (reversed_all (λ (cue : Cue). (cue.region ≡ region.id) × IsFairCue pictures epoch cue) (live_cues epoch.cues region.id tick) own) at.0 in
+        (reversed_all (λ (cue : Cue). (cue.region ≡ region.id) × IsFairCue pictures epoch cue) (live_cues epoch.cues region.id tick) own) at.0 in
         let place = inside cue (covered (covers pictures cue x y) (not (cue.see_through && (code_of pictures cue x y == 1))) at.1) in
         let itself : region_of epoch cue.region ≡ region = ap (region_of epoch) mine.0 ∙ authored_itself epoch region fair.apart there in
         let shallow : bits_of (picture_at_place pictures cue.picture).depth ≤ bits_of region.depth = subst (λ (r : Region). bits_of (picture_at_place pictures cue.picture).depth ≤ bits_of r.depth) itself mine.1.fits.shallow in
@@ -246,10 +247,13 @@ entry_gives : (script : Script) (epoch : Epoch) (tick : ℕ) (earlier : List ℕ
 entry_gives script epoch tick earlier segments shown id x y fair kept are has listed =
     let own = own_region epoch.regions id has in
     let itself : region_of epoch id ≡ own.0 = ap (region_of epoch) (sym own.2) ∙ authored_itself epoch own.0 fair.apart own.1 in
-    let some : has_some (live_places epoch.cues own.0.id tick) ≡ true = ap (λ (n : ℕ). has_some (live_places epoch.cues n tick)) own.2 ∙ shown_live epoch tick shown id are listed in
-    (own.0, own.1, own.2,
-    (λ i. colour_through (taken_of segments) (0 + (itself i).x) (0 + (itself i).y) x y (last_region (sym own.2 i) (taken_among segments)))
-    ∙ region_gives script epoch tick earlier segments own.0 x y fair kept own.1 some)
+    let some : has_some (live_places epoch.cues own.0.id tick) ≡ true = ap (λ (n : ℕ). has_some (live_places epoch.cues n tick)) own.2 ∙ shown_live epoch tick shown id are listed in (
+      own.0,
+      own.1,
+      own.2,
+      (λ i. colour_through (taken_of segments) (0 + (itself i).x) (0 + (itself i).y) x y (last_region (sym own.2 i) (taken_among segments)))
+          ∙ region_gives script epoch tick earlier segments own.0 x y fair kept own.1 some,
+    )
 
 -- a region with live cues is shown
 live_shown : (epoch : Epoch) (tick : ℕ) (shown : List ℕ) (region : Region) → AreShown epoch.cues epoch.regions tick shown → Contains epoch.regions region → has_some (live_places epoch.cues region.id tick) ≡ true → Contains shown region.id
@@ -281,7 +285,7 @@ entries_give script epoch tick earlier segments shown x y fair kept are has = by
     by : (found : Option Region) → find (lies_in x y) epoch.regions ≡ found → unwrap_or (last_given gives shown) clear ≡ authored_in script.pictures epoch tick x y (find (lies_in x y) epoch.regions)
     by None e =
         (let nothing = none_given shown (λ k d within. (let entry = by_entry (get_or shown k d) (All-contains_itself shown k d within) in
-            entry.3 ∙ ap (λ b. cond b (Some (colour_of_region script.pictures epoch tick x y entry.0)) None) (all_at (λ region. lies_in x y region ≡ false) epoch.regions entry.0 (no_region_at x y epoch.regions e) entry.1))) in
+        entry.3 ∙ ap (λ b. cond b (Some (colour_of_region script.pictures epoch tick x y entry.0)) None) (all_at (λ region. lies_in x y region ≡ false) epoch.regions entry.0 (no_region_at x y epoch.regions e) entry.1))) in
         ap (λ found. unwrap_or found clear) nothing ∙ sym (ap (authored_in script.pictures epoch tick x y) e))
     by (Some region) e = at_region (has_some (live_places epoch.cues region.id tick)) refl
       where
@@ -315,7 +319,7 @@ entries_give script epoch tick earlier segments shown x y fair kept are has = by
             ∙ sym (ap (authored_in script.pictures epoch tick x y) e))
         at_region false none =
             (let absent : list_any (λ id. id == region.id) shown ≡ false = list_any_none (λ id. id == region.id) shown
-                (λ k d within. not_listed (get_or shown k d) (All-contains_itself shown k d within) (get_or shown k d == region.id) refl) in
+            (λ k d within. not_listed (get_or shown k d) (All-contains_itself shown k d within) (get_or shown k d == region.id) refl) in
             ap (λ found. unwrap_or found clear) (found_last ∙ ap (λ b. cond b (Some (colour_of_region script.pictures epoch tick x y region)) None) absent)
             ∙ dead (live_cues epoch.cues region.id tick) (live_is false none (live_places epoch.cues region.id tick) refl)
             ∙ sym (ap (authored_in script.pictures epoch tick x y) e))

@@ -117,14 +117,19 @@ pub record AreHiddenOtherwise (first second : List (List Content)) (set : List C
 -- so two receivers that know one epoch may differ in a region that the page does not list
 pub hidden_regions_differ : (first : List (List Content)) × (second : List (List Content)) × (set : List Content) × AreHiddenOtherwise first second set 1 0 0
 unfolding epoch_of hiding_set showing_set small_region plain segments_of taken_among
-hidden_regions_differ = (showing_set ∷ [], [], hiding_set, record {
-  knows_first = refl;
-  knows_second = refl;
-  page = record { time_out = 10; version = 1; state = Acquisition; entries = [] };
-  is_page = refl;
-  hidden = refl;
-  version = 0;
-  version_first = refl;
-  version_second = refl;
-  differ = λ e. (let no : 2 ≡ 0 = sym keeps_hidden ∙ e ∙ enters_hidden in absurd (omega (arith, no)));
-})
+hidden_regions_differ = (
+  showing_set ∷ [],
+  [],
+  hiding_set,
+  record {
+    knows_first = refl;
+    knows_second = refl;
+    page = record { time_out = 10; version = 1; state = Acquisition; entries = [] };
+    is_page = refl;
+    hidden = refl;
+    version = 0;
+    version_first = refl;
+    version_second = refl;
+    differ = λ e. (let no : 2 ≡ 0 = sym keeps_hidden ∙ e ∙ enters_hidden in absurd (omega (arith, no)));
+  },
+)

@@ -150,7 +150,7 @@ comes_soon script profile sets front back set tick is_fair plan last some = by s
     from_last : (cue : Cue) → Contains epoch.cues cue → is_live set.pts cue ≡ true → (before next count : ℕ) → AreNeighbours named before next → set.pts ≡ before + count * script.refresh → set.pts < next → (tick < set.pts + script.refresh + REFRESH_ROOM + 1) ⊎ (set.pts + script.refresh + REFRESH_ROOM < tick) → tick < set.pts + script.refresh + REFRESH_ROOM + 1
     from_last cue there live before next count neighbours at next_later (inl soon) = soon
     from_last cue there live before next count neighbours at next_later (inr late) =
-        (let beyond : tick < next = elim (all_at (λ time. (time ≤ set.pts) ⊎ (tick < time)) named next still neighbours.has_second) [ | inl low ↦ absurd (omega (arith, low, next_later)) | inr high ↦ high ] in
+        (let beyond : tick < next = elim (all_at (λ time. (time ≤ set.pts) ⊎ (tick < time)) named next still neighbours.has_second) [ inl low ↦ absurd (omega (arith, low, next_later)) | inr high ↦ high ] in
         let started : cue.start ≤ before = elim (all_at (λ time. (time ≤ before) ⊎ (next ≤ time)) named cue.start neighbours.between (piece_there ticks_of script.epochs epoch cue.start epoch_there (cue_start epoch cue there))) [
           | inl low ↦ low
           | inr high ↦ absurd (let low : cue.start ≤ set.pts = grind (arith, nat_tests) in omega (arith, low, high, next_later))

@@ -155,14 +155,14 @@ objects_paint pictures epoch id x y places (place ∷ cues) (o ∷ objects) take
     by true e again =
         let there = All-head (λ place. is_own epoch id place ≡ true → Contains places place) place cues own e in
         let listings : painted_listings (record { segments = taken }) id value ≡ listing_of epoch place ∷ [] =
-            fresh_listings taken id value last known (All-head (IsFresh epoch id taken) place cues fresh e) ∙ listed.once place there in
+        fresh_listings taken id value last known (All-head (IsFresh epoch id taken) place cues fresh e) ∙ listed.once place there in
         let mine : (cue_at epoch.cues place).region ≡ id = grind (arith, nat_tests) in
         let region_depth : depth_of (last_region id taken) ≡ depth_of_cue epoch place =
-            ap depth_of known ∙ depth ∙ ap (λ (of_id : ℕ). (region_of epoch of_id).depth) (sym mine) in
+        ap depth_of known ∙ depth ∙ ap (λ (of_id : ℕ). (region_of epoch of_id).depth) (sym mine) in
         let wrote_cue : code_by_listings (depth_of (last_region id taken)) value.see_through o.top o.bottom x y (painted_listings (record { segments = taken }) id value) ≡ code_by_cue pictures epoch x y place =
-            ap (code_by_listings (depth_of (last_region id taken)) value.see_through o.top o.bottom x y) listings
-            ∙ ap (λ of_depth. code_by_listing of_depth value.see_through o.top o.bottom x y (listing_of epoch place)) region_depth
-            ∙ cue_paints pictures epoch place x y o (All-head (λ place. IsPicture (picture_of_cue pictures epoch place)) place cues are) drawn.0 in
+        ap (code_by_listings (depth_of (last_region id taken)) value.see_through o.top o.bottom x y) listings
+        ∙ ap (λ of_depth. code_by_listing of_depth value.see_through o.top o.bottom x y (listing_of epoch place)) region_depth
+        ∙ cue_paints pictures epoch place x y o (All-head (λ place. IsPicture (picture_of_cue pictures epoch place)) place cues are) drawn.0 in
         joined ∙ again
         ∙ ap (option_or (last_given (code_by_cue pictures epoch x y) (filter (is_own epoch id) cues))) (wrote ∙ ap (λ code. option_or code (last_code taken id x y)) wrote_cue)
         ∙ sym (option_or-assoc (last_given (code_by_cue pictures epoch x y) (filter (is_own epoch id) cues)) (code_by_cue pictures epoch x y place) (last_code taken id x y))

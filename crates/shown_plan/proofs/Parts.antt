@@ -117,9 +117,9 @@ pub region_part : (cues : List Cue) (regions : List Region) (whole : Bool) (seen
     → Contains regions region → HasPart (λ (sent : SentRegion). sent.id) region.id (sent_region cues whole seen region.id) sent
 region_part cues regions whole seen sent region apart are there =
     let once : count_by (λ (other : Region). other.id == region.id) regions ≤ 1 =
-        once_counted (λ (other : Region). other.id == region.id) regions (λ i j d before within a b. (let differ = apart i j d before within in absurd (grind (arith, nat_tests)))) in
+    once_counted (λ (other : Region). other.id == region.id) regions (λ i j d before within a b. (let differ = apart i j d before within in absurd (grind (arith, nat_tests)))) in
     let moved : count_by (λ (other : Region). other.id == region.id) are.by_id ≤ 1 =
-        omega (arith, once, sum_by-IsPermutation (λ (other : Region). cond {A = ℕ} (other.id == region.id) 1 0) regions are.by_id are.ordered.same) in
+    omega (arith, once, sum_by-IsPermutation (λ (other : Region). cond {A = ℕ} (other.id == region.id) 1 0) regions are.by_id are.ordered.same) in
     let itself : (region.id == region.id) ≡ true = grind (arith, nat_tests) in
     let place = parted (λ (other : Region). other.id == region.id) region are.by_id moved itself (Contains-permutation regions are.by_id region are.ordered.same there) in
     let part = part_of (λ (sent : SentRegion). sent.id) (λ (region : Region). region.id) (λ (region : Region). sent_region cues whole seen region.id) region are.by_id (λ (region : Region). sent_own cues whole seen region.id) place in

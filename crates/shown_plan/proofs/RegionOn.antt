@@ -67,9 +67,10 @@ had_from id number taken zeros there = by (first_given (object_named number) sin
     by : (found : Option Object) → first_given (object_named number) since ≡ found → IsSome found → HasHad id taken number
     by None e some = absurd (let no : false ≡ true = some in cc)
     by (Some had) e some = (
-      had, e,
+      had,
+      e,
       given_all (object_named number) (λ (o : Object). o.version ≡ 0) since had
-      (λ k d within o is. All-take HasVersionZero _ taken zeros k d within o (named_object number (get_or since k d) o is)) e,
+          (λ k d within o is. All-take HasVersionZero _ taken zeros k d within o (named_object number (get_or since k d) o is)) e,
     )
 
 -- an object of version 0 changes nothing in a region whose listings have all had theirs

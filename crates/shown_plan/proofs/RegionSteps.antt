@@ -68,7 +68,7 @@ object_there pictures epoch [] objects place drawn there = absurd (omega (arith,
 object_there pictures epoch (first ∷ cues) [] place drawn there = absurd drawn
 object_there pictures epoch (first ∷ cues) (o ∷ objects) place drawn (zero, within, is) =
     let named : object_named first o ≡ Some (record { object = first; version = 0; see_through = (cue_at epoch.cues first).see_through; top = drawn.0.top_bytes; bottom = drawn.0.bottom_bytes })
-        = object_itself o (record { object = first; version = 0; see_through = (cue_at epoch.cues first).see_through; top = drawn.0.top_bytes; bottom = drawn.0.bottom_bytes }) drawn.0.value_is in
+    = object_itself o (record { object = first; version = 0; see_through = (cue_at epoch.cues first).see_through; top = drawn.0.top_bytes; bottom = drawn.0.bottom_bytes }) drawn.0.value_is in
     let last : IsSome (object_named place o) = subst (λ (at : ℕ). IsSome (object_named at o)) is (ap is_some named) in
     subst IsSome (sym (ap (first_given (object_named place)) (reverse-append (o ∷ []) objects) ∙ first_given-append (object_named place) (reverse objects) (o ∷ [])))
     (some_or_second (first_given (object_named place) (reverse objects)) (first_given (object_named place) (o ∷ [])) (some_or_first (object_named place o) None last))

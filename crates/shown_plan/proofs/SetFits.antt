@@ -42,10 +42,11 @@ last_sent epoch tick id segments last sent is =
 -- the segments before one of a set, and the older ones, are sent where all are
 pub before_sent : (epoch : Epoch) (tick : ℕ) (older front back : List Content) (content : Content) (set : List Content) → in_order set ≡ front ++ content ∷ back → All (IsSent epoch tick) (reverse (in_order set) ++ older)
     → All (IsSent epoch tick) (reverse front ++ older) × IsSent epoch tick content
-before_sent epoch tick older front back content set parts sent =
-    ((λ k d within. all_at (IsSent epoch tick) (reverse back ++ (content ∷ (reverse front ++ older))) (get_or (reverse front ++ older) k d) turned
-    (Contains-append_right (reverse back) (content ∷ (reverse front ++ older)) (get_or (reverse front ++ older) k d) (Contains-append_right (content ∷ []) (reverse front ++ older) (get_or (reverse front ++ older) k d) (All-contains_itself (reverse front ++ older) k d within)))),
-    all_at (IsSent epoch tick) (reverse back ++ (content ∷ (reverse front ++ older))) content turned (Contains-append_right (reverse back) (content ∷ (reverse front ++ older)) content (0, omega arith, refl)))
+before_sent epoch tick older front back content set parts sent = (
+  (λ k d within. all_at (IsSent epoch tick) (reverse back ++ (content ∷ (reverse front ++ older))) (get_or (reverse front ++ older) k d) turned
+      (Contains-append_right (reverse back) (content ∷ (reverse front ++ older)) (get_or (reverse front ++ older) k d) (Contains-append_right (content ∷ []) (reverse front ++ older) (get_or (reverse front ++ older) k d) (All-contains_itself (reverse front ++ older) k d within)))),
+  all_at (IsSent epoch tick) (reverse back ++ (content ∷ (reverse front ++ older))) content turned (Contains-append_right (reverse back) (content ∷ (reverse front ++ older)) content (0, omega arith, refl)),
+)
   where
     turned : All (IsSent epoch tick) (reverse back ++ (content ∷ (reverse front ++ older)))
     turned = subst (All (IsSent epoch tick))

@@ -48,10 +48,12 @@ pub listings_within : (pictures : List Picture) (epoch : Epoch) (tick : ℕ) (ea
     → listings_held (record { segments = taken }) ≤ sum_by (λ (region : AuthoredRegion). held epoch.cues region.id (tick ∷ earlier)) epoch.regions
 unfolding held_by_id
 listings_within pictures epoch tick earlier taken are kept =
-    omega (arith,
-    sum_below (λ id. listing_count (last_region id taken)) (held_by_id epoch (tick ∷ earlier)) (region_ids (record { segments = taken })) (λ k d within. few (get_or (region_ids (record { segments = taken })) k d) (are.known k d within)),
-    ids_within epoch taken (held_by_id epoch (tick ∷ earlier)) are,
-    sum_mapped (held_by_id epoch (tick ∷ earlier)) (λ (region : AuthoredRegion). region.id) epoch.regions)
+    omega (
+      arith,
+      sum_below (λ id. listing_count (last_region id taken)) (held_by_id epoch (tick ∷ earlier)) (region_ids (record { segments = taken })) (λ k d within. few (get_or (region_ids (record { segments = taken })) k d) (are.known k d within)),
+      ids_within epoch taken (held_by_id epoch (tick ∷ earlier)) are,
+      sum_mapped (held_by_id epoch (tick ∷ earlier)) (λ (region : AuthoredRegion). region.id) epoch.regions,
+    )
   where
     few : (id : ℕ) → IsKnownId epoch taken id → listing_count (last_region id taken) ≤ held_by_id epoch (tick ∷ earlier) id
     few id known =
@@ -134,10 +136,15 @@ pub cluts_within : (epoch : Epoch) (tick : ℕ) (earlier : List ℕ) (taken : Li
     → ((clut : ℕ) → KeepsClut epoch.colours tick earlier taken clut) → length (clut_ids (record { segments = taken })) ≤ length (sent_cluts epoch.colours true (tick ∷ earlier))
 unfolding clut_ids
 cluts_within epoch tick earlier taken small rows kept =
-    omega (arith, sum_ones (different is_same (map clut_id (filter_map clut_of taken))), sum_ones (map (λ (sent : SentClut). sent.clut) (sent_cluts epoch.colours true (tick ∷ earlier))), length-map (sent_cluts epoch.colours true (tick ∷ earlier)) (λ (sent : SentClut). sent.clut),
-    sum_within (λ (id : ℕ). 1) (different is_same (map clut_id (filter_map clut_of taken))) (map (λ (sent : SentClut). sent.clut) (sent_cluts epoch.colours true (tick ∷ earlier)))
-    (different_pairs is_same (map clut_id (filter_map clut_of taken)) (λ (id : ℕ). (let same : (id == id) ≡ true = grind (arith, nat_tests) in same)))
-    (different_all is_same (IsDefinedClut epoch tick earlier) (map clut_id (filter_map clut_of taken)) (each_defined epoch tick earlier taken taken small rows kept (All-contains_itself taken))))
+    omega (
+      arith,
+      sum_ones (different is_same (map clut_id (filter_map clut_of taken))),
+      sum_ones (map (λ (sent : SentClut). sent.clut) (sent_cluts epoch.colours true (tick ∷ earlier))),
+      length-map (sent_cluts epoch.colours true (tick ∷ earlier)) (λ (sent : SentClut). sent.clut),
+      sum_within (λ (id : ℕ). 1) (different is_same (map clut_id (filter_map clut_of taken))) (map (λ (sent : SentClut). sent.clut) (sent_cluts epoch.colours true (tick ∷ earlier)))
+          (different_pairs is_same (map clut_id (filter_map clut_of taken)) (λ (id : ℕ). (let same : (id == id) ≡ true = grind (arith, nat_tests) in same)))
+          (different_all is_same (IsDefinedClut epoch tick earlier) (map clut_id (filter_map clut_of taken)) (each_defined epoch tick earlier taken taken small rows kept (All-contains_itself taken))),
+    )
 
 -- ---- entries of tables
 
@@ -152,8 +159,13 @@ defined_entries epoch seen = flat_map (λ (sent : SentClut). map (entry_by_row e
 count_defined : (epoch : Epoch) (cluts : List SentClut) → length (flat_map (λ (sent : SentClut). map (entry_by_row epoch sent.clut) sent.rows) cluts) ≡ sum_by (λ (sent : SentClut). length sent.rows) cluts
 count_defined epoch [] = refl
 count_defined epoch (sent ∷ cluts) =
-    omega (arith, length-append (map (entry_by_row epoch sent.clut) sent.rows) (flat_map (λ (sent : SentClut). map (entry_by_row epoch sent.clut) sent.rows) cluts), length-map sent.rows (entry_by_row epoch sent.clut),
-    sum_by-cons (λ (sent : SentClut). length sent.rows) sent cluts, count_defined epoch cluts)
+    omega (
+      arith,
+      length-append (map (entry_by_row epoch sent.clut) sent.rows) (flat_map (λ (sent : SentClut). map (entry_by_row epoch sent.clut) sent.rows) cluts),
+      length-map sent.rows (entry_by_row epoch sent.clut),
+      sum_by-cons (λ (sent : SentClut). length sent.rows) sent cluts,
+      count_defined epoch cluts,
+    )
 
 same_bits : (a b : Depth) → bits_of a ≡ bits_of b → a ≡ b
 same_bits Two Two e = refl
@@ -237,10 +249,15 @@ pub entries_within : (epoch : Epoch) (tick : ℕ) (earlier : List ℕ) (taken : 
     → length (table_entries (record { segments = taken })) ≤ sum_by (λ (sent : SentClut). length sent.rows) (sent_cluts epoch.colours true (tick ∷ earlier))
 unfolding table_entries
 entries_within epoch tick earlier taken small rows sent =
-    omega (arith, sum_ones (different is_same_entry (flat_map entries_of_clut (filter_map clut_of taken))), sum_ones (defined_entries epoch (tick ∷ earlier)), count_defined epoch (sent_cluts epoch.colours true (tick ∷ earlier)),
-    sum_within (λ (entry : TableEntry). 1) (different is_same_entry (flat_map entries_of_clut (filter_map clut_of taken))) (defined_entries epoch (tick ∷ earlier))
-    (different_pairs is_same_entry (flat_map entries_of_clut (filter_map clut_of taken)) (λ entry. itself entry))
-    (different_all is_same_entry (Contains (defined_entries epoch (tick ∷ earlier))) (flat_map entries_of_clut (filter_map clut_of taken)) (all_entries_defined epoch tick earlier taken small rows sent)))
+    omega (
+      arith,
+      sum_ones (different is_same_entry (flat_map entries_of_clut (filter_map clut_of taken))),
+      sum_ones (defined_entries epoch (tick ∷ earlier)),
+      count_defined epoch (sent_cluts epoch.colours true (tick ∷ earlier)),
+      sum_within (λ (entry : TableEntry). 1) (different is_same_entry (flat_map entries_of_clut (filter_map clut_of taken))) (defined_entries epoch (tick ∷ earlier))
+          (different_pairs is_same_entry (flat_map entries_of_clut (filter_map clut_of taken)) (λ entry. itself entry))
+          (different_all is_same_entry (Contains (defined_entries epoch (tick ∷ earlier))) (flat_map entries_of_clut (filter_map clut_of taken)) (all_entries_defined epoch tick earlier taken small rows sent)),
+    )
   where
     itself : (entry : TableEntry) → is_same_entry entry entry ≡ true
     itself entry =

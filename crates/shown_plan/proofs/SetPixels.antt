@@ -148,12 +148,17 @@ pixels_within epoch taken apart are = omega (arith, used_by_id epoch taken are, 
 new_within : (epoch : Epoch) (taken : List Content) (region : Region) → HaveOwnIds epoch.regions → AreKnownIds epoch taken → IsSentRegion epoch region → last_region region.head.region taken ≡ None
     → pixel_bytes region.head + pixels_used (record { segments = taken }) ≤ pixel_need epoch.regions
 new_within epoch taken region apart are sent unknown =
-    omega (arith, used_by_id epoch taken are, need_by_id epoch apart, sent_pixels epoch region.head.region region sent refl,
-    sum_within (pixels_by_id epoch) (region.head.region ∷ region_ids (record { segments = taken })) (ids_of epoch)
-    (AllPairs-cons (λ (a b : ℕ). a ≢ b) region.head.region (region_ids (record { segments = taken }))
-    (λ k d within e. (let known = are.known k d within in let no : None ≡ Some known.0 = sym unknown ∙ ap (λ (id : ℕ). last_region id taken) e ∙ known.1 in absurd (cc))) are.apart)
-    (All-cons (Contains (ids_of epoch)) region.head.region (region_ids (record { segments = taken })) own (λ k d within. known_contains epoch taken (get_or (region_ids (record { segments = taken })) k d) (are.known k d within))),
-    sum_by-cons (pixels_by_id epoch) region.head.region (region_ids (record { segments = taken })))
+    omega (
+      arith,
+      used_by_id epoch taken are,
+      need_by_id epoch apart,
+      sent_pixels epoch region.head.region region sent refl,
+      sum_within (pixels_by_id epoch) (region.head.region ∷ region_ids (record { segments = taken })) (ids_of epoch)
+          (AllPairs-cons (λ (a b : ℕ). a ≢ b) region.head.region (region_ids (record { segments = taken }))
+          (λ k d within e. (let known = are.known k d within in let no : None ≡ Some known.0 = sym unknown ∙ ap (λ (id : ℕ). last_region id taken) e ∙ known.1 in absurd (cc))) are.apart)
+          (All-cons (Contains (ids_of epoch)) region.head.region (region_ids (record { segments = taken })) own (λ k d within. known_contains epoch taken (get_or (region_ids (record { segments = taken })) k d) (are.known k d within))),
+      sum_by-cons (pixels_by_id epoch) region.head.region (region_ids (record { segments = taken })),
+    )
   where
     own : Contains (ids_of epoch) region.head.region
     own = (let mine = own_region epoch.regions region.head.region sent.own in subst (Contains (ids_of epoch)) mine.2 (mapped_there (λ (r : AuthoredRegion). r.id) epoch.regions mine.0 mine.1))

@@ -1,12 +1,13 @@
 -- A receiver that enters a compiled stream behind any number of its packets shows nothing before the time of the first set that it
 -- gets whole and that is not normal, and from then on what the script authors.
-use Rattle.std.proofs.Common.{◌≡◌, ◌∙◌, ℕ, zero, suc, ◌%◌, ◌<◌, ◌≤◌, true, List, [], ◌∷◌, ◌++◌, length, map, take, drop, reverse, Option, Some, None, refl, sym, ap, subst, arith, append-nil, length-drop}
+use Rattle.std.proofs.Common.{◌≡◌, ◌∙◌, ◌⊎◌, inl, inr, ℕ, zero, suc, ◌%◌, ◌<◌, ◌≤◌, false, true, List, [], ◌∷◌, ◌++◌, length, map, take, drop, reverse, Option, Some, None, refl, sym, ap, subst, arith, append-nil, length-drop}
 use Rattle.std.specs.Prelude.{slice_get}
 use Rattle.std.specs.List.{AllByRecursion, AllZip}
 use Rattle.std.specs.List.Sorted.{IsStrictlyIncreasing}
 use Rattle.std.specs.Option.{option_or}
 use Rattle.std.proofs.Math.Logic.{∥∥₁_elim}
 use Rattle.std.proofs.Props.{props}
+use Rattle.std.proofs.lemmas.Bool.{cases_lt}
 use Rattle.std.proofs.lemmas.List.{map-append, take-append-drop, reverse-reverse}
 use Rattle.std.proofs.lemmas.Option.{slice_get_within}
 use Rattle.sub_base.specs.Pace.{pace_of}
@@ -34,6 +35,7 @@ use Rattle.shown_plan.proofs.PlannedSets.{in_epoch}
 use Rattle.shown_stream.specs.Compiled.{IsCompiledFor, IsCompiledTo}
 use Rattle.shown_stream.specs.Entered.{IsEnteredRightly}
 use Rattle.shown_stream.specs.HoldsWhole.{HoldsWhole}
+use Rattle.shown_stream.specs.KeptSets.{IsKept}
 use Rattle.shown_stream.specs.SentSets.{sent_set, sent_from, sent_sets, times_from}
 use Rattle.shown_stream.specs.Shows.{authored_view, IsAnchorOf, ShowsFrom}
 use Rattle.shown_stream.proofs.ComingSets.{SetComes, set_comes, all_come}
@@ -188,6 +190,17 @@ pub record IsReceivedLate (name : ProfileName) (pid page : ℕ) (script : Script
   pub received : HasReceived (profile_of name) pid page true (entered_at missed (packets_in name pid page script bytes compiled)) past
   pub shows : (tick : ℕ) → IsShownFrom (entry_set missed (sent_sets compiled.table compiled.sets)) tick (view_at (profile_of name) anchor tick past) (authored_view script tick)
   pub holds : HoldsEach script (profile_of name) anchor compiled.sets past
+  pub kept : (number : ℕ) (set : PlannedSet) → slice_get compiled.sets number ≡ Some set → is_from missed (sent_set compiled.table number set) ≡ true → IsKept (profile_of name) anchor (entry_set missed (sent_sets compiled.table compiled.sets)) past set
+
+-- the sets behind the first so many of a plan
+found_behind : (P : PlannedSet → Type 0) (first number : ℕ) (sets : List PlannedSet) (set : PlannedSet) → AllByRecursion P (drop first sets) → slice_get sets number ≡ Some set → first ≤ number → P set
+found_behind P zero zero [] set all found least = absurd (let no : None ≡ Some set = found in cc)
+found_behind P zero zero (one ∷ sets) set all found least = let same : one ≡ set = cc in subst P same all.0
+found_behind P zero (suc number) [] set all found least = absurd (let no : None ≡ Some set = found in cc)
+found_behind P zero (suc number) (one ∷ sets) set all found least = found_behind P zero number sets set all.1 found (omega arith)
+found_behind P (suc first) zero sets set all found least = absurd (omega (arith, least))
+found_behind P (suc first) (suc number) [] set all found least = absurd (let no : None ≡ Some set = found in cc)
+found_behind P (suc first) (suc number) (one ∷ sets) set all found least = found_behind P first number sets set all found (omega (arith, least))
 
 pub received_late : (name : ProfileName) (pid page : ℕ) (script : Script) (bytes : List ℕ) → IsFree pid → IsCompiledFor name → (compiled : IsCompiledTo name pid page script bytes)
     → (missed anchor : ℕ) → IsAnchorOf (times_from missed (sent_sets compiled.table compiled.sets)) anchor → IsReceivedLate name pid page script bytes compiled missed anchor
@@ -196,6 +209,8 @@ received_late name pid page script bytes free made compiled missed anchor suits 
   received = subst (λ (all : List (Delivery (List ℕ))). AreDeliveriesRead all received.past) (all_turned late.rest (drop late.first known.sent) ∙ ap reverse (sym late.come)) received.read;
   shows = λ tick. subst (λ (found : Option SentSet). IsShownFrom found tick (view_at profile anchor tick received.past) (authored_view script tick)) (sym behind) (received.shows tick);
   holds = received.holds;
+  kept = λ number set found from. subst (λ (entry : Option SentSet). IsKept profile anchor entry received.past set) (sym behind)
+      (found_behind (IsKept profile anchor (entry_set missed (sent_from compiled.table late.first (drop late.first sets))) received.past) late.first number sets set received.kept found (among number set found from (cases_lt number late.first)));
 }
   where
     profile : Profile
@@ -244,10 +259,14 @@ received_late name pid page script bytes free made compiled missed anchor suits 
     from : AreFrom missed compiled.table late.first (drop late.first sets)
     from = are_from missed compiled.table late.first late.first (drop late.first sets) (omega arith) (λ i set inside later. (late.whole i set (omega (arith, inside, later, length-drop late.first sets))).1 later)
 
-    received : IsReceivedSo script profile anchor sets (turned (map delivered (drop late.first known.sent)) (turned (map delivered late.rest) [])) (entry_set missed (sent_from compiled.table late.first (drop late.first sets)))
+    received : IsReceivedSo script profile anchor sets begun.past (drop late.first sets) (turned (map delivered (drop late.first known.sent)) (turned (map delivered late.rest) [])) (entry_set missed (sent_from compiled.table late.first (drop late.first sets)))
     received =
         wait_for script profile anchor missed compiled.table late.first sets (turned (map delivered late.rest) []) begun.past begun.last (reverse (take late.first sets)) (drop late.first sets) (drop late.first known.sent) compiled.planned.plan parts begun.is_last
         begun.ahead from come begun.read begun.idle begun.holds
+
+    among : (number : ℕ) (set : PlannedSet) → slice_get sets number ≡ Some set → is_from missed (sent_set compiled.table number set) ≡ true → (number < late.first) ⊎ (late.first ≤ number) → late.first ≤ number
+    among number set found from (inl before) = absurd (let no : false ≡ true = sym ((late.whole number set (slice_get_within sets number set found)).0 before) ∙ from in cc)
+    among number set found from (inr behind) = behind
 
     behind : entry_set missed (sent_sets compiled.table sets) ≡ entry_set missed (sent_from compiled.table late.first (drop late.first sets))
     behind = entry_behind missed compiled.table late.first 0 sets (λ i set inside found. ap (λ n. is_from missed (sent_set compiled.table n set)) (omega arith) ∙ (late.whole i set (slice_get_within sets i set found)).0 inside) ∙ ap (λ n. entry_set missed (sent_from compiled.table n (drop late.first sets))) (omega arith)
@@ -275,10 +294,22 @@ compiled_held name pid page script bytes free made compiled missed anchor suits 
     let same = same_past (reverse (sets_of (profile_of name).coded pid page true (entered_at missed (packets_in name pid page script bytes compiled)))) late.past past late.received received in
     late.holds later before delivery (same ∙ placed) front back set parts tt lifted known is
 
+-- and each set of which no packet is missing is kept at its own time, and is not broken
+pub compiled_kept : (name : ProfileName) (pid page : ℕ) (script : Script) (bytes : List ℕ) → IsFree pid → IsCompiledFor name → (compiled : IsCompiledTo name pid page script bytes)
+    → (missed anchor : ℕ) → IsAnchorOf (times_from missed (sent_sets compiled.table compiled.sets)) anchor
+    → (past : List (Delivery Reading)) → HasReceived (profile_of name) pid page true (entered_at missed (packets_in name pid page script bytes compiled)) past
+    → (number : ℕ) (set : PlannedSet) → slice_get compiled.sets number ≡ Some set → is_from missed (sent_set compiled.table number set) ≡ true
+    → IsKept (profile_of name) anchor (entry_set missed (sent_sets compiled.table compiled.sets)) past set
+compiled_kept name pid page script bytes free made compiled missed anchor suits past received number set found from =
+    let late = received_late name pid page script bytes free made compiled missed anchor suits in
+    let same = same_past (reverse (sets_of (profile_of name).coded pid page true (entered_at missed (packets_in name pid page script bytes compiled)))) late.past past late.received received in
+    subst (λ (all : List (Delivery Reading)). IsKept (profile_of name) anchor (entry_set missed (sent_sets compiled.table compiled.sets)) all set) same (late.kept number set found from)
+
 -- so every compiled stream is entered rightly, behind any number of its packets
 pub compiled_entered : (name : ProfileName) (pid page : ℕ) (script : Script) (bytes : List ℕ) → IsFree pid → IsCompiledFor name → (compiled : IsCompiledTo name pid page script bytes)
     → (missed : ℕ) → IsEnteredRightly name pid page script compiled.sets compiled.table (packets_in name pid page script bytes compiled) missed
 compiled_entered name pid page script bytes free made compiled missed = record {
   shown = λ anchor suits tick. compiled_shown name pid page script bytes free made compiled missed anchor tick suits;
+  kept = λ anchor suits past received number set found from. compiled_kept name pid page script bytes free made compiled missed anchor suits past received number set found from;
   held = λ anchor suits past received. compiled_held name pid page script bytes free made compiled missed anchor suits past received;
 }

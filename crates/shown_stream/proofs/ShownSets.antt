@@ -17,7 +17,7 @@ use Rattle.decoder_model.specs.Kept.{time_round, lifted_behind, lifted_time, las
 use Rattle.decoder_model.specs.Readings.{Content, Reading}
 use Rattle.decoder_model.specs.Sets.{Delivery, whole}
 use Rattle.decoder_model.specs.Shown.{IsClear, Standing, scene_in, standing_with, standing_after, view_of, view_at}
-use Rattle.decoder_model.specs.Verdict.{verdict_on_kept, if_kept, verdict_of, sets_with, sets_since, known_epoch}
+use Rattle.decoder_model.specs.Verdict.{verdict_in_epoch, verdict_with_page, verdict_on_segments, verdict_on_kept, if_kept, verdict_of, sets_with, sets_since, known_epoch}
 use Rattle.decoder_model.specs.declared.set_end.SetEnd.{SetEnd}
 use Rattle.decoder_model.specs.declared.set_end.SetEnd.TheVariants.{Shown, Waiting, Broken, NotLater}
 use Rattle.decoder_model.proofs.AfterLoss.{still_unknown, normal_waits}
@@ -132,6 +132,18 @@ still_idle {script = script} {set = set} {sent = sent} profile anchor past comes
       unknown = ap epoch_of (sets_are profile anchor past (reading_of comes) verdict is) ∙ unknown_with sets sent.time size comes.readings verdict (is_normal comes normal) idle.unknown;
       clear = λ tick. clear_from anchor set.pts tick profile past (reading_of comes) kept none (idle.clear tick);
     }
+
+-- and the set waits
+pub waits_with : {script : Script} {set : PlannedSet} {sent : TimedSet} (profile : Profile) (anchor : ℕ) (past : List (Delivery Reading)) (comes : SetComes script set sent) → IsIdle profile anchor past
+    → lifted_time anchor past (reading_of comes) ≡ Some set.pts → is_whole set.state ≡ false → verdict_of profile anchor past (reading_of comes) ≡ Some Waiting
+waits_with {script = script} {set = set} {sent = sent} profile anchor past comes idle kept normal =
+    let sets = sets_since profile anchor past in
+    let page = ap page_in_set comes.contents_are ∙ page_is script comes.epoch set comes.contents comes.is in
+    let unknown = still_unknown (contents_in comes.readings) sets (is_normal comes normal) idle.unknown in
+    verdict_is profile anchor set.pts past sent.time (size_of_units sent.units) comes.readings Waiting kept
+    (ap (verdict_on_segments profile sets (contents_in comes.readings)) comes.no_fault
+    ∙ ap (verdict_with_page profile sets (contents_in comes.readings)) page
+    ∙ ap (verdict_in_epoch profile (page_value script comes.epoch set)) unknown)
 
 -- ---- a set behind a run
 

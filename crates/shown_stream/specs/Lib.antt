@@ -4,4 +4,5 @@ pub mod Shows
 pub mod SentSets
 pub mod StreamCalls
 pub mod HoldsWhole
+pub mod KeptSets
 pub mod Entered
