@@ -32,6 +32,7 @@ pub mod OneView
 pub mod CompiledSets
 pub mod PlannedTimes
 pub mod CompiledPackets
+pub mod BroughtPieces
 pub mod ScriptExample
 pub mod SentPlaces
 pub mod LateCuts
