@@ -33,6 +33,8 @@ pub mod CompiledSets
 pub mod PlannedTimes
 pub mod CompiledPackets
 pub mod BroughtPieces
+pub mod SetsInHand
+pub mod EnteredSlots
 pub mod ScriptExample
 pub mod SentPlaces
 pub mod LateCuts
