@@ -35,6 +35,7 @@ pub mod CompiledPackets
 pub mod BroughtPieces
 pub mod SetsInHand
 pub mod EnteredSlots
+pub mod CallsOfPieces
 pub mod ScriptExample
 pub mod SentPlaces
 pub mod LateCuts
