@@ -58,7 +58,7 @@ unit_has_bytes coded unit whole = let long = whole.bounded in omega arith
 
 -- ---- a packet and those behind it
 
-abbrev E : List WriteLoad → List ℕ → (ℕ → ℕ) → Entry → ℕ → List Call
+abbrev pub E : List WriteLoad → List ℕ → (ℕ → ℕ) → Entry → ℕ → List Call
 E loads slots painted entry bound = entered_calls loads slots bound painted entry (length loads)
 
 -- so many calls of sets are left for the packets behind others, and no more
@@ -71,7 +71,7 @@ abbrev pub Add : (coded pid page : ℕ) (loads : List WriteLoad) (slots : List �
 Add coded pid page loads slots painted entry slot before packets left m =
     reverse (calls_from coded pid page slot before packets left) ++ E loads slots painted entry slot ≡ E loads slots painted entry (slot + m)
 
-one_more : (coded pid page : ℕ) (loads : List WriteLoad) (slots : List ℕ) (painted : ℕ → ℕ) (entry : Entry) (slot bytes count m : ℕ) (before : List (List ℕ)) (packet : List ℕ) (packets : List (List ℕ)) (left : List (List Call))
+pub one_more : (coded pid page : ℕ) (loads : List WriteLoad) (slots : List ℕ) (painted : ℕ → ℕ) (entry : Entry) (slot bytes count m : ℕ) (before : List (List ℕ)) (packet : List ℕ) (packets : List (List ℕ)) (left : List (List Call))
     → IsPlain coded pid page before packet bytes → count_with coded pid page before packet ≡ count
     → reverse (arrived_in slot bytes ++ flat_map (λ (calls : List Call). calls) (take count left)) ++ E loads slots painted entry slot ≡ E loads slots painted entry (slot + 1)
     → Add coded pid page loads slots painted entry (slot + 1) (before ++ packet ∷ []) packets (drop count left) m
@@ -158,13 +158,13 @@ pub data Position (coded pid page : ℕ) (loads : List WriteLoad) (slots : List 
 
 -- ---- lists
 
-dropped : (k : ℕ) (xs : List ℕ) (y : ℕ) (ys : List ℕ) → drop k xs ≡ y ∷ ys → (length xs ≡ k + suc (length ys)) × (slice_index xs k ≡ y) × (drop (suc k) xs ≡ ys)
+pub dropped : (k : ℕ) (xs : List ℕ) (y : ℕ) (ys : List ℕ) → drop k xs ≡ y ∷ ys → (length xs ≡ k + suc (length ys)) × (slice_index xs k ≡ y) × (drop (suc k) xs ≡ ys)
 dropped zero [] y ys e = absurd (cc)
 dropped zero (x ∷ xs) y ys e = let head : x ≡ y = cc in let tail : xs ≡ ys = cc in (omega (arith, ap length tail), head, tail)
 dropped (suc k) [] y ys e = absurd (cc)
 dropped (suc k) (x ∷ xs) y ys e = let more = dropped k xs y ys e in (omega (arith, more.0), more.1, more.2)
 
-unit_at_front : (page time u : ℕ) (units : List SetUnit) (unit : List ℕ) (rest : List (List ℕ)) → AllZip (IsUnitOf page) (unit ∷ rest) (map (timed time) (drop u units))
+pub unit_at_front : (page time u : ℕ) (units : List SetUnit) (unit : List ℕ) (rest : List (List ℕ)) → AllZip (IsUnitOf page) (unit ∷ rest) (map (timed time) (drop u units))
     → (one : SetUnit) × (slice_get units u ≡ Some one) × IsUnitOf page unit (timed time one) × AllZip (IsUnitOf page) rest (map (timed time) (drop (suc u) units))
 unit_at_front page time u [] unit rest are = absurd (subst (λ (found : List SetUnit). AllZip (IsUnitOf page) (unit ∷ rest) (map (timed time) found)) (drop-nil u) are)
 unit_at_front page time zero (one ∷ units) unit rest are = (one, refl, are.0, are.1)
@@ -173,7 +173,7 @@ unit_at_front page time (suc u) (one ∷ units) unit rest are = unit_at_front pa
 -- ---- a unit begins
 
 -- the next unit of a set begins with the next packet
-begin_unit : (coded pid page : ℕ) (loads : List WriteLoad) (slots : List ℕ) (entry : Entry) (slot number i k : ℕ) (before : List (List ℕ)) (sets : List TimedSet) (set : TimedSet) (u : ℕ) (groups : List (List (List ℕ))) (later : List TimedSet)
+pub begin_unit : (coded pid page : ℕ) (loads : List WriteLoad) (slots : List ℕ) (entry : Entry) (slot number i k : ℕ) (before : List (List ℕ)) (sets : List TimedSet) (set : TimedSet) (u : ℕ) (groups : List (List (List ℕ))) (later : List TimedSet)
     (unit : List ℕ) (units : List (List ℕ)) → Goes coded pid page loads slots entry slot number i k before sets set u groups later → AllZip (IsUnitOf page) (unit ∷ units) (map (timed set.time) (drop u set.units)) → AllByRecursion (IsUnit coded) (unit ∷ units)
     → hand_after pid coded before ≡ None → drop k (payloads_of (units_of loads i)) ≡ map bytes_in (all_pieces (unit ∷ units))
     → Piecewise coded pid page loads slots entry slot number i before (all_pieces (unit ∷ units) ++ all_pieces (units_in groups))

@@ -36,6 +36,8 @@ pub mod BroughtPieces
 pub mod SetsInHand
 pub mod EnteredSlots
 pub mod CallsOfPieces
+pub mod PieceSteps
+pub mod CallsOfPackets
 pub mod ScriptExample
 pub mod SentPlaces
 pub mod LateCuts

@@ -106,7 +106,7 @@ none_came coded pid page set = record { sound = tt; come = tt; last = (refl, ref
 
 -- ---- the sets
 
-front_apart : (sets : List TimedSet) (set part : TimedSet) → set.time ≡ part.time → HaveDifferentTimes (sets ++ set ∷ []) → HaveDifferentTimes (sets ++ part ∷ [])
+pub front_apart : (sets : List TimedSet) (set part : TimedSet) → set.time ≡ part.time → HaveDifferentTimes (sets ++ set ∷ []) → HaveDifferentTimes (sets ++ part ∷ [])
 front_apart [] set part same h = (tt, tt)
 front_apart (first ∷ []) set part same h = (subst (λ (time : ℕ). eqb first.time time ≡ false) same h.0, front_apart [] set part same h.1)
 front_apart (first ∷ next ∷ sets) set part same h = (h.0, front_apart (next ∷ sets) set part same h.1)
@@ -162,6 +162,14 @@ pub sets_so_far : (coded pid page : ℕ) (before : List (List ℕ)) (sets : List
 unfolding sets_of has_ended
 sets_so_far coded pid page before sets set k came whole is apart inside = handed_so_far coded page (arrivals_of coded pid page before) sets set k whole is apart inside came.come
 
+-- before the first unit of the next set these are all sets, whatever the next one is
+pub sets_whole : (coded pid page : ℕ) (before : List (List ℕ)) (sets : List TimedSet) (set : TimedSet) → HaveCome coded pid page before sets set 0 → AllByRecursion (IsTimedSet coded page) sets → HaveDifferentTimes sets → sets_of coded pid page false before ≡ map delivered sets
+unfolding sets_of has_ended
+sets_whole coded pid page before sets set came whole apart =
+    let arrivals = arrivals_of coded pid page before in
+    let own : AllZip IsArrivalOf arrivals (timed_units sets) = subst (AllZip IsArrivalOf arrivals) (append-nil (timed_units sets)) came.come in
+    all_handed coded page false (runs_of arrivals) sets whole (own_runs arrivals sets own (have_units coded page sets whole) apart)
+
 -- ---- a packet more
 
 -- what arrives with a packet more
@@ -201,7 +209,7 @@ take_next {X} k [] x found = absurd (cc)
 take_next {X} zero (first ∷ xs) x found = let same : first ≡ x = cc in ap {B = List X} (λ one. one ∷ []) same
 take_next {X} (suc k) (first ∷ xs) x found = ap {B = List X} (λ rest. first ∷ rest) (take_next k xs x found)
 
-slice_inside : {X : Type 0} (k : ℕ) (xs : List X) (x : X) → slice_get xs k ≡ Some x → k < length xs
+pub slice_inside : {X : Type 0} (k : ℕ) (xs : List X) (x : X) → slice_get xs k ≡ Some x → k < length xs
 slice_inside k [] x found = absurd (cc)
 slice_inside zero (first ∷ xs) x found = omega arith
 slice_inside (suc k) (first ∷ xs) x found = let more = slice_inside k xs x found in omega arith
