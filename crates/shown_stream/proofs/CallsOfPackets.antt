@@ -53,7 +53,7 @@ none_between loads slots slot number are passed later i k inside within = λ sam
 -- ---- which calls are used up
 
 -- the calls that are left behind a packet
-used_next : (coded pid page count : ℕ) (before packets : List (List ℕ)) (packet : List ℕ) (calls : List (List Call)) → count_with coded pid page before packet ≡ count → AreUsedUp coded pid page before (packet ∷ packets) (length calls)
+pub used_next : (coded pid page count : ℕ) (before packets : List (List ℕ)) (packet : List ℕ) (calls : List (List Call)) → count_with coded pid page before packet ≡ count → AreUsedUp coded pid page before (packet ∷ packets) (length calls)
     → (count ≤ length calls) × AreUsedUp coded pid page (before ++ packet ∷ []) packets (length (drop count calls))
 used_next coded pid page count before packets packet calls counted used =
     let some = used.0 in
@@ -90,7 +90,7 @@ Walk coded pid page loads slots painted entry m =
     → Add coded pid page loads slots painted entry slot before (take m (laid pid slot number left places)) calls m
 
 -- no packet more
-walk_none : (coded pid page : ℕ) (loads : List WriteLoad) (slots : List ℕ) (painted : ℕ → ℕ) (entry : Entry) → Walk coded pid page loads slots painted entry 0
+pub walk_none : (coded pid page : ℕ) (loads : List WriteLoad) (slots : List ℕ) (painted : ℕ → ℕ) (entry : Entry) → Walk coded pid page loads slots painted entry 0
 walk_none coded pid page loads slots painted entry = λ slot number i before left places calls position ahead at is_left many used. by slot calls used
   where
     by : (slot : ℕ) (calls : List (List Call)) → length calls ≡ 0 → reverse (flat_map (λ (calls : List Call). calls) calls) ++ E loads slots painted entry slot ≡ E loads slots painted entry (slot + 0)

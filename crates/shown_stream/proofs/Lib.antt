@@ -38,6 +38,7 @@ pub mod EnteredSlots
 pub mod CallsOfPieces
 pub mod PieceSteps
 pub mod CallsOfPackets
+pub mod EarlyPackets
 pub mod ScriptExample
 pub mod SentPlaces
 pub mod LateCuts
