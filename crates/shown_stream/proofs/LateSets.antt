@@ -58,7 +58,7 @@ rest_bytes (suc n) [] = omega arith
 rest_bytes (suc n) (one ∷ units) = omega (arith, rest_bytes n units, sum_by-append length one.segments (segments_of_units units))
 
 -- what is left of a set is a set
-rest_is_set : (coded page n : ℕ) (set : TimedSet) → IsTimedSet coded page set → n < length set.units → IsTimedSet coded page (rest_of_set n set)
+pub rest_is_set : (coded page n : ℕ) (set : TimedSet) → IsTimedSet coded page set → n < length set.units → IsTimedSet coded page (rest_of_set n set)
 rest_is_set coded page n set h inside = let fits = h.fits in record { units = rest_units page n set.units h.units inside; fits = omega (arith, rest_bytes n set.units) }
 
 are_behind : (coded page n : ℕ) (sets : List TimedSet) → AllByRecursion (IsTimedSet coded page) sets → AllByRecursion (IsTimedSet coded page) (sets_behind n sets)

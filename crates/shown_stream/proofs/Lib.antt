@@ -39,6 +39,7 @@ pub mod CallsOfPieces
 pub mod PieceSteps
 pub mod CallsOfPackets
 pub mod EarlyPackets
+pub mod LateCalls
 pub mod ScriptExample
 pub mod SentPlaces
 pub mod LateCuts
