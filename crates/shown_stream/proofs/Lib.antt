@@ -40,6 +40,7 @@ pub mod PieceSteps
 pub mod CallsOfPackets
 pub mod EarlyPackets
 pub mod LateCalls
+pub mod CompiledCalls
 pub mod ScriptExample
 pub mod SentPlaces
 pub mod LateCuts

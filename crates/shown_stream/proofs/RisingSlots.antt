@@ -28,7 +28,7 @@ place_of loads (suc n) packet h = by (cases_lt packet (first_packet loads n)) (p
     by (inr here) onward = record { set = n; place = packet - first_packet loads n; among = omega arith; within = omega (arith, sum_below-suc (packets_of loads) n); there = omega arith }
 
 -- the slot of each packet is above that of the one before
-rises : (loads : List WriteLoad) (n : ℕ) (pace : Pace) (table : Timetable) → IsSchedule loads n pace table → (k : ℕ) → k + 1 < length table.slots → get_or table.slots k 0 < get_or table.slots (k + 1) 0
+pub rises : (loads : List WriteLoad) (n : ℕ) (pace : Pace) (table : Timetable) → IsSchedule loads n pace table → (k : ℕ) → k + 1 < length table.slots → get_or table.slots k 0 < get_or table.slots (k + 1) 0
 rises loads n pace table schedule k within =
     let packets = schedule.packets in
     let at = place_of loads n (k + 1) (omega arith) in
