@@ -41,6 +41,7 @@ pub mod CallsOfPackets
 pub mod EarlyPackets
 pub mod LateCalls
 pub mod CompiledCalls
+pub mod CompiledWithin
 pub mod ScriptExample
 pub mod SentPlaces
 pub mod LateCuts
