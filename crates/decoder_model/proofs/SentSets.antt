@@ -174,7 +174,7 @@ is_joined time place one next units sets rest (own_run {first = first} {more = m
     (own_run ((place, refl), placed) all)
 
 -- the units of one set are a run
-one_run : (time : ℕ) (units : List SetUnit) (front rest : List Arrival) (sets : List TimedSet) → 1 ≤ length units → AllZip IsArrivalOf front (map (timed time) units) → IsApart time sets → AreOwnRuns (runs_of rest) sets
+pub one_run : (time : ℕ) (units : List SetUnit) (front rest : List Arrival) (sets : List TimedSet) → 1 ≤ length units → AllZip IsArrivalOf front (map (timed time) units) → IsApart time sets → AreOwnRuns (runs_of rest) sets
     → AreOwnRuns (runs_of (front ++ rest)) (set_of_units time units ∷ sets)
 one_run time [] front rest sets some come apart all = absurd (omega arith)
 one_run time (one ∷ units) [] rest sets some come apart all = absurd come
@@ -199,7 +199,7 @@ in_two R [] (x ∷ xs) ys h = absurd h
 in_two R (a ∷ all) (x ∷ xs) ys h = let more = in_two R all xs ys h.1 in record { front = a ∷ more.front; rest = more.rest; are = ap (λ rest. a ∷ rest) more.are; first = (h.0, more.first); last = more.last }
 
 -- with different times in neighbouring sets, each set is a run of its own
-own_runs : (arrivals : List Arrival) (sets : List TimedSet) → AllZip IsArrivalOf arrivals (timed_units sets) → AllByRecursion (λ (set : TimedSet). 1 ≤ length set.units) sets → HaveDifferentTimes sets → AreOwnRuns (runs_of arrivals) sets
+pub own_runs : (arrivals : List Arrival) (sets : List TimedSet) → AllZip IsArrivalOf arrivals (timed_units sets) → AllByRecursion (λ (set : TimedSet). 1 ≤ length set.units) sets → HaveDifferentTimes sets → AreOwnRuns (runs_of arrivals) sets
 own_runs [] [] come some h = no_run
 own_runs (arrival ∷ arrivals) [] come some h = absurd come
 own_runs arrivals (set ∷ sets) come some h =
@@ -285,7 +285,7 @@ front_not_ended coded page segments k h small =
     ap (is_ended coded) (take-map segment k segments)
     ∙ not_ended coded (take k segments) (ap (list_any is_end) (sym (take-map segment k segments)) ∙ no_end_in page segments k h) (omega (arith, sum_by-take-le length segments k))
 
-whole_ended : (coded : ℕ) (segments : List (List ℕ)) (end : List ℕ) → eqb (byte_at 1 end) 0x80 ≡ true → is_ended coded (map segment segments ++ segment end ∷ []) ≡ true
+pub whole_ended : (coded : ℕ) (segments : List (List ℕ)) (end : List ℕ) → eqb (byte_at 1 end) 0x80 ≡ true → is_ended coded (map segment segments ++ segment end ∷ []) ≡ true
 whole_ended coded segments end e = ap (λ ends. ends || list_any (λ frame. is_some (fault_of frame)) (map segment segments ++ segment end ∷ []) || ltb coded (bytes_in (map segment segments ++ segment end ∷ []))) (end_in segments end e)
 
 -- ---- the units of a set
@@ -336,14 +336,14 @@ run_size time (first ∷ found) [] h = absurd h
 run_size time (first ∷ found) (one ∷ units) h =
     omega (arith, sum_by-cons (λ (unit : PesUnit). unit.size) first found, sum_by-cons (λ (unit : SetUnit). unit.size) one units, ap (λ (unit : PesUnit). unit.size) h.0.1, run_size time found units h.1)
 
-run_front : (time : ℕ) (found : List PesUnit) (units : List SetUnit) (k : ℕ) → AllZip (IsPlaced time) found units → AllZip (IsPlaced time) (take k found) (take k units)
+pub run_front : (time : ℕ) (found : List PesUnit) (units : List SetUnit) (k : ℕ) → AllZip (IsPlaced time) found units → AllZip (IsPlaced time) (take k found) (take k units)
 run_front time found units zero h = tt
 run_front time [] [] (suc k) h = tt
 run_front time [] (one ∷ units) (suc k) h = absurd h
 run_front time (first ∷ found) [] (suc k) h = absurd h
 run_front time (first ∷ found) (one ∷ units) (suc k) h = (h.0, run_front time found units k h.1)
 
-run_length : (time : ℕ) (found : List PesUnit) (units : List SetUnit) → AllZip (IsPlaced time) found units → length found ≡ length units
+pub run_length : (time : ℕ) (found : List PesUnit) (units : List SetUnit) → AllZip (IsPlaced time) found units → length found ≡ length units
 run_length time [] [] h = refl
 run_length time [] (one ∷ units) h = absurd h
 run_length time (first ∷ found) [] h = absurd h
@@ -393,7 +393,7 @@ handed_whole coded page set first more followed h are =
     ∙ ap (λ found. whole set.time (size_of_units set.units) found ∷ []) (segments_are segments)
 
 -- the sets of these runs are all of them, whole, in order
-all_handed : (coded page : ℕ) (ended : Bool) (stretches : List Stretch) (sets : List TimedSet) → AllByRecursion (IsTimedSet coded page) sets → AreOwnRuns stretches sets → sets_in coded ended stretches ≡ map delivered sets
+pub all_handed : (coded page : ℕ) (ended : Bool) (stretches : List Stretch) (sets : List TimedSet) → AllByRecursion (IsTimedSet coded page) sets → AreOwnRuns stretches sets → sets_in coded ended stretches ≡ map delivered sets
 all_handed coded page ended stretches sets h (no_run) = refl
 all_handed coded page ended stretches sets h (own_run {first = first} {more = more} {rest = rest} {set = set} {sets = further} are all) =
     ap (λ front. front ++ sets_in coded ended rest) (handed_whole coded page set first more (is_followed ended rest) h.0 are)
@@ -416,7 +416,7 @@ one_packet page place (Some bytes) units arrivals [] behind are = absurd are
 one_packet page place (Some bytes) units arrivals (one ∷ more) behind are = ((place, arrives page place bytes one are.0), behind more are.1)
 
 -- what arrives with packets behind others
-all_arrive : (pid size page : ℕ) (before packets : List (List ℕ)) → AllByRecursion (λ event. is_loss event ≡ false) (events_behind pid size before packets)
+pub all_arrive : (pid size page : ℕ) (before packets : List (List ℕ)) → AllByRecursion (λ event. is_loss event ≡ false) (events_behind pid size before packets)
     → (all : List TimedUnit) → AllZip (IsUnitOf page) (filter_map (λ found. found) (units_behind pid size before packets)) all
     → AllZip IsArrivalOf (flat_map (λ (arrivals : List Arrival). arrivals) (each_after (arrivals_at size pid page) before packets)) all
 all_arrive pid size page before [] h [] are = tt

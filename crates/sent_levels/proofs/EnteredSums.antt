@@ -28,10 +28,10 @@ next_packet loads i = sum_below-suc (packets_of loads) i
 later_packets : (loads : List WriteLoad) (i j : ℕ) → i < j → first_packet loads i + packets_of loads i ≤ first_packet loads j
 later_packets loads i j before = omega (arith, next_packet loads i, sum_below-rises (packets_of loads) (suc i) j (omega (arith, before)))
 
-within_slots : (loads : List WriteLoad) (slots : List ℕ) (i k : ℕ) → AreSlots loads slots → i < length loads → k < packets_of loads i → first_packet loads i + k < length slots
+pub within_slots : (loads : List WriteLoad) (slots : List ℕ) (i k : ℕ) → AreSlots loads slots → i < length loads → k < packets_of loads i → first_packet loads i + k < length slots
 within_slots loads slots i k are inside within = omega (arith, within, later_packets loads i (length loads) inside, ap (λ (n : ℕ). n) are.count)
 
-rising : (slots : List ℕ) (a b : ℕ) → IsStrictlyIncreasing slots → a < b → b < length slots → slice_index slots a < slice_index slots b
+pub rising : (slots : List ℕ) (a b : ℕ) → IsStrictlyIncreasing slots → a < b → b < length slots → slice_index slots a < slice_index slots b
 rising slots a b rise before within = AllPairs-from_increasing slots rise a b 0 before within
 
 -- packets of one set stand in their order

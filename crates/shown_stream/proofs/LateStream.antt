@@ -191,7 +191,7 @@ pieces_left size (suc count) (unit ∷ units) whole = by (cases_lt (length (furt
 
 -- ---- entered late
 
-drop_units : (size count : ℕ) (units : List (List ℕ)) → AllByRecursion (IsUnit size) units → AllByRecursion (IsUnit size) (drop count units)
+pub drop_units : (size count : ℕ) (units : List (List ℕ)) → AllByRecursion (IsUnit size) units → AllByRecursion (IsUnit size) (drop count units)
 drop_units size zero units h = h
 drop_units size (suc count) [] h = tt
 drop_units size (suc count) (unit ∷ units) h = drop_units size count units h.1

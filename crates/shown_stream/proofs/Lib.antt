@@ -43,6 +43,16 @@ pub mod OneView
 pub mod CompiledSets
 pub mod PlannedTimes
 pub mod CompiledPackets
+pub mod BroughtPieces
+pub mod SetsInHand
+pub mod EnteredSlots
+pub mod CallsOfPieces
+pub mod PieceSteps
+pub mod CallsOfPackets
+pub mod EarlyPackets
+pub mod LateCalls
+pub mod CompiledCalls
+pub mod CompiledWithin
 pub mod ScriptExample
 pub mod SentPlaces
 pub mod LateCuts

@@ -52,7 +52,7 @@ its_bytes unit some =
     let enough : length unit ≤ 184 * piece_count unit = omega arith in
     sym (ap (λ pieces. concat (map (λ (piece : Piece). piece.bytes) pieces)) (sym (its_pieces unit some)) ∙ joined_pieces unit 0 (piece_count unit) ∙ take_all (184 * piece_count unit) unit enough)
 
-its_first : (unit : List ℕ) → 1 ≤ length unit → IsPiece (first_piece unit)
+pub its_first : (unit : List ℕ) → 1 ≤ length unit → IsPiece (first_piece unit)
 its_first unit some = is_piece unit 0 (omega arith)
 
 pub its_further : (unit : List ℕ) → 1 ≤ length unit → AreFurther (further_of unit)

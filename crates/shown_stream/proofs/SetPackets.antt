@@ -26,7 +26,7 @@ use Rattle.shown_stream.proofs.SentStream.{further_of, its_pieces, its_further}
 
 -- ---- the pieces of a unit
 
-abbrev bytes_in : Piece → ℕ
+abbrev pub bytes_in : Piece → ℕ
 bytes_in piece = length piece.bytes
 
 -- each piece has 184 bytes of its unit, and the last what is left
