@@ -11,7 +11,7 @@ use Rattle.page_epoch.specs.declared.planned_set.PlannedSet.{PlannedSet}
 use Rattle.schedule.specs.Packets.{first_packet, no_load}
 use Rattle.schedule.specs.Refusals.{IsCause}
 use Rattle.sub_base.specs.Pace.{pace_of}
-use Rattle.schedule.specs.Slots.{Timetable, IsSchedule, IsOnTime}
+use Rattle.schedule.specs.Slots.{Timetable, IsLoad, IsSchedule, IsOnTime}
 use Rattle.schedule.specs.declared.fault.ScheduleFault.{ScheduleFault}
 use Rattle.schedule.specs.declared.fault.ScheduleFault.TheVariants as schedule
 use Rattle.sub_base.specs.declared.pace.Pace.{Pace}
@@ -83,14 +83,15 @@ planned_by name script sets own loads given receiver is_profile plan same_sets a
 
 -- the packets of the plan's sets in the slots of their schedule are those that the script is compiled to
 pub compiled : (name : ProfileName) (pid page : ℕ) (script : Script) (sets own : List PlannedSet) (loads given : List WriteLoad) (receiver : Profile) (table : Timetable) (written lent_bytes : List (List ℕ)) (units : List (List (List ℕ)))
-    (pieces lent : List Lent) (all : List ℕ) → receiver ≡ profile_of name → IsPlan script receiver own → sets ≡ own → AreLoads script sets loads → given ≡ loads → AreWritten script page sets written units → AreCut given lent_bytes units →
+    (pieces lent : List Lent) (all : List ℕ) → receiver ≡ profile_of name → IsPlan script receiver own → sets ≡ own → AreLoads script sets loads → given ≡ loads → All IsLoad loads → AreWritten script page sets written units → AreCut given lent_bytes units →
     IsSchedule given (length given) (pace_of script.origin receiver) table → IsOnTime given (length given) (pace_of script.origin receiver) table →
     map plain pieces ≡ all_pieces (all_units units) → lent ≡ pieces → all ≡ table.slots → IsCompiledTo name pid page script (stream_of pid (map plain lent) all)
-compiled name pid page script sets own loads given receiver table written lent_bytes units pieces lent all is_profile plan same_sets asked same_loads w cut schedule on_time are lent_is all_is =
+compiled name pid page script sets own loads given receiver table written lent_bytes units pieces lent all is_profile plan same_sets asked same_loads each w cut schedule on_time are lent_is all_is =
     record {
       sets = sets;
       loads = given;
       planned = planned_by name script sets own loads given receiver is_profile plan same_sets asked same_loads;
+      each = subst (All IsLoad) (sym same_loads) each;
       units = units;
       carried = w.carried;
       sized = cut.sized;

@@ -28,6 +28,7 @@ compiled_to profile pid page script bytes same is compiled = record {
   sets = compiled.sets;
   loads = compiled.loads;
   planned = compiled.planned;
+  each = compiled.each;
   units = compiled.units;
   carried = compiled.carried;
   sized = compiled.sized;

@@ -1,11 +1,11 @@
 -- The packets that a script is compiled to.
-use Rattle.std.specs.Prelude.{◌≡◌, ℕ, List, length, map, flat_map, IsSome}
+use Rattle.std.specs.Prelude.{◌≡◌, ℕ, List, All, length, map, flat_map, IsSome}
 use Rattle.std.specs.List.{AllZip}
 use Rattle.cue_list.specs.declared.script.Script.{Script}
 use Rattle.page_epoch.specs.Plan.{IsPlan}
 use Rattle.page_epoch.specs.declared.planned_set.PlannedSet.{PlannedSet}
 use Rattle.sub_base.specs.Pace.{pace_of}
-use Rattle.schedule.specs.Slots.{Timetable, IsSchedule, IsOnTime}
+use Rattle.schedule.specs.Slots.{Timetable, IsLoad, IsSchedule, IsOnTime}
 use Rattle.set_coder.specs.SetSegments.{AreSetPackets}
 use Rattle.set_coder.specs.SetSizes.{IsSetLoad}
 use Rattle.sub_base.specs.Profile.{profile_of}
@@ -38,12 +38,13 @@ pub record IsPlanned (profile : ProfileName) (script : Script) (sets : List Plan
   pub plan : IsPlan script (profile_of profile) sets
   pub asked : AreLoads script sets loads
 
--- the packets: those of the PES packets of the plan's sets, at the slots of their schedule, and null packets at all slots
--- between
+-- the packets: those of the PES packets of the plan's sets, each of which can be scheduled, at the slots of their schedule, and null
+-- packets at all slots between
 pub record IsCompiledTo (profile : ProfileName) (pid page : ℕ) (script : Script) (packets : List ℕ) : Type 0 where
   pub sets : List PlannedSet
   pub loads : List WriteLoad
   pub planned : IsPlanned profile script sets loads
+  pub each : All IsLoad loads
   pub units : List (List (List ℕ))
   pub carried : AreUnits script page sets units
   pub sized : AreSizedAs loads units

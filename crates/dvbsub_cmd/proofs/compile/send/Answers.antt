@@ -38,7 +38,7 @@ returns-in-Ok-write_stream-clause-sent g c =
       stream_of c.args.pid (map plain c.as_slice-2.result.now) c.all_slots.result.now,
       compiled c.args.profile c.args.pid c.args.page c.args.script.now c.as_slice-sets.result.now c.in-Ok.plan.sets c.in-Ok-loads_of.loads.items c.as_slice-asked.result.now c.of-receiver.result c.in-Ok-make.schedule
           c.in-Ok-units_of.written.items c.as_slice.result.now written.0 c.in-Ok-pieces_of.pieces.items c.as_slice-2.result.now c.all_slots.result.now c.of-receiver.ensures c.in-Ok.ensures.plan c.as_slice-sets.ensures c.in-Ok-loads_of.ensures.loads c.as_slice-asked.ensures.value
-          written.1 cut c.in-Ok-make.ensures.schedule c.in-Ok-make.ensures.on_time (c.in-Ok-pieces_of.ensures.pieces written.0 cut) c.as_slice-2.ensures.value c.all_slots.ensures,
+          c.in-Ok-loads_of.ensures.each written.1 cut c.in-Ok-make.ensures.schedule c.in-Ok-make.ensures.on_time (c.in-Ok-pieces_of.ensures.pieces written.0 cut) c.as_slice-2.ensures.value c.all_slots.ensures,
       c.in-Ok-write_stream.ensures.all,
     )
 
@@ -49,7 +49,7 @@ returns-clause-refused g c =
       stream_of c.args.pid (map plain c.as_slice-2.result.now) c.all_slots.result.now,
       compiled c.args.profile c.args.pid c.args.page c.args.script.now c.as_slice-sets.result.now c.in-Ok.plan.sets c.in-Ok-loads_of.loads.items c.as_slice-asked.result.now c.of-receiver.result c.in-Ok-make.schedule
           c.in-Ok-units_of.written.items c.as_slice.result.now written.0 c.in-Ok-pieces_of.pieces.items c.as_slice-2.result.now c.all_slots.result.now c.of-receiver.ensures c.in-Ok.ensures.plan c.as_slice-sets.ensures c.in-Ok-loads_of.ensures.loads c.as_slice-asked.ensures.value
-          written.1 cut c.in-Ok-make.ensures.schedule c.in-Ok-make.ensures.on_time (c.in-Ok-pieces_of.ensures.pieces written.0 cut) c.as_slice-2.ensures.value c.all_slots.ensures,
+          c.in-Ok-loads_of.ensures.each written.1 cut c.in-Ok-make.ensures.schedule c.in-Ok-make.ensures.on_time (c.in-Ok-pieces_of.ensures.pieces written.0 cut) c.as_slice-2.ensures.value c.all_slots.ensures,
       c.in-Err-Write.ensures.front c.in-Err-Write.field-0-is,
       c.in-Err-Write.ensures.cause c.in-Err-Write.field-0-is,
     )
