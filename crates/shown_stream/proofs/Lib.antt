@@ -42,6 +42,7 @@ pub mod EarlyPackets
 pub mod LateCalls
 pub mod CompiledCalls
 pub mod CompiledWithin
+pub mod KeptCalls
 pub mod ScriptExample
 pub mod SentPlaces
 pub mod LateCuts
