@@ -1,5 +1,5 @@
 -- Sets that come one after another, each ahead of the one before, are whole sets for the buffers, at their own times.
-use Rattle.std.proofs.Common.{◌≡◌, ◌∙◌, ℕ, zero, suc, ◌+◌, ◌-◌, ◌%◌, ◌<◌, List, [], ◌∷◌, length, map, get_or, Option, Some, None, refl, sym, ap, subst, arith}
+use Rattle.std.proofs.Common.{◌≡◌, ◌∙◌, ℕ, zero, suc, ◌+◌, ◌-◌, ◌%◌, ◌<◌, List, [], ◌∷◌, length, map, get_or, Option, Some, refl, sym, ap, arith}
 use Rattle.std.specs.Prelude.{unwrap_or}
 use Rattle.std.specs.Option.{option_or}
 use Rattle.sub_base.specs.Lists.{with_earlier}
@@ -16,7 +16,7 @@ use Rattle.decoder_model.specs.Readings.{Reading, AreDeliveriesRead}
 use Rattle.decoder_model.specs.Sets.{Delivery, whole}
 use Rattle.decoder_model.specs.Verdict.{verdict_of}
 use Rattle.decoder_model.proofs.SentSets.{TimedSet, size_of_units, delivered}
-use Rattle.sent_levels.proofs.EnteredCalls.{Entry, from_of, heard_load}
+use Rattle.sent_levels.proofs.EnteredCalls.{Entry, from_of}
 use Rattle.shown_stream.specs.StreamCalls.{call_by, set_call}
 use Rattle.shown_stream.proofs.CallsOfPieces.{AreLeft}
 use Rattle.shown_stream.proofs.PlannedTimes.{pts_of}

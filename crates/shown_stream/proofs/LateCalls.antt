@@ -1,9 +1,7 @@
 -- A stream of sets in slots, entered behind any number of packets: up to any further packet it gives the calls of the scheduled
 -- sets, from the first unit on that comes whole.
-use Rattle.std.proofs.Common.{◌≡◌, ◌∙◌, ◌⊎◌, inl, inr, ℕ, zero, suc, ◌+◌, ◌-◌, ◌<◌, ◌≤◌, Bool, true, false, ltb, cond, List, [], ◌∷◌, ◌++◌, length, map, take, drop, reverse, get_or, take_all, refl, sym, ap, subst, arith, append-nil, length-append, length-drop}
-use Rattle.std.specs.Prelude.{slice_index}
+use Rattle.std.proofs.Common.{◌≡◌, ◌∙◌, ◌⊎◌, inl, inr, ℕ, zero, suc, ◌+◌, ◌-◌, ◌<◌, ◌≤◌, Bool, true, false, ltb, cond, List, [], ◌∷◌, ◌++◌, length, map, take, drop, reverse, refl, sym, ap, subst, arith, append-nil, length-append, length-drop}
 use Rattle.std.specs.List.{AllByRecursion, AllZip}
-use Rattle.std.specs.List.Sorted.{IsStrictlyIncreasing}
 use Rattle.std.proofs.Math.Seq.{drop-nil, drop-append-add}
 use Rattle.std.proofs.lemmas.Bool.{cases_lt}
 use Rattle.std.proofs.lemmas.Bool.Decides.{nat_tests}
@@ -14,13 +12,13 @@ use Rattle.buffer_model.specs.Calls.{Call}
 use Rattle.schedule.specs.Packets.{units_of, packets_of, first_packet, payloads_of}
 use Rattle.schedule.proofs.SumLaws.{sum_below-suc, sum_below-zero}
 use Rattle.stream_syntax.specs.Cutting.{IsUnit}
-use Rattle.decoder_model.proofs.SentSets.{TimedSet, timed, IsTimedSet, IsUnitOf, HaveDifferentTimes}
+use Rattle.decoder_model.proofs.SentSets.{TimedSet, timed, IsUnitOf, HaveDifferentTimes}
 use Rattle.decoder_model.proofs.SentUnits.{no_hand}
 use Rattle.sent_levels.proofs.EnteredCalls.{Entry, entered_calls}
 use Rattle.sent_levels.proofs.EnteredSums.{AreSlots, within_slots}
 use Rattle.shown_stream.specs.SlotStream.{Piece, all_pieces, pieces_of}
 use Rattle.shown_stream.specs.StreamCalls.{calls_from}
-use Rattle.shown_stream.proofs.CallsOfPieces.{E, AreUsedUp, IsSentSet, AreSentSets, units_in, AreLeft, unit_has_bytes}
+use Rattle.shown_stream.proofs.CallsOfPieces.{AreUsedUp, IsSentSet, AreSentSets, units_in, AreLeft, unit_has_bytes}
 use Rattle.shown_stream.proofs.EarlyPackets.{Begins, Behind, nothing_behind, begins, Early, early_walk}
 use Rattle.shown_stream.proofs.EnteredSlots.{IsNotBegun, nothing_yet}
 use Rattle.shown_stream.proofs.LaidPackets.{laid, IsAhead}

@@ -1,7 +1,7 @@
 -- One packet more of sets that are cut into pieces: what it adds to the calls, and what is left behind it.
-use Rattle.std.proofs.Common.{◌≡◌, ◌≢◌, ◌∙◌, ◌⊎◌, inl, inr, ℕ, zero, suc, ◌+◌, ◌-◌, ◌%◌, ◌<◌, ◌≤◌, Bool, true, false, eqb, cond, List, [], ◌∷◌, ◌++◌, length, map, take, drop, reverse, get_or, Option, Some, None, refl, sym, ap, subst, arith, append-nil, append_assoc, length-append, length-drop}
+use Rattle.std.proofs.Common.{◌≡◌, ◌∙◌, inl, inr, ℕ, zero, suc, ◌+◌, ◌%◌, ◌<◌, ◌≤◌, Bool, false, eqb, cond, List, [], ◌∷◌, ◌++◌, length, map, take, drop, reverse, Option, Some, None, refl, sym, ap, subst, arith, append-nil, append_assoc, length-append}
 use Rattle.std.specs.Prelude.{flat_map, slice_index}
-use Rattle.std.specs.List.{AllByRecursion, AllZip, slice_get}
+use Rattle.std.specs.List.{AllByRecursion, AllZip}
 use Rattle.std.proofs.lemmas.Bool.{cases_lt}
 use Rattle.std.proofs.lemmas.Bool.Decides.{nat_tests}
 use Rattle.std.proofs.lemmas.Grind.{flat_map-append}
@@ -9,15 +9,13 @@ use Rattle.std.proofs.lemmas.List.{length-map}
 use Rattle.sub_base.specs.declared.load.WriteLoad.{WriteLoad}
 use Rattle.buffer_model.specs.Calls.{Call, Arrived, SetWhole}
 use Rattle.schedule.specs.Packets.{units_of, packets_of, first_packet, payload_of, payloads_of}
-use Rattle.schedule.specs.Slots.{slot_of}
 use Rattle.schedule.proofs.SumLaws.{sum_below-suc}
 use Rattle.stream_syntax.specs.Cutting.{IsUnit}
 use Rattle.stream_syntax.specs.TransportPackets.{null_packet, packet_fault}
 use Rattle.stream_syntax.specs.Units.{hand_after, last_counter}
-use Rattle.decoder_model.specs.Sets.{sets_of}
-use Rattle.decoder_model.proofs.SentSets.{all-append, SetUnit, TimedSet, timed, AreSetUnits, IsTimedSet, IsUnitOf, IsApart, HaveDifferentTimes, delivered}
+use Rattle.decoder_model.proofs.SentSets.{all-append, SetUnit, TimedSet, timed, AreSetUnits, IsTimedSet, IsUnitOf, HaveDifferentTimes, delivered}
 use Rattle.ts_packets.proofs.WrittenPackets.{null_is_taken}
-use Rattle.sent_levels.proofs.EnteredCalls.{Entry, from_of, heard_load, entered_calls}
+use Rattle.sent_levels.proofs.EnteredCalls.{Entry, from_of, heard_load}
 use Rattle.sent_levels.proofs.EnteredSums.{AreSlots}
 use Rattle.shown_stream.specs.SlotStream.{Piece, packet_of, pieces_of, all_pieces, IsPiece}
 use Rattle.shown_stream.specs.StreamCalls.{count_with, arrived_in}
