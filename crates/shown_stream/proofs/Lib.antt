@@ -43,6 +43,7 @@ pub mod LateCalls
 pub mod CompiledCalls
 pub mod CompiledWithin
 pub mod KeptCalls
+pub mod SetsUpTo
 pub mod ScriptExample
 pub mod SentPlaces
 pub mod LateCuts
