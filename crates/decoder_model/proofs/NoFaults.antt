@@ -19,7 +19,7 @@ none_found test older [] passes = refl
 none_found {X} test older (x ∷ xs) passes =
     let here : test older x ≡ None = passes [] xs x refl in
     let behind : (front back : List X) (y : X) → xs ≡ front ++ y ∷ back → test (reverse front ++ (x ∷ older)) y ≡ None =
-        (λ front back y is. ap (λ earlier. test earlier y) (sym (reversed front)) ∙ passes (x ∷ front) back y (ap (λ all. x ∷ all) is)) in
+    (λ front back y is. ap (λ earlier. test earlier y) (sym (reversed front)) ∙ passes (x ∷ front) back y (ap (λ all. x ∷ all) is)) in
     ap (λ found. option_or found (first_given (λ (placed : X × List X). test placed.1 placed.0) (with_earlier (x ∷ older) xs))) here ∙ none_found test (x ∷ older) xs behind
   where
     reversed : (front : List X) → reverse (x ∷ front) ++ older ≡ reverse front ++ (x ∷ older)
@@ -56,6 +56,6 @@ sum_within {X} f (x ∷ xs) ys differ stand =
     let place = stands_in x ys (All-head (Contains ys) x xs stand) in
     let others : All (λ (y : X). x ≢ y) xs = λ k d within. differ 0 (suc k) d (omega arith) (omega arith) in
     let left : All (Contains (place.0 ++ place.1)) xs = λ k d within.
-        stands_else x (get_or xs k d) place.0 place.1 (others k d within) (subst (λ (all : List X). Contains all (get_or xs k d)) place.2 (All-tail (Contains ys) x xs stand k d within)) in
+    stands_else x (get_or xs k d) place.0 place.1 (others k d within) (subst (λ (all : List X). Contains all (get_or xs k d)) place.2 (All-tail (Contains ys) x xs stand k d within)) in
     let rest = sum_within f xs (place.0 ++ place.1) (λ i j d before within. differ (suc i) (suc j) d (omega arith) (omega arith)) left in
     omega (arith, rest, sum_by-cons f x xs, ap (sum_by f) place.2, sum_by-append f place.0 (x ∷ place.1), sum_by-append f place.0 place.1, sum_by-cons f x place.1)

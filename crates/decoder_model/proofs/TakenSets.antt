@@ -49,13 +49,13 @@ others_aside segment new earlier others = by segment.value refl
       | of_region v ↦ λ is.
           let none : All (λ c. region_named v.head.region c ≡ None) new = λ k d within. not_named _ _ v (named_itself segment v is) (others k d within v.head.region).0 in
           let same : last_region v.head.region (new ++ earlier) ≡ last_region v.head.region earlier =
-              first_given-append (region_named v.head.region) new earlier ∙ ap (λ found. option_or found (last_region v.head.region earlier)) (first_given-all_none (region_named v.head.region) new none) in
+          first_given-append (region_named v.head.region) new earlier ∙ ap (λ found. option_or found (last_region v.head.region earlier)) (first_given-all_none (region_named v.head.region) new none) in
           rw is (ap (λ found. has_new_version v.head.version (region_version found)) same)
       | of_clut v ↦ λ is.
           let own : clut_named v.clut segment ≡ Some v = rw is (ap (λ b. cond b (Some v) None) (let same : eqb v.clut v.clut ≡ true = grind (arith, nat_tests) in same)) in
           let none : All (λ c. clut_named v.clut c ≡ None) new = λ k d within. not_named _ _ v own (others k d within v.clut).1 in
           let same : last_clut v.clut (new ++ earlier) ≡ last_clut v.clut earlier =
-              first_given-append (clut_named v.clut) new earlier ∙ ap (λ found. option_or found (last_clut v.clut earlier)) (first_given-all_none (clut_named v.clut) new none) in
+          first_given-append (clut_named v.clut) new earlier ∙ ap (λ found. option_or found (last_clut v.clut earlier)) (first_given-all_none (clut_named v.clut) new none) in
           rw is (ap (λ found. has_new_version v.version (clut_version found)) same)
       | of_object v ↦ λ is. rw is refl
       | of_display v ↦ λ is. rw is refl

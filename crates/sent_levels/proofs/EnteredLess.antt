@@ -36,13 +36,13 @@ pub done_no_later : (loads : List WriteLoad) (pace : Pace) (slots : List ℕ) (p
 done_no_later loads pace slots painted entry i is inside =
     let last : ℕ = tick_of pace (slot_of loads slots i (packets_of loads i - 1)) in
     three_less (max last (heard_before loads entry i)) (size_of loads i - sum_below (payload_of loads i) (from_of entry i)) (painted i) (max last (shown_before loads i)) (load_of loads i).size (load_of loads i).painted
-        (later_of last (heard_before loads entry i) (shown_before loads i) (no_later_before loads entry i)) (omega (arith, (load_at loads i is.are.each inside).size)) (is.most i inside)
+    (later_of last (heard_before loads entry i) (shown_before loads i) (no_later_before loads entry i)) (omega (arith, (load_at loads i is.are.each inside).size)) (is.most i inside)
 
 -- ---- no level is higher
 
 -- a set whose bytes have left by the tick of a slot has come by then
 pub done_is_whole : (loads : List WriteLoad) (pace : Pace) (slots : List ℕ) (i slot : ℕ) → AreSlots loads slots → i < length loads → scheduled_done loads pace slots i ≤ tick_of pace slot → is_whole loads slots (suc slot) i ≡ true
-done_is_whole loads pace slots i slot are inside done = 
+done_is_whole loads pace slots i slot are inside done =
     let last : ℕ = tick_of pace (slot_of loads slots i (packets_of loads i - 1)) in
     let low = tick_of-before pace (slot_of loads slots i (packets_of loads i - 1)) slot (last_before last (shown_before loads i) (load_of loads i).size (load_of loads i).painted (tick_of pace slot) (load_at loads i are.each inside).some done) in
     grind (arith, nat_tests)
@@ -71,7 +71,7 @@ came_less loads slots slot entry i = by (nat_le entry.set i)
 all_came : (loads : List WriteLoad) (slots : List ℕ) (i slot : ℕ) → AreSlots loads slots → i < length loads → is_whole loads slots (suc slot) i ≡ true → arrived_of loads slots slot i ≡ size_of loads i
 all_came loads slots i slot are inside whole =
     sum_below-same (payload_by loads slots slot i) (payload_of loads i) (packets_of loads i)
-        (λ k within. ap (λ b. cond b (payload_of loads i k) 0) (let below = all_below loads slots (suc slot) i k are inside whole within in let t : nat_le (slot_of loads slots i k) slot ≡ true = grind (arith, nat_tests) in t))
+    (λ k within. ap (λ b. cond b (payload_of loads i k) 0) (let below = all_below loads slots (suc slot) i k are inside whole within in let t : nat_le (slot_of loads slots i k) slot ≡ true = grind (arith, nat_tests) in t))
     ∙ payloads loads i
 
 -- the inequality that decides a set: what came of it and what is still held of it elsewhere
@@ -97,8 +97,8 @@ each_set loads pace slots dones painted entry slot i is inside at = by (nat_le (
         let heard = heard_size loads slots (suc slot) entry i is.are inside whole (omega (arith, low)) in
         let earlier : heard_done loads pace slots painted entry i ≤ tick_of pace slot = omega (arith, done_no_later loads pace slots painted entry i is inside, done, at) in
         let gone : gone_of loads pace slots (suc slot) painted entry (tick_of pace slot) i ≡ (heard_load loads painted entry i).size =
-            (let t : nat_le (heard_done loads pace slots painted entry i) (tick_of pace slot) ≡ true = grind (arith, nat_tests) in
-            rw (e, whole) (ap (λ b. cond b (heard_load loads painted entry i).size 0) t)) in
+        (let t : nat_le (heard_done loads pace slots painted entry i) (tick_of pace slot) ≡ true = grind (arith, nat_tests) in
+        rw (e, whole) (ap (λ b. cond b (heard_load loads painted entry i).size 0) t)) in
         omega (arith, came, heard, gone, left_of-yes loads dones (tick_of pace slot) i done, all_came loads slots i slot is.are inside whole))
 
     by : (b : Bool) → nat_le (slice_index dones i) (tick_of pace slot) ≡ b → Claim

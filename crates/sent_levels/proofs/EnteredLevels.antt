@@ -116,11 +116,11 @@ set_left loads pace slots bound painted entry tick i is inside here = by (is_who
     by true e =
         (let calls : left pace tick (calls_of_set loads slots bound painted entry i past) ≡ left_by tick (done_of pace (heard_load loads painted entry i) packets) (unassigned packets) + left pace tick packets = ap (λ b. left pace tick (cond b (SetWhole (heard_load loads painted entry i) ∷ packets) packets)) e in
         let bytes : unassigned packets ≡ (heard_load loads painted entry i).size =
-            (let low = from_within loads slots painted entry i is inside in
-            omega (arith, packets_unassigned loads slots bound entry i (packets_of loads i) past, past_unassigned loads slots bound painted entry i is.are inside e, heard_size loads slots bound entry i is.are inside e (omega (arith, low)))) in
+        (let low = from_within loads slots painted entry i is inside in
+        omega (arith, packets_unassigned loads slots bound entry i (packets_of loads i) past, past_unassigned loads slots bound painted entry i is.are inside e, heard_size loads slots bound entry i is.are inside e (omega (arith, low)))) in
         let gone : gone_of loads pace slots bound painted entry tick i ≡ left_by tick (heard_done loads pace slots painted entry i) (heard_load loads painted entry i).size = rw (here, e) refl in
         let same : left_by tick (done_of pace (heard_load loads painted entry i) packets) (unassigned packets) ≡ left_by tick (heard_done loads pace slots painted entry i) (heard_load loads painted entry i).size =
-            λ k. left_by tick (set_done loads pace slots bound painted entry i is inside e k) (bytes k) in
+        λ k. left_by tick (set_done loads pace slots bound painted entry i is inside e k) (bytes k) in
         omega (arith, calls, gone, same, packets_left pace tick loads slots bound entry i (packets_of loads i) past))
 
 set_arrived : (loads : List WriteLoad) (slots : List ℕ) (bound : ℕ) (painted : ℕ → ℕ) (entry : Entry) (i : ℕ) (past : List Call) → arrived (calls_of_set loads slots bound painted entry i past) ≡ arrived past + sum_below (heard_of loads slots bound entry i) (packets_of loads i)
@@ -144,7 +144,7 @@ all_arrived loads slots bound painted entry (suc i) = by (nat_le entry.set i) re
     by false e again =
         (let calls : arrived (cond (nat_le entry.set i) (calls_of_set loads slots bound painted entry i (entered_calls loads slots bound painted entry i)) []) ≡ 0 = ap (λ b. arrived (cond b (calls_of_set loads slots bound painted entry i (entered_calls loads slots bound painted entry i)) [])) e in
         let none : sum_below (came_of loads slots bound entry) (suc i) ≡ sum_below (came_of loads slots bound entry) 0 = sum_below-ends (came_of loads slots bound entry) 0 (suc i) (omega arith)
-            (λ j low high. ap (λ b. cond b (sum_below (heard_of loads slots bound entry j) (packets_of loads j)) 0) (let t : nat_le entry.set j ≡ false = grind (arith, nat_tests) in t)) in
+        (λ j low high. ap (λ b. cond b (sum_below (heard_of loads slots bound entry j) (packets_of loads j)) 0) (let t : nat_le entry.set j ≡ false = grind (arith, nat_tests) in t)) in
         omega (arith, calls, none, sum_below-zero (came_of loads slots bound entry)))
 
 pub all_left : (loads : List WriteLoad) (pace : Pace) (slots : List ℕ) (bound : ℕ) (painted : ℕ → ℕ) (entry : Entry) (tick n : ℕ) → IsEntry loads slots painted entry → n ≤ length loads → left pace tick (entered_calls loads slots bound painted entry n) ≡ sum_below (gone_of loads pace slots bound painted entry tick) n
@@ -159,5 +159,5 @@ all_left loads pace slots bound painted entry tick (suc i) is inside = by (nat_l
     by false e again =
         (let calls : left pace tick (cond (nat_le entry.set i) (calls_of_set loads slots bound painted entry i (entered_calls loads slots bound painted entry i)) []) ≡ 0 = ap (λ b. left pace tick (cond b (calls_of_set loads slots bound painted entry i (entered_calls loads slots bound painted entry i)) [])) e in
         let none : sum_below (gone_of loads pace slots bound painted entry tick) (suc i) ≡ sum_below (gone_of loads pace slots bound painted entry tick) 0 = sum_below-ends (gone_of loads pace slots bound painted entry tick) 0 (suc i) (omega arith)
-            (λ j low high. ap (λ b. cond (b && is_whole loads slots bound j) (left_by tick (heard_done loads pace slots painted entry j) (heard_load loads painted entry j).size) 0) (let t : nat_le entry.set j ≡ false = grind (arith, nat_tests) in t)) in
+        (λ j low high. ap (λ b. cond (b && is_whole loads slots bound j) (left_by tick (heard_done loads pace slots painted entry j) (heard_load loads painted entry j).size) 0) (let t : nat_le entry.set j ≡ false = grind (arith, nat_tests) in t)) in
         omega (arith, calls, none, sum_below-zero (gone_of loads pace slots bound painted entry tick)))

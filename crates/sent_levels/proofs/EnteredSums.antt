@@ -121,13 +121,13 @@ heard_size loads slots bound entry i are inside whole from = omega (arith, parts
             (let below = all_below loads slots bound i k are inside whole (omega (arith, low)) in
             let here : heard_of loads slots bound entry i k ≡ payload_of loads i k = rw (e, below) refl in
             let after : sum_below (payload_of loads i) (cond (nat_le (suc k) (from_of entry i)) (suc k) (from_of entry i)) ≡ sum_below (payload_of loads i) (from_of entry i) =
-                ap (λ b. sum_below (payload_of loads i) (cond b (suc k) (from_of entry i))) (let t : nat_le (suc k) (from_of entry i) ≡ false = grind (arith, nat_tests) in t) in
+            ap (λ b. sum_below (payload_of loads i) (cond b (suc k) (from_of entry i))) (let t : nat_le (suc k) (from_of entry i) ≡ false = grind (arith, nat_tests) in t) in
             let before : sum_below (payload_of loads i) (cond (nat_le k (from_of entry i)) k (from_of entry i)) ≡ sum_below (payload_of loads i) (from_of entry i) = from_there k (nat_le k (from_of entry i)) refl (grind (arith, nat_tests)) in
             omega (arith, again, after, before, here, sum_below-suc (payload_of loads i) k, sum_below-suc (heard_of loads slots bound entry i) k))
         one false e again =
             (let here : heard_of loads slots bound entry i k ≡ 0 = rw e refl in
             let after : sum_below (payload_of loads i) (cond (nat_le (suc k) (from_of entry i)) (suc k) (from_of entry i)) ≡ sum_below (payload_of loads i) (suc k) =
-                ap (λ b. sum_below (payload_of loads i) (cond b (suc k) (from_of entry i))) (let t : nat_le (suc k) (from_of entry i) ≡ true = grind (arith, nat_tests) in t) in
+            ap (λ b. sum_below (payload_of loads i) (cond b (suc k) (from_of entry i))) (let t : nat_le (suc k) (from_of entry i) ≡ true = grind (arith, nat_tests) in t) in
             let before : sum_below (payload_of loads i) (cond (nat_le k (from_of entry i)) k (from_of entry i)) ≡ sum_below (payload_of loads i) k =
-                ap (λ b. sum_below (payload_of loads i) (cond b k (from_of entry i))) (let t : nat_le k (from_of entry i) ≡ true = grind (arith, nat_tests) in t) in
+            ap (λ b. sum_below (payload_of loads i) (cond b k (from_of entry i))) (let t : nat_le k (from_of entry i) ≡ true = grind (arith, nat_tests) in t) in
             omega (arith, again, after, before, here, sum_below-suc (payload_of loads i) k, sum_below-suc (heard_of loads slots bound entry i) k))

@@ -44,9 +44,9 @@ no_higher loads pace table painted entry slot holds is =
     let came = all_arrived loads table.slots (suc slot) painted entry (length loads) in
     let gone = all_left loads pace table.slots (suc slot) painted entry (tick_of pace slot) (length loads) is (omega arith) in
     let less = sums_less (came_of loads table.slots (suc slot) entry) (left_of loads table.dones (tick_of pace slot)) (arrived_of loads table.slots slot) (gone_of loads pace table.slots (suc slot) painted entry (tick_of pace slot)) (length loads)
-        (λ i inside. each_set loads pace table.slots table.dones painted entry slot i is inside (holds.dones i inside)) in
+    (λ i inside. each_set loads pace table.slots table.dones painted entry slot i is inside (holds.dones i inside)) in
     rw (came, gone) (cut_less (sum_below (came_of loads table.slots (suc slot) entry) (length loads)) (sum_below (gone_of loads pace table.slots (suc slot) painted entry (tick_of pace slot)) (length loads))
-        (sum_below (arrived_of loads table.slots slot) (length loads)) (sum_below (left_of loads table.dones (tick_of pace slot)) (length loads)) less)
+    (sum_below (arrived_of loads table.slots slot) (length loads)) (sum_below (left_of loads table.dones (tick_of pace slot)) (length loads)) less)
 
 -- later more has left
 left_more : (done bytes tick later : ℕ) → tick ≤ later → left_by tick done bytes ≤ left_by later done bytes
@@ -68,7 +68,7 @@ arrived_less loads slots slot i k = sum_below-le (payload_by loads slots slot i)
 sets_held : (loads : List WriteLoad) (pace : Pace) (table : Timetable) (slot n : ℕ) → Holds loads pace table → n ≤ length loads
     → sum_below (arrived_of loads table.slots slot) n ≤ pace.coded + sum_below (left_of loads table.dones (tick_of pace slot)) n
 sets_held loads pace table slot zero holds inside = omega (arith, sum_below-zero (arrived_of loads table.slots slot))
-sets_held loads pace table slot (suc n) holds inside = 
+sets_held loads pace table slot (suc n) holds inside =
     omega (arith, sum_below-suc (arrived_of loads table.slots slot) n, sum_below-suc (left_of loads table.dones (tick_of pace slot)) n, packets_held (packets_of loads n) (omega arith) (sets_held loads pace table slot n holds (omega (arith, inside))))
   where
     packets_held : (k : ℕ) → k ≤ packets_of loads n → sum_below (arrived_of loads table.slots slot) n ≤ pace.coded + sum_below (left_of loads table.dones (tick_of pace slot)) n
@@ -86,7 +86,7 @@ sets_held loads pace table slot (suc n) holds inside =
             let room = holds.room n k (omega (arith, inside)) (omega (arith, within)) in
             let sets = sum_below-le (arrived_of loads table.slots slot) (size_of loads) n (λ j before. omega (arith, arrived_less loads table.slots slot j (packets_of loads j), payloads loads j)) in
             let gone = sum_below-le (left_of loads table.dones (tick_of pace (slot_of loads table.slots n k))) (left_of loads table.dones (tick_of pace slot)) n
-                (λ j before. left_more (slice_index table.dones j) (size_of loads j) (tick_of pace (slot_of loads table.slots n k)) (tick_of pace slot) tick) in
+            (λ j before. left_more (slice_index table.dones j) (size_of loads j) (tick_of pace (slot_of loads table.slots n k)) (tick_of pace slot) tick) in
             omega (arith, room, sets, gone, arrived_less loads table.slots slot n (suc k), sum_below-suc (payload_of loads n) k, sum_below-more (payload_of loads n) k))
 
 -- at every slot, also where no packet stands, the whole stream's level is within the buffer
@@ -106,7 +106,7 @@ gone_same : (loads : List WriteLoad) (pace : Pace) (slots : List ℕ) (bound : �
     → gone_of loads pace slots bound painted entry tick j ≡ gone_of loads pace slots (suc slot) painted entry tick j
 gone_same loads pace slots bound painted entry tick slot j low below =
     ap (λ b. cond (nat_le entry.set j && b) (left_by tick (heard_done loads pace slots painted entry j) (heard_load loads painted entry j).size) 0)
-        (let t : nat_lt (slot_of loads slots j (packets_of loads j - 1)) bound ≡ nat_lt (slot_of loads slots j (packets_of loads j - 1)) (suc slot) = grind (arith, nat_tests) in t)
+    (let t : nat_lt (slot_of loads slots j (packets_of loads j - 1)) bound ≡ nat_lt (slot_of loads slots j (packets_of loads j - 1)) (suc slot) = grind (arith, nat_tests) in t)
 
 -- the level at a packet that arrives is within the buffer
 packet_within : (loads : List WriteLoad) (pace : Pace) (table : Timetable) (bound : ℕ) (painted : ℕ → ℕ) (entry : Entry) (i k : ℕ) → Holds loads pace table → IsEntry loads table.slots painted entry → i < length loads → k < packets_of loads i
@@ -134,11 +134,14 @@ packet_within loads pace table bound painted entry i k holds is inside within be
     gone = packets_left pace tick loads table.slots bound entry i k (entered_calls loads table.slots bound painted entry i) ∙ all_left loads pace table.slots bound painted entry tick i is (omega (arith, inside))
 
     each : (j : ℕ) → j < i → came_of loads table.slots bound entry j + left_of loads table.dones tick j ≤ size_of loads j + gone_of loads pace table.slots bound painted entry tick j
-    each j earlier = omega (arith,
-        came_same loads table.slots bound entry slot j (λ m part. before j m earlier part) below,
-        gone_same loads pace table.slots bound painted entry tick slot j (before j (packets_of loads j - 1) earlier (last_packet loads table.slots j is.are (omega (arith, earlier, inside)))) below,
-        each_set loads pace table.slots table.dones painted entry slot j is (omega (arith, earlier, inside)) (holds.dones j (omega (arith, earlier, inside))),
-        arrived_less loads table.slots slot j (packets_of loads j), payloads loads j)
+    each j earlier = omega (
+      arith,
+      came_same loads table.slots bound entry slot j (λ m part. before j m earlier part) below,
+      gone_same loads pace table.slots bound painted entry tick slot j (before j (packets_of loads j - 1) earlier (last_packet loads table.slots j is.are (omega (arith, earlier, inside)))) below,
+      each_set loads pace table.slots table.dones painted entry slot j is (omega (arith, earlier, inside)) (holds.dones j (omega (arith, earlier, inside))),
+      arrived_less loads table.slots slot j (packets_of loads j),
+      payloads loads j,
+    )
 
     least : sum_below (came_of loads table.slots bound entry) i + sum_below (left_of loads table.dones tick) i ≤ sum_below (size_of loads) i + sum_below (gone_of loads pace table.slots bound painted entry tick) i
     least = sums_less (came_of loads table.slots bound entry) (left_of loads table.dones tick) (size_of loads) (gone_of loads pace table.slots bound painted entry tick) i each
@@ -177,9 +180,16 @@ entered_within loads pace table bound painted entry (suc i) holds is inside = by
 
     whole : (b : Bool) → is_whole loads table.slots bound i ≡ b → AreWithin pace packets → AreWithin pace (cond (is_whole loads table.slots bound i) (SetWhole (heard_load loads painted entry i) ∷ packets) packets)
     whole false e again = subst (λ b. AreWithin pace (cond b (SetWhole (heard_load loads painted entry i) ∷ packets) packets)) (sym e) again
-    whole true e again = subst (λ b. AreWithin pace (cond b (SetWhole (heard_load loads painted entry i) ∷ packets) packets)) (sym e)
-        (omega (arith, set_done loads pace table.slots bound painted entry i is (omega (arith, inside)) e, done_no_later loads pace table.slots painted entry i is (omega (arith, inside)),
-            holds.dones i (omega (arith, inside)), holds.ready i (omega (arith, inside))), again)
+    whole true e again = subst (λ b. AreWithin pace (cond b (SetWhole (heard_load loads painted entry i) ∷ packets) packets)) (sym e) (
+      omega (
+        arith,
+        set_done loads pace table.slots bound painted entry i is (omega (arith, inside)) e,
+        done_no_later loads pace table.slots painted entry i is (omega (arith, inside)),
+        holds.dones i (omega (arith, inside)),
+        holds.ready i (omega (arith, inside)),
+      ),
+      again,
+    )
 
     by : (b : Bool) → AreWithin pace before → AreWithin pace (cond b (calls_of_set loads table.slots bound painted entry i before) [])
     by false again = tt

@@ -52,16 +52,16 @@ whole_came : (loads : List WriteLoad) (slots : List ℕ) (slot i : ℕ) → came
 whole_came loads slots slot i =
     ap (λ b. cond b (sum_below (heard_of loads slots (suc slot) whole_entry i) (packets_of loads i)) 0) (let t : nat_le 0 i ≡ true = grind (arith, nat_tests) in t)
     ∙ sum_below-same (heard_of loads slots (suc slot) whole_entry i) (payload_by loads slots slot i) (packets_of loads i)
-        (λ k within. ap (λ (n : ℕ). cond (nat_le n k && nat_lt (slot_of loads slots i k) (suc slot)) (payload_of loads i k) 0) (from_first i)
-            ∙ (let least : nat_le 0 k ≡ true = grind (arith, nat_tests) in
-               let below : nat_lt (slot_of loads slots i k) (suc slot) ≡ nat_le (slot_of loads slots i k) slot = grind (arith, nat_tests) in
-               λ n. cond (least n && below n) (payload_of loads i k) 0))
+    (λ k within. ap (λ (n : ℕ). cond (nat_le n k && nat_lt (slot_of loads slots i k) (suc slot)) (payload_of loads i k) 0) (from_first i)
+    ∙ (let least : nat_le 0 k ≡ true = grind (arith, nat_tests) in
+    let below : nat_lt (slot_of loads slots i k) (suc slot) ≡ nat_le (slot_of loads slots i k) slot = grind (arith, nat_tests) in
+    λ n. cond (least n && below n) (payload_of loads i k) 0))
 
 whole_gone : (loads : List WriteLoad) (pace : Pace) (table : Timetable) (slot i : ℕ) → Holds loads pace table → i < length loads
     → gone_of loads pace table.slots (suc slot) (planned_painting loads) whole_entry (tick_of pace slot) i ≡ left_of loads table.dones (tick_of pace slot) i
 whole_gone loads pace table slot i holds inside =
     ap (λ b. cond (b && is_whole loads table.slots (suc slot) i) (left_by (tick_of pace slot) (heard_done loads pace table.slots (planned_painting loads) whole_entry i) (heard_load loads (planned_painting loads) whole_entry i).size) 0)
-        (let t : nat_le 0 i ≡ true = grind (arith, nat_tests) in t)
+    (let t : nat_le 0 i ≡ true = grind (arith, nat_tests) in t)
     ∙ (λ n. cond (is_whole loads table.slots (suc slot) i) (left_by (tick_of pace slot) (at n) (whole_size loads i n)) 0)
     ∙ by (is_whole loads table.slots (suc slot) i) refl
   where
@@ -84,5 +84,5 @@ pub one_level : (loads : List WriteLoad) (pace : Pace) (table : Timetable) (slot
 one_level loads pace table slot holds =
     let came = all_arrived loads table.slots (suc slot) (planned_painting loads) whole_entry (length loads) ∙ sum_below-same (came_of loads table.slots (suc slot) whole_entry) (arrived_of loads table.slots slot) (length loads) (λ i inside. whole_came loads table.slots slot i) in
     let gone = all_left loads pace table.slots (suc slot) (planned_painting loads) whole_entry (tick_of pace slot) (length loads) (whole_is loads table.slots holds.are) (omega arith)
-        ∙ sum_below-same (gone_of loads pace table.slots (suc slot) (planned_painting loads) whole_entry (tick_of pace slot)) (left_of loads table.dones (tick_of pace slot)) (length loads) (λ i inside. whole_gone loads pace table slot i holds inside) in
+    ∙ sum_below-same (gone_of loads pace table.slots (suc slot) (planned_painting loads) whole_entry (tick_of pace slot)) (left_of loads table.dones (tick_of pace slot)) (length loads) (λ i inside. whole_gone loads pace table slot i holds inside) in
     omega (arith, came, gone)

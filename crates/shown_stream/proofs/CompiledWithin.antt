@@ -65,7 +65,7 @@ compiled_is_entry name pid page script bytes compiled known loads_are painted mi
 
 -- what the sets of a stream ask as they are received: each at its own time, no more painting than is planned
 pub record AreReceivedSo (name : ProfileName) (pid page : ℕ) (script : Script) (bytes : List ℕ) (compiled : IsCompiledTo name pid page script bytes) (known : ArePackets name pid page script bytes compiled) (loads_are : All IsLoad compiled.loads)
-        (anchor missed m : ℕ) (calls : List Call) (painted : ℕ → ℕ) : Type 0 where
+    (anchor missed m : ℕ) (calls : List Call) (painted : ℕ → ℕ) : Type 0 where
   pub few : m ≤ length (entered_at missed (packets_in name pid page script bytes compiled))
   pub given : AreCallsOf (profile_of name) pid page anchor missed false (take m (entered_at missed (packets_in name pid page script bytes compiled))) calls
   pub kept : AreLeft compiled.loads painted (compiled_entry name pid page script bytes compiled known loads_are missed) (compiled_entry name pid page script bytes compiled known loads_are missed).set (set_calls (profile_of name) anchor (reverse given.past))

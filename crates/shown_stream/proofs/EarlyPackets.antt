@@ -70,7 +70,7 @@ reaches coded pid page loads slots entry slot number before behind early = by be
     by : (behind : List Piece) → Behind coded page loads entry (number + 0) behind → Position coded pid page loads slots entry slot number entry.set before behind
     by behind (nothing_behind none) = nothing_left
     by behind (begins first) = goes_on (subst (Position_of) (sym first.behind_is)
-      (begin_unit coded pid page loads slots entry slot number entry.set entry.packet before [] first.set 0 first.groups first.later first.unit first.units
+        (begin_unit coded pid page loads slots entry slot number entry.set entry.packet before [] first.set 0 first.groups first.later first.unit first.units
         (record {
           inside = first.inside;
           numbered = (let same = first.numbered in omega (arith, same));

@@ -101,7 +101,7 @@ behind_units coded page loads n i first [] (set ∷ later) sent apart many numbe
 behind_units coded page loads n i first (group ∷ groups) [] sent apart many numbered = absurd sent
 behind_units coded page loads n i first (group ∷ groups) (set ∷ later) sent apart many numbered =
     by (cases_lt n (length group)) (λ split rest_numbered. subst (λ (found : List (List ℕ)). Behind coded page loads (entry_behind (n - length group) (suc i) groups) first (all_pieces found)) (dropped_past split)
-      (behind_units coded page loads (n - length group) (suc i) first groups later sent.1 apart.1 (omega (arith, many)) rest_numbered))
+    (behind_units coded page loads (n - length group) (suc i) first groups later sent.1 apart.1 (omega (arith, many)) rest_numbered))
   where
     Left : Bool → Type 0
     Left b = Behind coded page loads (cond b (record { set = i; packet = length (all_pieces (take n group)) }) (entry_behind (n - length group) (suc i) groups)) first (all_pieces (drop n (units_in (group ∷ groups))))

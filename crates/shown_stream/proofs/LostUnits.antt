@@ -131,19 +131,40 @@ module _ (size page : ℕ) where
   passed_on : (kind : Kind) (last : Option ℕ) (hand : Option (List ℕ)) (number : ℕ) (since : Option ℕ) (rest : List Piece) (come : List Bool) (arrivals : List Arrival) → StandsAt kind last hand number since → AreNear since (false ∷ come)
       → Walk size page last hand (number + 1) rest come arrivals → WalksOn (missed_from kind) (number + 1) rest come arrivals
   passed_on Fresh last hand number since rest come arrivals stands near walk = record {
-    next = Fresh; last = last; hand = hand; since = None; count = 0; behind = arrivals; are = refl; steps = refl;
+    next = Fresh;
+    last = last;
+    hand = hand;
+    since = None;
+    count = 0;
+    behind = arrivals;
+    are = refl;
+    steps = refl;
     stands = (stands.0, stands.1, refl);
     near = subst (λ (k : Option ℕ). AreNear k (false ∷ come)) stands.2 near;
     walk = walk;
   }
   passed_on Joined last hand number since rest come arrivals stands near walk = record {
-    next = Apart; last = last; hand = hand; since = Some 1; count = 0; behind = arrivals; are = refl; steps = tt;
+    next = Apart;
+    last = last;
+    hand = hand;
+    since = Some 1;
+    count = 0;
+    behind = arrivals;
+    are = refl;
+    steps = tt;
     stands = (stands.0, 1, stands.1, (let at = stands.2 in omega (arith, at)), omega arith, refl);
     near = subst (λ (k : Option ℕ). AreNear k (false ∷ come)) stands.4 near;
     walk = walk;
   }
   passed_on Apart last hand number since rest come arrivals stands near walk = record {
-    next = Apart; last = last; hand = hand; since = Some (stands.1 + 1); count = 0; behind = arrivals; are = refl; steps = tt;
+    next = Apart;
+    last = last;
+    hand = hand;
+    since = Some (stands.1 + 1);
+    count = 0;
+    behind = arrivals;
+    are = refl;
+    steps = tt;
     stands = (stands.0, stands.1 + 1, stands.2, (let at = stands.3 in omega (arith, at)), omega arith, refl);
     near = subst (λ (k : Option ℕ). AreNear k (false ∷ come)) stands.5 near;
     walk = walk;
@@ -163,7 +184,12 @@ module _ (size page : ℕ) where
   added_on Fresh last hand number since piece rest come arrivals place inner stands near walk =
       let order : succession last (number % 16) ≡ Next = ap (λ before. succession before (number % 16)) stands.0 in
       record {
-        next = Joined; last = Some (number % 16); hand = None; since = Some 0; count = 0; behind = arrivals;
+        next = Joined;
+        last = Some (number % 16);
+        hand = None;
+        since = Some 0;
+        count = 0;
+        behind = arrivals;
         are = ap (λ front. front ++ arrivals) (λ i. brought (stands.1 i) (order i) (inner i) piece.bytes place);
         steps = tt;
         stands = (number, refl, refl, refl, refl);
@@ -174,7 +200,12 @@ module _ (size page : ℕ) where
       let order : succession last (number % 16) ≡ Next = ap (λ before. succession before (number % 16)) stands.1 ∙ in_turn stands.0 number stands.2 in
       let close = subst (λ (k : Option ℕ). AreNear k (true ∷ come)) stands.4 near in
       record {
-        next = Joined; last = Some (number % 16); hand = None; since = Some 0; count = 0; behind = arrivals;
+        next = Joined;
+        last = Some (number % 16);
+        hand = None;
+        since = Some 0;
+        count = 0;
+        behind = arrivals;
         are = ap (λ front. front ++ arrivals) (λ i. brought (stands.3 i) (order i) (inner i) piece.bytes place);
         steps = tt;
         stands = (number, refl, refl, refl, refl);
@@ -185,7 +216,12 @@ module _ (size page : ℕ) where
       let close = subst (λ (k : Option ℕ). AreNear k (true ∷ come)) stands.5 near in
       let order : succession last (number % 16) ≡ Missing ((stands.0 % 16 + 1) % 16) (number % 16) = ap (λ before. succession before (number % 16)) stands.2 ∙ missing_before stands.0 stands.1 number stands.3 stands.4 close.0 in
       record {
-        next = Joined; last = Some (number % 16); hand = None; since = Some 0; count = 1; behind = arrivals;
+        next = Joined;
+        last = Some (number % 16);
+        hand = None;
+        since = Some 0;
+        count = 1;
+        behind = arrivals;
         are = ap (λ front. front ++ arrivals) (λ i. brought hand (order i) (inner i) piece.bytes place);
         steps = omega arith;
         stands = (number, refl, refl, refl, refl);
@@ -196,10 +232,17 @@ module _ (size page : ℕ) where
   -- one walk behind another
   further_on : (first kind : Kind) (number : ℕ) (rest : List Piece) (come : List Bool) (arrivals behind : List Arrival) (count : ℕ) → arrivals ≡ losses count ++ behind → Steps first count kind → WalksOn kind number rest come behind → WalksOn first number rest come arrivals
   further_on first kind number rest come arrivals behind count are steps on = record {
-    next = on.next; last = on.last; hand = on.hand; since = on.since; count = count + on.count; behind = on.behind;
+    next = on.next;
+    last = on.last;
+    hand = on.hand;
+    since = on.since;
+    count = count + on.count;
+    behind = on.behind;
     are = are ∙ ap (λ all. losses count ++ all) on.are ∙ losses-add count on.count on.behind;
     steps = more_steps first kind on.next count on.count steps on.steps;
-    stands = on.stands; near = on.near; walk = on.walk;
+    stands = on.stands;
+    near = on.near;
+    walk = on.walk;
   }
 
   weaker_start : (kind : Kind) (number : ℕ) (rest : List Piece) (come : List Bool) (arrivals : List Arrival) → WalksOn (missed_from kind) number rest come arrivals → WalksOn kind number rest come arrivals
@@ -276,7 +319,9 @@ module _ (size page : ℕ) where
       let hand_is : in_hand hand (succession last (number % 16)) piece.starts piece.bytes ≡ None = (λ i. in_hand (at.3 i) (order i) (are.0.1 i) piece.bytes) ∙ whole_kept (front ++ piece.bytes) bytes fate in
       let close = (subst (λ (k : Option ℕ). AreNear k (true ∷ come)) at.4 near).1 in
       reaches place left (ap (λ first. first ++ left) front_is) (record {
-        last = Some (number % 16); hand = None; since = Some 0;
+        last = Some (number % 16);
+        hand = None;
+        since = Some 0;
         stands = (number, refl, refl, refl, refl);
         near = close;
         walk = subst (λ (now : Option (List ℕ)). Walk size page (Some (number % 16)) now (number + 1) rest come left) hand_is walk;
@@ -367,7 +412,9 @@ module _ (size page : ℕ) where
       let fate : fate_of size piece.bytes ≡ Whole bytes = ap (fate_of size) all ∙ unit_is_whole size bytes is in
       let begun = is_begun kind last hand number since piece come place (Whole bytes) first stands near fate refl in
       comes_whole place left (ap (λ front. front ++ left) begun.brings ∙ append_assoc (lost_before kind) (arrival_of_unit page place bytes ∷ []) left) (record {
-        last = Some (number % 16); hand = None; since = Some 0;
+        last = Some (number % 16);
+        hand = None;
+        since = Some 0;
         stands = (number, refl, refl, refl, refl);
         near = begun.near;
         walk = subst (λ (now : Option (List ℕ)). Walk size page (Some (number % 16)) now (number + 1) rest come left) (begun.keeps ∙ whole_kept piece.bytes bytes fate) walk;

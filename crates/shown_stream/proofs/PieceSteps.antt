@@ -299,21 +299,21 @@ middle_step coded pid page loads slots painted entry slot number i before left f
       next = i;
       left_behind = same_left loads painted entry i;
       onward = goes_on (subst (Piecewise coded pid page loads slots entry (slot + 1) (number + 1) i (before ++ packet ∷ [])) (sym left_are)
-        (begin_unit coded pid page loads slots entry (slot + 1) (number + 1) i (suc at.k) (before ++ packet ∷ []) at.sets at.set (suc at.u) at.groups at.later unit units
-        (record {
-        inside = goes.inside;
-        numbered = (let same = goes.numbered in omega (arith, same));
-        begun = goes.begun;
-        counted = (let low = goes.counted in omega arith);
-        passed = stands.passed_here;
-        follows = inr (number % 16, ends.brings.counter_behind, omega arith);
-        came = came;
-        all = goes.all;
-        is = goes.is;
-        apart = goes.apart;
-        sent = goes.sent;
-        })
-        units_are whole ends.brings.hand_behind (stands.own_left ∙ ap (map bytes_in) pieces_are)));
+          (begin_unit coded pid page loads slots entry (slot + 1) (number + 1) i (suc at.k) (before ++ packet ∷ []) at.sets at.set (suc at.u) at.groups at.later unit units
+          (record {
+            inside = goes.inside;
+            numbered = (let same = goes.numbered in omega (arith, same));
+            begun = goes.begun;
+            counted = (let low = goes.counted in omega arith);
+            passed = stands.passed_here;
+            follows = inr (number % 16, ends.brings.counter_behind, omega arith);
+            came = came;
+            all = goes.all;
+            is = goes.is;
+            apart = goes.apart;
+            sent = goes.sent;
+          })
+          units_are whole ends.brings.hand_behind (stands.own_left ∙ ap (map bytes_in) pieces_are)));
     }
 
 -- ---- a set's last piece
@@ -382,7 +382,7 @@ begin_set coded pid page loads slots entry slot number i k before sets set (grou
     by : (group : List (List ℕ)) → IsSentSet coded page loads (suc i) group next → Position coded pid page loads slots entry slot (number + 1) (suc i) before (all_pieces (units_in (group ∷ groups)))
     by [] is = absurd (no_set next.units is.is.units is.units)
     by (unit ∷ units) is = goes_on (subst (Piecewise coded pid page loads slots entry slot (number + 1) (suc i) before) (sym (units_append (unit ∷ units) groups))
-      (begin_unit coded pid page loads slots entry slot (number + 1) (suc i) 0 before (sets ++ set ∷ []) next 0 groups later unit units goes is.units is.whole hand is.bytes))
+        (begin_unit coded pid page loads slots entry slot (number + 1) (suc i) 0 before (sets ++ set ∷ []) next 0 groups later unit units goes is.units is.whole hand is.bytes))
 
 -- the last unit of a set
 last_step : (coded pid page : ℕ) (loads : List WriteLoad) (slots : List ℕ) (painted : ℕ → ℕ) (entry : Entry) (slot number i : ℕ) (before : List (List ℕ)) (left : List Piece) → IsFree pid → AreSlots loads slots
@@ -412,8 +412,8 @@ last_step coded pid page loads slots painted entry slot number i before left fre
       next = suc i;
       left_behind = one_less loads painted entry i;
       onward = subst (Position coded pid page loads slots entry (slot + 1) (number + 1) (suc i) (before ++ packet ∷ [])) (sym left_are)
-      (begin_set coded pid page loads slots entry (slot + 1) number i at.k (before ++ packet ∷ []) at.sets at.set at.groups at.later goes.sent goes.numbered (omega (arith, many, ap length pieces_are)) goes.begun stands.passed_here
-      (inr (number % 16, ends.brings.counter_behind, omega arith)) came all goes.apart ends.brings.hand_behind);
+          (begin_set coded pid page loads slots entry (slot + 1) number i at.k (before ++ packet ∷ []) at.sets at.set at.groups at.later goes.sent goes.numbered (omega (arith, many, ap length pieces_are)) goes.begun stands.passed_here
+          (inr (number % 16, ends.brings.counter_behind, omega arith)) came all goes.apart ends.brings.hand_behind);
     }
 
 -- ---- any piece

@@ -103,5 +103,5 @@ timed_from n i (group ∷ groups) (set ∷ planned) (one ∷ sets) many times = 
         let count : suc ((entry_behind (n - length group) (suc i) groups).set - suc i) ≡ (entry_behind (n - length group) (suc i) groups).set - i = omega (arith, later) in
         let left : n - length group ≡ n - length one.units = omega arith in
         subst (λ (b : Bool). Goal (ltb n (length group)) b) second (subst (λ (a : Bool). Goal a false) first
-          (subst (λ (k : ℕ). AreTimed (drop k (set ∷ planned)) (sets_behind (n - length one.units) sets)) count
-            (subst (λ (k : ℕ). AreTimed (drop ((entry_behind (n - length group) (suc i) groups).set - suc i) planned) (sets_behind k sets)) left rest)))
+        (subst (λ (k : ℕ). AreTimed (drop k (set ∷ planned)) (sets_behind (n - length one.units) sets)) count
+        (subst (λ (k : ℕ). AreTimed (drop ((entry_behind (n - length group) (suc i) groups).set - suc i) planned) (sets_behind k sets)) left rest)))
