@@ -99,7 +99,7 @@ record IsBegun (script : Script) (profile : Profile) (anchor : ℕ) (sets : List
 low_prop : (origin : ℕ) → IsProp (origin ≤ LATEST_ORIGIN)
 low_prop origin = hlevel props
 
-low_origin : (script : Script) → script.origin ≤ LATEST_ORIGIN
+pub low_origin : (script : Script) → script.origin ≤ LATEST_ORIGIN
 low_origin script = ∥∥₁_elim script.sound (low_prop script.origin) (λ (sound : IsSound script.origin script.width script.height script.refresh script.epochs script.pictures). sound.early)
 
 -- the sets of a plan, and where a receiver enters it

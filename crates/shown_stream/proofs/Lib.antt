@@ -44,6 +44,7 @@ pub mod CompiledCalls
 pub mod CompiledWithin
 pub mod KeptCalls
 pub mod SetsUpTo
+pub mod CompiledTimes
 pub mod ScriptExample
 pub mod SentPlaces
 pub mod LateCuts
