@@ -45,6 +45,7 @@ pub mod CompiledWithin
 pub mod KeptCalls
 pub mod SetsUpTo
 pub mod CompiledTimes
+pub mod CompiledKept
 pub mod ScriptExample
 pub mod SentPlaces
 pub mod LateCuts
