@@ -1,14 +1,13 @@
 -- The sets of a compiled stream from its entry on are ahead of each other, by every anchor that suits those of which packets come.
-use Rattle.std.proofs.Common.{◌≡◌, ◌∙◌, ℕ, suc, ◌+◌, ◌<◌, ◌≤◌, true, List, length, drop, Some, None, arith}
+use Rattle.std.proofs.Common.{◌≡◌, ◌∙◌, ℕ, ◌+◌, ◌<◌, true, List, length, drop, None, arith}
 use Rattle.std.specs.Prelude.{All, nat_le}
-use Rattle.std.specs.List.{list_any, slice_get}
+use Rattle.std.specs.List.{list_any}
 use Rattle.std.proofs.lemmas.Option.{slice_get_within}
 use Rattle.sub_base.specs.Pace.{pace_of}
 use Rattle.sub_base.specs.Profile.{profile_of}
 use Rattle.sub_base.specs.declared.profile.ProfileName.{ProfileName}
 use Rattle.cue_list.specs.Sound.{IsTick}
 use Rattle.cue_list.specs.declared.script.Script.{Script}
-use Rattle.page_epoch.specs.declared.planned_set.PlannedSet.{PlannedSet}
 use Rattle.schedule.specs.Packets.{first_packet, packets_of}
 use Rattle.schedule.specs.Slots.{IsLoad, slots_of}
 use Rattle.schedule.proofs.SumLaws.{sum_below-suc}
@@ -22,8 +21,8 @@ use Rattle.shown_stream.proofs.EnteredTimes.{anchor_suits, near_first, drop_with
 use Rattle.shown_stream.proofs.LateAnchors.{some_from}
 use Rattle.shown_stream.proofs.LateCalls.{entry_not_begun}
 use Rattle.shown_stream.proofs.LatePlaces.{count_sets}
-use Rattle.shown_stream.proofs.PlannedTimes.{pts_of, times_in_span, pts_rise}
-use Rattle.shown_stream.proofs.ShownSets.{IsAheadOf, AreAheadOf}
+use Rattle.shown_stream.proofs.PlannedTimes.{times_in_span, pts_rise}
+use Rattle.shown_stream.proofs.ShownSets.{AreAheadOf}
 
 -- a packet of the entry's set comes
 entry_comes : (name : ProfileName) (pid page : ℕ) (script : Script) (bytes : List ℕ) (compiled : IsCompiledTo name pid page script bytes) (known : ArePackets name pid page script bytes compiled) (loads_are : All IsLoad compiled.loads) (missed : ℕ)
@@ -47,4 +46,4 @@ compiled_ahead name pid page script bytes compiled known loads_are missed anchor
     let many = as_many compiled.loads compiled.units compiled.sized ∙ (count_sets script page sets compiled.units known.sent known.are.are).1 in
     near_first anchor script.origin (drop first sets) (omega arith) (drop_within (IsTick script.origin) first sets (times_in_span script (profile_of name) sets plan)) (drop_rises first sets (pts_rise script (profile_of name) sets plan))
     (λ set found. let there = found_drop first sets set found in
-      anchor_suits anchor missed first compiled.table sets set suits there (entry_comes name pid page script bytes compiled known loads_are missed (omega (arith, many, slice_get_within sets first set there))))
+    anchor_suits anchor missed first compiled.table sets set suits there (entry_comes name pid page script bytes compiled known loads_are missed (omega (arith, many, slice_get_within sets first set there))))
