@@ -1,16 +1,16 @@
 -- What one packet of a stream of cut units brings: its bytes, and the unit of which it carries the last piece.
-use Rattle.std.proofs.Common.{◌≡◌, ◌≢◌, ◌∙◌, ℕ, ◌+◌, ◌%◌, ◌≤◌, Bool, true, false, eqb, cond, ◌||◌, List, [], ◌∷◌, ◌++◌, length, Option, Some, None, inl, inr, refl, sym, ap, subst, arith, append-nil}
+use Rattle.std.proofs.Common.{◌≡◌, ◌≢◌, ◌∙◌, ℕ, ◌+◌, ◌%◌, ◌≤◌, Bool, true, false, eqb, cond, List, [], ◌∷◌, ◌++◌, length, Option, Some, None, inl, inr, refl, sym, ap, subst, arith}
 use Rattle.std.specs.Option.{option_map}
 use Rattle.std.proofs.lemmas.Bool.Decides.{nat_tests}
 use Rattle.stream_syntax.specs.Cutting.{IsUnit}
 use Rattle.stream_syntax.specs.TransportPackets.{null_packet, pid_of, counter_of, has_start_flag, payload_of}
-use Rattle.stream_syntax.specs.Units.{last_counter, Succession, Next, Again, Missing, succession, payload_part, Part, Begins, Adds, Fate, Waits, Whole, Over, fate_of, is_waiting, joined, handed_out, followed, part_after, part_of, hand_after, unit_after, unit_at, payload_event, event_after, event_at, is_loss}
+use Rattle.stream_syntax.specs.Units.{last_counter, Next, Again, Missing, succession, payload_part, Part, Begins, Adds, Fate, Waits, Whole, fate_of, is_waiting, joined, handed_out, followed, part_after, part_of, hand_after, unit_after, unit_at, payload_event, event_after, event_at, is_loss}
 use Rattle.stream_syntax.specs.declared.transport.Event.{Event}
 use Rattle.stream_syntax.specs.declared.transport.Event.TheVariants as event
 use Rattle.decoder_model.specs.Arrivals.{is_over, ends_too_long}
 use Rattle.decoder_model.specs.PacketArrivals.{bytes_of_part, is_break}
 use Rattle.decoder_model.proofs.SentUnits.{no_loss_at}
-use Rattle.ts_packets.specs.Demuxing.{next_hand, kept}
+use Rattle.ts_packets.specs.Demuxing.{next_hand}
 use Rattle.ts_packets.proofs.AnyCuttingLemmas.{front_waits, unit_is_whole}
 use Rattle.ts_packets.proofs.UnitLemmas.{hand_push, counter_push}
 use Rattle.ts_packets.proofs.WrittenPackets.{SaysWhatWasWritten}

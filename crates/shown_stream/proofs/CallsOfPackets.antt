@@ -1,5 +1,5 @@
 -- The packets of sets that are cut into pieces, with null packets between, give the calls of the scheduled sets.
-use Rattle.std.proofs.Common.{◌≡◌, ◌≢◌, ◌∙◌, ◌⊎◌, inl, inr, ℕ, zero, suc, ◌+◌, ◌-◌, ◌<◌, ◌≤◌, false, List, [], ◌∷◌, ◌++◌, length, take, drop, reverse, replicate, refl, sym, ap, subst, arith, append-nil, append_assoc, length-append, length-drop}
+use Rattle.std.proofs.Common.{◌≡◌, ◌≢◌, ◌∙◌, inl, inr, ℕ, zero, suc, ◌+◌, ◌-◌, ◌<◌, ◌≤◌, false, List, [], ◌∷◌, ◌++◌, length, take, drop, reverse, replicate, refl, sym, ap, subst, arith, append-nil, append_assoc, length-append, length-drop}
 use Rattle.std.specs.Prelude.{None, flat_map, slice_index}
 use Rattle.std.specs.List.{AllByRecursion}
 use Rattle.std.proofs.lemmas.Bool.{cases_lt}
@@ -11,9 +11,8 @@ use Rattle.stream_syntax.specs.TransportPackets.{null_packet, packet_fault}
 use Rattle.stream_syntax.specs.Units.{hand_after, last_counter}
 use Rattle.decoder_model.specs.Sets.{sets_of}
 use Rattle.decoder_model.proofs.Growth.{packets_add}
-use Rattle.decoder_model.proofs.SentSets.{all-append}
 use Rattle.decoder_model.proofs.SentUnits.{all_taken}
-use Rattle.sent_levels.proofs.EnteredCalls.{Entry, entered_calls}
+use Rattle.sent_levels.proofs.EnteredCalls.{Entry}
 use Rattle.sent_levels.proofs.EnteredSums.{AreSlots, within_slots, rising}
 use Rattle.shown_stream.specs.SlotStream.{Piece, packet_of, all_pieces}
 use Rattle.shown_stream.specs.StreamCalls.{count_with}

@@ -1,33 +1,24 @@
 -- The packets of sets that are cut into pieces, at their slots, give the calls of the scheduled sets.
-use Rattle.std.proofs.Common.{◌≡◌, ◌≢◌, ◌∙◌, ◌⊎◌, inl, inr, ℕ, zero, suc, ◌+◌, ◌-◌, ◌%◌, ◌<◌, ◌≤◌, Bool, true, false, eqb, cond, List, [], ◌∷◌, ◌++◌, length, map, take, drop, reverse, replicate, get_or, Option, Some, None, refl, sym, ap, subst, arith, append-nil, append_assoc, length-append, length-drop}
+use Rattle.std.proofs.Common.{◌≡◌, ◌∙◌, ℕ, zero, suc, ◌+◌, ◌-◌, ◌<◌, ◌≤◌, Bool, true, false, List, [], ◌∷◌, ◌++◌, length, map, take, drop, reverse, get_or, Some, None, refl, sym, ap, subst, arith, append-nil, append_assoc, length-append}
 use Rattle.std.specs.Prelude.{flat_map, slice_index}
 use Rattle.std.specs.List.{AllByRecursion, AllZip, concat, slice_get}
-use Rattle.std.proofs.lemmas.Bool.{cases_lt}
-use Rattle.std.proofs.lemmas.Bool.Decides.{nat_tests}
-use Rattle.std.proofs.lemmas.List.{reverse-append, map-append}
+use Rattle.std.proofs.lemmas.List.{reverse-append}
 use Rattle.std.proofs.Math.Seq.{drop-nil}
 use Rattle.sub_base.specs.declared.load.WriteLoad.{WriteLoad}
-use Rattle.buffer_model.specs.Calls.{Call, Arrived, SetWhole}
-use Rattle.schedule.specs.Packets.{units_of, packets_of, first_packet, payload_of, payloads_of}
-use Rattle.schedule.specs.Slots.{slot_of}
+use Rattle.buffer_model.specs.Calls.{Call, SetWhole}
+use Rattle.schedule.specs.Packets.{units_of, first_packet, payloads_of}
 use Rattle.stream_syntax.specs.Cutting.{IsUnit}
-use Rattle.stream_syntax.specs.TransportPackets.{null_packet, packet_fault}
 use Rattle.stream_syntax.specs.Units.{event_at, hand_after, last_counter}
 use Rattle.decoder_model.specs.PacketArrivals.{packet_arrival}
-use Rattle.decoder_model.specs.Sets.{sets_of}
-use Rattle.decoder_model.proofs.SentSets.{SetUnit, TimedSet, timed, IsTimedSet, IsUnitOf, HaveDifferentTimes, delivered}
-use Rattle.ts_packets.proofs.WrittenPackets.{null_is_taken}
+use Rattle.decoder_model.proofs.SentSets.{SetUnit, TimedSet, timed, IsTimedSet, IsUnitOf, HaveDifferentTimes}
 use Rattle.sent_levels.proofs.EnteredCalls.{Entry, from_of, heard_load, entered_calls}
-use Rattle.sent_levels.proofs.EnteredSums.{AreSlots, within_slots, rising}
-use Rattle.shown_stream.specs.SlotStream.{Piece, packet_of, pieces_of, all_pieces, IsPiece}
+use Rattle.shown_stream.specs.SlotStream.{Piece, all_pieces, IsPiece}
 use Rattle.shown_stream.specs.StreamCalls.{count_with, calls_of_packet, arrived_in, calls_from}
-use Rattle.shown_stream.proofs.BroughtPieces.{Brings, IsReady, null_brings, piece_brings, last_brings}
-use Rattle.shown_stream.proofs.EnteredSlots.{no_packet, StandsAt, packet_adds, last_adds}
-use Rattle.shown_stream.proofs.LaidPackets.{laid}
-use Rattle.shown_stream.proofs.SentPieces.{IsFree, AreFurther, FollowsOn, says}
+use Rattle.shown_stream.proofs.BroughtPieces.{IsReady}
+use Rattle.shown_stream.proofs.SentPieces.{AreFurther, FollowsOn}
 use Rattle.shown_stream.proofs.SentStream.{first_piece, further_of, its_pieces, its_bytes, its_first, its_further}
 use Rattle.shown_stream.proofs.SetPackets.{bytes_in}
-use Rattle.shown_stream.proofs.SetsInHand.{HaveCome, sets_so_far, no_unit_more, next_unit_more, last_unit_more, IsPlain, plain_piece, plain_last, plain_calls, count_is}
+use Rattle.shown_stream.proofs.SetsInHand.{HaveCome, IsPlain, plain_calls}
 
 -- ---- the pieces that are left of a unit
 

@@ -1,5 +1,5 @@
 -- The calls that a compiled stream gives to a receiver that enters it behind any number of packets, up to any packet.
-use Rattle.std.proofs.Common.{◌≡◌, ◌∙◌, ℕ, zero, suc, ◌+◌, ◌-◌, ◌<◌, ◌≤◌, false, List, [], ◌∷◌, ◌++◌, length, map, take, drop, reverse, get_or, None, refl, sym, ap, subst, arith, length-append}
+use Rattle.std.proofs.Common.{◌≡◌, ◌∙◌, ℕ, zero, suc, ◌+◌, ◌<◌, ◌≤◌, false, List, [], ◌∷◌, ◌++◌, length, map, take, drop, reverse, get_or, None, refl, sym, ap, arith}
 use Rattle.std.specs.Prelude.{All}
 use Rattle.std.specs.List.{AllByRecursion, AllZip}
 use Rattle.std.proofs.lemmas.List.{length-map, length-reverse}
@@ -15,23 +15,19 @@ use Rattle.buffer_model.specs.Calls.{Call}
 use Rattle.schedule.specs.Slots.{IsLoad}
 use Rattle.stream_syntax.specs.Cutting.{IsUnit}
 use Rattle.stream_syntax.specs.TransportPackets.{packet_fault}
-use Rattle.decoder_model.specs.Arrivals.{packets_taken}
 use Rattle.decoder_model.specs.Readings.{Reading, AreDeliveriesRead}
-use Rattle.decoder_model.specs.Received.{HasReceived}
 use Rattle.decoder_model.specs.Sets.{Delivery, sets_of}
 use Rattle.decoder_model.specs.Streams.{entered_at}
-use Rattle.decoder_model.proofs.SentSets.{TimedSet, timed, timed_units, IsTimedSet, IsUnitOf, delivered}
+use Rattle.decoder_model.proofs.SentSets.{TimedSet, timed, timed_units, IsTimedSet, IsUnitOf}
 use Rattle.decoder_model.proofs.SentUnits.{all_taken}
 use Rattle.sent_levels.proofs.EnteredCalls.{Entry, entered_calls}
-use Rattle.sent_levels.proofs.EnteredSums.{AreSlots}
-use Rattle.shown_stream.specs.Compiled.{IsCompiledFor, AreSizedAs, all_units, IsCompiledTo}
+use Rattle.shown_stream.specs.Compiled.{AreSizedAs, all_units, IsCompiledTo}
 use Rattle.shown_stream.specs.SlotStream.{all_pieces}
 use Rattle.shown_stream.specs.StreamCalls.{set_call, set_calls, calls_from, AreCallsOf}
 use Rattle.shown_stream.proofs.CallsOfPackets.{used_up}
-use Rattle.shown_stream.proofs.CallsOfPieces.{IsSentSet, AreSentSets, AreLeft, AreUsedUp}
-use Rattle.shown_stream.proofs.CompiledPackets.{packets_in, ArePackets, are_packets, as_many, count_pieces}
-use Rattle.shown_stream.proofs.CompiledSets.{IsSentAs, AreSentAs}
-use Rattle.shown_stream.proofs.LaidPackets.{laid}
+use Rattle.shown_stream.proofs.CallsOfPieces.{AreSentSets, AreLeft, AreUsedUp}
+use Rattle.shown_stream.proofs.CompiledPackets.{packets_in, ArePackets, as_many, count_pieces}
+use Rattle.shown_stream.proofs.CompiledSets.{AreSentAs}
 use Rattle.shown_stream.proofs.LateCalls.{IsSentStream, entry_of, late_calls}
 use Rattle.shown_stream.proofs.LatePlaces.{same_many}
 use Rattle.shown_stream.proofs.RisingSlots.{rises, slots_rise}
@@ -52,12 +48,12 @@ all_split : {X : Type 0} (P : X → Type 0) (xs ys : List X) → AllByRecursion 
 all_split P [] ys h = (tt, h)
 all_split P (x ∷ xs) ys h = let rest = all_split P xs ys h.1 in ((h.0, rest.0), rest.1)
 
-all_drop : {X : Type 0} (P : X → Type 0) (n : ℕ) (xs : List X) → AllByRecursion P xs → AllByRecursion P (drop n xs)
+pub all_drop : {X : Type 0} (P : X → Type 0) (n : ℕ) (xs : List X) → AllByRecursion P xs → AllByRecursion P (drop n xs)
 all_drop P zero xs h = h
 all_drop P (suc n) [] h = tt
 all_drop P (suc n) (x ∷ xs) h = all_drop P n xs h.1
 
-all_take : {X : Type 0} (P : X → Type 0) (n : ℕ) (xs : List X) → AllByRecursion P xs → AllByRecursion P (take n xs)
+pub all_take : {X : Type 0} (P : X → Type 0) (n : ℕ) (xs : List X) → AllByRecursion P xs → AllByRecursion P (take n xs)
 all_take P zero xs h = tt
 all_take P (suc n) [] h = tt
 all_take P (suc n) (x ∷ xs) h = (h.0, all_take P n xs h.1)

@@ -1,11 +1,10 @@
 -- Wherever a compiled stream is entered, its calls keep the coded data buffer and the times of its sets.
-use Rattle.std.proofs.Common.{◌≡◌, ◌∙◌, ℕ, suc, ◌+◌, ◌-◌, ◌<◌, ◌≤◌, false, List, ◌∷◌, length, map, take, drop, reverse, refl, ap, sym, subst, arith, length-append, length-drop}
+use Rattle.std.proofs.Common.{◌≡◌, ◌∙◌, ℕ, suc, ◌+◌, ◌<◌, ◌≤◌, false, List, ◌∷◌, length, map, take, drop, reverse, refl, ap, sym, subst, arith, length-append, length-drop}
 use Rattle.std.specs.Prelude.{All}
 use Rattle.std.proofs.lemmas.List.{length-map}
 use Rattle.sub_base.specs.Pace.{pace_of}
 use Rattle.sub_base.specs.Profile.{profile_of}
 use Rattle.sub_base.specs.declared.load.WriteLoad.{WriteLoad}
-use Rattle.sub_base.specs.declared.pace.Pace.{Pace}
 use Rattle.sub_base.specs.declared.profile.ProfileName.{ProfileName}
 use Rattle.cue_list.specs.declared.script.Script.{Script}
 use Rattle.buffer_model.specs.Calls.{Call, level_at}
@@ -66,7 +65,7 @@ compiled_is_entry name pid page script bytes compiled known loads_are painted mi
 
 -- what the sets of a stream ask as they are received: each at its own time, no more painting than is planned
 pub record AreReceivedSo (name : ProfileName) (pid page : ℕ) (script : Script) (bytes : List ℕ) (compiled : IsCompiledTo name pid page script bytes) (known : ArePackets name pid page script bytes compiled) (loads_are : All IsLoad compiled.loads)
-        (anchor missed m : ℕ) (calls : List Call) (painted : ℕ → ℕ) : Type 0 where
+    (anchor missed m : ℕ) (calls : List Call) (painted : ℕ → ℕ) : Type 0 where
   pub few : m ≤ length (entered_at missed (packets_in name pid page script bytes compiled))
   pub given : AreCallsOf (profile_of name) pid page anchor missed false (take m (entered_at missed (packets_in name pid page script bytes compiled))) calls
   pub kept : AreLeft compiled.loads painted (compiled_entry name pid page script bytes compiled known loads_are missed) (compiled_entry name pid page script bytes compiled known loads_are missed).set (set_calls (profile_of name) anchor (reverse given.past))

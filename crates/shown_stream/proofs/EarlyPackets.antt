@@ -1,6 +1,6 @@
 -- A stream that is entered inside a unit: the packets of its rest give no calls, and then come those of the scheduled sets.
-use Rattle.std.proofs.Common.{◌≡◌, ◌∙◌, ◌⊎◌, inl, inr, ℕ, zero, suc, ◌+◌, ◌-◌, ◌%◌, ◌<◌, ◌≤◌, Bool, true, false, eqb, cond, List, [], ◌∷◌, ◌++◌, length, map, take, drop, reverse, None, Some, Option, refl, sym, ap, subst, arith, length-append, length-drop, append-nil}
-use Rattle.std.specs.Prelude.{flat_map, slice_index}
+use Rattle.std.proofs.Common.{◌≡◌, ◌∙◌, inl, inr, ℕ, zero, suc, ◌+◌, ◌%◌, ◌<◌, ◌≤◌, true, eqb, cond, List, [], ◌∷◌, ◌++◌, length, map, take, drop, None, Some, Option, sym, ap, subst, arith, length-append, length-drop}
+use Rattle.std.specs.Prelude.{slice_index}
 use Rattle.std.specs.List.{AllByRecursion, AllZip}
 use Rattle.std.proofs.lemmas.Bool.{cases_lt}
 use Rattle.std.proofs.lemmas.Bool.Decides.{nat_tests}
@@ -8,19 +8,18 @@ use Rattle.std.proofs.lemmas.List.{length-map}
 use Rattle.sub_base.specs.declared.load.WriteLoad.{WriteLoad}
 use Rattle.buffer_model.specs.Calls.{Call}
 use Rattle.schedule.specs.Packets.{units_of, packets_of, first_packet, payloads_of}
-use Rattle.schedule.specs.Slots.{slot_of}
 use Rattle.stream_syntax.specs.Cutting.{IsUnit}
 use Rattle.stream_syntax.specs.TransportPackets.{null_packet, packet_fault}
 use Rattle.stream_syntax.specs.Units.{hand_after, last_counter}
-use Rattle.decoder_model.proofs.SentSets.{SetUnit, TimedSet, timed, IsTimedSet, IsUnitOf, HaveDifferentTimes}
+use Rattle.decoder_model.proofs.SentSets.{TimedSet, timed, IsTimedSet, IsUnitOf, HaveDifferentTimes}
 use Rattle.ts_packets.proofs.WrittenPackets.{null_is_taken}
-use Rattle.sent_levels.proofs.EnteredCalls.{Entry, from_of, entered_calls}
+use Rattle.sent_levels.proofs.EnteredCalls.{Entry, from_of}
 use Rattle.sent_levels.proofs.EnteredSums.{AreSlots, within_slots, rising}
 use Rattle.shown_stream.specs.SlotStream.{Piece, packet_of, all_pieces, pieces_of}
 use Rattle.shown_stream.specs.StreamCalls.{count_with}
 use Rattle.shown_stream.proofs.BroughtPieces.{Brings, null_brings, further_brings}
 use Rattle.shown_stream.proofs.CallsOfPackets.{laid_here, laid_later, used_next, walk_none, walk}
-use Rattle.shown_stream.proofs.CallsOfPieces.{E, AreUsedUp, Add, one_more, AreSentSets, units_in, AreLeft, Piecewise, Position, nothing_left, goes_on, begin_unit, dropped, unit_has_bytes}
+use Rattle.shown_stream.proofs.CallsOfPieces.{AreUsedUp, Add, one_more, AreSentSets, units_in, AreLeft, Piecewise, Position, nothing_left, goes_on, begin_unit, dropped, unit_has_bytes}
 use Rattle.shown_stream.proofs.EnteredSlots.{IsNotBegun, nothing_yet}
 use Rattle.shown_stream.proofs.LaidPackets.{laid, IsAhead}
 use Rattle.shown_stream.proofs.SentPieces.{IsFree, AreFurther, FollowsOn, says}
@@ -71,7 +70,7 @@ reaches coded pid page loads slots entry slot number before behind early = by be
     by : (behind : List Piece) → Behind coded page loads entry (number + 0) behind → Position coded pid page loads slots entry slot number entry.set before behind
     by behind (nothing_behind none) = nothing_left
     by behind (begins first) = goes_on (subst (Position_of) (sym first.behind_is)
-      (begin_unit coded pid page loads slots entry slot number entry.set entry.packet before [] first.set 0 first.groups first.later first.unit first.units
+        (begin_unit coded pid page loads slots entry slot number entry.set entry.packet before [] first.set 0 first.groups first.later first.unit first.units
         (record {
           inside = first.inside;
           numbered = (let same = first.numbered in omega (arith, same));

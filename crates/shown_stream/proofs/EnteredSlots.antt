@@ -1,5 +1,5 @@
 -- The calls of scheduled sets behind an entry, slot by slot: what the packet at a slot adds to them.
-use Rattle.std.proofs.Common.{◌≡◌, ◌≢◌, ◌∙◌, ◌⊎◌, inl, inr, ℕ, zero, suc, ◌+◌, ◌-◌, ◌<◌, ◌≤◌, ◌&&◌, nat_le, nat_lt, Bool, true, false, eqb, cond, List, [], ◌∷◌, length, refl, sym, ap, arith}
+use Rattle.std.proofs.Common.{◌≡◌, ◌≢◌, ◌∙◌, inl, inr, ℕ, zero, suc, ◌+◌, ◌-◌, ◌<◌, ◌≤◌, ◌&&◌, nat_le, nat_lt, Bool, true, false, eqb, cond, List, [], ◌∷◌, length, refl, sym, ap, arith}
 use Rattle.std.proofs.lemmas.Bool.{cases_lt}
 use Rattle.std.proofs.lemmas.Bool.Decides.{nat_tests}
 use Rattle.sub_base.specs.declared.load.WriteLoad.{WriteLoad}
@@ -247,6 +247,7 @@ nothing_yet loads slots painted entry slot (suc i) are inside early =
                 | inr after ↦ (let at : k ≡ entry.packet = omega (arith, after, counted, begins) in omega (arith, told.1, own, ap (slot_of loads slots entry.set) at))
               ]
         ]
+
     not_counted : (k : ℕ) → k < packets_of loads i → entry.set ≤ i → counts loads slots slot entry i k ≡ false
     not_counted k within most =
         elim (cases_lt k (from_of entry i)) [

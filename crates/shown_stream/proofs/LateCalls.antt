@@ -1,9 +1,7 @@
 -- A stream of sets in slots, entered behind any number of packets: up to any further packet it gives the calls of the scheduled
 -- sets, from the first unit on that comes whole.
-use Rattle.std.proofs.Common.{◌≡◌, ◌∙◌, ◌⊎◌, inl, inr, ℕ, zero, suc, ◌+◌, ◌-◌, ◌<◌, ◌≤◌, Bool, true, false, ltb, cond, List, [], ◌∷◌, ◌++◌, length, map, take, drop, reverse, get_or, take_all, refl, sym, ap, subst, arith, append-nil, length-append, length-drop}
-use Rattle.std.specs.Prelude.{slice_index}
+use Rattle.std.proofs.Common.{◌≡◌, ◌∙◌, ◌⊎◌, inl, inr, ℕ, zero, suc, ◌+◌, ◌-◌, ◌<◌, ◌≤◌, Bool, true, false, ltb, cond, List, [], ◌∷◌, ◌++◌, length, map, take, drop, reverse, refl, sym, ap, subst, arith, append-nil, length-append, length-drop}
 use Rattle.std.specs.List.{AllByRecursion, AllZip}
-use Rattle.std.specs.List.Sorted.{IsStrictlyIncreasing}
 use Rattle.std.proofs.Math.Seq.{drop-nil, drop-append-add}
 use Rattle.std.proofs.lemmas.Bool.{cases_lt}
 use Rattle.std.proofs.lemmas.Bool.Decides.{nat_tests}
@@ -14,13 +12,13 @@ use Rattle.buffer_model.specs.Calls.{Call}
 use Rattle.schedule.specs.Packets.{units_of, packets_of, first_packet, payloads_of}
 use Rattle.schedule.proofs.SumLaws.{sum_below-suc, sum_below-zero}
 use Rattle.stream_syntax.specs.Cutting.{IsUnit}
-use Rattle.decoder_model.proofs.SentSets.{TimedSet, timed, IsTimedSet, IsUnitOf, HaveDifferentTimes}
+use Rattle.decoder_model.proofs.SentSets.{TimedSet, timed, IsUnitOf, HaveDifferentTimes}
 use Rattle.decoder_model.proofs.SentUnits.{no_hand}
 use Rattle.sent_levels.proofs.EnteredCalls.{Entry, entered_calls}
 use Rattle.sent_levels.proofs.EnteredSums.{AreSlots, within_slots}
 use Rattle.shown_stream.specs.SlotStream.{Piece, all_pieces, pieces_of}
 use Rattle.shown_stream.specs.StreamCalls.{calls_from}
-use Rattle.shown_stream.proofs.CallsOfPieces.{E, AreUsedUp, IsSentSet, AreSentSets, units_in, AreLeft, unit_has_bytes}
+use Rattle.shown_stream.proofs.CallsOfPieces.{AreUsedUp, IsSentSet, AreSentSets, units_in, AreLeft, unit_has_bytes}
 use Rattle.shown_stream.proofs.EarlyPackets.{Begins, Behind, nothing_behind, begins, Early, early_walk}
 use Rattle.shown_stream.proofs.EnteredSlots.{IsNotBegun, nothing_yet}
 use Rattle.shown_stream.proofs.LaidPackets.{laid, IsAhead}
@@ -103,7 +101,7 @@ behind_units coded page loads n i first [] (set ∷ later) sent apart many numbe
 behind_units coded page loads n i first (group ∷ groups) [] sent apart many numbered = absurd sent
 behind_units coded page loads n i first (group ∷ groups) (set ∷ later) sent apart many numbered =
     by (cases_lt n (length group)) (λ split rest_numbered. subst (λ (found : List (List ℕ)). Behind coded page loads (entry_behind (n - length group) (suc i) groups) first (all_pieces found)) (dropped_past split)
-      (behind_units coded page loads (n - length group) (suc i) first groups later sent.1 apart.1 (omega (arith, many)) rest_numbered))
+    (behind_units coded page loads (n - length group) (suc i) first groups later sent.1 apart.1 (omega (arith, many)) rest_numbered))
   where
     Left : Bool → Type 0
     Left b = Behind coded page loads (cond b (record { set = i; packet = length (all_pieces (take n group)) }) (entry_behind (n - length group) (suc i) groups)) first (all_pieces (drop n (units_in (group ∷ groups))))
@@ -179,6 +177,49 @@ units_missed coded missed units slots whole = (pieces_left coded (passed (0 + mi
 abbrev pub entry_of : (coded page : ℕ) (loads : List WriteLoad) (slots : List ℕ) (groups : List (List (List ℕ))) (sets : List TimedSet) (missed : ℕ) → IsSentStream coded page loads slots groups sets → Entry
 entry_of coded page loads slots groups sets missed is = entry_behind (units_missed coded missed (units_in groups) slots is.whole) 0 groups
 
+-- the entry's packet stands at the place where the stream is entered or behind it
+not_yet : (coded page : ℕ) (loads : List WriteLoad) (slots : List ℕ) (entry : Entry) (missed number more : ℕ) (behind : List Piece) → AreSlots loads slots → IsAhead 0 slots → number ≡ passed (0 + missed) slots → Behind coded page loads entry (number + more) behind → IsNotBegun loads slots entry missed
+not_yet coded page loads slots entry missed number more behind are ahead is (nothing_behind none) = λ inside. absurd (omega arith)
+not_yet coded page loads slots entry missed number more behind are ahead is (begins first) = λ inside.
+    let some = unit_has_bytes coded first.unit first.whole.0 in
+    let many : length (drop entry.packet (payloads_of (units_of loads entry.set))) ≡ length (map bytes_in (all_pieces (first.unit ∷ first.units))) = ap length first.own in
+    let pieces : 1 ≤ length (all_pieces (first.unit ∷ first.units)) = omega (arith, length-append (pieces_of first.unit) (all_pieces first.units), ap length (its_pieces first.unit some)) in
+    let within : entry.packet < packets_of loads entry.set = omega (arith, many, pieces, length-map (all_pieces (first.unit ∷ first.units)) bytes_in, length-drop entry.packet (payloads_of (units_of loads entry.set))) in
+    let numbered = first.numbered in
+    let late = (passed_is (0 + missed) 0 (first_packet loads entry.set + entry.packet) slots ahead (within_slots loads slots entry.set entry.packet are inside within)).1 (omega arith) in
+    (within, omega arith)
+
+-- the number of the first packet of the first unit that comes whole
+first_number_is : (coded page : ℕ) (loads : List WriteLoad) (slots : List ℕ) (groups : List (List (List ℕ))) (sets : List TimedSet) (missed : ℕ) → (is : IsSentStream coded page loads slots groups sets)
+    → passed (0 + missed) slots + length (pieces_left coded (passed (0 + missed) slots) (units_in groups) is.whole).further ≡ first_packet loads 0 + length (all_pieces (take (units_missed coded missed (units_in groups) slots is.whole) (units_in groups)))
+first_number_is coded page loads slots groups sets missed is =
+    let units = units_in groups in
+    let n = passed (0 + missed) slots in
+    let left = pieces_left coded n units is.whole in
+    let few = passed_few (0 + missed) slots in
+    let pieces = is.pieces in
+    let parts = pieces_split left.cut units in
+    omega (
+      arith,
+      few,
+      pieces,
+      sum_below-zero (packets_of loads),
+      ap length parts,
+      length-append (all_pieces (take left.cut units)) (all_pieces (drop left.cut units)),
+      ap length left.are,
+      length-append left.further (all_pieces (drop left.cut units)),
+      length-drop n (all_pieces units),
+    )
+
+-- the stream is entered at its entry or before it
+pub entry_not_begun : (coded page : ℕ) (loads : List WriteLoad) (slots : List ℕ) (groups : List (List (List ℕ))) (sets : List TimedSet) (missed : ℕ) → (is : IsSentStream coded page loads slots groups sets) → IsNotBegun loads slots (entry_of coded page loads slots groups sets missed is) missed
+entry_not_begun coded page loads slots groups sets missed is =
+    let units = units_in groups in
+    let n = passed (0 + missed) slots in
+    let left = pieces_left coded n units is.whole in
+    not_yet coded page loads slots (entry_of coded page loads slots groups sets missed is) missed n (length left.further) (all_pieces (drop left.cut units)) is.are is.ahead refl
+    (behind_units coded page loads left.cut 0 (n + length left.further) groups sets is.sent is.apart (let many = is.many in omega arith) (first_number_is coded page loads slots groups sets missed is))
+
 -- the calls of its packets, up to any of them, are those of the scheduled sets
 pub late_calls : (coded pid page : ℕ) (loads : List WriteLoad) (slots : List ℕ) (groups : List (List (List ℕ))) (sets : List TimedSet) (painted : ℕ → ℕ) (missed m : ℕ) (calls : List (List Call)) → IsFree pid → (is : IsSentStream coded page loads slots groups sets)
     → AreLeft loads painted (entry_of coded page loads slots groups sets missed is) (entry_of coded page loads slots groups sets missed is).set calls
@@ -225,14 +266,3 @@ late_calls coded pid page loads slots groups sets painted missed m calls free is
     ∙ ap (λ past. reverse (calls_from coded pid page missed [] (take m (laid pid missed n (left.further ++ all_pieces (drop left.cut units)) (drop n slots))) calls) ++ past) (sym (nothing_yet loads slots painted entry missed (length loads) is.are (omega arith) (not_yet coded page loads slots entry missed n (length left.further) (all_pieces (drop left.cut units)) is.are is.ahead refl behind)))
     ∙ early_walk coded pid page loads slots painted entry m free is.are missed n [] left.further (all_pieces (drop left.cut units)) (drop n slots) calls early (subst (λ (place : ℕ). IsAhead place (drop n slots)) at_place (ahead_from (0 + missed) 0 slots is.ahead)) refl is_left many used)
     many used
-  where
-    not_yet : (coded page : ℕ) (loads : List WriteLoad) (slots : List ℕ) (entry : Entry) (missed number more : ℕ) (behind : List Piece) → AreSlots loads slots → IsAhead 0 slots → number ≡ passed (0 + missed) slots → Behind coded page loads entry (number + more) behind → IsNotBegun loads slots entry missed
-    not_yet coded page loads slots entry missed number more behind are ahead is (nothing_behind none) = λ inside. absurd (omega arith)
-    not_yet coded page loads slots entry missed number more behind are ahead is (begins first) = λ inside.
-        let some = unit_has_bytes coded first.unit first.whole.0 in
-        let many : length (drop entry.packet (payloads_of (units_of loads entry.set))) ≡ length (map bytes_in (all_pieces (first.unit ∷ first.units))) = ap length first.own in
-        let pieces : 1 ≤ length (all_pieces (first.unit ∷ first.units)) = omega (arith, length-append (pieces_of first.unit) (all_pieces first.units), ap length (its_pieces first.unit some)) in
-        let within : entry.packet < packets_of loads entry.set = omega (arith, many, pieces, length-map (all_pieces (first.unit ∷ first.units)) bytes_in, length-drop entry.packet (payloads_of (units_of loads entry.set))) in
-        let numbered = first.numbered in
-        let late = (passed_is (0 + missed) 0 (first_packet loads entry.set + entry.packet) slots ahead (within_slots loads slots entry.set entry.packet are inside within)).1 (omega arith) in
-        (within, omega arith)

@@ -72,7 +72,7 @@ are_behind coded page n (set ∷ sets) h = by (cases_lt n (length set.units)) (a
     by (inl within) rest = let test : ltb n (length set.units) ≡ true = grind (arith, nat_tests) in subst Left (sym test) (rest_is_set coded page n set h.0 within, h.1)
     by (inr past) rest = let test : ltb n (length set.units) ≡ false = grind (arith, nat_tests) in subst Left (sym test) rest
 
-apart_behind : (n : ℕ) (sets : List TimedSet) → HaveDifferentTimes sets → HaveDifferentTimes (sets_behind n sets)
+pub apart_behind : (n : ℕ) (sets : List TimedSet) → HaveDifferentTimes sets → HaveDifferentTimes (sets_behind n sets)
 apart_behind n [] h = tt
 apart_behind n (set ∷ sets) h = by (ltb n (length set.units)) (apart_behind (n - length set.units) sets h.1)
   where
@@ -87,7 +87,7 @@ zip_behind R (suc n) [] (y ∷ ys) h = absurd h
 zip_behind R (suc n) (x ∷ xs) [] h = absurd h
 zip_behind R (suc n) (x ∷ xs) (y ∷ ys) h = zip_behind R n xs ys h.1
 
-units_behind : (coded page n : ℕ) (units : List (List ℕ)) (sets : List TimedSet) → AreUnitsOf coded page units sets → AreUnitsOf coded page (drop n units) (sets_behind n sets)
+pub units_behind : (coded page n : ℕ) (units : List (List ℕ)) (sets : List TimedSet) → AreUnitsOf coded page units sets → AreUnitsOf coded page (drop n units) (sets_behind n sets)
 units_behind coded page n units sets are = record {
   each = subst (AllZip (IsUnitOf page) (drop n units)) (sym (timed_behind n sets)) (zip_behind (IsUnitOf page) n units (timed_units sets) are.each);
   whole = are_behind coded page n sets are.whole;

@@ -53,6 +53,10 @@ pub mod EarlyPackets
 pub mod LateCalls
 pub mod CompiledCalls
 pub mod CompiledWithin
+pub mod KeptCalls
+pub mod SetsUpTo
+pub mod CompiledTimes
+pub mod CompiledKept
 pub mod ScriptExample
 pub mod SentPlaces
 pub mod LateCuts

@@ -1,7 +1,7 @@
 -- One packet more of sets that are cut into pieces: what it adds to the calls, and what is left behind it.
-use Rattle.std.proofs.Common.{◌≡◌, ◌≢◌, ◌∙◌, ◌⊎◌, inl, inr, ℕ, zero, suc, ◌+◌, ◌-◌, ◌%◌, ◌<◌, ◌≤◌, Bool, true, false, eqb, cond, List, [], ◌∷◌, ◌++◌, length, map, take, drop, reverse, get_or, Option, Some, None, refl, sym, ap, subst, arith, append-nil, append_assoc, length-append, length-drop}
+use Rattle.std.proofs.Common.{◌≡◌, ◌∙◌, inl, inr, ℕ, zero, suc, ◌+◌, ◌%◌, ◌<◌, ◌≤◌, Bool, false, eqb, cond, List, [], ◌∷◌, ◌++◌, length, map, take, drop, reverse, Option, Some, None, refl, sym, ap, subst, arith, append-nil, append_assoc, length-append}
 use Rattle.std.specs.Prelude.{flat_map, slice_index}
-use Rattle.std.specs.List.{AllByRecursion, AllZip, slice_get}
+use Rattle.std.specs.List.{AllByRecursion, AllZip}
 use Rattle.std.proofs.lemmas.Bool.{cases_lt}
 use Rattle.std.proofs.lemmas.Bool.Decides.{nat_tests}
 use Rattle.std.proofs.lemmas.Grind.{flat_map-append}
@@ -9,15 +9,13 @@ use Rattle.std.proofs.lemmas.List.{length-map}
 use Rattle.sub_base.specs.declared.load.WriteLoad.{WriteLoad}
 use Rattle.buffer_model.specs.Calls.{Call, Arrived, SetWhole}
 use Rattle.schedule.specs.Packets.{units_of, packets_of, first_packet, payload_of, payloads_of}
-use Rattle.schedule.specs.Slots.{slot_of}
 use Rattle.schedule.proofs.SumLaws.{sum_below-suc}
 use Rattle.stream_syntax.specs.Cutting.{IsUnit}
 use Rattle.stream_syntax.specs.TransportPackets.{null_packet, packet_fault}
 use Rattle.stream_syntax.specs.Units.{hand_after, last_counter}
-use Rattle.decoder_model.specs.Sets.{sets_of}
-use Rattle.decoder_model.proofs.SentSets.{all-append, SetUnit, TimedSet, timed, AreSetUnits, IsTimedSet, IsUnitOf, IsApart, HaveDifferentTimes, delivered}
+use Rattle.decoder_model.proofs.SentSets.{all-append, SetUnit, TimedSet, timed, AreSetUnits, IsTimedSet, IsUnitOf, HaveDifferentTimes, delivered}
 use Rattle.ts_packets.proofs.WrittenPackets.{null_is_taken}
-use Rattle.sent_levels.proofs.EnteredCalls.{Entry, from_of, heard_load, entered_calls}
+use Rattle.sent_levels.proofs.EnteredCalls.{Entry, from_of, heard_load}
 use Rattle.sent_levels.proofs.EnteredSums.{AreSlots}
 use Rattle.shown_stream.specs.SlotStream.{Piece, packet_of, pieces_of, all_pieces, IsPiece}
 use Rattle.shown_stream.specs.StreamCalls.{count_with, arrived_in}
@@ -301,21 +299,21 @@ middle_step coded pid page loads slots painted entry slot number i before left f
       next = i;
       left_behind = same_left loads painted entry i;
       onward = goes_on (subst (Piecewise coded pid page loads slots entry (slot + 1) (number + 1) i (before ++ packet ∷ [])) (sym left_are)
-        (begin_unit coded pid page loads slots entry (slot + 1) (number + 1) i (suc at.k) (before ++ packet ∷ []) at.sets at.set (suc at.u) at.groups at.later unit units
-        (record {
-        inside = goes.inside;
-        numbered = (let same = goes.numbered in omega (arith, same));
-        begun = goes.begun;
-        counted = (let low = goes.counted in omega arith);
-        passed = stands.passed_here;
-        follows = inr (number % 16, ends.brings.counter_behind, omega arith);
-        came = came;
-        all = goes.all;
-        is = goes.is;
-        apart = goes.apart;
-        sent = goes.sent;
-        })
-        units_are whole ends.brings.hand_behind (stands.own_left ∙ ap (map bytes_in) pieces_are)));
+          (begin_unit coded pid page loads slots entry (slot + 1) (number + 1) i (suc at.k) (before ++ packet ∷ []) at.sets at.set (suc at.u) at.groups at.later unit units
+          (record {
+            inside = goes.inside;
+            numbered = (let same = goes.numbered in omega (arith, same));
+            begun = goes.begun;
+            counted = (let low = goes.counted in omega arith);
+            passed = stands.passed_here;
+            follows = inr (number % 16, ends.brings.counter_behind, omega arith);
+            came = came;
+            all = goes.all;
+            is = goes.is;
+            apart = goes.apart;
+            sent = goes.sent;
+          })
+          units_are whole ends.brings.hand_behind (stands.own_left ∙ ap (map bytes_in) pieces_are)));
     }
 
 -- ---- a set's last piece
@@ -384,7 +382,7 @@ begin_set coded pid page loads slots entry slot number i k before sets set (grou
     by : (group : List (List ℕ)) → IsSentSet coded page loads (suc i) group next → Position coded pid page loads slots entry slot (number + 1) (suc i) before (all_pieces (units_in (group ∷ groups)))
     by [] is = absurd (no_set next.units is.is.units is.units)
     by (unit ∷ units) is = goes_on (subst (Piecewise coded pid page loads slots entry slot (number + 1) (suc i) before) (sym (units_append (unit ∷ units) groups))
-      (begin_unit coded pid page loads slots entry slot (number + 1) (suc i) 0 before (sets ++ set ∷ []) next 0 groups later unit units goes is.units is.whole hand is.bytes))
+        (begin_unit coded pid page loads slots entry slot (number + 1) (suc i) 0 before (sets ++ set ∷ []) next 0 groups later unit units goes is.units is.whole hand is.bytes))
 
 -- the last unit of a set
 last_step : (coded pid page : ℕ) (loads : List WriteLoad) (slots : List ℕ) (painted : ℕ → ℕ) (entry : Entry) (slot number i : ℕ) (before : List (List ℕ)) (left : List Piece) → IsFree pid → AreSlots loads slots
@@ -414,8 +412,8 @@ last_step coded pid page loads slots painted entry slot number i before left fre
       next = suc i;
       left_behind = one_less loads painted entry i;
       onward = subst (Position coded pid page loads slots entry (slot + 1) (number + 1) (suc i) (before ++ packet ∷ [])) (sym left_are)
-      (begin_set coded pid page loads slots entry (slot + 1) number i at.k (before ++ packet ∷ []) at.sets at.set at.groups at.later goes.sent goes.numbered (omega (arith, many, ap length pieces_are)) goes.begun stands.passed_here
-      (inr (number % 16, ends.brings.counter_behind, omega arith)) came all goes.apart ends.brings.hand_behind);
+          (begin_set coded pid page loads slots entry (slot + 1) number i at.k (before ++ packet ∷ []) at.sets at.set at.groups at.later goes.sent goes.numbered (omega (arith, many, ap length pieces_are)) goes.begun stands.passed_here
+          (inr (number % 16, ends.brings.counter_behind, omega arith)) came all goes.apart ends.brings.hand_behind);
     }
 
 -- ---- any piece

@@ -1,6 +1,6 @@
 -- Units of sets that come one after another: which sets are whole behind them, and what the packet of the next unit means for the
 -- calls of the buffers.
-use Rattle.std.proofs.Common.{◌≡◌, ◌∙◌, ℕ, zero, suc, ◌+◌, ◌-◌, ◌<◌, ◌≤◌, Bool, true, false, eqb, ltb, cond, not, ◌&&◌, ◌||◌, List, [], ◌∷◌, ◌++◌, length, map, take, take_all, filter, reverse, Option, Some, None, refl, sym, ap, subst, arith, append-nil, append_assoc, length-append}
+use Rattle.std.proofs.Common.{◌≡◌, ◌∙◌, ℕ, zero, suc, ◌<◌, ◌≤◌, Bool, true, false, eqb, cond, not, ◌&&◌, ◌||◌, List, [], ◌∷◌, ◌++◌, length, map, take, take_all, reverse, Option, Some, None, refl, sym, ap, subst, arith, append-nil, append_assoc, length-append}
 use Rattle.std.specs.Prelude.{find, flat_map}
 use Rattle.std.specs.Option.{option_map}
 use Rattle.std.specs.List.{AllByRecursion, AllZip, list_any, sum_by, slice_get}
@@ -11,12 +11,12 @@ use Rattle.sub_base.specs.Lists.{prefixes}
 use Rattle.buffer_model.specs.Calls.{Call}
 use Rattle.stream_syntax.specs.DataField.{Frame, segment}
 use Rattle.stream_syntax.specs.TransportPackets.{packet_fault}
-use Rattle.stream_syntax.specs.Units.{each_after, event_at, unit_at, hand_after, part_of, is_loss}
-use Rattle.decoder_model.specs.Arrivals.{PesUnit, Arrival, loss, unit, arrival_of_unit, losses_at, units_at, arrivals_at, packets_taken, arrivals_of, ends_too_long}
-use Rattle.decoder_model.specs.PacketArrivals.{of_time, last_run, is_in_hand, makes_ready, is_dropped, PacketArrival, bytes_of_part, run_before, unit_ended, packet_arrival, is_break}
-use Rattle.decoder_model.specs.Sets.{Delivery, Stretch, run, runs_of, is_ended, frames_in, set_of, sets_in, is_followed, has_ended, sets_of}
+use Rattle.stream_syntax.specs.Units.{each_after, event_at, unit_at}
+use Rattle.decoder_model.specs.Arrivals.{PesUnit, Arrival, loss, unit, arrival_of_unit, units_at, arrivals_at, packets_taken, arrivals_of}
+use Rattle.decoder_model.specs.PacketArrivals.{of_time, last_run, is_in_hand, makes_ready, is_dropped, run_before, unit_ended, packet_arrival, is_break}
+use Rattle.decoder_model.specs.Sets.{Stretch, runs_of, is_ended, frames_in, set_of, sets_in, is_followed, has_ended, sets_of}
 use Rattle.decoder_model.proofs.Growth.{flat-append}
-use Rattle.decoder_model.proofs.SentSets.{all-append, SetUnit, TimedSet, timed, timed_units, segments_of_units, all_segments, AreSetUnits, IsTimedSet, IsUnitOf, unit_of, arrives, IsArrivalOf, IsApart, HaveDifferentTimes, IsPlaced, AreOwnRuns, no_run, own_run, own_runs, find-map, not_ended, front_not_ended, whole_ended, no_end_among, none_ends, front_bytes, run_frames, set_ends, delivered, handed_whole, all_handed, have_units}
+use Rattle.decoder_model.proofs.SentSets.{all-append, SetUnit, TimedSet, timed, timed_units, segments_of_units, IsTimedSet, IsUnitOf, unit_of, arrives, IsArrivalOf, HaveDifferentTimes, IsPlaced, AreOwnRuns, no_run, own_run, own_runs, find-map, not_ended, front_not_ended, whole_ended, no_end_among, none_ends, front_bytes, run_frames, set_ends, delivered, handed_whole, all_handed, have_units}
 use Rattle.decoder_model.proofs.SentUnits.{each_after-append, all_taken}
 use Rattle.shown_stream.specs.StreamCalls.{count_with, calls_of_packet, arrived_in, drop_where}
 use Rattle.shown_stream.proofs.BroughtPieces.{Brings, no_break}

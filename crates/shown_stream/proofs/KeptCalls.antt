@@ -1,0 +1,102 @@
+-- Sets that come one after another, each ahead of the one before, are whole sets for the buffers, at their own times.
+use Rattle.std.proofs.Common.{◌≡◌, ◌∙◌, ℕ, zero, suc, ◌+◌, ◌-◌, ◌%◌, ◌<◌, List, [], ◌∷◌, length, map, get_or, Option, Some, refl, sym, ap, arith}
+use Rattle.std.specs.Prelude.{unwrap_or}
+use Rattle.std.specs.Option.{option_or}
+use Rattle.sub_base.specs.Lists.{with_earlier}
+use Rattle.sub_base.specs.declared.load.SetLoad.{SetLoad}
+use Rattle.sub_base.specs.declared.load.WriteLoad.{WriteLoad}
+use Rattle.sub_base.specs.declared.profile.Profile.{Profile}
+use Rattle.stream_syntax.specs.declared.wire.TheConstants.{TIME_ROUND}
+use Rattle.page_epoch.specs.declared.planned_set.PlannedSet.{PlannedSet}
+use Rattle.buffer_model.specs.Calls.{Call, Arrived, SetWhole, Dropped}
+use Rattle.schedule.specs.Packets.{sum_below, load_of, size_of, payload_of}
+use Rattle.decoder_model.specs.Kept.{lifted_behind, last_time, lifted_time}
+use Rattle.decoder_model.specs.Painting.{painting_by}
+use Rattle.decoder_model.specs.Readings.{Reading, AreDeliveriesRead}
+use Rattle.decoder_model.specs.Sets.{Delivery, whole}
+use Rattle.decoder_model.specs.Verdict.{verdict_of}
+use Rattle.decoder_model.proofs.SentSets.{TimedSet, size_of_units, delivered}
+use Rattle.sent_levels.proofs.EnteredCalls.{Entry, from_of}
+use Rattle.shown_stream.specs.StreamCalls.{call_by, set_call}
+use Rattle.shown_stream.proofs.CallsOfPieces.{AreLeft}
+use Rattle.shown_stream.proofs.PlannedTimes.{pts_of}
+use Rattle.shown_stream.proofs.ShownSets.{IsAheadOf, AreAheadOf, lifted_at}
+
+-- the first of these planned sets are received at these times, in their order
+abbrev pub AreTimed : List PlannedSet → List TimedSet → Type 0
+AreTimed planned [] = Unit {0}
+AreTimed [] (one ∷ sets) = ⊥
+AreTimed (set ∷ planned) (one ∷ sets) = (one.time ≡ set.pts % TIME_ROUND) × AreTimed planned sets
+
+-- the calls of sets behind others, in their order
+abbrev pub calls_behind : Profile → ℕ → List (Delivery Reading) → List (Delivery Reading) → List (List Call)
+calls_behind profile anchor older received = map (λ (placed : Delivery Reading × List (Delivery Reading)). set_call profile anchor placed.1 placed.0) (with_earlier older received)
+
+-- that call is a whole set, with that time and size
+pub record IsWholeAt (calls : List (List Call)) (j pts size : ℕ) : Type 0 where
+  pub load : SetLoad
+  pub is : get_or calls j [] ≡ SetWhole load ∷ []
+  pub at : load.pts ≡ pts
+  pub many : load.size ≡ size
+
+-- a set that is ahead of those before is whole, at its own time
+one_kept : (profile : Profile) (anchor pts time size : ℕ) (last : Option ℕ) (older : List (Delivery Reading)) (readings : List Reading) → last_time anchor older ≡ last → IsAheadOf anchor last pts → pts < 4611686018427387904 → time ≡ pts % TIME_ROUND
+    → lifted_time anchor older (whole time size readings) ≡ Some pts
+one_kept profile anchor pts time size last older readings before ahead low is =
+    ap (λ found. lifted_behind anchor found time) before ∙ ap (lifted_behind anchor last) is ∙ lifted_at anchor last pts ahead low
+
+whole_call : (profile : Profile) (anchor pts time size : ℕ) (older : List (Delivery Reading)) (readings : List Reading) → lifted_time anchor older (whole time size readings) ≡ Some pts
+    → set_call profile anchor older (whole time size readings) ≡ SetWhole (record { pts = pts; size = size; painted = painting_by readings (verdict_of profile anchor older (whole time size readings)) }) ∷ []
+whole_call profile anchor pts time size older readings kept =
+    ap (λ found. call_by found (Some (record { pts = unwrap_or found time; size = size; painted = painting_by readings (verdict_of profile anchor older (whole time size readings)) }))) kept
+
+last_kept : (anchor pts : ℕ) (older : List (Delivery Reading)) (delivery : Delivery Reading) → lifted_time anchor older delivery ≡ Some pts → last_time anchor (delivery ∷ older) ≡ Some pts
+unfolding last_time
+last_kept anchor pts older delivery kept = ap (λ found. option_or found (last_time anchor older)) kept
+
+-- each of them is a whole set
+pub each_kept : (profile : Profile) (anchor : ℕ) (last : Option ℕ) (older : List (Delivery Reading)) (planned : List PlannedSet) (sets : List TimedSet) (received : List (Delivery Reading)) → last_time anchor older ≡ last → AreAheadOf anchor last planned
+    → AreTimed planned sets → AreDeliveriesRead (map delivered sets) received → (j : ℕ) → j < length received
+    → IsWholeAt (calls_behind profile anchor older received) j (get_or (pts_of planned) j 0) (get_or (map (λ (one : TimedSet). size_of_units one.units) sets) j 0)
+each_kept profile anchor last older planned [] [] before ahead are_timed read j inside = absurd (omega arith)
+each_kept profile anchor last older planned [] (one ∷ received) before ahead are_timed read j inside = absurd read
+each_kept profile anchor last older planned (one ∷ sets) [] before ahead are_timed read j inside = absurd read
+each_kept profile anchor last older [] (one ∷ sets) (delivery ∷ received) before ahead are_timed read j inside = absurd are_timed
+each_kept profile anchor last older (set ∷ planned) (one ∷ sets) (delivery ∷ received) before ahead are_timed read zero inside =
+    let size = size_of_units one.units in
+    let readings = read.0.0 in
+    let kept = one_kept profile anchor set.pts one.time size last older readings before ahead.0 ahead.1 are_timed.0 in
+    record {
+      load = record { pts = set.pts; size = size; painted = painting_by readings (verdict_of profile anchor older (whole one.time size readings)) };
+      is = ap (set_call profile anchor older) read.0.2 ∙ whole_call profile anchor set.pts one.time size older readings kept;
+      at = refl;
+      many = refl;
+    }
+each_kept profile anchor last older (set ∷ planned) (one ∷ sets) (delivery ∷ received) before ahead are_timed read (suc j) inside =
+    let size = size_of_units one.units in
+    let readings = read.0.0 in
+    let kept = ap (lifted_time anchor older) read.0.2 ∙ one_kept profile anchor set.pts one.time size last older readings before ahead.0 ahead.1 are_timed.0 in
+    let more = each_kept profile anchor (Some set.pts) (delivery ∷ older) planned sets received (last_kept anchor set.pts older delivery kept) ahead.2 are_timed.1 read.1 j (omega arith) in
+    record { load = more.load; is = more.is; at = more.at; many = more.many }
+
+-- ---- the calls that are left
+
+abbrev pub painting_in : List Call → ℕ
+painting_in [] = 0
+painting_in (Arrived slot bytes ∷ calls) = 0
+painting_in (SetWhole load ∷ calls) = load.painted
+painting_in (Dropped ∷ calls) = 0
+
+-- the painting of the sets from one on, by their calls
+abbrev pub painted_in : List (List Call) → ℕ → ℕ → ℕ
+painted_in calls first i = painting_in (get_or calls (i - first) [])
+
+-- where each call is a set with the time and the size of a scheduled one, the calls are those of the sets from the entry on
+pub are_left : (loads : List WriteLoad) (entry : Entry) (calls : List (List Call))
+    → ((j : ℕ) → j < length calls → IsWholeAt calls j (load_of loads (entry.set + j)).pts (size_of loads (entry.set + j) - sum_below (payload_of loads (entry.set + j)) (from_of entry (entry.set + j))))
+    → AreLeft loads (painted_in calls entry.set) entry entry.set calls
+are_left loads entry calls each j inside =
+    let found = each j inside in
+    let place : entry.set + j - entry.set ≡ j = omega arith in
+    let painted : found.load.painted ≡ painted_in calls entry.set (entry.set + j) = ap painting_in (sym found.is) ∙ ap (λ n. painting_in (get_or calls n [])) (sym place) in
+    found.is ∙ λ i. SetWhole (record { pts = found.at i; size = found.many i; painted = painted i }) ∷ []
