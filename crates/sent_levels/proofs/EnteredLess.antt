@@ -12,7 +12,7 @@ use Rattle.schedule.proofs.SumLaws.{sum_below-le, sum_below-same}
 use Rattle.schedule.specs.Arrivals.{payload_by, arrived_of}
 use Rattle.schedule.specs.Packets.{sum_below, load_of, size_of, packets_of, payload_of}
 use Rattle.schedule.specs.Slots.{slot_of, left_of, shown_before, done_of as scheduled_done}
-use Rattle.sent_levels.proofs.EnteredCalls.{Entry, from_of, heard_load, is_whole}
+use Rattle.sent_levels.specs.EnteredCalls.{Entry, from_of, heard_load, is_whole}
 use Rattle.sent_levels.proofs.EnteredSums.{AreSlots, heard_of, heard_size, all_below}
 use Rattle.sent_levels.proofs.EnteredLevels.{IsEntry, heard_before, heard_done, from_within, gone_of, came_of}
 

@@ -8,7 +8,7 @@ use Rattle.buffer_model.specs.Calls.{Call, Arrived, SetWhole, last_slot, last_sh
 use Rattle.schedule.proofs.SumLaws.{sum_below-zero, sum_below-suc, sum_below-ends}
 use Rattle.schedule.specs.Packets.{sum_below, load_of, packets_of, payload_of}
 use Rattle.schedule.specs.Slots.{slot_of}
-use Rattle.sent_levels.proofs.EnteredCalls.{Entry, from_of, counts, packet_calls, heard_load, is_whole, calls_of_set, entered_calls}
+use Rattle.sent_levels.specs.EnteredCalls.{Entry, from_of, counts, packet_calls, heard_load, is_whole, calls_of_set, entered_calls}
 use Rattle.sent_levels.proofs.EnteredSums.{AreSlots, in_order, last_packet, heard_of, packets_arrived, packets_unassigned, packets_left, packets_shown, heard_size}
 
 -- ---- where a stream is entered

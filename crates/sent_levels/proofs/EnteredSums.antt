@@ -11,7 +11,7 @@ use Rattle.schedule.proofs.PacketLaws.{payloads, some_packets, some_bytes}
 use Rattle.schedule.proofs.SumLaws.{sum_below-zero, sum_below-suc, sum_below-rises}
 use Rattle.schedule.specs.Packets.{sum_below, size_of, packets_of, first_packet, payload_of}
 use Rattle.schedule.specs.Slots.{slot_of, IsLoad}
-use Rattle.sent_levels.proofs.EnteredCalls.{Entry, from_of, counts, packet_calls, is_whole}
+use Rattle.sent_levels.specs.EnteredCalls.{Entry, from_of, counts, packet_calls, is_whole}
 
 -- ---- the order of slots
 

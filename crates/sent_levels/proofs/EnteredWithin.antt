@@ -14,7 +14,7 @@ use Rattle.schedule.proofs.SumLaws.{sum_below-zero, sum_below-suc, sum_below-mor
 use Rattle.schedule.specs.Arrivals.{payload_by, arrived_of, level_at as scheduled_level}
 use Rattle.schedule.specs.Packets.{sum_below, load_of, size_of, packets_of, payload_of, bytes_with}
 use Rattle.schedule.specs.Slots.{Timetable, slot_of, left_of, done_of as scheduled_done}
-use Rattle.sent_levels.proofs.EnteredCalls.{Entry, from_of, counts, packet_calls, heard_load, is_whole, calls_of_set, entered_calls}
+use Rattle.sent_levels.specs.EnteredCalls.{Entry, from_of, counts, packet_calls, heard_load, is_whole, calls_of_set, entered_calls}
 use Rattle.sent_levels.proofs.EnteredSums.{AreSlots, in_order, last_packet, heard_of, packets_arrived, packets_left}
 use Rattle.sent_levels.proofs.EnteredLevels.{IsEntry, heard_done, gone_of, came_of, set_done, all_arrived, all_left}
 use Rattle.sent_levels.proofs.EnteredLess.{done_no_later, each_set}

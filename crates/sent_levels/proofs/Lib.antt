@@ -1,4 +1,3 @@
-pub mod EnteredCalls
 pub mod EnteredSums
 pub mod EnteredLevels
 pub mod EnteredLess

@@ -12,7 +12,7 @@ use Rattle.schedule.proofs.SumLaws.{sum_below-zero, sum_below-same}
 use Rattle.schedule.specs.Arrivals.{payload_by, arrived_of, level_at as scheduled_level}
 use Rattle.schedule.specs.Packets.{sum_below, load_of, size_of, packets_of, payload_of}
 use Rattle.schedule.specs.Slots.{Timetable, slot_of, left_of, shown_before, done_of as scheduled_done}
-use Rattle.sent_levels.proofs.EnteredCalls.{from_of, heard_load, is_whole, entered_calls, whole_entry, planned_painting}
+use Rattle.sent_levels.specs.EnteredCalls.{from_of, heard_load, is_whole, entered_calls, whole_entry, planned_painting}
 use Rattle.sent_levels.proofs.EnteredSums.{AreSlots, last_packet, heard_of}
 use Rattle.sent_levels.proofs.EnteredLevels.{IsEntry, heard_before, heard_done, gone_of, came_of, all_arrived, all_left}
 use Rattle.sent_levels.proofs.EnteredLess.{done_is_whole}

@@ -12,7 +12,7 @@ use Rattle.stream_syntax.specs.Units.{hand_after, last_counter}
 use Rattle.decoder_model.specs.Sets.{sets_of}
 use Rattle.decoder_model.proofs.Growth.{packets_add}
 use Rattle.decoder_model.proofs.SentUnits.{all_taken}
-use Rattle.sent_levels.proofs.EnteredCalls.{Entry}
+use Rattle.sent_levels.specs.EnteredCalls.{Entry}
 use Rattle.sent_levels.proofs.EnteredSums.{AreSlots, within_slots, rising}
 use Rattle.shown_stream.specs.SlotStream.{Piece, packet_of, all_pieces}
 use Rattle.shown_stream.specs.StreamCalls.{count_with}

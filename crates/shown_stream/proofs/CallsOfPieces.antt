@@ -11,7 +11,7 @@ use Rattle.stream_syntax.specs.Cutting.{IsUnit}
 use Rattle.stream_syntax.specs.Units.{event_at, hand_after, last_counter}
 use Rattle.decoder_model.specs.PacketArrivals.{packet_arrival}
 use Rattle.decoder_model.proofs.SentSets.{SetUnit, TimedSet, timed, IsTimedSet, IsUnitOf, HaveDifferentTimes}
-use Rattle.sent_levels.proofs.EnteredCalls.{Entry, from_of, heard_load, entered_calls}
+use Rattle.sent_levels.specs.EnteredCalls.{Entry, from_of, heard_load, entered_calls}
 use Rattle.shown_stream.specs.SlotStream.{Piece, all_pieces, IsPiece}
 use Rattle.shown_stream.specs.StreamCalls.{count_with, calls_of_packet, arrived_in, calls_from}
 use Rattle.shown_stream.proofs.BroughtPieces.{IsReady}

@@ -20,7 +20,7 @@ use Rattle.decoder_model.specs.Sets.{Delivery, sets_of}
 use Rattle.decoder_model.specs.Streams.{entered_at}
 use Rattle.decoder_model.proofs.SentSets.{TimedSet, timed, timed_units, IsTimedSet, IsUnitOf}
 use Rattle.decoder_model.proofs.SentUnits.{all_taken}
-use Rattle.sent_levels.proofs.EnteredCalls.{Entry, entered_calls}
+use Rattle.sent_levels.specs.EnteredCalls.{Entry, entered_calls}
 use Rattle.shown_stream.specs.Compiled.{AreSizedAs, all_units, IsCompiledTo}
 use Rattle.shown_stream.specs.SlotStream.{all_pieces}
 use Rattle.shown_stream.specs.StreamCalls.{set_call, set_calls, calls_from, AreCallsOf}

@@ -13,7 +13,7 @@ use Rattle.schedule.specs.Arrivals.{level_at as scheduled_level}
 use Rattle.schedule.specs.Packets.{load_of, units_of, packets_of, first_packet, payloads_of}
 use Rattle.schedule.specs.Slots.{IsLoad}
 use Rattle.decoder_model.specs.Streams.{entered_at}
-use Rattle.sent_levels.proofs.EnteredCalls.{Entry, entered_calls}
+use Rattle.sent_levels.specs.EnteredCalls.{Entry, entered_calls}
 use Rattle.sent_levels.proofs.EnteredLevels.{IsEntry}
 use Rattle.sent_levels.proofs.EnteredWithin.{Holds, no_higher, level_within, entered_within}
 use Rattle.shown_stream.specs.Compiled.{IsCompiledTo}

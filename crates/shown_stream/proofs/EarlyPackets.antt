@@ -13,7 +13,7 @@ use Rattle.stream_syntax.specs.TransportPackets.{null_packet, packet_fault}
 use Rattle.stream_syntax.specs.Units.{hand_after, last_counter}
 use Rattle.decoder_model.proofs.SentSets.{TimedSet, timed, IsTimedSet, IsUnitOf, HaveDifferentTimes}
 use Rattle.ts_packets.proofs.WrittenPackets.{null_is_taken}
-use Rattle.sent_levels.proofs.EnteredCalls.{Entry, from_of}
+use Rattle.sent_levels.specs.EnteredCalls.{Entry, from_of}
 use Rattle.sent_levels.proofs.EnteredSums.{AreSlots, within_slots, rising}
 use Rattle.shown_stream.specs.SlotStream.{Piece, packet_of, all_pieces, pieces_of}
 use Rattle.shown_stream.specs.StreamCalls.{count_with}

@@ -6,7 +6,7 @@ use Rattle.sub_base.specs.declared.load.WriteLoad.{WriteLoad}
 use Rattle.buffer_model.specs.Calls.{Call, Arrived, SetWhole}
 use Rattle.schedule.specs.Packets.{packets_of, payload_of}
 use Rattle.schedule.specs.Slots.{slot_of}
-use Rattle.sent_levels.proofs.EnteredCalls.{Entry, from_of, counts, packet_calls, heard_load, is_whole, set_calls, calls_of_set, entered_calls}
+use Rattle.sent_levels.specs.EnteredCalls.{Entry, from_of, counts, packet_calls, heard_load, is_whole, set_calls, calls_of_set, entered_calls}
 use Rattle.sent_levels.proofs.EnteredSums.{AreSlots, in_set, in_order, last_packet}
 
 -- ---- tests of numbers

@@ -14,7 +14,7 @@ use Rattle.schedule.proofs.SumLaws.{sum_below-suc, sum_below-zero}
 use Rattle.stream_syntax.specs.Cutting.{IsUnit}
 use Rattle.decoder_model.proofs.SentSets.{TimedSet, timed, IsUnitOf, HaveDifferentTimes}
 use Rattle.decoder_model.proofs.SentUnits.{no_hand}
-use Rattle.sent_levels.proofs.EnteredCalls.{Entry, entered_calls}
+use Rattle.sent_levels.specs.EnteredCalls.{Entry, entered_calls}
 use Rattle.sent_levels.proofs.EnteredSums.{AreSlots, within_slots}
 use Rattle.shown_stream.specs.SlotStream.{Piece, all_pieces, pieces_of}
 use Rattle.shown_stream.specs.StreamCalls.{calls_from}

@@ -15,7 +15,7 @@ use Rattle.stream_syntax.specs.TransportPackets.{null_packet, packet_fault}
 use Rattle.stream_syntax.specs.Units.{hand_after, last_counter}
 use Rattle.decoder_model.proofs.SentSets.{all-append, SetUnit, TimedSet, timed, AreSetUnits, IsTimedSet, IsUnitOf, HaveDifferentTimes, delivered}
 use Rattle.ts_packets.proofs.WrittenPackets.{null_is_taken}
-use Rattle.sent_levels.proofs.EnteredCalls.{Entry, from_of, heard_load}
+use Rattle.sent_levels.specs.EnteredCalls.{Entry, from_of, heard_load}
 use Rattle.sent_levels.proofs.EnteredSums.{AreSlots}
 use Rattle.shown_stream.specs.SlotStream.{Piece, packet_of, pieces_of, all_pieces, IsPiece}
 use Rattle.shown_stream.specs.StreamCalls.{count_with, arrived_in}

@@ -1,6 +1,6 @@
 -- What happens at a receiver that gets the packets of scheduled sets from one unit on: its packets, and the sets that they make
 -- whole. Lists of calls have the latest first.
-use Rattle.std.proofs.Common.{ℕ, zero, suc, ◌-◌, ◌==◌, ◌&&◌, nat_le, nat_lt, Bool, cond, List, [], ◌∷◌}
+use Rattle.std.specs.Prelude.{ℕ, zero, suc, ◌-◌, ◌==◌, ◌&&◌, nat_le, nat_lt, Bool, if◌then◌else◌, List, [], ◌∷◌}
 use Rattle.sub_base.specs.declared.load.SetLoad.{SetLoad}
 use Rattle.sub_base.specs.declared.load.WriteLoad.{WriteLoad}
 use Rattle.buffer_model.specs.Calls.{Call, Arrived, SetWhole}
@@ -15,7 +15,7 @@ pub record Entry : Type 0 where
 
 -- the first packet of set i that counts
 abbrev pub from_of : Entry → ℕ → ℕ
-from_of entry i = cond (i == entry.set) entry.packet 0
+from_of entry i = if i == entry.set then entry.packet else 0
 
 -- packet k of set i counts, and stands below a bound
 abbrev pub counts : List WriteLoad → List ℕ → ℕ → Entry → ℕ → ℕ → Bool
@@ -25,7 +25,7 @@ counts loads slots bound entry i k = nat_le (from_of entry i) k && nat_lt (slot_
 abbrev pub packet_calls : List WriteLoad → List ℕ → ℕ → Entry → ℕ → ℕ → List Call → List Call
 packet_calls loads slots bound entry i zero past = past
 packet_calls loads slots bound entry i (suc k) past =
-    cond (counts loads slots bound entry i k) (Arrived (slot_of loads slots i k) (payload_of loads i k) ∷ packet_calls loads slots bound entry i k past) (packet_calls loads slots bound entry i k past)
+    if counts loads slots bound entry i k then Arrived (slot_of loads slots i k) (payload_of loads i k) ∷ packet_calls loads slots bound entry i k past else packet_calls loads slots bound entry i k past
 
 -- what set i asks as it is received: its bytes from its first packet that counts on, and so much painting
 abbrev pub heard_load : List WriteLoad → (ℕ → ℕ) → Entry → ℕ → SetLoad
@@ -41,7 +41,7 @@ is_whole loads slots bound i = nat_lt (slot_of loads slots i (packets_of loads i
 
 -- the set itself, where it is whole
 abbrev pub set_calls : List WriteLoad → List ℕ → ℕ → (ℕ → ℕ) → Entry → ℕ → List Call → List Call
-set_calls loads slots bound painted entry i past = cond (is_whole loads slots bound i) (SetWhole (heard_load loads painted entry i) ∷ past) past
+set_calls loads slots bound painted entry i past = if is_whole loads slots bound i then SetWhole (heard_load loads painted entry i) ∷ past else past
 
 -- the calls of set i behind a past
 abbrev pub calls_of_set : List WriteLoad → List ℕ → ℕ → (ℕ → ℕ) → Entry → ℕ → List Call → List Call
@@ -51,11 +51,12 @@ calls_of_set loads slots bound painted entry i past = set_calls loads slots boun
 abbrev pub entered_calls : List WriteLoad → List ℕ → ℕ → (ℕ → ℕ) → Entry → ℕ → List Call
 entered_calls loads slots bound painted entry zero = []
 entered_calls loads slots bound painted entry (suc i) =
-    cond (nat_le entry.set i) (calls_of_set loads slots bound painted entry i (entered_calls loads slots bound painted entry i)) []
+    if nat_le entry.set i then calls_of_set loads slots bound painted entry i (entered_calls loads slots bound painted entry i) else []
 
--- the whole stream, with the painting that the sets ask
+-- the whole stream
 abbrev pub whole_entry : Entry
 whole_entry = record { set = 0; packet = 0 }
 
+-- the painting that the sets ask
 abbrev pub planned_painting : List WriteLoad → ℕ → ℕ
 planned_painting loads i = (load_of loads i).painted
