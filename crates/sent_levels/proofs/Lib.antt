@@ -3,3 +3,4 @@ pub mod EnteredLevels
 pub mod EnteredLess
 pub mod EnteredWithin
 pub mod WholeLevels
+pub mod EnteredDone

@@ -1,1 +1,2 @@
 pub mod EnteredCalls
+pub mod DoneSets
