@@ -1,7 +1,7 @@
 -- A receiver that enters a compiled stream behind any number of its packets shows nothing before the time of the first set that it
 -- gets whole and that is not normal, and from then on what the script authors.
 use Rattle.std.proofs.Common.{◌≡◌, ◌∙◌, ◌⊎◌, inl, inr, ℕ, zero, suc, ◌%◌, ◌<◌, ◌≤◌, false, true, List, [], ◌∷◌, ◌++◌, length, map, take, drop, reverse, Option, Some, None, refl, sym, ap, subst, arith, append-nil, length-drop}
-use Rattle.std.specs.Prelude.{slice_get}
+use Rattle.std.specs.Prelude.{slice_get, unwrap_or}
 use Rattle.std.specs.List.{AllByRecursion, AllZip}
 use Rattle.std.specs.List.Sorted.{IsStrictlyIncreasing}
 use Rattle.std.specs.Option.{option_or}
@@ -23,12 +23,16 @@ use Rattle.page_epoch.specs.declared.planned_set.PlannedSet.{PlannedSet}
 use Rattle.stream_syntax.specs.declared.wire.TheConstants.{TIME_ROUND}
 use Rattle.schedule.specs.Slots.{Timetable, slots_of}
 use Rattle.decoder_model.specs.Kept.{last_time, lifted_behind, lifted_time, epoch_of}
+use Rattle.decoder_model.specs.Painting.{painting_by}
 use Rattle.decoder_model.specs.Readings.{Reading, AreReadings, IsDeliveryRead, AreDeliveriesRead}
 use Rattle.decoder_model.specs.Received.{HasReceived}
 use Rattle.decoder_model.specs.Sets.{Delivery, whole, sets_of}
 use Rattle.decoder_model.specs.Shown.{IsClear, view_at}
 use Rattle.decoder_model.specs.Streams.{SentSet, is_from, entry_set, entered_at, IsShownFrom}
-use Rattle.decoder_model.specs.Verdict.{sets_since}
+use Rattle.decoder_model.specs.Verdict.{verdict_of, sets_since}
+use Rattle.decoder_model.specs.declared.set_end.SetEnd.{SetEnd}
+use Rattle.decoder_model.specs.declared.set_end.SetEnd.TheVariants.{Broken}
+use Rattle.decoder_model.specs.declared.set_fault.SetFault.TheVariants.{NoPage}
 use Rattle.decoder_model.proofs.SentSets.{SetUnit, TimedSet, segments_of_units, size_of_units, all_segments, delivered, have_units}
 use Rattle.shown_plan.proofs.Fair.{fair}
 use Rattle.shown_plan.proofs.PlannedSets.{in_epoch}
@@ -38,6 +42,7 @@ use Rattle.shown_stream.specs.HoldsWhole.{HoldsWhole}
 use Rattle.shown_stream.specs.KeptSets.{IsKept}
 use Rattle.shown_stream.specs.SentSets.{sent_set, sent_from, sent_sets, times_from}
 use Rattle.shown_stream.specs.Shows.{authored_view, IsAnchorOf, ShowsFrom}
+use Rattle.shown_stream.specs.StreamCalls.{call_by, set_call}
 use Rattle.shown_stream.proofs.ComingSets.{SetComes, set_comes, all_come}
 use Rattle.shown_stream.proofs.CompiledPackets.{packets_in, as_many, ArePackets, are_packets}
 use Rattle.shown_stream.proofs.EnteredRuns.{none_with, turned, turned_is, IsReceivedSo, AreFrom, wait_for}
@@ -52,6 +57,7 @@ use Rattle.shown_stream.proofs.PlannedRegions.{planned_well}
 use Rattle.shown_stream.proofs.PlannedTimes.{pts_of, times_in_span, pts_rise}
 use Rattle.shown_stream.proofs.SentPieces.{IsFree}
 use Rattle.shown_stream.proofs.SentPlaces.{has_place}
+use Rattle.shown_stream.proofs.SetPaintings.{painting_in, calls_behind}
 use Rattle.shown_stream.proofs.ShownSets.{AreAheadOf, IsIdle, lifted_at}
 
 -- ---- what comes before the sets that come whole
@@ -89,14 +95,15 @@ behind_rest : (profile : Profile) (anchor : ℕ) (first : Delivery Reading) → 
 behind_rest profile anchor first broken = record { unknown = ap epoch_of broken.counts ∙ nothing_known; clear = λ tick. subst IsClear (sym (broken.clear tick)) tt }
 
 -- what a receiver has got before the sets that come whole
-record IsBegun (script : Script) (profile : Profile) (anchor : ℕ) (sets : List PlannedSet) (rest : List TimedSet) (left : List PlannedSet) : Type 0 where
-  past : List (Delivery Reading)
-  read : AreDeliveriesRead (turned (map delivered rest) []) past
-  idle : IsIdle profile anchor past
-  last : Option ℕ
-  is_last : last_time anchor past ≡ last
-  ahead : AreAheadOf anchor last left
-  holds : HoldsEach script profile anchor sets past
+pub record IsBegun (script : Script) (profile : Profile) (anchor : ℕ) (sets : List PlannedSet) (rest : List TimedSet) (left : List PlannedSet) : Type 0 where
+  pub past : List (Delivery Reading)
+  pub read : AreDeliveriesRead (turned (map delivered rest) []) past
+  pub idle : IsIdle profile anchor past
+  pub last : Option ℕ
+  pub is_last : last_time anchor past ≡ last
+  pub ahead : AreAheadOf anchor last left
+  pub holds : HoldsEach script profile anchor sets past
+  pub painted : AllZip (λ (one : TimedSet) calls. painting_in calls ≡ 0) rest (calls_behind profile anchor [] (reverse past))
 
 low_prop : (origin : ℕ) → IsProp (origin ≤ LATEST_ORIGIN)
 low_prop origin = hlevel props
@@ -127,6 +134,7 @@ none_begun script profile table sets missed anchor first entry from = record {
   is_last = no_time anchor;
   ahead = first_ahead script profile table sets missed anchor first entry from;
   holds = holds_none script profile anchor sets (λ number set. Unit {0});
+  painted = tt;
 }
 
 -- later units of a set are read
@@ -143,6 +151,15 @@ rest_is_read script profile page table sets missed first one plan cut =
     let comes = set_comes script profile (reverse (take cut.number sets)) page cut.set cut.packets cut.whole place (planned_well script profile sets cut.number cut.set plan cut.found) cut.sent in
     let rest = rest_read cut.later cut.whole.units comes.readings comes.are in
     subst (λ (sent : TimedSet). IsRestRead sent cut.set.pts) (sym cut.is) (record { readings = rest.0; are = rest.1; time = comes.time })
+
+-- a broken set is not painted
+unpainted : (lifted : Option ℕ) (readings : List Reading) (verdict : Option SetEnd) (time size : ℕ) → verdict ≡ Some (Broken NoPage) → painting_in (call_by lifted (Some (record { pts = time; size = size; painted = painting_by readings verdict }))) ≡ 0
+unpainted None readings verdict time size is = refl
+unpainted (Some at) readings verdict time size is = ap (painting_by readings) is
+
+broken_unpainted : (profile : Profile) (anchor time size : ℕ) (readings : List Reading) → IsBrokenFirst profile anchor (whole time size readings) → painting_in (set_call profile anchor [] (whole time size readings)) ≡ 0
+broken_unpainted profile anchor time size readings broken =
+    unpainted (lifted_time anchor [] (whole time size readings)) readings (verdict_of profile anchor [] (whole time size readings)) (unwrap_or (lifted_time anchor [] (whole time size readings)) time) size broken.verdict
 
 rest_begun : (script : Script) (profile : Profile) (page : ℕ) (table : Timetable) (sets : List PlannedSet) (missed anchor first : ℕ) (one : TimedSet) → IsEntry script profile table sets missed anchor → IsCutSet page script table sets missed first one
     → IsBegun script profile anchor sets (one ∷ []) (drop first sets)
@@ -171,6 +188,7 @@ rest_begun script profile page table sets missed anchor first one entry cut =
       is_last = one_time anchor cut.set.pts delivery kept;
       ahead = near_all anchor script.origin cut.set.pts (drop first sets) (omega arith) its.0 its.1 (subst (λ (left : List PlannedSet). IsStrictlyIncreasing (pts_of left)) behind rise);
       holds = holds_next script profile anchor sets (λ number set. Unit {0}) [] plan (drop (suc cut.number) sets) cut.set delivery entry.plan parts kept (λ come known found. absurd (none_with idle known found)) (holds_none script profile anchor sets (λ number set. Unit {0}));
+      painted = (broken_unpainted profile anchor one.time (size_of_units one.units) rest.readings (cut.broken profile anchor delivery is), tt);
     }
 
 -- ---- the theorem
@@ -180,7 +198,7 @@ turned-append [] ys there = refl
 turned-append (x ∷ xs) ys there = turned-append xs ys (x ∷ there)
 
 -- what comes stands in one list, the latest first
-all_turned : (rest sent : List TimedSet) → turned (map delivered sent) (turned (map delivered rest) []) ≡ reverse (map delivered (rest ++ sent))
+pub all_turned : (rest sent : List TimedSet) → turned (map delivered sent) (turned (map delivered rest) []) ≡ reverse (map delivered (rest ++ sent))
 all_turned rest sent =
     sym (turned-append (map delivered rest) (map delivered sent) []) ∙ ap (λ all. turned all []) (sym (map-append delivered rest sent)) ∙ turned_is (map delivered (rest ++ sent)) [] ∙ append-nil (reverse (map delivered (rest ++ sent)))
 
@@ -202,28 +220,21 @@ found_behind P (suc first) zero sets set all found least = absurd (omega (arith,
 found_behind P (suc first) (suc number) [] set all found least = absurd (let no : None ≡ Some set = found in cc)
 found_behind P (suc first) (suc number) (one ∷ sets) set all found least = found_behind P first number sets set all found (omega (arith, least))
 
-pub received_late : (name : ProfileName) (pid page : ℕ) (script : Script) (bytes : List ℕ) → IsFree pid → IsCompiledFor name → (compiled : IsCompiledTo name pid page script bytes)
-    → (missed anchor : ℕ) → IsAnchorOf (times_from missed (sent_sets compiled.table compiled.sets)) anchor → IsReceivedLate name pid page script bytes compiled missed anchor
-received_late name pid page script bytes free made compiled missed anchor suits = record {
-  past = received.past;
-  received = subst (λ (all : List (Delivery (List ℕ))). AreDeliveriesRead all received.past) (all_turned late.rest (drop late.first known.sent) ∙ ap reverse (sym late.come)) received.read;
-  shows = λ tick. subst (λ (found : Option SentSet). IsShownFrom found tick (view_at profile anchor tick received.past) (authored_view script tick)) (sym behind) (received.shows tick);
-  holds = received.holds;
-  kept = λ number set found from. subst (λ (entry : Option SentSet). IsKept profile anchor entry received.past set) (sym behind)
-      (found_behind (IsKept profile anchor (entry_set missed (sent_from compiled.table late.first (drop late.first sets))) received.past) late.first number sets set received.kept found (among number set found from (cases_lt number late.first)));
-}
+-- what came before the sets that come whole, and these
+pub record ComesInParts (name : ProfileName) (pid page : ℕ) (script : Script) (bytes : List ℕ) (compiled : IsCompiledTo name pid page script bytes) (sent : List TimedSet) (missed anchor : ℕ) (late : IsEnteredLate name pid page script bytes compiled sent missed) : Type 0 where
+  pub begun : IsBegun script (profile_of name) anchor compiled.sets late.rest (drop late.first compiled.sets)
+  pub come : IsReceivedSo script (profile_of name) anchor compiled.sets begun.past (drop late.first compiled.sets) (turned (map delivered (drop late.first sent)) (turned (map delivered late.rest) []))
+      (entry_set missed (sent_from compiled.table late.first (drop late.first compiled.sets)))
+
+pub comes_in_parts : (name : ProfileName) (pid page : ℕ) (script : Script) (bytes : List ℕ) (compiled : IsCompiledTo name pid page script bytes) (known : ArePackets name pid page script bytes compiled)
+    → (missed anchor : ℕ) → IsAnchorOf (times_from missed (sent_sets compiled.table compiled.sets)) anchor → (late : IsEnteredLate name pid page script bytes compiled known.sent missed) → ComesInParts name pid page script bytes compiled known.sent missed anchor late
+comes_in_parts name pid page script bytes compiled known missed anchor suits late = record { begun = begun; come = received }
   where
     profile : Profile
     profile = profile_of name
 
     sets : List PlannedSet
     sets = compiled.sets
-
-    known : ArePackets name pid page script bytes compiled
-    known = are_packets name pid page script bytes free made compiled
-
-    late : IsEnteredLate name pid page script bytes compiled known.sent missed
-    late = compiled_late name pid page script bytes free compiled known missed
 
     entry : IsEntry script profile compiled.table sets missed anchor
     entry = record { plan = compiled.planned.plan; places = λ number set found. have_place number (slice_get_within sets number set found); anchor_suits = suits }
@@ -263,6 +274,35 @@ received_late name pid page script bytes free made compiled missed anchor suits 
     received =
         wait_for script profile anchor missed compiled.table late.first sets (turned (map delivered late.rest) []) begun.past begun.last (reverse (take late.first sets)) (drop late.first sets) (drop late.first known.sent) compiled.planned.plan parts begun.is_last
         begun.ahead from come begun.read begun.idle begun.holds
+
+pub received_late : (name : ProfileName) (pid page : ℕ) (script : Script) (bytes : List ℕ) → IsFree pid → IsCompiledFor name → (compiled : IsCompiledTo name pid page script bytes)
+    → (missed anchor : ℕ) → IsAnchorOf (times_from missed (sent_sets compiled.table compiled.sets)) anchor → IsReceivedLate name pid page script bytes compiled missed anchor
+received_late name pid page script bytes free made compiled missed anchor suits = record {
+  past = received.past;
+  received = subst (λ (all : List (Delivery (List ℕ))). AreDeliveriesRead all received.past) (all_turned late.rest (drop late.first known.sent) ∙ ap reverse (sym late.come)) received.read;
+  shows = λ tick. subst (λ (found : Option SentSet). IsShownFrom found tick (view_at profile anchor tick received.past) (authored_view script tick)) (sym behind) (received.shows tick);
+  holds = received.holds;
+  kept = λ number set found from. subst (λ (entry : Option SentSet). IsKept profile anchor entry received.past set) (sym behind)
+      (found_behind (IsKept profile anchor (entry_set missed (sent_from compiled.table late.first (drop late.first sets))) received.past) late.first number sets set received.kept found (among number set found from (cases_lt number late.first)));
+}
+  where
+    profile : Profile
+    profile = profile_of name
+
+    sets : List PlannedSet
+    sets = compiled.sets
+
+    known : ArePackets name pid page script bytes compiled
+    known = are_packets name pid page script bytes free made compiled
+
+    late : IsEnteredLate name pid page script bytes compiled known.sent missed
+    late = compiled_late name pid page script bytes free compiled known missed
+
+    both : ComesInParts name pid page script bytes compiled known.sent missed anchor late
+    both = comes_in_parts name pid page script bytes compiled known missed anchor suits late
+
+    received : IsReceivedSo script profile anchor sets both.begun.past (drop late.first sets) (turned (map delivered (drop late.first known.sent)) (turned (map delivered late.rest) [])) (entry_set missed (sent_from compiled.table late.first (drop late.first sets)))
+    received = both.come
 
     among : (number : ℕ) (set : PlannedSet) → slice_get sets number ≡ Some set → is_from missed (sent_set compiled.table number set) ≡ true → (number < late.first) ⊎ (late.first ≤ number) → late.first ≤ number
     among number set found from (inl before) = absurd (let no : false ≡ true = sym ((late.whole number set (slice_get_within sets number set found)).0 before) ∙ from in cc)

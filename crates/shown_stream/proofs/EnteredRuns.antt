@@ -23,9 +23,11 @@ use Rattle.shown_plan.proofs.Runs.{IsRun, begins, goes_on, RunKeeps, run_keeps}
 use Rattle.shown_stream.specs.KeptSets.{IsFromEntry, IsKept}
 use Rattle.shown_stream.specs.SentSets.{sent_set, sent_from}
 use Rattle.shown_stream.specs.Shows.{authored_view}
+use Rattle.shown_stream.specs.StreamCalls.{set_call}
 use Rattle.shown_stream.proofs.ComingSets.{SetComes, reading_of, is_read, turned_more}
 use Rattle.shown_stream.proofs.HeldSets.{HoldsEach, holds_next, kept_holds}
 use Rattle.shown_stream.proofs.RunViews.{IsBefore, run_shows}
+use Rattle.shown_stream.proofs.SetPaintings.{calls_behind, IsPaintedAs, painted_as}
 use Rattle.shown_stream.proofs.ShownSets.{AreAheadOf, kept_at, last_is, IsIdle, still_idle, waits_with, IsShownSet, shown_set}
 
 -- ---- lists turned
@@ -41,14 +43,15 @@ turned_is (x ∷ xs) there = turned_is xs (x ∷ there) ∙ sym (ap (λ front. f
 
 -- ---- the set that came last
 
--- it is kept at its own time, and is not broken
-pub record IsOnTop (profile : Profile) (anchor : ℕ) (entry : Option SentSet) (past : List (Delivery Reading)) (set : PlannedSet) : Type 0 where
+-- it is kept at its own time, is not broken, and is painted as the plan says
+pub record IsOnTop (script : Script) (profile : Profile) (anchor : ℕ) (entry : Option SentSet) (past : List (Delivery Reading)) (set : PlannedSet) : Type 0 where
   pub delivery : Delivery Reading
   pub before : List (Delivery Reading)
   pub placed : past ≡ delivery ∷ before
   pub lifted : lifted_time anchor before delivery ≡ Some set.pts
   pub shown : IsFromEntry entry set.pts → verdict_of profile anchor before delivery ≡ Some Shown
   pub kept : (verdict_of profile anchor before delivery ≡ Some Shown) ⊎ (verdict_of profile anchor before delivery ≡ Some Waiting)
+  pub painted : IsPaintedAs script set (set_call profile anchor before delivery)
 
 -- ---- behind a set that is not normal
 
@@ -62,7 +65,7 @@ pub record IsEntered (script : Script) (profile : Profile) (anchor : ℕ) (sets 
   pub come : entry.time ≤ set.pts
   pub shows : (tick : ℕ) → IsBefore tick left → IsShownFrom (Some entry) tick (view_at profile anchor tick past) (authored_view script tick)
   pub holds : HoldsEach script profile anchor sets past
-  pub top : IsOnTop profile anchor (Some entry) past set
+  pub top : IsOnTop script profile anchor (Some entry) past set
 
 -- what is received in the end, behind what was received before these sets came, and what is shown of it
 pub record IsReceivedSo (script : Script) (profile : Profile) (anchor : ℕ) (sets : List PlannedSet) (first : List (Delivery Reading)) (left : List PlannedSet) (deliveries : List (Delivery (List ℕ))) (entry : Option SentSet) : Type 0 where
@@ -73,10 +76,19 @@ pub record IsReceivedSo (script : Script) (profile : Profile) (anchor : ℕ) (se
   pub more : List (Delivery Reading)
   pub over : past ≡ more ++ first
   pub kept : AllByRecursion (IsKept profile anchor entry past) left
+  pub painted : AllZip (IsPaintedAs script) left (calls_behind profile anchor first (reverse more))
+
+on_top : (script : Script) (profile : Profile) (anchor : ℕ) (entry : Option SentSet) (past : List (Delivery Reading)) (one : Delivery Reading) (set : PlannedSet) → IsOnTop script profile anchor entry (one ∷ past) set
+    → IsPaintedAs script set (set_call profile anchor past one)
+on_top script profile anchor entry past one set top =
+    let first : top.delivery ≡ one = (let same = top.placed in cc) in
+    let rest : top.before ≡ past = (let same = top.placed in cc) in
+    subst (λ (delivery : Delivery Reading). IsPaintedAs script set (set_call profile anchor past delivery)) first
+    (subst (λ (before : List (Delivery Reading)). IsPaintedAs script set (set_call profile anchor before top.delivery)) rest top.painted)
 
 -- with the set that came before them
 with_one : (script : Script) (profile : Profile) (anchor : ℕ) (sets : List PlannedSet) (past : List (Delivery Reading)) (one : Delivery Reading) (set : PlannedSet) (left : List PlannedSet) (deliveries : List (Delivery (List ℕ))) (entry : Option SentSet)
-    → IsOnTop profile anchor entry (one ∷ past) set → IsReceivedSo script profile anchor sets (one ∷ past) left deliveries entry → IsReceivedSo script profile anchor sets past (set ∷ left) deliveries entry
+    → IsOnTop script profile anchor entry (one ∷ past) set → IsReceivedSo script profile anchor sets (one ∷ past) left deliveries entry → IsReceivedSo script profile anchor sets past (set ∷ left) deliveries entry
 with_one script profile anchor sets past one set left deliveries entry top rest = record {
   past = rest.past;
   read = rest.read;
@@ -96,6 +108,8 @@ with_one script profile anchor sets past one set left deliveries entry top rest 
     },
     rest.kept,
   );
+  painted = subst (λ (calls : List (Delivery Reading)). AllZip (IsPaintedAs script) (set ∷ left) (calls_behind profile anchor past calls)) (sym (reverse-append rest.more (one ∷ [])))
+      (on_top script profile anchor entry past one set top, rest.painted);
 }
 
 -- one set more
@@ -111,7 +125,7 @@ next_entered script profile anchor sets past plan left before set entry is_plan 
   come = let rise = ahead.0.0 in let come = entered.come in omega arith;
   shows = shows;
   holds = holds_next script profile anchor sets (λ number set. Unit {0}) past (before ∷ plan) left set (reading_of comes) is_plan parts lifted (λ come. kept_holds profile anchor past (before ∷ plan) set comes.contents (reading_of comes) kept shown) entered.holds;
-  top = record { delivery = reading_of comes; before = past; placed = refl; lifted = lifted; shown = λ from. shown.verdict; kept = inl shown.verdict };
+  top = record { delivery = reading_of comes; before = past; placed = refl; lifted = lifted; shown = λ from. shown.verdict; kept = inl shown.verdict; painted = painted_as script profile anchor past comes lifted (inl shown.verdict) };
 }
   where
     lifted : lifted_time anchor past (reading_of comes) ≡ Some set.pts
@@ -144,7 +158,7 @@ next_entered script profile anchor sets past plan left before set entry is_plan 
 pub go_on : (script : Script) (profile : Profile) (anchor : ℕ) (sets : List PlannedSet) (taken : List (Delivery (List ℕ))) (past : List (Delivery Reading)) (plan left : List PlannedSet) (sent : List TimedSet) (before : PlannedSet) (entry : SentSet)
     → IsPlan script profile sets → sets ≡ reverse (before ∷ plan) ++ left → AreAheadOf anchor (Some before.pts) left → AllZip (SetComes script) left sent → AreDeliveriesRead taken past
     → IsEntered script profile anchor sets past plan left before entry → IsReceivedSo script profile anchor sets past left (turned (map delivered sent) taken) (Some entry)
-go_on script profile anchor sets taken past plan [] [] before entry is_plan parts ahead come read entered = record { past = past; read = read; shows = λ tick. entered.shows tick tt; holds = entered.holds; more = []; over = refl; kept = tt }
+go_on script profile anchor sets taken past plan [] [] before entry is_plan parts ahead come read entered = record { past = past; read = read; shows = λ tick. entered.shows tick tt; holds = entered.holds; more = []; over = refl; kept = tt; painted = tt }
 go_on script profile anchor sets taken past plan [] (one ∷ sent) before entry is_plan parts ahead come read entered = absurd come
 go_on script profile anchor sets taken past plan (set ∷ left) [] before entry is_plan parts ahead come read entered = absurd come
 go_on script profile anchor sets taken past plan (set ∷ left) (one ∷ sent) before entry is_plan parts ahead come read entered =
@@ -167,7 +181,7 @@ first_entered script profile anchor sets past last plan left set entry is_plan p
   come = omega (arith, time);
   shows = shows;
   holds = holds_next script profile anchor sets (λ number set. Unit {0}) past plan left set (reading_of comes) is_plan parts lifted (λ come. kept_holds profile anchor past plan set comes.contents (reading_of comes) kept shown) holds;
-  top = record { delivery = reading_of comes; before = past; placed = refl; lifted = lifted; shown = λ from. shown.verdict; kept = inl shown.verdict };
+  top = record { delivery = reading_of comes; before = past; placed = refl; lifted = lifted; shown = λ from. shown.verdict; kept = inl shown.verdict; painted = painted_as script profile anchor past comes lifted (inl shown.verdict) };
 }
   where
     lifted : lifted_time anchor past (reading_of comes) ≡ Some set.pts
@@ -220,7 +234,7 @@ entry_later missed table number anchor time (set ∷ left) ahead from =
 pub wait_for : (script : Script) (profile : Profile) (anchor missed : ℕ) (table : Timetable) (number : ℕ) (sets : List PlannedSet) (taken : List (Delivery (List ℕ))) (past : List (Delivery Reading)) (last : Option ℕ) (plan left : List PlannedSet) (sent : List TimedSet)
     → IsPlan script profile sets → sets ≡ reverse plan ++ left → last_time anchor past ≡ last → AreAheadOf anchor last left → AreFrom missed table number left → AllZip (SetComes script) left sent → AreDeliveriesRead taken past
     → IsIdle profile anchor past → HoldsEach script profile anchor sets past → IsReceivedSo script profile anchor sets past left (turned (map delivered sent) taken) (entry_set missed (sent_from table number left))
-wait_for script profile anchor missed table number sets taken past last plan [] [] is_plan parts before ahead from come read idle holds = record { past = past; read = read; shows = λ tick. idle.clear tick; holds = holds; more = []; over = refl; kept = tt }
+wait_for script profile anchor missed table number sets taken past last plan [] [] is_plan parts before ahead from come read idle holds = record { past = past; read = read; shows = λ tick. idle.clear tick; holds = holds; more = []; over = refl; kept = tt; painted = tt }
 wait_for script profile anchor missed table number sets taken past last plan [] (one ∷ sent) is_plan parts before ahead from come read idle holds = absurd come
 wait_for script profile anchor missed table number sets taken past last plan (set ∷ left) [] is_plan parts before ahead from come read idle holds = absurd come
 wait_for script profile anchor missed table number sets taken past last plan (set ∷ left) (one ∷ sent) is_plan parts before ahead from come read idle holds =
@@ -239,10 +253,10 @@ wait_for script profile anchor missed table number sets taken past last plan (se
     Behind : Option SentSet → Type 0
     Behind entry = IsReceivedSo script profile anchor sets past (set ∷ left) (turned (map delivered sent) (delivered one ∷ taken)) entry
 
-    waiting : is_whole set.state ≡ false → IsOnTop profile anchor (entry_set missed (sent_from table (number + 1) left)) (reading_of come.0 ∷ past) set
+    waiting : is_whole set.state ≡ false → IsOnTop script profile anchor (entry_set missed (sent_from table (number + 1) left)) (reading_of come.0 ∷ past) set
     waiting normal =
         let waits = waits_with profile anchor past come.0 idle lifted normal in
-        record { delivery = reading_of come.0; before = past; placed = refl; lifted = lifted; shown = λ from. absurd (entry_later missed table (number + 1) anchor set.pts left ahead.2 from); kept = inr waits }
+        record { delivery = reading_of come.0; before = past; placed = refl; lifted = lifted; shown = λ from. absurd (entry_later missed table (number + 1) anchor set.pts left ahead.2 from); kept = inr waits; painted = painted_as script profile anchor past come.0 lifted (inr waits) }
 
     by : (state : Bool) → is_whole set.state ≡ state → (is_whole set.state ≡ false → Behind (entry_set missed (sent_from table (number + 1) left))) → Behind (entry_set missed (sent_from table number (set ∷ left)))
     by false is behind =

@@ -2,13 +2,12 @@
 use Rattle.std.proofs.Common.{◌≡◌, ◌∙◌, ℕ, zero, suc, ◌+◌, ◌-◌, ◌%◌, ◌<◌, List, [], ◌∷◌, length, map, get_or, Option, Some, refl, sym, ap, arith}
 use Rattle.std.specs.Prelude.{unwrap_or}
 use Rattle.std.specs.Option.{option_or}
-use Rattle.sub_base.specs.Lists.{with_earlier}
 use Rattle.sub_base.specs.declared.load.SetLoad.{SetLoad}
 use Rattle.sub_base.specs.declared.load.WriteLoad.{WriteLoad}
 use Rattle.sub_base.specs.declared.profile.Profile.{Profile}
 use Rattle.stream_syntax.specs.declared.wire.TheConstants.{TIME_ROUND}
 use Rattle.page_epoch.specs.declared.planned_set.PlannedSet.{PlannedSet}
-use Rattle.buffer_model.specs.Calls.{Call, Arrived, SetWhole, Dropped}
+use Rattle.buffer_model.specs.Calls.{Call, SetWhole}
 use Rattle.schedule.specs.Packets.{sum_below, load_of, size_of, payload_of}
 use Rattle.decoder_model.specs.Kept.{lifted_behind, last_time, lifted_time}
 use Rattle.decoder_model.specs.Painting.{painting_by}
@@ -20,6 +19,7 @@ use Rattle.sent_levels.specs.EnteredCalls.{Entry, from_of}
 use Rattle.shown_stream.specs.StreamCalls.{call_by, set_call}
 use Rattle.shown_stream.proofs.CallsOfPieces.{AreLeft}
 use Rattle.shown_stream.proofs.PlannedTimes.{pts_of}
+use Rattle.shown_stream.proofs.SetPaintings.{painting_in, calls_behind}
 use Rattle.shown_stream.proofs.ShownSets.{IsAheadOf, AreAheadOf, lifted_at}
 
 -- the first of these planned sets are received at these times, in their order
@@ -27,10 +27,6 @@ abbrev pub AreTimed : List PlannedSet → List TimedSet → Type 0
 AreTimed planned [] = Unit {0}
 AreTimed [] (one ∷ sets) = ⊥
 AreTimed (set ∷ planned) (one ∷ sets) = (one.time ≡ set.pts % TIME_ROUND) × AreTimed planned sets
-
--- the calls of sets behind others, in their order
-abbrev pub calls_behind : Profile → ℕ → List (Delivery Reading) → List (Delivery Reading) → List (List Call)
-calls_behind profile anchor older received = map (λ (placed : Delivery Reading × List (Delivery Reading)). set_call profile anchor placed.1 placed.0) (with_earlier older received)
 
 -- that call is a whole set, with that time and size
 pub record IsWholeAt (calls : List (List Call)) (j pts size : ℕ) : Type 0 where
@@ -81,22 +77,12 @@ each_kept profile anchor last older (set ∷ planned) (one ∷ sets) (delivery �
 
 -- ---- the calls that are left
 
-abbrev pub painting_in : List Call → ℕ
-painting_in [] = 0
-painting_in (Arrived slot bytes ∷ calls) = 0
-painting_in (SetWhole load ∷ calls) = load.painted
-painting_in (Dropped ∷ calls) = 0
-
--- the painting of the sets from one on, by their calls
-abbrev pub painted_in : List (List Call) → ℕ → ℕ → ℕ
-painted_in calls first i = painting_in (get_or calls (i - first) [])
-
--- where each call is a set with the time and the size of a scheduled one, the calls are those of the sets from the entry on
-pub are_left : (loads : List WriteLoad) (entry : Entry) (calls : List (List Call))
+-- where each call is that of a whole set with the time, the size and the painting of a scheduled one, the calls are those of the sets
+-- from the entry on
+pub are_left : (loads : List WriteLoad) (painted : ℕ → ℕ) (entry : Entry) (calls : List (List Call))
     → ((j : ℕ) → j < length calls → IsWholeAt calls j (load_of loads (entry.set + j)).pts (size_of loads (entry.set + j) - sum_below (payload_of loads (entry.set + j)) (from_of entry (entry.set + j))))
-    → AreLeft loads (painted_in calls entry.set) entry entry.set calls
-are_left loads entry calls each j inside =
+    → ((j : ℕ) → j < length calls → painting_in (get_or calls j []) ≡ painted (entry.set + j)) → AreLeft loads painted entry entry.set calls
+are_left loads painted entry calls each paintings j inside =
     let found = each j inside in
-    let place : entry.set + j - entry.set ≡ j = omega arith in
-    let painted : found.load.painted ≡ painted_in calls entry.set (entry.set + j) = ap painting_in (sym found.is) ∙ ap (λ n. painting_in (get_or calls n [])) (sym place) in
-    found.is ∙ λ i. SetWhole (record { pts = found.at i; size = found.many i; painted = painted i }) ∷ []
+    let is_painted : found.load.painted ≡ painted (entry.set + j) = ap painting_in (sym found.is) ∙ paintings j inside in
+    found.is ∙ λ i. SetWhole (record { pts = found.at i; size = found.many i; painted = is_painted i }) ∷ []

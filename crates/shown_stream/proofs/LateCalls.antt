@@ -50,7 +50,7 @@ take_past : {X : Type 0} (xs ys : List X) (n : ℕ) → take (length xs + n) (xs
 take_past [] ys n = let same : 0 + n ≡ n = omega arith in ap (λ k. take k ys) same
 take_past {X} (x ∷ xs) ys n = let next : suc (length xs) + n ≡ suc (length xs + n) = omega arith in ap {B = List X} (λ k. take k (x ∷ (xs ++ ys))) next ∙ ap {B = List X} (λ rest. x ∷ rest) (take_past xs ys n)
 
-same_lengths : {A B : Type 0} (R : A → B → Type 0) (xs : List A) (ys : List B) → AllZip R xs ys → length xs ≡ length ys
+pub same_lengths : {A B : Type 0} (R : A → B → Type 0) (xs : List A) (ys : List B) → AllZip R xs ys → length xs ≡ length ys
 same_lengths R [] [] h = refl
 same_lengths R [] (y ∷ ys) h = absurd h
 same_lengths R (x ∷ xs) [] h = absurd h

@@ -142,6 +142,7 @@ pub record IsCutSet (page : ℕ) (script : Script) (table : Timetable) (sets : L
 -- them at most the rest of one
 pub record IsEnteredLate (name : ProfileName) (pid page : ℕ) (script : Script) (bytes : List ℕ) (compiled : IsCompiledTo name pid page script bytes) (sent : List TimedSet) (missed : ℕ) : Type 0 where
   pub first : ℕ
+  pub few : first ≤ length sent
   pub rest : List TimedSet
   pub is_rest : IsRest sent first rest
   pub come : sets_of (profile_of name).coded pid page true (entered_at missed (packets_in name pid page script bytes compiled)) ≡ map delivered (rest ++ drop first sent)
@@ -184,6 +185,7 @@ pub compiled_late : (name : ProfileName) (pid page : ℕ) (script : Script) (byt
     → (missed : ℕ) → IsEnteredLate name pid page script bytes compiled known.sent missed
 compiled_late name pid page script bytes free compiled known missed = record {
   first = left.first;
+  few = left.few;
   rest = left.rest;
   is_rest = left.is_rest;
   come = late_sets coded pid page missed units sent slots free known.units known.are.carry known.apart same ahead ∙ ap (map delivered) left.are;

@@ -156,7 +156,8 @@ none_of_regions : (values : List SegmentValue) → AllByRecursion IsNoRegion val
 none_of_regions [] h = tt
 none_of_regions (value ∷ values) h = (all_no_region value values h.1, none_of_regions values h.1)
 
-abbrev region_with : Epoch → SentRegion → Region
+-- the segment of a region
+abbrev pub region_with : Epoch → SentRegion → Region
 region_with epoch sent = record {
   head = record {
     region = sent.id;

@@ -114,6 +114,7 @@ one_more set sets first rest (some_left found some inside) = some_left found som
 -- the rest of a set
 pub record SetsLeft (n : ℕ) (sets : List TimedSet) : Type 0 where
   pub first : ℕ
+  pub few : first ≤ length sets
   pub rest : List TimedSet
   pub is_rest : IsRest sets first rest
   pub are : sets_behind n sets ≡ rest ++ drop first sets
@@ -121,12 +122,13 @@ pub record SetsLeft (n : ℕ) (sets : List TimedSet) : Type 0 where
   pub begun : (i : ℕ) → i < length sets → (i < first → units_before i sets < n) × (first ≤ i → n ≤ units_before i sets)
 
 pub sets_left : (n : ℕ) (sets : List TimedSet) → AllByRecursion (λ (set : TimedSet). 1 ≤ length set.units) sets → SetsLeft n sets
-sets_left n [] some = record { first = 0; rest = []; is_rest = none_left; are = refl; ends = λ some. absurd (omega arith); begun = λ i inside. absurd (omega arith) }
+sets_left n [] some = record { first = 0; few = omega arith; rest = []; is_rest = none_left; are = refl; ends = λ some. absurd (omega arith); begun = λ i inside. absurd (omega arith) }
 sets_left zero (set ∷ sets) some =
     let any = some.0 in
     let test : ltb 0 (length set.units) ≡ true = grind (arith, nat_tests) in
     record {
       first = 0;
+      few = omega arith;
       rest = [];
       is_rest = none_left;
       are = ap (λ b. cond b (rest_of_set 0 set ∷ sets) (sets_behind (0 - length set.units) sets)) test;
@@ -150,6 +152,7 @@ sets_left (suc n) (set ∷ sets) some = by (cases_lt (suc n) (length set.units))
         let test : ltb (suc n) (length set.units) ≡ true = grind (arith, nat_tests) in
         record {
           first = 1;
+          few = omega arith;
           rest = rest_of_set (suc n) set ∷ [];
           is_rest = some_left refl (omega arith) within;
           are = ap (λ b. cond b (rest_of_set (suc n) set ∷ sets) (sets_behind (suc n - length set.units) sets)) test;
@@ -160,6 +163,7 @@ sets_left (suc n) (set ∷ sets) some = by (cases_lt (suc n) (length set.units))
         let test : ltb (suc n) (length set.units) ≡ false = grind (arith, nat_tests) in
         record {
           first = suc left.first;
+          few = (let most = left.few in omega arith);
           rest = left.rest;
           is_rest = one_more set sets left.first left.rest left.is_rest;
           are = ap (λ b. cond b (rest_of_set (suc n) set ∷ sets) (sets_behind (suc n - length set.units) sets)) test ∙ left.are;

@@ -14,6 +14,7 @@ pub mod LateSegments
 pub mod LateRest
 pub mod ReadSegments
 pub mod ComingSets
+pub mod SetPaintings
 pub mod ShownSets
 pub mod HeldSets
 pub mod EnteredRuns
@@ -57,6 +58,10 @@ pub mod KeptCalls
 pub mod SetsUpTo
 pub mod CompiledTimes
 pub mod CompiledKept
+pub mod EntrySizes
+pub mod ReceivedLoads
+pub mod CompiledHeard
+pub mod CompiledStays
 pub mod ScriptExample
 pub mod SentPlaces
 pub mod LateCuts

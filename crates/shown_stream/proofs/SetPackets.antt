@@ -39,7 +39,7 @@ pieces_bytes unit k (suc count) =
     ap (λ n. n ∷ map bytes_in (map (piece_of unit) (range_with_len (k + 1) count))) (piece_bytes unit k) ∙ ap (λ rest. payload_in (length unit) k ∷ rest) (pieces_bytes unit (k + 1) count)
 
 -- the packets of a set's units have the bytes that a schedule counts for them
-all_bytes : (packets : List (List ℕ)) → payloads_of (map length packets) ≡ map bytes_in (all_pieces packets)
+pub all_bytes : (packets : List (List ℕ)) → payloads_of (map length packets) ≡ map bytes_in (all_pieces packets)
 unfolding payloads_of
 all_bytes [] = refl
 all_bytes (packet ∷ packets) =

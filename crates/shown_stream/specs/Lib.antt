@@ -6,3 +6,4 @@ pub mod StreamCalls
 pub mod HoldsWhole
 pub mod KeptSets
 pub mod Entered
+pub mod StaysWithin
