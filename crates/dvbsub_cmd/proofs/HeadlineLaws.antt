@@ -6,6 +6,7 @@ use Rattle.cue_list.specs.declared.script.Script.{Script}
 use Rattle.shown_stream.specs.Compiled.{IsCompiledFor, IsCompiledTo}
 use Rattle.shown_stream.proofs.CompiledPackets.{packets_in, are_packets}
 use Rattle.shown_stream.proofs.CompiledShown.{compiled_entered}
+use Rattle.shown_stream.proofs.CompiledStays.{compiled_stays, compiled_scheduled}
 use Rattle.shown_stream.proofs.LostShown.{compiled_cut}
 use Rattle.shown_stream.proofs.SentPieces.{IsFree}
 use Rattle.sub_base.specs.declared.profile.ProfileName.{ProfileName}
@@ -54,6 +55,8 @@ shows_script profile pid page has_font before now script bytes below made reads 
       written = subst (λ (all : List ℕ). Appends before.out.written now.out.written all) known.joined written;
       entered = compiled_entered profile pid page script bytes free made compiled;
       cut = compiled_cut profile pid page script bytes free made compiled;
+      stays = λ missed anchor suits. compiled_stays profile pid page script bytes free compiled known missed anchor suits;
+      scheduled = λ anchor suits. compiled_scheduled profile pid page script bytes free compiled known anchor suits;
     }
 
 -- a status whose line could not be written is not that a command was done
