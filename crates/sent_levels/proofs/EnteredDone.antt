@@ -21,11 +21,13 @@ use Rattle.sent_levels.proofs.WholeLevels.{whole_is, one_done}
 -- ---- set by set
 
 -- packets make no set whole
-packets_done : (pace : Pace) (loads : List WriteLoad) (slots : List ℕ) (bound : ℕ) (entry : Entry) (i k : ℕ) (past : List Call) → done_sets pace (packet_calls loads slots bound entry i k past) ≡ done_sets pace past
+packets_done : (pace : Pace) (loads : List WriteLoad) (slots : List ℕ) (bound : ℕ) (entry : Entry) (i k : ℕ) (past : List Call)
+    → done_sets pace (packet_calls loads slots bound entry i k past) ≡ done_sets pace past
 packets_done pace loads slots bound entry i zero past = refl
 packets_done pace loads slots bound entry i (suc k) past = by (counts loads slots bound entry i k) ∙ packets_done pace loads slots bound entry i k past
   where
-    by : (b : Bool) → done_sets pace (cond b (Arrived (slot_of loads slots i k) (payload_of loads i k) ∷ packet_calls loads slots bound entry i k past) (packet_calls loads slots bound entry i k past)) ≡ done_sets pace (packet_calls loads slots bound entry i k past)
+    by : (b : Bool)
+        → done_sets pace (cond b (Arrived (slot_of loads slots i k) (payload_of loads i k) ∷ packet_calls loads slots bound entry i k past) (packet_calls loads slots bound entry i k past)) ≡ done_sets pace (packet_calls loads slots bound entry i k past)
     by true = refl
     by false = refl
 
@@ -34,7 +36,8 @@ abbrev heard_set : List WriteLoad → Pace → List ℕ → (ℕ → ℕ) → En
 heard_set loads pace slots painted entry i = record { time = (load_of loads i).pts; done = heard_done loads pace slots painted entry i }
 
 -- a set that is whole is done, and no other one
-set_more : (loads : List WriteLoad) (pace : Pace) (slots : List ℕ) (bound : ℕ) (painted : ℕ → ℕ) (entry : Entry) (i : ℕ) → IsEntry loads slots painted entry → i < length loads
+set_more : (loads : List WriteLoad) (pace : Pace) (slots : List ℕ) (bound : ℕ) (painted : ℕ → ℕ) (entry : Entry) (i : ℕ)
+    → IsEntry loads slots painted entry → i < length loads
     → done_sets pace (calls_of_set loads slots bound painted entry i (entered_calls loads slots bound painted entry i))
     ≡ cond (is_whole loads slots bound i) (heard_set loads pace slots painted entry i ∷ done_sets pace (entered_calls loads slots bound painted entry i)) (done_sets pace (entered_calls loads slots bound painted entry i))
 set_more loads pace slots bound painted entry i is inside = by (is_whole loads slots bound i) refl
@@ -54,7 +57,8 @@ set_more loads pace slots bound painted entry i is inside = by (is_whole loads s
         (λ n. record { time = (load_of loads i).pts; done = set_done loads pace slots bound painted entry i is inside e n } ∷ packets_done pace loads slots bound entry i (packets_of loads i) past n)
 
 -- the first sets and one more
-done_more : (loads : List WriteLoad) (pace : Pace) (slots : List ℕ) (bound : ℕ) (painted : ℕ → ℕ) (entry : Entry) (i : ℕ) → IsEntry loads slots painted entry → i < length loads
+done_more : (loads : List WriteLoad) (pace : Pace) (slots : List ℕ) (bound : ℕ) (painted : ℕ → ℕ) (entry : Entry) (i : ℕ)
+    → IsEntry loads slots painted entry → i < length loads
     → done_sets pace (entered_calls loads slots bound painted entry (suc i))
     ≡ cond (nat_le entry.set i) (cond (is_whole loads slots bound i) (heard_set loads pace slots painted entry i ∷ done_sets pace (entered_calls loads slots bound painted entry i)) (done_sets pace (entered_calls loads slots bound painted entry i))) []
 done_more loads pace slots bound painted entry i is inside = by (nat_le entry.set i)
@@ -75,7 +79,8 @@ whole_more loads pace slots bound i are inside =
 
 -- ---- no set is done later than in the whole stream
 
-pub dones_no_later : (loads : List WriteLoad) (pace : Pace) (slots : List ℕ) (bound : ℕ) (painted : ℕ → ℕ) (entry : Entry) (n : ℕ) → IsEntry loads slots painted entry → n ≤ length loads
+pub dones_no_later : (loads : List WriteLoad) (pace : Pace) (slots : List ℕ) (bound : ℕ) (painted : ℕ → ℕ) (entry : Entry) (n : ℕ)
+    → IsEntry loads slots painted entry → n ≤ length loads
     → AreDoneNoLater (done_sets pace (entered_calls loads slots bound painted entry n)) (done_sets pace (entered_calls loads slots bound (planned_painting loads) whole_entry n))
 dones_no_later loads pace slots bound painted entry zero is inside = tt
 dones_no_later loads pace slots bound painted entry (suc i) is inside =
@@ -101,8 +106,10 @@ dones_no_later loads pace slots bound painted entry (suc i) is inside =
 -- ---- which sets are done
 
 -- a set that is whole is decoded in time
-pub set_decoded : (loads : List WriteLoad) (pace : Pace) (table : Timetable) (bound : ℕ) (painted : ℕ → ℕ) (entry : Entry) (n i : ℕ) → Holds loads pace table → IsEntry loads table.slots painted entry → n ≤ length loads → entry.set ≤ i → i < n
-    → is_whole loads table.slots bound i ≡ true → IsDecodedBy (done_sets pace (entered_calls loads table.slots bound painted entry n)) (load_of loads i).pts
+pub set_decoded : (loads : List WriteLoad) (pace : Pace) (table : Timetable) (bound : ℕ) (painted : ℕ → ℕ) (entry : Entry) (n i : ℕ)
+    → Holds loads pace table → IsEntry loads table.slots painted entry → n ≤ length loads → entry.set ≤ i → i < n
+    → is_whole loads table.slots bound i ≡ true
+    → IsDecodedBy (done_sets pace (entered_calls loads table.slots bound painted entry n)) (load_of loads i).pts
 set_decoded loads pace table bound painted entry zero i holds is within from inside whole = absurd (omega (arith, inside))
 set_decoded loads pace table bound painted entry (suc m) i holds is within from inside whole =
     subst (λ (sets : List DoneSet). IsDecodedBy sets (load_of loads i).pts) (sym (done_more loads pace table.slots bound painted entry m is (omega (arith, within)) ∙ here))
@@ -119,11 +126,13 @@ set_decoded loads pace table bound painted entry (suc m) i holds is within from 
         let there : i < length loads = omega (arith, inside, within) in
         omega (arith, done_no_later loads pace table.slots painted entry i is there, holds.dones i there, holds.ready i there)
 
-    later : (b : Bool) → IsDecodedBy some (load_of loads i).pts → IsDecodedBy (cond b (heard_set loads pace table.slots painted entry m ∷ some) some) (load_of loads i).pts
+    later : (b : Bool) → IsDecodedBy some (load_of loads i).pts
+        → IsDecodedBy (cond b (heard_set loads pace table.slots painted entry m ∷ some) some) (load_of loads i).pts
     later false was = was
     later true was = record { place = suc was.place; set = was.set; found = was.found; shown = was.shown; in_time = was.in_time }
 
-    by : (i < m) ⊎ (m ≤ i) → (i < m → IsDecodedBy some (load_of loads i).pts) → IsDecodedBy (cond (is_whole loads table.slots bound m) (heard_set loads pace table.slots painted entry m ∷ some) some) (load_of loads i).pts
+    by : (i < m) ⊎ (m ≤ i) → (i < m → IsDecodedBy some (load_of loads i).pts)
+        → IsDecodedBy (cond (is_whole loads table.slots bound m) (heard_set loads pace table.slots painted entry m ∷ some) some) (load_of loads i).pts
     by (inl before) again = later (is_whole loads table.slots bound m) (again before)
     by (inr last) again =
         let same : i ≡ m = omega (arith, last, inside) in
@@ -143,14 +152,16 @@ turned_more xs k inside =
 abbrev AreWhole : List WriteLoad → List ℕ → ℕ → ℕ → Type 0
 AreWhole loads slots bound n = (i : ℕ) → i < n → is_whole loads slots bound i ≡ true
 
-all_done : (loads : List WriteLoad) (pace : Pace) (slots : List ℕ) (bound i : ℕ) → AreSlots loads slots → i < length loads → is_whole loads slots bound i ≡ true
+all_done : (loads : List WriteLoad) (pace : Pace) (slots : List ℕ) (bound i : ℕ) → AreSlots loads slots → i < length loads
+    → is_whole loads slots bound i ≡ true
     → done_sets pace (entered_calls loads slots bound (planned_painting loads) whole_entry (suc i)) ≡ heard_set loads pace slots (planned_painting loads) whole_entry i ∷ done_sets pace (entered_calls loads slots bound (planned_painting loads) whole_entry i)
 all_done loads pace slots bound i are inside whole =
     let some = done_sets pace (entered_calls loads slots bound (planned_painting loads) whole_entry i) in
     whole_more loads pace slots bound i are inside ∙ ap (λ b. cond b (heard_set loads pace slots (planned_painting loads) whole_entry i ∷ some) some) whole
 
 -- the sets of the whole stream are done when the schedule says
-pub all_dones : (loads : List WriteLoad) (pace : Pace) (table : Timetable) (bound n : ℕ) → Holds loads pace table → length table.dones ≡ length loads → n ≤ length loads → AreWhole loads table.slots bound n
+pub all_dones : (loads : List WriteLoad) (pace : Pace) (table : Timetable) (bound n : ℕ) → Holds loads pace table → length table.dones ≡ length loads
+    → n ≤ length loads → AreWhole loads table.slots bound n
     → map (λ (set : DoneSet). set.done) (done_sets pace (entered_calls loads table.slots bound (planned_painting loads) whole_entry n)) ≡ reverse (take n table.dones)
 all_dones loads pace table bound zero holds many within whole = refl
 all_dones loads pace table bound (suc i) holds many within whole =
@@ -160,8 +171,10 @@ all_dones loads pace table bound (suc i) holds many within whole =
     ∙ sym (turned_more table.dones i (omega (arith, many, within)))
 
 -- and they have the times of their loads
-pub all_times : (loads : List WriteLoad) (pace : Pace) (table : Timetable) (bound n : ℕ) (times : List ℕ) → Holds loads pace table → length times ≡ length loads → ((i : ℕ) → i < length loads → (load_of loads i).pts ≡ slice_index times i) → n ≤ length loads
-    → AreWhole loads table.slots bound n → map (λ (set : DoneSet). set.time) (done_sets pace (entered_calls loads table.slots bound (planned_painting loads) whole_entry n)) ≡ reverse (take n times)
+pub all_times : (loads : List WriteLoad) (pace : Pace) (table : Timetable) (bound n : ℕ) (times : List ℕ) → Holds loads pace table
+    → length times ≡ length loads → ((i : ℕ) → i < length loads → (load_of loads i).pts ≡ slice_index times i) → n ≤ length loads
+    → AreWhole loads table.slots bound n
+    → map (λ (set : DoneSet). set.time) (done_sets pace (entered_calls loads table.slots bound (planned_painting loads) whole_entry n)) ≡ reverse (take n times)
 all_times loads pace table bound zero times holds many are within whole = refl
 all_times loads pace table bound (suc i) times holds many are within whole =
     let inside : i < length loads = omega (arith, within) in
@@ -172,14 +185,16 @@ all_times loads pace table bound (suc i) times holds many are within whole =
 -- ---- bounds that mean the same
 
 -- where all packets stand on the same side of two bounds, the calls are the same
-packets_bound : (loads : List WriteLoad) (slots : List ℕ) (bound other : ℕ) (entry : Entry) (i k : ℕ) (past : List Call) → k ≤ packets_of loads i → ((m : ℕ) → m < packets_of loads i → nat_lt (slot_of loads slots i m) bound ≡ nat_lt (slot_of loads slots i m) other)
+packets_bound : (loads : List WriteLoad) (slots : List ℕ) (bound other : ℕ) (entry : Entry) (i k : ℕ) (past : List Call) → k ≤ packets_of loads i
+    → ((m : ℕ) → m < packets_of loads i → nat_lt (slot_of loads slots i m) bound ≡ nat_lt (slot_of loads slots i m) other)
     → packet_calls loads slots bound entry i k past ≡ packet_calls loads slots other entry i k past
 packets_bound loads slots bound other entry i zero past within same = refl
 packets_bound loads slots bound other entry i (suc k) past within same =
     λ n. cond (nat_le (from_of entry i) k && same k (omega (arith, within)) n) (Arrived (slot_of loads slots i k) (payload_of loads i k) ∷ packets_bound loads slots bound other entry i k past (omega (arith, within)) same n)
     (packets_bound loads slots bound other entry i k past (omega (arith, within)) same n)
 
-pub same_bound : (loads : List WriteLoad) (slots : List ℕ) (bound other : ℕ) (painted : ℕ → ℕ) (entry : Entry) (n : ℕ) → AreSlots loads slots → n ≤ length loads
+pub same_bound : (loads : List WriteLoad) (slots : List ℕ) (bound other : ℕ) (painted : ℕ → ℕ) (entry : Entry) (n : ℕ) → AreSlots loads slots
+    → n ≤ length loads
     → ((i m : ℕ) → i < n → m < packets_of loads i → nat_lt (slot_of loads slots i m) bound ≡ nat_lt (slot_of loads slots i m) other)
     → entered_calls loads slots bound painted entry n ≡ entered_calls loads slots other painted entry n
 same_bound loads slots bound other painted entry zero are within same = refl

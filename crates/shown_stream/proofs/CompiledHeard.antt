@@ -48,15 +48,18 @@ use Rattle.shown_stream.proofs.SetsUpTo.{sets_up_to}
 
 -- ---- the calls of sets
 
-many_read : (deliveries : List (Delivery (List ℕ))) (past : List (Delivery Reading)) → AreDeliveriesRead deliveries past → length past ≡ length deliveries
+many_read : (deliveries : List (Delivery (List ℕ))) (past : List (Delivery Reading)) → AreDeliveriesRead deliveries past
+    → length past ≡ length deliveries
 many_read [] [] h = refl
 many_read [] (one ∷ past) h = absurd h
 many_read (delivery ∷ deliveries) [] h = absurd h
 many_read (delivery ∷ deliveries) (one ∷ past) h = ap suc (many_read deliveries past h.1)
 
 -- up to any packet the calls of sets are those of the scheduled sets from the entry on
-pub compiled_left : (name : ProfileName) (pid page : ℕ) (script : Script) (bytes : List ℕ) → IsFree pid → (compiled : IsCompiledTo name pid page script bytes) (known : ArePackets name pid page script bytes compiled) (loads_are : All IsLoad compiled.loads)
-    → (anchor missed m : ℕ) → IsAnchorOf (times_from missed (sent_sets compiled.table compiled.sets)) anchor → (late : IsEnteredLate name pid page script bytes compiled known.sent missed) → (past : List (Delivery Reading))
+pub compiled_left : (name : ProfileName) (pid page : ℕ) (script : Script) (bytes : List ℕ) → IsFree pid
+    → (compiled : IsCompiledTo name pid page script bytes) (known : ArePackets name pid page script bytes compiled) (loads_are : All IsLoad compiled.loads)
+    → (anchor missed m : ℕ) → IsAnchorOf (times_from missed (sent_sets compiled.table compiled.sets)) anchor
+    → (late : IsEnteredLate name pid page script bytes compiled known.sent missed) → (past : List (Delivery Reading))
     → HasReceived (profile_of name) pid page false (take m (entered_at missed (packets_in name pid page script bytes compiled))) past
     → AreLeft compiled.loads (heard_painting compiled.loads late.first) (compiled_entry name pid page script bytes compiled known loads_are missed) (compiled_entry name pid page script bytes compiled known loads_are missed).set (set_calls (profile_of name) anchor (reverse past))
 compiled_left name pid page script bytes free compiled known loads_are anchor missed m suits late past received =
@@ -83,7 +86,8 @@ compiled_left name pid page script bytes free compiled known loads_are anchor mi
     sizes : List TimedSet → List ℕ
     sizes sets = map (λ (one : TimedSet). size_of_units one.units) sets
 
-    whole : (j : ℕ) → j < length (set_calls (profile_of name) anchor (reverse past)) → IsWholeAt (set_calls (profile_of name) anchor (reverse past)) j (load_of compiled.loads (entry.set + j)).pts (size_of compiled.loads (entry.set + j) - sum_below (payload_of compiled.loads (entry.set + j)) (from_of entry (entry.set + j)))
+    whole : (j : ℕ) → j < length (set_calls (profile_of name) anchor (reverse past))
+        → IsWholeAt (set_calls (profile_of name) anchor (reverse past)) j (load_of compiled.loads (entry.set + j)).pts (size_of compiled.loads (entry.set + j) - sum_below (payload_of compiled.loads (entry.set + j)) (from_of entry (entry.set + j)))
     whole j inside =
         let bounds = few j inside in
         let found = some.each j bounds.0 in
@@ -99,7 +103,8 @@ compiled_left name pid page script bytes free compiled known loads_are anchor mi
               ∙ heard_sizes (profile_of name).coded page compiled.loads n 0 compiled.units known.sent sent j bounds.2;
         }
 
-    painted : (j : ℕ) → j < length (set_calls (profile_of name) anchor (reverse past)) → painting_in (get_or (set_calls (profile_of name) anchor (reverse past)) j []) ≡ heard_painting compiled.loads late.first (entry.set + j)
+    painted : (j : ℕ) → j < length (set_calls (profile_of name) anchor (reverse past))
+        → painting_in (get_or (set_calls (profile_of name) anchor (reverse past)) j []) ≡ heard_painting compiled.loads late.first (entry.set + j)
     painted j inside =
         let bounds = few j inside in
         ap (λ found. painting_in (get_or (set_calls (profile_of name) anchor found) j [])) (first_of_all name pid page script bytes compiled known loads_are missed anchor late.first (drop entry.set compiled.sets) past all some)
@@ -108,8 +113,10 @@ compiled_left name pid page script bytes free compiled known loads_are anchor mi
         ∙ all.painted j (omega (arith, bounds.2, many_read (map delivered behind) all.received all.read, length-map behind delivered))
 
 -- and what is received so far can be read
-pub compiled_read : (name : ProfileName) (pid page : ℕ) (script : Script) (bytes : List ℕ) → IsFree pid → (compiled : IsCompiledTo name pid page script bytes) (known : ArePackets name pid page script bytes compiled) (loads_are : All IsLoad compiled.loads)
-    → (anchor missed m : ℕ) → IsAnchorOf (times_from missed (sent_sets compiled.table compiled.sets)) anchor → (late : IsEnteredLate name pid page script bytes compiled known.sent missed)
+pub compiled_read : (name : ProfileName) (pid page : ℕ) (script : Script) (bytes : List ℕ) → IsFree pid
+    → (compiled : IsCompiledTo name pid page script bytes) (known : ArePackets name pid page script bytes compiled) (loads_are : All IsLoad compiled.loads)
+    → (anchor missed m : ℕ) → IsAnchorOf (times_from missed (sent_sets compiled.table compiled.sets)) anchor
+    → (late : IsEnteredLate name pid page script bytes compiled known.sent missed)
     → (past : List (Delivery Reading)) × HasReceived (profile_of name) pid page false (take m (entered_at missed (packets_in name pid page script bytes compiled))) past
 compiled_read name pid page script bytes free compiled known loads_are anchor missed m suits late =
     let coded = (profile_of name).coded in
@@ -123,7 +130,9 @@ compiled_read name pid page script bytes free compiled known loads_are anchor mi
     )
 
 -- the end of the stream makes no set ready
-pub ended_sets : (name : ProfileName) (pid page : ℕ) (script : Script) (bytes : List ℕ) → IsFree pid → (compiled : IsCompiledTo name pid page script bytes) (known : ArePackets name pid page script bytes compiled) → All IsLoad compiled.loads → (missed : ℕ)
+pub ended_sets : (name : ProfileName) (pid page : ℕ) (script : Script) (bytes : List ℕ) → IsFree pid
+    → (compiled : IsCompiledTo name pid page script bytes) (known : ArePackets name pid page script bytes compiled) → All IsLoad compiled.loads
+    → (missed : ℕ)
     → sets_of (profile_of name).coded pid page true (entered_at missed (packets_in name pid page script bytes compiled)) ≡ sets_of (profile_of name).coded pid page false (entered_at missed (packets_in name pid page script bytes compiled))
 ended_sets name pid page script bytes free compiled known loads_are missed =
     let coded = (profile_of name).coded in
@@ -140,7 +149,8 @@ ended_sets name pid page script bytes free compiled known loads_are missed =
 -- ---- before any slot
 
 -- packets stand before the end of their stream
-laid_inside : (pid from number k : ℕ) (pieces : List Piece) (slots : List ℕ) → IsAhead from slots → length pieces ≡ length slots → k < length slots → get_or slots k 0 < from + length (laid pid from number pieces slots)
+laid_inside : (pid from number k : ℕ) (pieces : List Piece) (slots : List ℕ) → IsAhead from slots → length pieces ≡ length slots → k < length slots
+    → get_or slots k 0 < from + length (laid pid from number pieces slots)
 laid_inside pid from number k pieces [] ahead same inside = absurd (omega arith)
 laid_inside pid from number k [] (slot ∷ slots) ahead same inside = absurd (omega arith)
 laid_inside pid from number zero (piece ∷ pieces) (slot ∷ slots) ahead same inside =
@@ -151,14 +161,16 @@ laid_inside pid from number (suc k) (piece ∷ pieces) (slot ∷ slots) ahead sa
     let rest = laid_inside pid (slot + 1) (number + 1) k pieces slots ahead.1 (omega arith) (omega arith) in
     omega (arith, rest, length-append (replicate (slot - from) null_packet) (packet_of pid number piece ∷ laid pid (slot + 1) (number + 1) pieces slots), length-replicate {A = List ℕ} (slot - from) null_packet)
 
-pub packet_inside : (name : ProfileName) (pid page : ℕ) (script : Script) (bytes : List ℕ) (compiled : IsCompiledTo name pid page script bytes) (known : ArePackets name pid page script bytes compiled) → All IsLoad compiled.loads → (i k : ℕ) → i < length compiled.loads
+pub packet_inside : (name : ProfileName) (pid page : ℕ) (script : Script) (bytes : List ℕ) (compiled : IsCompiledTo name pid page script bytes) (known : ArePackets name pid page script bytes compiled)
+    → All IsLoad compiled.loads → (i k : ℕ) → i < length compiled.loads
     → k < packets_of compiled.loads i → slot_of compiled.loads compiled.table.slots i k < length (packets_in name pid page script bytes compiled)
 packet_inside name pid page script bytes compiled known loads_are i k inside within =
     let is = compiled_stream name pid page script bytes compiled known loads_are in
     omega (arith, laid_inside pid 0 0 (first_packet compiled.loads i + k) (all_pieces (all_units compiled.units)) compiled.table.slots is.ahead is.pieces (within_slots compiled.loads compiled.table.slots i k is.are inside within))
 
 -- what comes before a slot is the first so many of what comes
-pub before_slot : (missed slot : ℕ) (packets : List (List ℕ)) → drop missed (take slot packets) ≡ take (min (slot - missed) (length (drop missed packets))) (drop missed packets)
+pub before_slot : (missed slot : ℕ) (packets : List (List ℕ))
+    → drop missed (take slot packets) ≡ take (min (slot - missed) (length (drop missed packets))) (drop missed packets)
 before_slot missed slot packets = elim (cases_lt slot missed) [
   | inl early ↦
       let none : min (slot - missed) (length (drop missed packets)) ≡ 0 = omega arith in
@@ -175,8 +187,10 @@ before_slot missed slot packets = elim (cases_lt slot missed) [
     ]
 
 -- the calls before a slot
-pub heard_calls : (name : ProfileName) (pid page : ℕ) (script : Script) (bytes : List ℕ) → IsFree pid → (compiled : IsCompiledTo name pid page script bytes) (known : ArePackets name pid page script bytes compiled) (loads_are : All IsLoad compiled.loads)
-    → (anchor missed slot : ℕ) → IsAnchorOf (times_from missed (sent_sets compiled.table compiled.sets)) anchor → (late : IsEnteredLate name pid page script bytes compiled known.sent missed) → (calls : List Call)
+pub heard_calls : (name : ProfileName) (pid page : ℕ) (script : Script) (bytes : List ℕ) → IsFree pid
+    → (compiled : IsCompiledTo name pid page script bytes) (known : ArePackets name pid page script bytes compiled) (loads_are : All IsLoad compiled.loads)
+    → (anchor missed slot : ℕ) → IsAnchorOf (times_from missed (sent_sets compiled.table compiled.sets)) anchor
+    → (late : IsEnteredLate name pid page script bytes compiled known.sent missed) → (calls : List Call)
     → AreCallsBefore slot name pid page anchor missed (packets_in name pid page script bytes compiled) calls
     → calls ≡ entered_calls compiled.loads compiled.table.slots slot (heard_painting compiled.loads late.first) (compiled_entry name pid page script bytes compiled known loads_are missed) (length compiled.loads)
 heard_calls name pid page script bytes free compiled known loads_are anchor missed slot suits late calls given =

@@ -37,7 +37,8 @@ pieces_sum : (group : List (List ℕ)) → sum (map bytes_in (all_pieces group))
 pieces_sum group = ap sum (sym (all_bytes group)) ∙ units_sum (map length group)
 
 -- the packets of the first units of a set have their bytes
-front_sum : (loads : List WriteLoad) (i : ℕ) (front back : List (List ℕ)) → payloads_of (units_of loads i) ≡ map bytes_in (all_pieces (front ++ back)) → sum_below (payload_of loads i) (length (all_pieces front)) ≡ sum (map length front)
+front_sum : (loads : List WriteLoad) (i : ℕ) (front back : List (List ℕ)) → payloads_of (units_of loads i) ≡ map bytes_in (all_pieces (front ++ back))
+    → sum_below (payload_of loads i) (length (all_pieces front)) ≡ sum (map length front)
 front_sum loads i front back are =
     let xs = map bytes_in (all_pieces front) in
     let ys = map bytes_in (all_pieces back) in
@@ -47,7 +48,8 @@ front_sum loads i front back are =
     ∙ sum_below-same (payload_of loads i) (slice_index xs) (length xs) (λ k within. ap (λ found. slice_index found k) parts ∙ get_or-append xs ys 0 k within)
     ∙ sum_places xs ∙ pieces_sum front
 
-units_size : (page time : ℕ) (group : List (List ℕ)) (units : List SetUnit) → AllZip (IsUnitOf page) group (map (timed time) units) → sum (map length group) ≡ size_of_units units
+units_size : (page time : ℕ) (group : List (List ℕ)) (units : List SetUnit) → AllZip (IsUnitOf page) group (map (timed time) units)
+    → sum (map length group) ≡ size_of_units units
 units_size page time [] [] are = refl
 units_size page time [] (one ∷ units) are = absurd are
 units_size page time (unit ∷ group) [] are = absurd are
@@ -56,13 +58,15 @@ units_size page time (unit ∷ group) (one ∷ units) are =
 
 -- ---- a set
 
-whole_sum : (coded page : ℕ) (loads : List WriteLoad) (i : ℕ) (group : List (List ℕ)) (one : TimedSet) → IsSentSet coded page loads i group one → size_of loads i ≡ sum (map length group)
+whole_sum : (coded page : ℕ) (loads : List WriteLoad) (i : ℕ) (group : List (List ℕ)) (one : TimedSet) → IsSentSet coded page loads i group one
+    → size_of loads i ≡ sum (map length group)
 whole_sum coded page loads i group one sent =
     let many : packets_of loads i ≡ length (all_pieces group) = ap length sent.bytes ∙ length-map (all_pieces group) bytes_in in
     sym (payloads loads i) ∙ ap (sum_below (payload_of loads i)) many ∙ front_sum loads i group [] (sent.bytes ∙ ap (λ found. map bytes_in (all_pieces found)) (sym (append-nil group)))
 
 -- all of it
-whole_size : (coded page : ℕ) (loads : List WriteLoad) (i : ℕ) (group : List (List ℕ)) (one : TimedSet) → IsSentSet coded page loads i group one → size_of_units one.units ≡ size_of loads i
+whole_size : (coded page : ℕ) (loads : List WriteLoad) (i : ℕ) (group : List (List ℕ)) (one : TimedSet) → IsSentSet coded page loads i group one
+    → size_of_units one.units ≡ size_of loads i
 whole_size coded page loads i group one sent = sym (units_size page one.time group one.units sent.units) ∙ sym (whole_sum coded page loads i group one sent)
 
 -- its units behind the first so many
@@ -90,10 +94,12 @@ all_heard loads entry i later =
     ap (λ b. size_of loads i - sum_below (payload_of loads i) (cond b entry.packet 0)) (let t : (i == entry.set) ≡ false = grind (arith, nat_tests) in t)
     ∙ omega (arith, sum_below-zero (payload_of loads i))
 
-own_heard : (loads : List WriteLoad) (entry : Entry) → heard_bytes loads entry entry.set ≡ size_of loads entry.set - sum_below (payload_of loads entry.set) entry.packet
+own_heard : (loads : List WriteLoad) (entry : Entry)
+    → heard_bytes loads entry entry.set ≡ size_of loads entry.set - sum_below (payload_of loads entry.set) entry.packet
 own_heard loads entry = ap (λ b. size_of loads entry.set - sum_below (payload_of loads entry.set) (cond b entry.packet 0)) (let t : (entry.set == entry.set) ≡ true = grind (arith, nat_tests) in t)
 
-whole_sizes : (coded page : ℕ) (loads : List WriteLoad) (i : ℕ) (groups : List (List (List ℕ))) (sets : List TimedSet) → AreSentSets coded page loads i groups sets → (j : ℕ) → j < length sets → get_or (sizes_of sets) j 0 ≡ size_of loads (i + j)
+whole_sizes : (coded page : ℕ) (loads : List WriteLoad) (i : ℕ) (groups : List (List (List ℕ))) (sets : List TimedSet)
+    → AreSentSets coded page loads i groups sets → (j : ℕ) → j < length sets → get_or (sizes_of sets) j 0 ≡ size_of loads (i + j)
 whole_sizes coded page loads i [] [] sent j inside = absurd (omega arith)
 whole_sizes coded page loads i [] (one ∷ sets) sent j inside = absurd sent
 whole_sizes coded page loads i (group ∷ groups) [] sent j inside = absurd sent
@@ -101,7 +107,8 @@ whole_sizes coded page loads i (group ∷ groups) (one ∷ sets) sent zero insid
 whole_sizes coded page loads i (group ∷ groups) (one ∷ sets) sent (suc j) inside = let same : suc i + j ≡ i + suc j = omega arith in whole_sizes coded page loads (suc i) groups sets sent.1 j (omega arith) ∙ ap (size_of loads) same
 
 -- the sets that come have the bytes that count
-pub heard_sizes : (coded page : ℕ) (loads : List WriteLoad) (n i : ℕ) (groups : List (List (List ℕ))) (sets : List TimedSet) → AreSentSets coded page loads i groups sets → (j : ℕ) → j < length (sets_behind n sets)
+pub heard_sizes : (coded page : ℕ) (loads : List WriteLoad) (n i : ℕ) (groups : List (List (List ℕ))) (sets : List TimedSet)
+    → AreSentSets coded page loads i groups sets → (j : ℕ) → j < length (sets_behind n sets)
     → get_or (sizes_of (sets_behind n sets)) j 0 ≡ heard_bytes loads (entry_behind n i groups) ((entry_behind n i groups).set + j)
 heard_sizes coded page loads n i [] [] sent j inside = absurd (omega arith)
 heard_sizes coded page loads n i [] (one ∷ sets) sent j inside = absurd sent
@@ -129,7 +136,8 @@ heard_sizes coded page loads n i (group ∷ groups) (one ∷ sets) sent j inside
         let same : suc i + k ≡ i + suc k = omega arith in
         whole_sizes coded page loads (suc i) groups sets sent.1 k (omega arith) ∙ sym (all_heard loads entry (suc i + k) (omega arith)) ∙ ap (heard_bytes loads entry) same
 
-    by : (n < length group) ⊎ (length group ≤ n) → Claim (entry_behind (n - length group) (suc i) groups) (sets_behind (n - length group) sets) → Goal (ltb n (length group)) (ltb n (length one.units))
+    by : (n < length group) ⊎ (length group ≤ n) → Claim (entry_behind (n - length group) (suc i) groups) (sets_behind (n - length group) sets)
+        → Goal (ltb n (length group)) (ltb n (length one.units))
     by (inl within) rest =
         let same = units in
         let first : true ≡ ltb n (length group) = grind (arith, nat_tests) in
@@ -144,7 +152,8 @@ heard_sizes coded page loads n i (group ∷ groups) (one ∷ sets) sent j inside
         (subst (λ (k : ℕ). Claim (entry_behind (n - length group) (suc i) groups) (sets_behind k sets)) left rest))
 
 -- with those before the entry they are all sets
-pub count_behind : (coded page : ℕ) (loads : List WriteLoad) (n i : ℕ) (groups : List (List (List ℕ))) (sets : List TimedSet) → AreSentSets coded page loads i groups sets → (entry_behind n i groups).set + length (sets_behind n sets) ≡ i + length sets
+pub count_behind : (coded page : ℕ) (loads : List WriteLoad) (n i : ℕ) (groups : List (List (List ℕ))) (sets : List TimedSet)
+    → AreSentSets coded page loads i groups sets → (entry_behind n i groups).set + length (sets_behind n sets) ≡ i + length sets
 count_behind coded page loads n i [] [] sent = refl
 count_behind coded page loads n i [] (one ∷ sets) sent = absurd sent
 count_behind coded page loads n i (group ∷ groups) [] sent = absurd sent
@@ -156,7 +165,9 @@ count_behind coded page loads n i (group ∷ groups) (one ∷ sets) sent = by (c
     Goal : Bool → Bool → Type 0
     Goal a b = (cond a (record { set = i; packet = length (all_pieces (take n group)) }) (entry_behind (n - length group) (suc i) groups)).set + length (cond b (rest_of_set n one ∷ sets) (sets_behind (n - length one.units) sets)) ≡ i + suc (length sets)
 
-    by : (n < length group) ⊎ (length group ≤ n) → (entry_behind (n - length group) (suc i) groups).set + length (sets_behind (n - length group) sets) ≡ suc i + length sets → Goal (ltb n (length group)) (ltb n (length one.units))
+    by : (n < length group) ⊎ (length group ≤ n)
+        → (entry_behind (n - length group) (suc i) groups).set + length (sets_behind (n - length group) sets) ≡ suc i + length sets
+        → Goal (ltb n (length group)) (ltb n (length one.units))
     by (inl within) rest =
         let same = units in
         let first : true ≡ ltb n (length group) = grind (arith, nat_tests) in

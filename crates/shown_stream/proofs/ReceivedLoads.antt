@@ -67,7 +67,8 @@ one_painting script set a b first second =
     first.sum ∙ ap (λ (epoch : Epoch). sum_by (painting_of epoch) set.regions) same ∙ sym second.sum
 
 -- sets that are painted as the plan says ask what their loads say
-loads_painted : (script : Script) (sets : List PlannedSet) (calls : List (List Call)) (loads : List WriteLoad) → AllZip (IsPaintedAs script) sets calls → AllZip (IsSetLoad script) sets loads → (j : ℕ) → j < length calls
+loads_painted : (script : Script) (sets : List PlannedSet) (calls : List (List Call)) (loads : List WriteLoad)
+    → AllZip (IsPaintedAs script) sets calls → AllZip (IsSetLoad script) sets loads → (j : ℕ) → j < length calls
     → painting_in (get_or calls j []) ≡ (slice_index_or loads j no_load).load.painted
 loads_painted script [] [] loads painted asked j inside = absurd (omega arith)
 loads_painted script [] (call ∷ calls) loads painted asked j inside = absurd painted
@@ -76,7 +77,8 @@ loads_painted script (set ∷ sets) (call ∷ calls) [] painted asked j inside =
 loads_painted script (set ∷ sets) (call ∷ calls) (load ∷ loads) painted asked zero inside = one_painting script set (painting_in call) load.load.painted painted.0 asked.0.painted
 loads_painted script (set ∷ sets) (call ∷ calls) (load ∷ loads) painted asked (suc j) inside = loads_painted script sets calls loads painted.1 asked.1 j (omega arith)
 
-none_painted : (rest : List TimedSet) (calls : List (List Call)) → AllZip (λ (one : TimedSet) found. painting_in found ≡ 0) rest calls → (j : ℕ) → j < length calls → painting_in (get_or calls j []) ≡ 0
+none_painted : (rest : List TimedSet) (calls : List (List Call)) → AllZip (λ (one : TimedSet) found. painting_in found ≡ 0) rest calls → (j : ℕ)
+    → j < length calls → painting_in (get_or calls j []) ≡ 0
 none_painted [] [] painted j inside = absurd (omega arith)
 none_painted [] (call ∷ calls) painted j inside = absurd painted
 none_painted (one ∷ rest) [] painted j inside = absurd painted
@@ -92,20 +94,24 @@ zip_length R (x ∷ xs) (y ∷ ys) h = ap suc (zip_length R xs ys h.1)
 -- ---- the calls of sets
 
 -- the calls of sets one after another
-calls_in_parts : (profile : Profile) (anchor : ℕ) (older front back : List (Delivery Reading)) → calls_behind profile anchor older (front ++ back) ≡ calls_behind profile anchor older front ++ calls_behind profile anchor (turned front older) back
+calls_in_parts : (profile : Profile) (anchor : ℕ) (older front back : List (Delivery Reading))
+    → calls_behind profile anchor older (front ++ back) ≡ calls_behind profile anchor older front ++ calls_behind profile anchor (turned front older) back
 calls_in_parts profile anchor older [] back = refl
 calls_in_parts profile anchor older (one ∷ front) back = ap (λ rest. set_call profile anchor older one ∷ rest) (calls_in_parts profile anchor (one ∷ older) front back)
 
-pub calls_of_first : (profile : Profile) (anchor n : ℕ) (older received : List (Delivery Reading)) → calls_behind profile anchor older (take n received) ≡ take n (calls_behind profile anchor older received)
+pub calls_of_first : (profile : Profile) (anchor n : ℕ) (older received : List (Delivery Reading))
+    → calls_behind profile anchor older (take n received) ≡ take n (calls_behind profile anchor older received)
 calls_of_first profile anchor zero older received = refl
 calls_of_first profile anchor (suc n) older [] = refl
 calls_of_first profile anchor (suc n) older (one ∷ received) = ap (λ rest. set_call profile anchor older one ∷ rest) (calls_of_first profile anchor n (one ∷ older) received)
 
-pub count_calls : (profile : Profile) (anchor : ℕ) (older received : List (Delivery Reading)) → length (calls_behind profile anchor older received) ≡ length received
+pub count_calls : (profile : Profile) (anchor : ℕ) (older received : List (Delivery Reading))
+    → length (calls_behind profile anchor older received) ≡ length received
 count_calls profile anchor older [] = refl
 count_calls profile anchor older (one ∷ received) = ap suc (count_calls profile anchor (one ∷ older) received)
 
-pub read_first : (n : ℕ) (deliveries : List (Delivery (List ℕ))) (past : List (Delivery Reading)) → AreDeliveriesRead deliveries past → AreDeliveriesRead (take n deliveries) (take n past)
+pub read_first : (n : ℕ) (deliveries : List (Delivery (List ℕ))) (past : List (Delivery Reading)) → AreDeliveriesRead deliveries past
+    → AreDeliveriesRead (take n deliveries) (take n past)
 read_first zero deliveries past h = tt
 read_first (suc n) [] [] h = tt
 read_first (suc n) [] (one ∷ past) h = absurd h
@@ -126,8 +132,10 @@ rest_few sent first rest (none_left) = omega arith
 rest_few sent first rest (some_left found some few) = omega arith
 
 -- at most one set is cut, and it stands before the sets that come whole
-pub entry_before : (name : ProfileName) (pid page : ℕ) (script : Script) (bytes : List ℕ) → IsFree pid → (compiled : IsCompiledTo name pid page script bytes) (known : ArePackets name pid page script bytes compiled) (loads_are : All IsLoad compiled.loads) (missed : ℕ)
-    → (late : IsEnteredLate name pid page script bytes compiled known.sent missed) → (compiled_entry name pid page script bytes compiled known loads_are missed).set + length late.rest ≡ late.first
+pub entry_before : (name : ProfileName) (pid page : ℕ) (script : Script) (bytes : List ℕ) → IsFree pid
+    → (compiled : IsCompiledTo name pid page script bytes) (known : ArePackets name pid page script bytes compiled) (loads_are : All IsLoad compiled.loads) (missed : ℕ)
+    → (late : IsEnteredLate name pid page script bytes compiled known.sent missed)
+    → (compiled_entry name pid page script bytes compiled known loads_are missed).set + length late.rest ≡ late.first
 entry_before name pid page script bytes free compiled known loads_are missed late =
     let coded = (profile_of name).coded in
     let is = compiled_stream name pid page script bytes compiled known loads_are in
@@ -145,8 +153,10 @@ entry_before name pid page script bytes free compiled known loads_are missed lat
       length-drop late.first known.sent,
     )
 
-pub all_heard : (name : ProfileName) (pid page : ℕ) (script : Script) (bytes : List ℕ) → IsFree pid → (compiled : IsCompiledTo name pid page script bytes) (known : ArePackets name pid page script bytes compiled) (loads_are : All IsLoad compiled.loads)
-    → (missed anchor : ℕ) → IsAnchorOf (times_from missed (sent_sets compiled.table compiled.sets)) anchor → (late : IsEnteredLate name pid page script bytes compiled known.sent missed)
+pub all_heard : (name : ProfileName) (pid page : ℕ) (script : Script) (bytes : List ℕ) → IsFree pid
+    → (compiled : IsCompiledTo name pid page script bytes) (known : ArePackets name pid page script bytes compiled) (loads_are : All IsLoad compiled.loads)
+    → (missed anchor : ℕ) → IsAnchorOf (times_from missed (sent_sets compiled.table compiled.sets)) anchor
+    → (late : IsEnteredLate name pid page script bytes compiled known.sent missed)
     → AreAllHeard name pid page script bytes compiled known loads_are missed anchor late.first
 all_heard name pid page script bytes free compiled known loads_are missed anchor suits late = record {
   received = reverse past;
@@ -197,7 +207,8 @@ all_heard name pid page script bytes free compiled known loads_are missed anchor
     entered : entry.set + length late.rest ≡ late.first
     entered = entry_before name pid page script bytes free compiled known loads_are missed late
 
-    by : (j : ℕ) → j < length (cut_calls ++ more_calls) → painting_in (get_or (cut_calls ++ more_calls) j []) ≡ heard_painting loads late.first (entry.set + j)
+    by : (j : ℕ) → j < length (cut_calls ++ more_calls)
+        → painting_in (get_or (cut_calls ++ more_calls) j []) ≡ heard_painting loads late.first (entry.set + j)
     by j inside =
         elim (cases_lt j (length cut_calls)) [
           | inl early ↦
@@ -220,7 +231,8 @@ all_heard name pid page script bytes free compiled known loads_are missed anchor
 -- ---- the sets up to a packet
 
 -- the times of planned sets are those of their loads
-pub planned_times : (script : Script) (sets : List PlannedSet) (loads : List WriteLoad) → AllZip (IsSetLoad script) sets loads → (i : ℕ) → i < length sets → get_or (pts_of sets) i 0 ≡ (load_of loads i).pts
+pub planned_times : (script : Script) (sets : List PlannedSet) (loads : List WriteLoad) → AllZip (IsSetLoad script) sets loads → (i : ℕ)
+    → i < length sets → get_or (pts_of sets) i 0 ≡ (load_of loads i).pts
 planned_times script [] loads asked i inside = absurd (omega arith)
 planned_times script (set ∷ sets) [] asked i inside = absurd asked
 planned_times script (set ∷ sets) (load ∷ loads) asked zero inside = sym asked.0.time
@@ -234,7 +246,8 @@ drop_times (suc first) (set ∷ sets) j = let same : suc (first + j) ≡ suc fir
 -- what is received up to a packet comes first of all that is received
 pub first_of_all : (name : ProfileName) (pid page : ℕ) (script : Script) (bytes : List ℕ) (compiled : IsCompiledTo name pid page script bytes) (known : ArePackets name pid page script bytes compiled) (loads_are : All IsLoad compiled.loads)
     → (missed anchor first : ℕ) (planned : List PlannedSet) (past : List (Delivery Reading)) (all : AreAllHeard name pid page script bytes compiled known loads_are missed anchor first)
-    → (some : AreWholeUpTo (profile_of name) anchor planned (sets_behind (cut_units name pid page script bytes compiled known loads_are missed) known.sent) past) → reverse past ≡ take some.count all.received
+    → (some : AreWholeUpTo (profile_of name) anchor planned (sets_behind (cut_units name pid page script bytes compiled known loads_are missed) known.sent) past)
+    → reverse past ≡ take some.count all.received
 first_of_all name pid page script bytes compiled known loads_are missed anchor first planned past all some =
     let behind = sets_behind (cut_units name pid page script bytes compiled known loads_are missed) known.sent in
     same_past (map delivered (take some.count behind)) (reverse past) (take some.count all.received) some.read

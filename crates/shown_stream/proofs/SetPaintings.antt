@@ -42,7 +42,8 @@ none_painted : (values : List SegmentValue) (more : List Content) → AllByRecur
 none_painted [] more none = refl
 none_painted (value ∷ values) more none = one (region_in value) none.0 ∙ none_painted values more none.1
   where
-    one : (found : Option RegionValue) → found ≡ None → sum_by region_painting (cons_option found (filter_map region_of (map plain values ++ more))) ≡ paint (map plain values ++ more)
+    one : (found : Option RegionValue) → found ≡ None
+        → sum_by region_painting (cons_option found (filter_map region_of (map plain values ++ more))) ≡ paint (map plain values ++ more)
     one found e = ap (λ option. sum_by region_painting (cons_option option (filter_map region_of (map plain values ++ more)))) e
 
 cluts_none : (epoch : Epoch) (sent : List SentClut) → AllByRecursion IsNoRegion (map (planned.clut_segment_of epoch) sent)
@@ -50,7 +51,8 @@ cluts_none epoch [] = tt
 cluts_none epoch (one ∷ sent) = (refl, cluts_none epoch sent)
 
 -- regions are painted as the plan says
-regions_painted : (epoch : Epoch) (sent : List SentRegion) (behind : List SegmentValue) (more : List Content) → paint (map plain (map (planned.region_segment_of epoch) sent ++ behind) ++ more) ≡ sum_by (painting_of epoch) sent + paint (map plain behind ++ more)
+regions_painted : (epoch : Epoch) (sent : List SentRegion) (behind : List SegmentValue) (more : List Content)
+    → paint (map plain (map (planned.region_segment_of epoch) sent ++ behind) ++ more) ≡ sum_by (painting_of epoch) sent + paint (map plain behind ++ more)
 regions_painted epoch [] behind more = omega arith
 regions_painted epoch (one ∷ sent) behind more =
     omega (
@@ -60,20 +62,23 @@ regions_painted epoch (one ∷ sent) behind more =
       regions_painted epoch sent behind more,
     )
 
-objects_none : (pictures : List Picture) (epoch : Epoch) (places : List ℕ) (objects : List Content) → AllZip (IsDrawnObject pictures epoch) places objects → paint (objects ++ plain end_of_set ∷ []) ≡ 0
+objects_none : (pictures : List Picture) (epoch : Epoch) (places : List ℕ) (objects : List Content)
+    → AllZip (IsDrawnObject pictures epoch) places objects → paint (objects ++ plain end_of_set ∷ []) ≡ 0
 objects_none pictures epoch [] [] drawn = refl
 objects_none pictures epoch [] (object ∷ objects) drawn = absurd drawn
 objects_none pictures epoch (place ∷ places) [] drawn = absurd drawn
 objects_none pictures epoch (place ∷ places) (object ∷ objects) drawn =
     ap (λ found. sum_by region_painting (cons_option found (filter_map region_of (objects ++ plain end_of_set ∷ [])))) (ap region_in drawn.0.value_is) ∙ objects_none pictures epoch places objects drawn.1
 
-behind_display : (script : Script) (state : State) (values : List SegmentValue) (more : List Content) → paint (map plain (planned.display_of script state ++ values) ++ more) ≡ paint (map plain values ++ more)
+behind_display : (script : Script) (state : State) (values : List SegmentValue) (more : List Content)
+    → paint (map plain (planned.display_of script state ++ values) ++ more) ≡ paint (map plain values ++ more)
 behind_display script Normal values more = refl
 behind_display script Acquisition values more = refl
 behind_display script ModeChange values more = refl
 
 -- a set that is read is painted as the plan says
-pub set_painted : (script : Script) (epoch : Epoch) (set : PlannedSet) (contents : List Content) → IsReadSet script epoch set contents → set_painting contents ≡ sum_by (painting_of epoch) set.regions
+pub set_painted : (script : Script) (epoch : Epoch) (set : PlannedSet) (contents : List Content) → IsReadSet script epoch set contents
+    → set_painting contents ≡ sum_by (painting_of epoch) set.regions
 set_painted script epoch set contents is =
     let cluts = map (planned.clut_segment_of epoch) set.cluts in
     let back = is.objects ++ plain end_of_set ∷ [] in
@@ -100,14 +105,17 @@ abbrev pub IsPaintedAs : Script → PlannedSet → List Call → Type 0
 IsPaintedAs script set calls = IsPaintedIn script set (painting_in calls)
 
 -- a set that comes whole and is not broken is
-pub painted_as : {set : PlannedSet} {sent : TimedSet} (script : Script) (profile : Profile) (anchor : ℕ) (past : List (Delivery Reading)) (comes : SetComes script set sent) → lifted_time anchor past (reading_of comes) ≡ Some set.pts
-    → (verdict_of profile anchor past (reading_of comes) ≡ Some Shown) ⊎ (verdict_of profile anchor past (reading_of comes) ≡ Some Waiting) → IsPaintedAs script set (set_call profile anchor past (reading_of comes))
+pub painted_as : {set : PlannedSet} {sent : TimedSet} (script : Script) (profile : Profile) (anchor : ℕ) (past : List (Delivery Reading)) (comes : SetComes script set sent)
+    → lifted_time anchor past (reading_of comes) ≡ Some set.pts
+    → (verdict_of profile anchor past (reading_of comes) ≡ Some Shown) ⊎ (verdict_of profile anchor past (reading_of comes) ≡ Some Waiting)
+    → IsPaintedAs script set (set_call profile anchor past (reading_of comes))
 painted_as {set = set} {sent = sent} script profile anchor past comes lifted kept = record {
   epoch = comes.epoch;
   found = comes.found;
   sum = ap (λ found. painting_in (call_by found (set_load profile anchor past (reading_of comes)))) lifted ∙ by kept ∙ ap set_painting comes.contents_are ∙ set_painted script comes.epoch set comes.contents comes.is;
 }
   where
-    by : (verdict_of profile anchor past (reading_of comes) ≡ Some Shown) ⊎ (verdict_of profile anchor past (reading_of comes) ≡ Some Waiting) → painting_by comes.readings (verdict_of profile anchor past (reading_of comes)) ≡ set_painting (contents_in comes.readings)
+    by : (verdict_of profile anchor past (reading_of comes) ≡ Some Shown) ⊎ (verdict_of profile anchor past (reading_of comes) ≡ Some Waiting)
+        → painting_by comes.readings (verdict_of profile anchor past (reading_of comes)) ≡ set_painting (contents_in comes.readings)
     by (inl shown) = ap (painting_by comes.readings) shown
     by (inr waits) = ap (painting_by comes.readings) waits
