@@ -120,7 +120,7 @@ fn note(current: &mut Vec<Option<u32>>, row: &ColourRow, place: u32)
     }
 }
 
-/// Takes in the rows of these that have come since, in order of their ticks: the later one counts.
+/// Applies the rows that have come due since `come`, up to `next`, in order of their ticks: the later one counts.
 pub fn take_in(
     current: &mut Vec<Option<u32>>,
     colours: &[ColourRow],

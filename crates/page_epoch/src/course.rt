@@ -23,7 +23,7 @@ pub struct Course {
     /// The versions of the CLUTs that changed so far.
     pub versions: Items<Option<u8>>,
     pub page_version: u8,
-    /// Whether no instant of the epoch was yet.
+    /// True until the epoch's first instant.
     pub first: bool,
 }
 

@@ -132,7 +132,7 @@ pub fn listed(alloc: Global, regions: &[SentRegion]) -> Result<Items<u32>, Alloc
     Ok(Items::new(alloc, cues))
 }
 
-/// The cues that the regions of an epoch were last drawn with.
+/// How many objects the receiver's regions list: the cues with which each region of the epoch was last drawn.
 pub fn held(courses: &[RegionCourse]) -> u64
     requires few { length courses.now ≤ 64 }
     requires small { All IsSmallCourse courses.now }

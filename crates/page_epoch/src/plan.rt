@@ -38,8 +38,8 @@ impl Plan {
     }
 }
 
-/// The state of a set: of the first one of an epoch, of a refresh, of one that a receiver is due to begin at, or of
-/// another one.
+/// The page state of a set: a mode change where the epoch begins; an acquisition point at a refresh, or where an entry point is
+/// due; else normal.
 fn state_of(begins: bool, named: bool, due: bool) -> State
     ensures { result ≡ state_by begins named due }
 {

@@ -62,7 +62,7 @@ impl OpenUnit {
     }
 }
 
-/// Tells whether a unit with so many bytes of segments takes one of that many more. The first one is always taken.
+/// Whether a unit with so many bytes of segments takes one of that many more. The first one is always taken.
 fn has_room(taken: u64, bytes: u64) -> bool
     requires { taken + bytes < 2 ^ 64 }
     ensures { IsTrue result ↔ (0 < taken → taken + bytes ≤ UNIT_ROOM) }
