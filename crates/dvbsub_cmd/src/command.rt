@@ -5,9 +5,10 @@ ghost use Rattle.dvbsub_cmd.specs.Command.{command_of as command_of_words, compi
 
 use sub_base::{ProfileName, Words, number_in};
 
-/// The PIDs that a command takes: those of no table, and not that of null packets (ISO/IEC 13818-1, table 2-3).
+/// The least PID that a command takes: those below are of tables (ISO/IEC 13818-1, table 2-3; EN 300 468, table 1).
 pub const LEAST_PID: u64 = 32;
 
+/// The greatest PID that a command takes: the next one is that of null packets.
 pub const GREATEST_PID: u64 = 8_190;
 
 /// The greatest page id.
@@ -40,8 +41,11 @@ pub enum Command {
 /// Where the names of a command's files stand among the words, counted from 0.
 #[derive(Clone, Copy, Debug, PartialEq, Eq)]
 pub struct InputPlaces {
+    /// The script or the stream.
     pub first: Option<usize>,
+    /// The font.
     pub second: Option<usize>,
+    /// The output.
     pub out: Option<usize>,
 }
 

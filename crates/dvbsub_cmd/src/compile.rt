@@ -56,9 +56,13 @@ pub fn compile<A: Source, B: Source, K: Sink>(
 /// Why the packets of a script were not all written.
 #[derive(Drop)]
 pub enum SendFault {
+    /// No memory was found; nothing was written.
     Memory,
+    /// The script has no plan for the profile; nothing was written.
     Plan(PlanFault),
+    /// The set that this record brings has no slots; nothing was written.
     Schedule { row: u64, fault: ScheduleFault },
+    /// The sink could not be written; it has a prefix of the packets.
     Write,
 }
 

@@ -13,9 +13,13 @@ use stream_syntax::PacketFault;
 /// One of the sources and sinks of a command.
 #[derive(Clone, Copy, Debug, PartialEq, Eq)]
 pub enum Which {
+    /// The first source: the script, or the stream.
     First,
+    /// The second source: the font.
     Second,
+    /// The output.
     Out,
+    /// Where the line of the status goes.
     Notes,
 }
 

@@ -17,6 +17,7 @@ use sub_base::{Items, Profile};
 /// The display sets that a script is sent as, in order of their presentation times.
 #[derive(Drop)]
 pub struct Plan {
+    /// The sets, one for each instant of the script.
     pub sets: Items<PlannedSet>,
 }
 

@@ -12,7 +12,9 @@ use stream_syntax::PesFault;
 /// data identifier and subtitle stream id.
 #[derive(Clone, Copy, Debug, PartialEq, Eq)]
 pub struct Pes<'a> {
+    /// The presentation time, below 2^33.
     pub pts: u64,
+    /// The bytes in which segments stand one after another.
     pub segments: &'a [u8],
 }
 

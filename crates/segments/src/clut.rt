@@ -17,7 +17,9 @@ const SHORT: usize = 4;
 /// Entries of a CLUT (EN 300 743, CLUT definition segment).
 #[derive(Clone, Copy, Debug, PartialEq, Eq)]
 pub struct ClutSeg<'a> {
+    /// The id of the CLUT.
     pub clut: u8,
+    /// The version, 0 to 15.
     pub version: u8,
     /// The entries, as bytes.
     pub entries: &'a [u8],

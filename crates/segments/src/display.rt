@@ -17,9 +17,13 @@ const WITH_WINDOW: usize = 13;
 /// segment).
 #[derive(Clone, Copy, Debug, PartialEq, Eq)]
 pub struct DisplaySeg {
+    /// The version, 0 to 15.
     pub version: u8,
+    /// The columns of the display, 1 to 65,536.
     pub width: u32,
+    /// The rows of the display, 1 to 65,536.
     pub height: u32,
+    /// The part in which regions are placed; all of the display where none is sent.
     pub window: Option<Window>,
 }
 

@@ -19,11 +19,15 @@ const METHOD: u32 = 8;
 /// segment). Where the bottom block is empty, the top block serves for both fields.
 #[derive(Clone, Copy, Debug, PartialEq, Eq)]
 pub struct ObjectSeg<'a> {
+    /// The id of the object.
     pub object: u16,
+    /// The version, 0 to 15.
     pub version: u8,
     /// Whether pixels of code 1 leave the region as it is.
     pub see_through: bool,
+    /// The pixel data block of the rows 0, 2, 4 and so on.
     pub top: &'a [u8],
+    /// The pixel data block of the rows between these; empty where it equals the top one.
     pub bottom: &'a [u8],
 }
 

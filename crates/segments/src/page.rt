@@ -15,7 +15,9 @@ const ENTRY: usize = 6;
 pub struct PageSeg<'a> {
     /// The seconds after which the page is no longer shown.
     pub time_out: u8,
+    /// The version, 0 to 15.
     pub version: u8,
+    /// How the set stands to those before it.
     pub state: State,
     /// The entries, as bytes.
     pub entries: &'a [u8],

@@ -28,10 +28,15 @@ use stream_syntax::{
 /// A segment (EN 300 743, clause 7.2), borrowed from the bytes that it was read from.
 #[derive(Clone, Copy, Debug, PartialEq, Eq)]
 pub enum Segment<'a> {
+    /// A page composition.
     Page(PageSeg<'a>),
+    /// A region composition.
     Region(RegionSeg<'a>),
+    /// A CLUT definition.
     Clut(ClutSeg<'a>),
+    /// Object data.
     Object(ObjectSeg<'a>),
+    /// A display definition.
     Display(DisplaySeg),
     /// The end of a display set.
     End,

@@ -19,13 +19,19 @@ const LISTING: usize = 6;
 /// segment).
 #[derive(Clone, Copy, Debug, PartialEq, Eq)]
 pub struct RegionSeg<'a> {
+    /// The id of the region.
     pub region: u8,
+    /// The version, 0 to 15.
     pub version: u8,
     /// Whether the region is filled before its objects are painted.
     pub fill: bool,
+    /// The pixels of a row, at least 1.
     pub width: u16,
+    /// The rows, at least 1.
     pub height: u16,
+    /// The bits of its pixel codes.
     pub depth: Depth,
+    /// The id of its CLUT.
     pub clut: u8,
     /// The code that fills a region of eight bits.
     pub code8: u8,

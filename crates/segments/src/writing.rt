@@ -34,22 +34,34 @@ const RESERVED: u8 = 0xFF;
 /// A segment that is to be written.
 #[derive(Clone, Copy, Debug)]
 pub enum SegmentOut<'a> {
+    /// A page composition.
     Page {
         /// The seconds after which the page is no longer shown.
         time_out: u8,
+        /// The version, 0 to 15.
         version: u8,
+        /// How the set stands to those before it.
         state: State,
+        /// The regions that the page lists; a later one lies over those before it.
         entries: &'a [PageEntry],
     },
+    /// A region composition.
     Region {
+        /// All of the region but its objects.
         head: RegionHead,
+        /// The objects that it lists.
         listings: &'a [Listing],
     },
+    /// A CLUT definition.
     Clut {
+        /// The id of the CLUT.
         clut: u8,
+        /// The version, 0 to 15.
         version: u8,
+        /// The entries that are set; others keep their colours.
         entries: &'a [ClutEntry],
     },
+    /// Object data.
     Object(ObjectSeg<'a>),
     /// The sides of the display in pixels, without a window.
     Display {

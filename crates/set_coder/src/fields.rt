@@ -14,7 +14,9 @@ use sub_base::{Depth, NoMemory};
 /// has none.
 #[derive(Clone, Copy, Debug, PartialEq, Eq)]
 pub struct FieldLengths {
+    /// The bytes of the top block.
     pub top: u32,
+    /// The bytes of the bottom block, 0 where the bottom field equals the top field.
     pub bottom: u32,
 }
 

@@ -13,7 +13,10 @@ pub enum State {
 /// (EN 300 743, page composition segment).
 #[derive(Clone, Copy, Debug, PartialEq, Eq)]
 pub struct PageEntry {
+    /// The id of the region.
     pub region: u8,
+    /// The column of its left edge.
     pub x: u16,
+    /// The row of its upper edge.
     pub y: u16,
 }

@@ -8,9 +8,13 @@ use crate::depth::Depth;
 /// lets all of the video through (EN 300 743, CLUT definition segment).
 #[derive(Clone, Copy, Debug, PartialEq, Eq)]
 pub struct Colour {
+    /// Luminance, 0 to 255. 0 is read as full transparency.
     pub y: u8,
+    /// The red colour difference, 128 where there is none.
     pub cr: u8,
+    /// The blue colour difference, 128 where there is none.
     pub cb: u8,
+    /// Transparency: 0 is opaque, 255 is clear.
     pub t: u8,
 }
 
@@ -47,8 +51,11 @@ pub fn default_colour(depth: Depth, entry: u8) -> Colour
 /// Red, green and blue, each in sixths of its full strength.
 #[derive(Clone, Copy, Debug)]
 pub struct Sixths {
+    /// Red, 0 to 6.
     pub red: u32,
+    /// Green, 0 to 6.
     pub green: u32,
+    /// Blue, 0 to 6.
     pub blue: u32,
 }
 

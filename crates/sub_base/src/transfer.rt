@@ -13,6 +13,7 @@ use std::alloc::Global;
 /// Contracts see what is left in it, where it tells that, a count of the bytes that it gave, and a count of its faults.
 /// Both counts stay at 2^64 - 1 once they are there.
 pub trait Source {
+    /// What the source has left to give, where it tells that, and its counts of bytes and faults.
     ghost supplied: { Self → Supplied };
 
     /// Reads some of the next bytes into the front of the buffer. 0 bytes into a buffer with room are the end.
@@ -29,6 +30,7 @@ pub trait Source {
 /// Contracts see what was written to it, where it tells that, and a count of its faults, which stays at 2^64 - 1 once it
 /// is there.
 pub trait Sink {
+    /// What the sink has received, where it tells that, and its count of faults.
     ghost received: { Self → Received };
 
     /// Writes some bytes from the front of the piece, at least one where it has any.

@@ -43,7 +43,9 @@ impl Model for Demux {
 /// What became of a packet, and the unit that it ended.
 #[derive(Clone, Copy, Debug, PartialEq, Eq)]
 pub struct Fed<'a> {
+    /// What became of the packet.
     pub event: Event,
+    /// The unit that the packet ended, lent until the next packet is fed.
     pub unit: Option<&'a [u8]>,
 }
 

@@ -21,8 +21,11 @@ pub enum Kind<'a> {
 /// The bytes of a unit in a packet, with the packet's counter, and whether a unit begins with them.
 #[derive(Clone, Copy)]
 pub struct Payload<'a> {
+    /// The continuity counter, 0 to 15.
     pub counter: u8,
+    /// Whether a unit begins with these bytes.
     pub start: bool,
+    /// The bytes of the payload.
     pub bytes: &'a [u8],
 }
 
