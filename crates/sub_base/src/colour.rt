@@ -66,6 +66,8 @@ fn colour_of(mix: Sixths, t: u8) -> Colour
     requires blue { mix.blue ≤ 6 }
     ensures { result ≡ colour_of_mix mix t }
 {
+    // The coefficients of ITU-R BT.601 in thousandths. The divisor is 6 * 1,000, and half of it is in each sum, so that values
+    // are rounded to the nearest. 771,000 is 128 * 6,000 and that half: the differences of grey are 128.
     let Sixths { red, green, blue } = mix;
     Colour {
         y: (16 + (65_481 * red + 128_553 * green + 24_966 * blue + 3_000) / 6_000) as u8,

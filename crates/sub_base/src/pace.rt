@@ -45,6 +45,7 @@ impl Pace {
         ensures least { (slot : ℕ) → tick ≤ tick_of self.now slot → result ≤ slot }
         ensures near { tick_of self.now result ≤ max self.now.origin (tick + self.now.step) }
     {
+        // A tick before the origin is reached by slot 0.
         tick.saturating_sub(self.origin).div_ceil(self.step)
     }
 }

@@ -51,6 +51,7 @@ pub fn write_whole<K: Sink>(sink: &mut K, bytes: &[u8]) -> Result<(), WriteFaile
 {
     let mut done = 0usize;
     while done < bytes.len() {
+        // A sink takes at least one byte, so the loop ends.
         done += sink.write(&bytes[done..])?;
     }
     Ok(())
@@ -85,6 +86,7 @@ pub fn read_all<A: Source>(
         if count == 0 {
             return Ok(bytes);
         }
+        // Compared with what is left of the limit: the sum of both could pass 2^64.
         if count as u64 > limit - bytes.len() as u64 {
             return Err(ReadAllFault::TooLong);
         }
