@@ -76,6 +76,7 @@ pub(crate) fn read_records(alloc: Global, bytes: &[u8], font: &Font) -> Result<R
             Ok(false) => return whole(reader),
             Ok(true) => {}
         }
+        // A record that is refused is not counted.
         let before = reader.rows;
         match reader.take(alloc, font, &row) {
             Err(RowFault::OutOfMemory) => return Err(ScriptFault::Memory),
