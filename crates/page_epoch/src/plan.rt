@@ -30,6 +30,7 @@ impl Plan {
         ensures cause { IfErr result (IsCause script.now profile.now) }
     {
         if u32::from(script.width) > profile.width || u32::from(script.height) > profile.height {
+            // The display is always the second record.
             return Err(PlanFault::DisplayTooLarge { row: 2 });
         }
         let sets = plan_sets(alloc, script.epochs.as_slice(), script.refresh, profile)?;
@@ -85,6 +86,7 @@ fn plan_sets(
     for instant in &instants {
         sweep = sweep.at(alloc, epochs, instant.tick)?;
         let epoch = &epochs[sweep.place as usize];
+        // Named instants may come so thick that no refresh has room between them: then one of them is the entry point.
         let due = whole + refresh <= instant.tick;
         let state = state_of(sweep.course.first, instant.named, due);
         let step = sweep
