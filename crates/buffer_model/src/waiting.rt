@@ -46,6 +46,7 @@ pub fn hold(waiting: &mut Vec<Waiting>, tick: u64, done: u64, bytes: u64)
     ensures held { (later : ℕ) → tick ≤ later → held_bytes later waiting.new.items ≡ held_bytes later waiting.old.items + held_of later (record { done = done; bytes = bytes }) }
 {
     forget_done(waiting, tick);
+    // Each set that waits has a byte in the buffer, so that the room for them is enough.
     if bytes > 0 {
         waiting.push_reserved(Waiting { done, bytes });
     }

@@ -95,6 +95,7 @@ impl PacketSource {
             return Err(StreamEnd::TooLong);
         }
         let count = self.read_on(source)?;
+        // There was room for more, so that no bytes are the end.
         if count == 0 {
             return Err(StreamEnd::Whole {
                 cut: self.filled as u64,
@@ -110,6 +111,7 @@ impl PacketSource {
     fn give_up(&mut self)
         ensures { self.new ≡ given_up self.old }
     {
+        // A source gives its bytes once: those of a packet that the read cut are moved, and the next read goes on behind them.
         let count = self.filled / PACKET_LENGTH;
         let start = count * PACKET_LENGTH;
         self.room.copy_within(start..self.filled, 0);

@@ -65,6 +65,7 @@ fn fault_of(bytes: &[u8]) -> Option<PesFault>
     if bytes[6] >> 4 & 3 != 0 {
         return Some(PesFault::Scrambled);
     }
+    // PTS_DTS_flags: 2 and 3 say that there is a presentation time.
     if bytes[7] >> 6 < 2 {
         return Some(PesFault::NoPts);
     }

@@ -43,6 +43,7 @@ pub fn place(pace: &Pace, loads: &[WriteLoad], dones: &[u64], from: Search, payl
     let mut level = from.level;
     let mut gone = from.gone;
     while gone < dones.len() && (dones[gone] <= pace.tick(slot) || level + payload > pace.coded) {
+        // Sets are done in their order, so the next to leave is the first that is still there.
         slot = slot.max(pace.first_slot_at(dones[gone]));
         level -= loads[gone].load.size;
         gone += 1;

@@ -52,6 +52,7 @@ impl Iterator for ClutItems<'_> {
     #[tactic(auto, using(crate::proofs::Entries::no_entry))]
     fn next(&mut self) -> Option<ClutEntry> {
         let size = entry_size(self.rest);
+        // A segment that was read has whole entries; of other bytes a cut entry is none.
         if self.rest.len() < size {
             return None;
         }

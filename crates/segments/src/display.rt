@@ -40,12 +40,14 @@ pub(crate) fn display_of(body: &[u8]) -> Result<DisplaySeg, SegmentFault>
     }
     if windowed && !is_window(body) {
         return Err(SegmentFault {
+            // The window begins there, behind the head and the sides.
             place: 11,
             kind: SegmentKind::BadWindow,
         });
     }
     Ok(DisplaySeg {
         version: body[0] >> 4,
+        // The standard sends the sides less one.
         width: read_word(body, 1) as u32 + 1,
         height: read_word(body, 3) as u32 + 1,
         window: if windowed {

@@ -100,6 +100,7 @@ fn head_of(body: &[u8]) -> Result<RegionHead, SegmentFault>
         return Err(bad_length());
     }
     let (width, height) = (read_word(body, 2), read_word(body, 4));
+    // Tests go from the left, and the sides stand before the depth.
     if width == 0 || height == 0 {
         return Err(SegmentFault {
             place: 8,
@@ -167,6 +168,7 @@ fn check_listing(listings: &[u8], place: u32) -> Result<(), SegmentFault>
             kind: SegmentKind::CharacterObject,
         });
     }
+    // object_provider_flag: 0 says that the stream brings the object.
     if bits(listings[2], 4, 2) != 0 {
         return Err(SegmentFault {
             place: place + 2,
