@@ -86,6 +86,7 @@ fn send<K: Sink>(
         Err(fault) => return Err(plan_refused(fault)),
     };
     let sets = plan.sets.as_slice();
+    // Coded once for all sets that show them: refreshes send each picture several times.
     let Ok(kept) = KeptBlocks::of_script(alloc, script) else {
         return Err(SendFault::Memory);
     };
@@ -103,6 +104,7 @@ fn send<K: Sink>(
     let Ok(pieces) = pieces_of(alloc, asked, written.as_slice()) else {
         return Err(SendFault::Memory);
     };
+    // Every refusal lies before the first byte.
     match write_stream(alloc, out, pid, pieces.as_slice(), schedule.all_slots()) {
         Ok(()) => Ok(()),
         Err(StreamFault::Memory) => Err(SendFault::Memory),

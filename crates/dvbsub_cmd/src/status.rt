@@ -58,6 +58,7 @@ impl Status {
     {
         match self {
             Status::Done { .. } => Status::WriteFault(Which::Out),
+            // A command that failed says why it did, and not that its output could not be made as well.
             other => other,
         }
     }
@@ -160,6 +161,7 @@ fn font_text(fault: FontFault) -> Line
     ensures short { length result ≤ 100 }
 {
     match fault {
+        // Want of memory is a status of its own; the line is the same whichever of them comes.
         FontFault::Memory => line_of("memory"),
         FontFault::Refused { line: place, kind } => {
             let mut line = line_of("font");

@@ -54,6 +54,7 @@ impl TextBuffer {
     fn is_full(&self) -> bool
         ensures { IsTrue result ↔ (65536 < length self.now.waits + 128) }
     {
+        // The longest text has to have room, so that no text is parted.
         self.bytes.len() - self.filled < LONGEST
     }
 
