@@ -9,7 +9,9 @@ pub const MOST_WAITING: usize = 262_144;
 /// A set that is whole and may wait in the buffer until it is done.
 #[derive(Clone, Copy, Debug)]
 pub struct Waiting {
+    /// The tick at which it is done.
     pub done: u64,
+    /// Its bytes.
     pub bytes: u64,
 }
 

@@ -17,15 +17,20 @@ use sub_base::{Colour, Depth, decimal_number};
 /// A picture with its mode and where and when it is placed.
 #[derive(Clone, Copy, Debug)]
 pub struct PlaceCells {
+    /// Where and when.
     pub placing: PlaceRow,
+    /// Whether code 1 lets what lies beneath be seen.
     pub see_through: bool,
 }
 
 /// Where and when a text is placed, and its two codes.
 #[derive(Clone, Copy, Debug)]
 pub struct CueCells {
+    /// Where and when.
     pub placing: PlaceRow,
+    /// The code of the letters.
     pub ink: u8,
+    /// The code of all else.
     pub paper: u8,
 }
 

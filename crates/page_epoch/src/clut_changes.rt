@@ -14,6 +14,7 @@ use sub_base::Items;
 /// A tick at which colours of a CLUT change.
 #[derive(Drop)]
 pub struct Change {
+    /// The tick.
     pub tick: u64,
     /// The rows that give the entries of the CLUT their colours from then on, by depth and entry.
     pub rows: Items<u32>,
@@ -22,7 +23,9 @@ pub struct Change {
 /// A CLUT and its changes, in order.
 #[derive(Drop)]
 pub struct ClutChanges {
+    /// The number of the CLUT.
     pub clut: u8,
+    /// Its changes, one for each tick that sets an entry of it.
     pub changes: Items<Change>,
 }
 

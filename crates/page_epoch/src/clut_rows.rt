@@ -14,7 +14,9 @@ use sub_base::{Depth, Items};
 /// An entry of a CLUT: the depth of its pixel codes, and its number.
 #[derive(Clone, Copy, Debug, PartialEq, Eq)]
 pub struct Entry {
+    /// The depth whose table has it.
     pub depth: Depth,
+    /// Its number, below the codes of the depth.
     pub number: u8,
 }
 

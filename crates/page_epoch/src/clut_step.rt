@@ -16,16 +16,22 @@ use sub_base::Items;
 /// A CLUT at the next instant, as its set sends it, and its nodes.
 #[derive(Drop)]
 pub struct ClutStep {
+    /// Its version, none before its first change.
     pub version: Option<u8>,
+    /// What the set sends of it, if anything.
     pub sent: Option<SentClut>,
+    /// The nodes that it takes in a receiver.
     pub nodes: u64,
 }
 
 /// The CLUTs of an epoch at the next instant, those that its set sends, and their nodes.
 #[derive(Drop)]
 pub struct ClutSteps {
+    /// The versions of all CLUTs of the layout, in its order.
     pub versions: Items<Option<u8>>,
+    /// Those that the set sends.
     pub sent: Items<SentClut>,
+    /// The nodes that all of them take in a receiver.
     pub nodes: u64,
 }
 

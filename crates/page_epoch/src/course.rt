@@ -32,16 +32,22 @@ pub struct Course {
 /// Where the walk over the instants stands: the place of the epoch in the script, what stays in it, and what changes.
 #[derive(Drop)]
 pub struct Sweep {
+    /// The index of the epoch in the script.
     pub place: u32,
+    /// What stays in it.
     pub layout: Layout,
+    /// What changes in it.
     pub course: Course,
 }
 
 /// An epoch one instant on, the set of that instant, and the nodes that the set needs.
 #[derive(Drop)]
 pub struct Step {
+    /// The epoch one instant on.
     pub course: Course,
+    /// The set of that instant.
     pub set: PlannedSet,
+    /// The nodes that a receiver holds behind the set.
     pub nodes: u64,
 }
 

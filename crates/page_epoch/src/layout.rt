@@ -31,8 +31,11 @@ pub struct Layout {
 /// their numbers.
 #[derive(Clone, Copy, Debug)]
 pub struct Spot {
+    /// The upper edge.
     pub y: u16,
+    /// The number of the region.
     pub id: u8,
+    /// Its index among the regions in order of their numbers.
     pub place: u32,
 }
 

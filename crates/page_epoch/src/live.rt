@@ -11,7 +11,9 @@ use sub_base::Items;
 /// A cue of a region: the tick at which it starts, and its place.
 #[derive(Clone, Copy, Debug)]
 pub struct Begin {
+    /// The tick at which the cue starts.
     pub tick: u64,
+    /// Its index in the epoch's list of cues.
     pub place: u32,
 }
 

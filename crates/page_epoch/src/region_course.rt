@@ -14,7 +14,9 @@ use sub_base::Items;
 /// A region and the cues that it shows, in order of their starts.
 #[derive(Drop)]
 pub struct RegionCues {
+    /// The number of the region.
     pub id: u8,
+    /// Its cues, in order of their starts.
     pub begins: Items<Begin>,
 }
 
@@ -66,7 +68,9 @@ impl RegionCourse {
 /// The regions of an epoch at the next instant, and those that its set sends.
 #[derive(Drop)]
 pub struct RegionSteps {
+    /// All regions of the layout, in its order.
     pub courses: Items<RegionCourse>,
+    /// Those that the set sends.
     pub sent: Items<SentRegion>,
 }
 

@@ -11,8 +11,11 @@ use sub_base::{Pace, WriteLoad};
 /// how many sets have left it.
 #[derive(Clone, Copy, Debug)]
 pub struct Search {
+    /// The first slot that is still free.
     pub slot: u64,
+    /// The bytes that were sent so far and whose sets have not left the buffer.
     pub level: u64,
+    /// How many sets have left the buffer.
     pub gone: usize,
 }
 
