@@ -9,7 +9,7 @@ use std::alloc::Global;
 use std::marker::Model;
 use sub_base::{NoMemory, Pace, Profile, SetLoad};
 
-/// A meter of the coded data buffer: it is told which packets arrive and what becomes of their bytes.
+/// A meter of the coded data buffer, by the packets that arrive and what becomes of their bytes.
 #[derive(Drop)]
 pub struct Levels {
     pace: Pace,

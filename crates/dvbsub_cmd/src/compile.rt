@@ -18,7 +18,7 @@ use set_coder::KeptBlocks;
 use std::alloc::Global;
 use sub_base::{NoMemory, Profile, ProfileName, Sink, Source};
 
-/// Compiles a script to packets. Nothing is written before all of it is known to be right.
+/// Compiles a script to packets. Nothing is written before every refusal of it is found.
 pub fn compile<A: Source, B: Source, K: Sink>(
     alloc: Global,
     profile: ProfileName,

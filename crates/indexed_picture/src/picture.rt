@@ -60,7 +60,7 @@ impl Indexed {
         })
     }
 
-    /// The picture of codes that are known to be right: as many as its sides have places, and of its depth. They are
+    /// The picture of codes that are known to fit: as many as its sides have places, and of its depth. They are
     /// not looked at.
     pub fn of_codes(width: u16, height: u16, depth: Depth, codes: Vec<u8>) -> Indexed
         requires { IsPicture (picture_of width height depth codes.items) }

@@ -75,7 +75,7 @@ impl PacketSource {
         self.first
     }
 
-    /// Gives up the packets in hand, keeps the bytes behind them, and reads on, by one read. There may be no whole packet in
+    /// Drops the packets in hand, keeps the bytes behind them, and reads on, by one read. There may be no whole packet in
     /// hand then, where the read was short. Whatever the answer is, nothing that was read is lost.
     pub fn fill<A: Source>(&mut self, source: &mut A) -> Result<(), StreamEnd>
         // Whichever packets the reader stood for, it stands for these and those that it had in hand.
@@ -107,7 +107,7 @@ impl PacketSource {
         Ok(())
     }
 
-    /// Gives up the packets in hand: the bytes behind them move to the front of the room.
+    /// Drops the packets in hand: the bytes behind them move to the beginning of the room.
     fn give_up(&mut self)
         ensures { self.new ≡ given_up self.old }
     {
@@ -144,7 +144,7 @@ impl PacketSource {
     }
 }
 
-/// Reads into the room behind the bytes at its front, of which so many are kept.
+/// Reads into the room behind so many bytes at its beginning, which are kept.
 fn read_behind<A: Source>(source: &mut A, room: &mut [u8], kept: usize) -> Result<usize, ReadFailed>
     requires { kept < length room.old }
     ensures bound { ReadsAtMost result (drop kept room.new) }

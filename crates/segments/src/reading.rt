@@ -53,7 +53,7 @@ pub fn read_segment(bytes: &[u8]) -> Result<(Segment<'_>, usize), SegmentFault>
     ensures kind { IfOk result (λ found. IsKindOf (contents found.0) (byte_at 1 bytes.now)) }
     ensures size { IfOk result (λ found. found.1 ≡ 6 + word_at 4 bytes.now) }
     ensures within { IfOk result (λ found. found.1 ≤ length bytes.now) }
-    // No other bytes at the front are a segment, and none with another value.
+    // No other prefix of the bytes is a segment, and none with another value.
     ensures every_segment { (value : SegmentValue) (size : ℕ) → size ≤ length bytes.now → IsSegment (take size bytes.now) value
         → IsOkAnd result (λ found. (contents found.0 ≡ value) × (found.1 ≡ size)) }
     ensures fault { IfErr result (IsSegmentFault bytes.now) }

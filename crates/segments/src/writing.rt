@@ -40,7 +40,7 @@ pub enum SegmentOut<'a> {
         time_out: u8,
         /// The version, 0 to 15.
         version: u8,
-        /// How the set stands to those before it.
+        /// The page state.
         state: State,
         /// The regions that the page lists; a later one lies over those before it.
         entries: &'a [PageEntry],

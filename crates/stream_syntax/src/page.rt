@@ -1,4 +1,4 @@
-/// How a display set stands to those before it (EN 300 743, page composition segment, page_state).
+/// The page state of a display set: whether a receiver can begin at it (EN 300 743, page composition segment, page_state).
 #[derive(Clone, Copy, Debug, PartialEq, Eq)]
 pub enum State {
     /// The set changes the page that is shown.

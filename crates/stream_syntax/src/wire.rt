@@ -13,7 +13,7 @@ pub const NULL_PID: u16 = 0x1FFF;
 /// The stream id of a PES packet of subtitles: private stream 1 (ISO/IEC 13818-1, table 2-22).
 pub const PRIVATE_STREAM_1: u8 = 0xBD;
 
-/// Presentation times have 33 bits: they are told modulo this number of ticks (ISO/IEC 13818-1, 2.4.3.7).
+/// Presentation times have 33 bits: they are sent modulo this number of ticks (ISO/IEC 13818-1, 2.4.3.7).
 pub const TIME_ROUND: u64 = 8_589_934_592;
 
 /// The first byte of a PES data field of subtitles (EN 300 743, clause 7.1, data_identifier).

@@ -16,7 +16,7 @@ pub trait Source {
     /// What the source has left to give, where it tells that, and its counts of bytes and faults.
     ghost supplied: { Self → Supplied };
 
-    /// Reads some of the next bytes into the front of the buffer. 0 bytes into a buffer with room are the end.
+    /// Reads some of the next bytes into the first places of the buffer. 0 bytes into a buffer with room are the end.
     fn read(&mut self, buf: &mut [u8]) -> Result<usize, ReadFailed>
         ensures bound { ReadsAtMost result buf.new }
         ensures bytes { ReadConsumes (supplied self.old).left (supplied self.new).left result buf.new }
@@ -33,7 +33,7 @@ pub trait Sink {
     /// What the sink has received, where it tells that, and its count of faults.
     ghost received: { Self → Received };
 
-    /// Writes some bytes from the front of the piece, at least one where it has any.
+    /// Writes a prefix of the piece, of at least one byte where it has any.
     fn write(&mut self, piece: &[u8]) -> Result<usize, WriteFailed>
         ensures bound { WritesAtMost result piece.now }
         ensures some { IfOk result (λ n. 0 < length piece.now → 0 < n) }
