@@ -8,6 +8,7 @@ fn place_within(side: u16, place: i32) -> Option<u16>
     ensures outside { IfNone result ((k : ℕ) → k < side → pos k ≢ place) }
     ensures inside { IfSome result (λ k. (k < side) × (pos k ≡ place)) }
 {
+    // Glyphs may reach past the picture on any side: BDF bounds a glyph by its own box alone.
     if 0 <= place && place < i32::from(side) {
         Some(place as u16)
     } else {

@@ -141,6 +141,7 @@ impl Font {
             return Err(SetFault::Empty);
         }
         let box_height = usize::from(self.height);
+        // The number of lines is tested by itself, so that the product below it is of small numbers.
         if layout.width > MOST_WIDE
             || layout.lines > MOST_HIGH
             || layout.lines * box_height > MOST_HIGH
@@ -178,6 +179,7 @@ impl Font {
         self.draw(placed, width, height, fg, &mut codes);
         match Indexed::from_codes(alloc, width, height, depth, codes) {
             Ok(picture) => Ok(picture),
+            // There are as many codes as pixels, and both codes are of the depth.
             Err(_) => unreachable!(),
         }
     }
@@ -198,6 +200,7 @@ impl Font {
         ensures refused { IfErr result (IsSetFault self.now characters.now) }
     {
         let mut placed = Vec::new(*self.glyphs.allocator());
+        // As many bits as any text of any length needs: a character without a glyph is found however wide the text is.
         let mut pen = 0u128;
         let mut width = 0u128;
         let mut line = 0usize;

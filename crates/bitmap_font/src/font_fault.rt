@@ -10,7 +10,7 @@ pub enum FontFault {
     /// No memory was found.
     #[error("out of memory")]
     Memory,
-    /// The first wrong line, counted from 1, and the first of its tests that fails.
+    /// The first faulty line, counted from 1, and the first of its tests that fails.
     #[error("line {line}: {kind}")]
     Refused { line: u64, kind: FontKind },
 }

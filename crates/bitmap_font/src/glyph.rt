@@ -119,6 +119,7 @@ impl Glyph {
     {
         let row_bytes = (usize::from(self.width) + 7) / 8;
         let byte = self.bytes[usize::from(row) * row_bytes + usize::from(column / 8)];
+        // The first pixel of a byte is its highest bit.
         (byte >> (7 - column % 8)) % 2 == 1
     }
 }

@@ -27,6 +27,7 @@ impl PlacedGlyph<'_> {
         ensures low { negsuc 65535 ≤ℤ result }
         ensures high { result ≤ℤ pos 65535 }
     {
+        // Only texts that are narrow enough for a picture are drawn, so the pen fits.
         self.pen as i32 + i32::from(self.glyph.left())
     }
 

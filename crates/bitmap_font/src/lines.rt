@@ -37,6 +37,7 @@ impl<'a> Iterator for Lines<'a> {
     ghost remaining = { item_count (λ lines_left. lines_left) };
 
     fn next(&mut self) -> Option<&'a [u8]> {
+        // A line feed at the end of the text begins no further line.
         if self.rest.is_empty() {
             return None;
         }

@@ -14,7 +14,7 @@ use crate::reader::Reader;
 use std::alloc::Global;
 
 impl Font {
-    /// Reads a font in the format BDF 2.1: the box, and the glyphs that have a character. The first wrong line is
+    /// Reads a font in the format BDF 2.1: the box, and the glyphs that have a character. The first faulty line is
     /// refused, by the first of its tests that fails; what follows ENDFONT is not read.
     pub fn read(alloc: Global, bytes: &[u8]) -> Result<Font, FontFault>
         ensures font { IfOk result (IsFont bytes.now) }

@@ -280,6 +280,7 @@ impl Reader {
         if !draft.bitmap {
             return Err(LineFault::Wrong(FontKind::NotBdf));
         }
+        // A glyph of the encoding -1 has no character, and is not kept.
         if let Some(glyph) = glyph_of(draft) {
             keep(&mut self.glyphs, &mut self.places, glyph)?;
         }
@@ -292,6 +293,7 @@ impl Reader {
         ensures bounds { OnOk result (IsSome self.now.bounds) }
         ensures refused { IfErr result (IsLineFault (place_fault (state_of self.now) EndFont text.now)) }
     {
+        // Only the clauses read it: they speak of a line's text for each keyword alike.
         let _ = text;
         if self.draft.is_some() || self.bounds.is_none() {
             return Err(LineFault::Wrong(FontKind::NotBdf));

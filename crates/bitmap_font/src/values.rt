@@ -44,6 +44,7 @@ pub(crate) fn encoding_of(line: &[u8]) -> Option<Option<char>>
     if number < 0 {
         return Some(None);
     }
+    // Surrogates are no characters.
     match char::from_u32(number as u32) {
         None => None,
         Some(character) => Some(Some(character)),
@@ -95,6 +96,7 @@ fn magnitude_of(digits: &[u8]) -> Option<u32>
         if !(b'0' <= *digit && *digit <= b'9') {
             return None;
         }
+        // Capped past every range: a number of any length is read, and is out of range.
         magnitude = (magnitude * 10 + u32::from(*digit - b'0')).min(TOO_MUCH);
     }
     Some(magnitude)

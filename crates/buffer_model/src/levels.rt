@@ -9,7 +9,7 @@ use std::alloc::Global;
 use std::marker::Model;
 use sub_base::{NoMemory, Pace, Profile, SetLoad};
 
-/// A meter of the coded data buffer: it is told which packets arrive and what becomes of their bytes.
+/// A meter of the coded data buffer, by the packets that arrive and what becomes of their bytes.
 #[derive(Drop)]
 pub struct Levels {
     pace: Pace,
@@ -71,6 +71,7 @@ impl Levels {
     {
         self.last = slot;
         self.next = slot + 1;
+        // Behind a breach levels have no meaning: the breaching one is answered from then on.
         match self.full {
             Some(level) => level,
             None => {
@@ -106,6 +107,7 @@ impl Levels {
             }));
         }
         self.shown = load.pts;
+        // Behind a breach only times are looked at.
         if self.full.is_none() {
             hold(&mut self.waiting, now, done, self.pending);
             self.pending = 0;

@@ -2,9 +2,12 @@
 //! that arrive.
 #![tactic(auto)]
 
+// What a call answers, and the sets that wait.
 mod breach;
-mod levels;
 mod waiting;
+
+// The levels.
+mod levels;
 
 pub use breach::Breach;
 pub use levels::Levels;

@@ -9,7 +9,9 @@ pub const MOST_WAITING: usize = 262_144;
 /// A set that is whole and may wait in the buffer until it is done.
 #[derive(Clone, Copy, Debug)]
 pub struct Waiting {
+    /// The tick at which it is done.
     pub done: u64,
+    /// Its bytes.
     pub bytes: u64,
 }
 
@@ -46,6 +48,7 @@ pub fn hold(waiting: &mut Vec<Waiting>, tick: u64, done: u64, bytes: u64)
     ensures held { (later : ℕ) → tick ≤ later → held_bytes later waiting.new.items ≡ held_bytes later waiting.old.items + held_of later (record { done = done; bytes = bytes }) }
 {
     forget_done(waiting, tick);
+    // Each set that waits has a byte in the buffer, so that the room for them is enough.
     if bytes > 0 {
         waiting.push_reserved(Waiting { done, bytes });
     }

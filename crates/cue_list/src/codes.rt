@@ -37,6 +37,7 @@ fn put_single_codes(limit: u8, text: &[u8], codes: &mut [u8]) -> bool
     for place in 0..codes.len() {
         let value = digit_value(text[place]);
         codes[place] = value;
+        // No way out at the first such character: a loop without one needs no branch, and nearly every picture is valid.
         right &= value < limit;
     }
     right
@@ -54,6 +55,7 @@ fn put_double_codes(text: &[u8], codes: &mut [u8]) -> bool
     for place in 0..codes.len() {
         let high = digit_value(text[2 * place]);
         let low = digit_value(text[2 * place + 1]);
+        // A character that is no digit is 255. What it makes here is not used, but has to fit a byte.
         codes[place] = high % 16 * 16 + low % 16;
         right &= high < 16;
         right &= low < 16;

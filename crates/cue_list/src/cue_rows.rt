@@ -58,6 +58,7 @@ impl Reader {
         let Some(head) = head else {
             return Some(ScriptKind::NoPicture);
         };
+        // A map table gives the codes of a shallower picture in a deeper region; there is none the other way.
         if region.depth.bits() < head.depth.bits() {
             return Some(ScriptKind::CodeRange);
         }
@@ -84,7 +85,9 @@ impl Reader {
         if let Some(kind) = self.placed_fault(place.placing, region, head) {
             return Err(RowFault::Wrong(kind));
         }
+        // Kept behind all tests, so that each of them is about the records before.
         self.ticks.add_both(place.placing.start, place.placing.end)?;
+        // None was refused above.
         let cue = match found {
             Some(picture) => Some(cue_with(place.placing, number, picture, place.see_through)),
             None => None,
@@ -142,6 +145,7 @@ impl Reader {
         {
             return Err(RowFault::Wrong(ScriptKind::CodeRange));
         }
+        // Set before its place is tested: only then are its sides known.
         let picture = self.set_text(font, text, cue, region)?;
         let head = head_of(&picture);
         if let Some(kind) = self.text_fault(cue.placing, region, head) {
@@ -168,6 +172,7 @@ impl Reader {
         let cue = cue_cells(row, self.origin)?;
         let picture = self.cue_picture(font, cue, text_cell(row, 8))?;
         self.ticks.add_both(cue.placing.start, cue.placing.end)?;
+        // Limits keep the pictures at 5,120 at most.
         let place = self.pictures.len() as u32;
         add_cue(
             &mut self.epoch,

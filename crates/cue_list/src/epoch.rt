@@ -22,12 +22,19 @@ pub struct Epoch {
 /// codes, and its CLUT (EN 300 743, region composition segment).
 #[derive(Clone, Copy, Debug, PartialEq, Eq)]
 pub struct Region {
+    /// The region's number in its epoch, 0 to 255.
     pub id: u8,
+    /// The column of its left edge, in pixels of the display.
     pub x: u16,
+    /// The row of its upper edge, in pixels of the display.
     pub y: u16,
+    /// The pixels of a row, at least 1.
     pub width: u16,
+    /// The rows, at least 1.
     pub height: u16,
+    /// The bits of its pixel codes.
     pub depth: Depth,
+    /// The number of its CLUT.
     pub clut: u8,
 }
 
@@ -38,8 +45,11 @@ pub struct ColourRow {
     pub tick: u64,
     /// The record of the script, from 1.
     pub row: u64,
+    /// The number of the CLUT.
     pub clut: u8,
+    /// The depth whose table has the entry.
     pub depth: Depth,
+    /// The number of the entry, below the codes of the depth.
     pub entry: u8,
     /// The colour as it is shown.
     pub colour: Colour,
@@ -56,10 +66,11 @@ pub struct Cue {
     pub row: u64,
     /// The region's number.
     pub region: u8,
-    /// The place of the picture's upper left corner in the region, in pixels.
+    /// The column of the picture's left edge, in pixels of the region.
     pub x: u16,
+    /// The row of the picture's upper edge, in pixels of the region.
     pub y: u16,
-    /// The place of the picture in the script's list of pictures, from 0.
+    /// The index of the picture in the script's list of pictures.
     pub picture: u32,
     /// Whether code 1 of the picture lets what lies beneath be seen.
     pub see_through: bool,

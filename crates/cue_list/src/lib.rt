@@ -1,33 +1,44 @@
 //! Cue scripts: records of CSV that list the epochs, regions, colours, pictures and cues of a programme.
 //!
-//! `Script::read` reads a whole script. Each record is judged by looking back over those before it; the first wrong one is
+//! `Script::read` reads a whole script. Each record is tested by those before it; the first faulty one is
 //! refused by the first of its tests that fails. `picture_at` draws what a script shows at a tick.
 #![tactic(auto)]
 
+// A script's values, and its limits.
+mod epoch;
+mod limits;
+mod script;
+
+// Why a script is refused.
+mod fault;
+mod row_fault;
+
+// Records out of text: their cells, codes and values.
 mod cells;
 mod codes;
-mod cue_rows;
-mod epoch;
-mod fault;
 mod hex;
-mod limits;
-mod names;
-mod painting;
-mod picture_rows;
-mod read;
-mod reader;
 mod row_cells;
-mod row_fault;
 mod row_kind;
-mod row_steps;
-mod row_tests;
 mod row_values;
 mod rows;
-mod script;
+mod texts;
+
+// What is kept of the records so far.
+mod names;
+mod reader;
+mod ticks;
+
+// The tests of a record by it, and what each kind of record adds.
+mod cue_rows;
+mod picture_rows;
+mod row_steps;
+mod row_tests;
 mod setting;
 mod take;
-mod texts;
-mod ticks;
+
+// The whole script, and what it shows.
+mod painting;
+mod read;
 
 pub use epoch::{ColourRow, Cue, Epoch, Region};
 pub use fault::{ScriptFault, ScriptKind};

@@ -34,6 +34,7 @@ impl Names {
         ensures added { OnOk result (place_by self.new ≡ named_with name.now place (place_by self.old)) }
     {
         let name = String::from_str(alloc, name)?;
+        // A later picture of the same name serves for the records behind it.
         self.places.insert(name, place)?;
         Ok(())
     }

@@ -53,6 +53,7 @@ fn epoch_at(epochs: &[Epoch], tick: u64) -> Option<&Epoch>
 {
     let mut last = None;
     for epoch in epochs {
+        // Epochs are in order of their starts.
         if epoch.start <= tick {
             last = Some(epoch);
         }
@@ -104,6 +105,7 @@ fn sets_clut(row: &ColourRow, clut: u8, depth: Depth, tick: u64) -> bool
 fn no_ticks() -> [u64; 256]
     ensures { (entry : ℕ) → slice_index result entry ≡ 0 }
 {
+    // No tick is before 0, so the first row of an entry always counts.
     [0; 256]
 }
 
@@ -114,6 +116,7 @@ fn put_row(entries: &mut [Colour; 256], ticks: &mut [u64; 256], row: &ColourRow)
     ensures kept { (entry : ℕ) → row.now.entry ≡ entry → row.now.tick < slice_index ticks.old entry → (colour_of entries.new entry ≡ colour_of entries.old entry) × (slice_index ticks.new entry ≡ slice_index ticks.old entry) }
 {
     let entry = usize::from(row.entry);
+    // Rows are in the script's order, so that of equal ticks the later row counts.
     if ticks[entry] <= row.tick {
         ticks[entry] = row.tick;
         entries[entry] = row.colour;
@@ -139,6 +142,7 @@ fn paint_region(plane: &mut [Colour], script: &Script, epoch: &Epoch, region: Re
     ensures { PaintsRegion script.now.pictures epoch.now region tick script.now.width script.now.height plane.old plane.new }
 {
     let cues = epoch.cues.as_slice();
+    // Such a region is not on the page, and the video is seen there.
     if !has_live_cue(cues, region.id, tick) {
         return;
     }
@@ -237,6 +241,7 @@ fn paint_row(
     ensures { SetsRow entries.now codes.now start see_through plane.old plane.new }
 {
     for (place, code) in codes.iter().enumerate() {
+        // The non-modifying colour of EN 300 743 is code 1 as the picture has it, before any map table.
         if !(see_through && *code == 1) {
             plane[start + place] = entries[usize::from(*code)];
         }

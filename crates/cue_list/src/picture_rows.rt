@@ -105,6 +105,7 @@ fn read_codes(alloc: Global, head: PictureHead, row: &ByteRecord) -> Result<Vec<
     }
     match codes_fault(head, text_cell(row, 5)) {
         Some(kind) => Err(RowFault::Wrong(kind)),
+        // As many digits as are wanted, each of that depth, were put in their places above.
         None => unreachable!(),
     }
 }

@@ -24,8 +24,8 @@ use sub_base::{Items, NoMemory};
 const SECOND: u64 = 90_000;
 
 impl Script {
-    /// Reads a cue script: CSV without a header, in records that are judged one after another, each by those before it. The
-    /// texts of cues are set in `font`. The first wrong record is refused, by the first of its tests that fails; a script
+    /// Reads a cue script: CSV without a header, in records that are tested one after another, each by those before it. The
+    /// texts of cues are set in `font`. The first faulty record is refused, by the first of its tests that fails; a script
     /// in which no epoch starts is refused at the record after its last.
     pub fn read(alloc: Global, bytes: &[u8], font: &Font) -> Result<Script, ScriptFault>
         ensures script { IfOk result (λ script. IsScript bytes.now font.now script.origin script.width script.height script.refresh script.epochs script.pictures) }
@@ -61,7 +61,7 @@ fn epochs_of(ended: Vec<Epoch>, last: Option<Epoch>) -> Result<Vec<Epoch>, Scrip
     Ok(epochs)
 }
 
-/// Reads the records of a script one after another, up to the first that is wrong.
+/// Reads the records of a script one after another, up to the first faulty one.
 pub(crate) fn read_records(alloc: Global, bytes: &[u8], font: &Font) -> Result<Reader, ScriptFault>
     ensures read { IfOk result (HasRead bytes.now font.now []) }
     ensures epoch { IfOk result (λ reader. is_some reader.epoch ≡ true) }
@@ -76,6 +76,7 @@ pub(crate) fn read_records(alloc: Global, bytes: &[u8], font: &Font) -> Result<R
             Ok(false) => return whole(reader),
             Ok(true) => {}
         }
+        // A record that is refused is not counted.
         let before = reader.rows;
         match reader.take(alloc, font, &row) {
             Err(RowFault::OutOfMemory) => return Err(ScriptFault::Memory),

@@ -11,7 +11,7 @@ const FONT: &[u8] =
 
 const HEAD: &str = "origin,0\ndisplay,40,30\nrefresh,5\n";
 
-/// Each script, and its first wrong record with the first test that fails.
+/// Each script, and its first faulty record with the first test that fails.
 const WRONG: [(&str, &str, u64, ScriptKind); 65] = [
     ("", "", 1, ScriptKind::Order),
     (HEAD, "", 4, ScriptKind::Order),
@@ -294,7 +294,7 @@ fn wrong_scripts_are_refused_at_their_first_wrong_record(rt: HostRuntime) -> Res
     Ok(())
 }
 
-/// Scripts without a wrong record: what follows the head, and how many epochs, pictures and cues there are.
+/// Scripts without a faulty record: what follows the head, and how many epochs, pictures and cues there are.
 const RIGHT: [(&str, usize, usize, usize); 6] = [
     ("epoch,90000\n", 1, 0, 0),
     ("epoch,90000\nepoch,93601\n", 2, 0, 0),

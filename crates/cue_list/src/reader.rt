@@ -12,10 +12,15 @@ use std::alloc::Global;
 /// What is kept of the records of a script so far.
 #[derive(Drop)]
 pub(crate) struct Reader {
+    /// How many records were taken.
     pub(crate) rows: u64,
+    /// The tick of slot 0, 0 before the first record.
     pub(crate) origin: u64,
+    /// The width of the display, 0 before the second record.
     pub(crate) width: u16,
+    /// The height of the display, 0 before the second record.
     pub(crate) height: u16,
+    /// The seconds of a refresh, 0 before the third record.
     pub(crate) seconds: u64,
     /// The epochs before the last one.
     pub(crate) ended: Vec<Epoch>,
@@ -25,10 +30,13 @@ pub(crate) struct Reader {
     pub(crate) colours: u32,
     pub(crate) named: u32,
     pub(crate) cues: u32,
+    /// The pictures of picture and cue records, in order.
     pub(crate) pictures: Vec<Indexed>,
     /// How many codes the pictures have.
     pub(crate) codes: u64,
+    /// The ticks that were named.
     pub(crate) ticks: Ticks,
+    /// The last picture of each name.
     pub(crate) names: Names,
 }
 

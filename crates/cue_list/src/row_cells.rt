@@ -17,15 +17,20 @@ use sub_base::{Colour, Depth, decimal_number};
 /// A picture with its mode and where and when it is placed.
 #[derive(Clone, Copy, Debug)]
 pub struct PlaceCells {
+    /// Where and when.
     pub placing: PlaceRow,
+    /// Whether code 1 lets what lies beneath be seen.
     pub see_through: bool,
 }
 
 /// Where and when a text is placed, and its two codes.
 #[derive(Clone, Copy, Debug)]
 pub struct CueCells {
+    /// Where and when.
     pub placing: PlaceRow,
+    /// The code of the letters.
     pub ink: u8,
+    /// The code of all else.
     pub paper: u8,
 }
 
@@ -75,6 +80,7 @@ fn tick_cell(cell: &[u8], origin: u64) -> Result<u64, ScriptKind>
     ensures least { IfOk result (λ number. origin ≤ number) }
     ensures most { IfOk result (λ number. number ≤ origin + LONGEST_SCRIPT) }
 {
+    // The origin has 33 bits, so the sum stays far below 2^64.
     number_cell(cell, origin, origin + LONGEST_SCRIPT)
 }
 
@@ -202,6 +208,7 @@ pub fn colour_cells(row: &ByteRecord, origin: u64, number: u64) -> Result<Colour
     let cr = byte_cell(cell(row, 6))?;
     let cb = byte_cell(cell(row, 7))?;
     let t = byte_cell(cell(row, 8))?;
+    // A receiver takes a luminance of 0 as clear: kept so, a colour is the same in the script and on the display.
     let colour = Colour { y, cr, cb, t }.shown();
     Ok(ColourRow {
         tick,

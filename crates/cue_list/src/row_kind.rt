@@ -57,6 +57,7 @@ impl RowKind {
             RowKind::Picture => 6,
             RowKind::Region | RowKind::Place => 8,
             RowKind::Colour | RowKind::Cue => 9,
+            // Refused before its cells are counted.
             RowKind::Other => 0,
         }
     }

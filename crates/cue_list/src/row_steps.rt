@@ -125,6 +125,7 @@ fn add_region(epoch: &mut Option<Epoch>, region: Region) -> Result<(), RowFault>
     let Some(mut last) = epoch.take() else {
         return Ok(());
     };
+    // Taken out and put back: contracts have no name for what a `&mut` into an `Option` changes.
     last.regions.push(region)?;
     *epoch = Some(last);
     Ok(())

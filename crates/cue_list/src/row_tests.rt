@@ -110,6 +110,7 @@ impl Reader {
         match &self.epoch {
             None => false,
             Some(epoch) => {
+                // A cue may end where the next epoch starts, but a colour at that tick would belong to the next one.
                 any_ends_after(epoch.cues.as_slice(), tick)
                     || any_from(epoch.colours.as_slice(), tick)
             }
@@ -238,6 +239,7 @@ fn any_shares_row(regions: &[Region], region: Region) -> bool
 fn share_row(first: Region, second: Region) -> bool
     ensures { result ≡ share_row_of first second }
 {
+    // In 32 bits, as the sum of a place and a side may pass 16.
     u32::from(first.y) < u32::from(second.y) + u32::from(second.height)
         && u32::from(second.y) < u32::from(first.y) + u32::from(first.height)
 }

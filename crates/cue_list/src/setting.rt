@@ -61,6 +61,7 @@ fn row_fault_of(fault: SetFault) -> RowFault
         SetFault::Memory => RowFault::OutOfMemory,
         SetFault::MissingGlyph(character) => RowFault::Wrong(ScriptKind::Glyph(character)),
         SetFault::Empty => RowFault::Wrong(ScriptKind::Range),
+        // Wider or higher than any display, so no region holds it.
         SetFault::TooWide => RowFault::Wrong(ScriptKind::CueOutside),
     }
 }

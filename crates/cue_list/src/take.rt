@@ -75,6 +75,7 @@ impl Reader {
             RowKind::Picture => self.take_picture(alloc, row),
             RowKind::Place => self.take_place(number, row),
             RowKind::Cue => self.take_cue(font, number, row),
+            // Refused as unknown before.
             RowKind::Other => Ok(()),
         }
     }

@@ -40,6 +40,7 @@ pub(crate) fn text_cell(row: &ByteRecord, place: usize) -> &str
 {
     match std::str::from_utf8(cell(row, place)) {
         Ok(text) => text,
+        // All cells of a record are tested before one is read as text.
         Err(_) => unreachable!(),
     }
 }
@@ -49,6 +50,7 @@ pub(crate) fn text_cell(row: &ByteRecord, place: usize) -> &str
 pub(crate) fn codes_fault(head: PictureHead, text: &str) -> Option<ScriptKind>
     ensures { result ≡ codes_fault_of head (chars text.now) }
 {
+    // Characters and not bytes, so that one that is no digit counts as one and is found by the next test.
     if character_count(text) != digits(head.depth) * area(head) {
         return Some(ScriptKind::Count);
     }
@@ -106,6 +108,7 @@ fn is_large(depth: Depth, character: char) -> bool
             Some(value) => value > 3,
             None => false,
         },
+        // Any digit is a code of four bits, and any two are one of eight.
         Depth::Four | Depth::Eight => false,
     }
 }

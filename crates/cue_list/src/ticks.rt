@@ -32,6 +32,7 @@ impl Ticks {
         ensures { result ≡ near_by self.now tick }
     {
         let span = tick / SPAN;
+        // A tick that is too close lies in this span or in one beside it.
         let before = if span == 0 { 0 } else { span - 1 };
         self.has_close(before, tick) || self.has_close(span, tick) || self.has_close(span + 1, tick)
     }

@@ -5,9 +5,10 @@ ghost use Rattle.dvbsub_cmd.specs.Command.{command_of as command_of_words, compi
 
 use sub_base::{ProfileName, Words, number_in};
 
-/// The PIDs that a command takes: those of no table, and not that of null packets (ISO/IEC 13818-1, table 2-3).
+/// The least PID that a command takes: those below are of tables (ISO/IEC 13818-1, table 2-3; EN 300 468, table 1).
 pub const LEAST_PID: u64 = 32;
 
+/// The greatest PID that a command takes: the next one is that of null packets.
 pub const GREATEST_PID: u64 = 8_190;
 
 /// The greatest page id.
@@ -21,18 +22,23 @@ pub const LATEST_TICK: u64 = 17_179_869_183;
 pub enum Command {
     /// Compiles a script to packets of that PID, whose segments are of that page.
     Compile {
+        /// The receiver that the packets are made for.
         profile: ProfileName,
+        /// The PID of the packets.
         pid: u16,
+        /// The page id of the segments.
         page: u16,
         /// Whether a font is named, the second source.
         has_font: bool,
     },
     /// Lists the losses, units and segments of that PID in a stream.
     List {
+        /// The PID of the packets that are looked at.
         pid: u16,
     },
     /// Writes the authored pictures of a script at the ticks that are asked for.
     Expect {
+        /// Whether a font is named, the second source.
         has_font: bool,
     },
 }
@@ -40,8 +46,11 @@ pub enum Command {
 /// Where the names of a command's files stand among the words, counted from 0.
 #[derive(Clone, Copy, Debug, PartialEq, Eq)]
 pub struct InputPlaces {
+    /// The script or the stream.
     pub first: Option<usize>,
+    /// The font.
     pub second: Option<usize>,
+    /// The output.
     pub out: Option<usize>,
 }
 
@@ -179,6 +188,7 @@ fn expect_of(words: &Words) -> Option<Command>
 fn is_expect(words: &Words) -> bool
     ensures is { result ≡ is_expect_words words.now }
 {
+    // Four words, and 1 to 1,000 ticks behind them.
     words.count() >= 5
         && words.count() <= 1_004
         && has_word(words, 0, "expect")
@@ -234,5 +244,6 @@ fn are_plain(words: &Words) -> bool
 fn is_plain(word: &[u8]) -> bool
     ensures { result ≡ is_plain_word word.now }
 {
+    // There are no options, and none is to be taken for the name of a file.
     !word.is_empty() && word[0] != b'-'
 }

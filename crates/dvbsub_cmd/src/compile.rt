@@ -18,7 +18,7 @@ use set_coder::KeptBlocks;
 use std::alloc::Global;
 use sub_base::{NoMemory, Profile, ProfileName, Sink, Source};
 
-/// Compiles a script to packets. Nothing is written before all of it is known to be right.
+/// Compiles a script to packets. Nothing is written before every refusal of it is found.
 pub fn compile<A: Source, B: Source, K: Sink>(
     alloc: Global,
     profile: ProfileName,
@@ -56,9 +56,13 @@ pub fn compile<A: Source, B: Source, K: Sink>(
 /// Why the packets of a script were not all written.
 #[derive(Drop)]
 pub enum SendFault {
+    /// No memory was found; nothing was written.
     Memory,
+    /// The script has no plan for the profile; nothing was written.
     Plan(PlanFault),
+    /// The set that this record brings has no slots; nothing was written.
     Schedule { row: u64, fault: ScheduleFault },
+    /// The sink could not be written; it has a prefix of the packets.
     Write,
 }
 
@@ -82,6 +86,7 @@ fn send<K: Sink>(
         Err(fault) => return Err(plan_refused(fault)),
     };
     let sets = plan.sets.as_slice();
+    // Coded once for all sets that show them: refreshes send each picture several times.
     let Ok(kept) = KeptBlocks::of_script(alloc, script) else {
         return Err(SendFault::Memory);
     };
@@ -99,6 +104,7 @@ fn send<K: Sink>(
     let Ok(pieces) = pieces_of(alloc, asked, written.as_slice()) else {
         return Err(SendFault::Memory);
     };
+    // Every refusal lies before the first byte.
     match write_stream(alloc, out, pid, pieces.as_slice(), schedule.all_slots()) {
         Ok(()) => Ok(()),
         Err(StreamFault::Memory) => Err(SendFault::Memory),

@@ -41,6 +41,7 @@ pub fn expect<A: Source, B: Source, K: Sink>(
     let Ok(mut buffer) = TextBuffer::make(alloc) else {
         return Status::Memory;
     };
+    // All memory is taken, so that only the sink can fail from here on.
     put_pictures(out, &mut buffer, words, &script, plane.as_mut_slice());
     flush(out, &mut buffer);
     if buffer.has_failed() {
@@ -81,6 +82,7 @@ fn tick_at(words: &Words, place: usize) -> u64
     requires { place < length words.now }
     ensures { result ≡ tick_or_zero (word_at words.now place) }
 {
+    // Each of these words is a tick, or the command would not be `expect`.
     number_in(words.word(place).as_bytes(), 0, LATEST_TICK).unwrap_or(0)
 }
 

@@ -1,24 +1,35 @@
 //! The commands: their words, the sources they read, the sink they write, and the line that tells how they ended.
 #![tactic(auto)]
 
+// The words of a command, and how it ended.
 mod command;
-mod compile;
-mod expect;
 mod kind_names;
+mod status;
+
+// Text that is put out.
 mod line;
+mod text_buffer;
+
+// `compile`: a script, its loads, units, pieces and slots.
+mod compile;
+mod loads;
+mod pieces;
+mod read_script;
+mod slot_stream;
+mod units;
+
+// `expect`: pictures as text.
+mod expect;
+mod picture_text;
+
+// `list`: the lines of packets, units and segments.
 mod list;
 mod list_lines;
 mod list_packets;
 mod list_units;
-mod loads;
-mod picture_text;
-mod pieces;
-mod read_script;
-mod slot_stream;
-mod status;
-mod text_buffer;
+
+// All commands.
 mod top_call;
-mod units;
 
 pub use command::{Command, InputPlaces, inputs};
 pub use status::{Status, Which};

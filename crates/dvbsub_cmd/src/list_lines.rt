@@ -70,6 +70,7 @@ pub fn fault_line(place: u64, fault: SegmentFault) -> Line
     ensures short { length result ≤ 128 }
 {
     let mut line = line_of("fault");
+    // A fault's place counts from the first byte of its segment, a line's from that of the field.
     push_then_number(&mut line, place + u64::from(fault.place));
     push_name(&mut line, segment_kind_name(fault.kind));
     line

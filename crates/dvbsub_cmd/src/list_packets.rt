@@ -18,7 +18,9 @@ use ts_packets::Demux;
 /// The first packet of a stream that cannot be taken: its place, counted from 0, and why.
 #[derive(Clone, Copy, Drop)]
 pub struct Refused {
+    /// The number of the packet in the stream.
     pub packet: u64,
+    /// The first test that it fails.
     pub fault: PacketFault,
 }
 
@@ -85,6 +87,7 @@ fn list_packet<K: Sink>(
         demux.old demux.new buffer.old buffer.new place []) }
 {
     let fed = demux.feed(packet)?;
+    // The loss came before the unit that ends with this packet.
     list_loss(sink, buffer, place, fed.event);
     list_end(sink, buffer, place, fed.unit);
     Ok(())

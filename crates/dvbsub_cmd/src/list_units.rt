@@ -45,11 +45,13 @@ fn list_segments<K: Sink>(sink: &mut K, buffer: &mut TextBuffer, segments: &[u8]
         buffer.old buffer.new lines }
 {
     let mut rest = segments;
+    // Behind data identifier and subtitle stream id.
     let mut place = 2u64;
     while !ends_segments(rest) {
         let frame = match read_frame(rest) {
             Ok(frame) => frame,
             Err(fault) => {
+                // Where a head is faulty, nothing says where the next segment begins.
                 let line = fault_line(place, fault);
                 put(sink, buffer, line.as_bytes());
                 return;

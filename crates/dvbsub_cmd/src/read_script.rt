@@ -31,6 +31,7 @@ pub fn read_script<A: Source, B: Source>(
         (B.supplied second.new)) }
     ensures second { has_font ≡ false → second.new ≡ second.old }
 {
+    // The font first, so that a faulty one is reported even where the script is faulty too.
     let font = match font_of(alloc, has_font, second) {
         Ok(font) => font,
         Err(status) => return Err(status),

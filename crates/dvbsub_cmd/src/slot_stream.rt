@@ -21,6 +21,7 @@ const PACKETS_AT_ONCE: usize = 192;
 /// A piece of a unit, as one packet takes it: 1 to 184 bytes.
 #[derive(Clone, Copy, Debug)]
 pub struct Piece<'a> {
+    /// The bytes of the piece.
     pub bytes: &'a [u8],
     /// Whether the unit starts with this piece.
     pub starts: bool,
@@ -106,6 +107,7 @@ fn packet_at(
     ensures counter { packetiser.new.counter ≡ result % 16 }
     ensures next { IsNext slots.now result (slot + 1) }
 {
+    // Slots rise, so no later piece can have this one.
     if next < slots.len() && slots[next] == slot {
         send(packetiser, pieces[next], next, packet);
         next + 1
@@ -148,7 +150,9 @@ fn pass_on<K: Sink>(
 /// Why packets were not all written.
 #[derive(Drop)]
 pub enum StreamFault {
+    /// No memory was found; nothing was written.
     Memory,
+    /// The sink could not be written.
     Write,
 }
 

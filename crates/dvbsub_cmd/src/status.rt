@@ -13,9 +13,13 @@ use stream_syntax::PacketFault;
 /// One of the sources and sinks of a command.
 #[derive(Clone, Copy, Debug, PartialEq, Eq)]
 pub enum Which {
+    /// The first source: the script, or the stream.
     First,
+    /// The second source: the font.
     Second,
+    /// The output.
     Out,
+    /// Where the line of the status goes.
     Notes,
 }
 
@@ -54,6 +58,7 @@ impl Status {
     {
         match self {
             Status::Done { .. } => Status::WriteFault(Which::Out),
+            // A command that failed says why it did, and not that its output could not be made as well.
             other => other,
         }
     }
@@ -156,6 +161,7 @@ fn font_text(fault: FontFault) -> Line
     ensures short { length result ≤ 100 }
 {
     match fault {
+        // Want of memory is a status of its own; the line is the same whichever of them comes.
         FontFault::Memory => line_of("memory"),
         FontFault::Refused { line: place, kind } => {
             let mut line = line_of("font");

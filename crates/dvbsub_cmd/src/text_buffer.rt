@@ -11,7 +11,7 @@ const ROOM: usize = 65_536;
 /// The most bytes of text that are put out at once.
 const LONGEST: usize = 128;
 
-/// Text that waits to be written. Once its sink has failed, further text is let go: a command finishes what it has in
+/// Text that waits to be written. Once its sink has failed, further text is dropped: a command finishes what it has in
 /// hand, and looks for the failure then.
 #[derive(Drop)]
 pub struct TextBuffer {
@@ -54,6 +54,7 @@ impl TextBuffer {
     fn is_full(&self) -> bool
         ensures { IsTrue result ↔ (65536 < length self.now.waits + 128) }
     {
+        // The longest text has to have room, so that no text is parted.
         self.bytes.len() - self.filled < LONGEST
     }
 

@@ -66,6 +66,7 @@ pub fn tell<N: Sink>(status: Status, notes: &mut N) -> Status
     match write_whole(notes, line.as_bytes()) {
         Ok(()) => status,
         Err(_) => match status {
+            // Nobody could know that it was done.
             Status::Done { .. } => Status::WriteFault(Which::Notes),
             other => other,
         },

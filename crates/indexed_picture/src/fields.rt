@@ -48,6 +48,7 @@ impl<'a> Iterator for FieldRows<'a> {
             return None;
         }
         let row = self.picture.row(self.next as u16);
+        // In 32 bits, since behind the last row of a picture of 65,535 rows 16 bits are not enough.
         self.next += 2;
         Some(row)
     }

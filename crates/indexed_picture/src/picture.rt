@@ -60,7 +60,7 @@ impl Indexed {
         })
     }
 
-    /// The picture of codes that are known to be right: as many as its sides have places, and of its depth. They are
+    /// The picture of codes that are known to fit: as many as its sides have places, and of its depth. They are
     /// not looked at.
     pub fn of_codes(width: u16, height: u16, depth: Depth, codes: Vec<u8>) -> Indexed
         requires { IsPicture (picture_of width height depth codes.items) }
@@ -112,6 +112,7 @@ impl Indexed {
         ensures value { result ≡ self.now.depth }
         ensures picture { IsPicture self.now }
     {
+        // The invariant is wanted: a field has to be read for it.
         let _width = self.width;
         self.depth
     }
@@ -142,7 +143,7 @@ impl Indexed {
         ensures rows { All (IsRow self.now) result }
         ensures picture { IsPicture self.now }
     {
-        let _ = &self.width;
+        let _ = &self.width; // The invariant is wanted.
         FieldRows::starting_at(self, 0)
     }
 
@@ -152,7 +153,7 @@ impl Indexed {
         ensures rows { All (IsRow self.now) result }
         ensures picture { IsPicture self.now }
     {
-        let _ = &self.width;
+        let _ = &self.width; // The invariant is wanted.
         FieldRows::starting_at(self, 1)
     }
 
@@ -160,6 +161,7 @@ impl Indexed {
     pub fn fields_equal(&self) -> bool
         ensures { IsTrue result ↔ HasEqualFields self.now }
     {
+        // The top field has a row more then.
         if self.height % 2 != 0 {
             return false;
         }
@@ -192,6 +194,7 @@ fn paint_row(codes: &mut [u8], start: usize, row: &[u8], see_through: bool)
     ensures { PaintsRow row.now start see_through codes.old codes.new }
 {
     for (place, code) in row.iter().enumerate() {
+        // Code 1 leaves what is beneath.
         if !(see_through && *code == 1) {
             codes[start + place] = *code;
         }

@@ -75,7 +75,7 @@ impl PacketSource {
         self.first
     }
 
-    /// Gives up the packets in hand, keeps the bytes behind them, and reads on, by one read. There may be no whole packet in
+    /// Drops the packets in hand, keeps the bytes behind them, and reads on, by one read. There may be no whole packet in
     /// hand then, where the read was short. Whatever the answer is, nothing that was read is lost.
     pub fn fill<A: Source>(&mut self, source: &mut A) -> Result<(), StreamEnd>
         // Whichever packets the reader stood for, it stands for these and those that it had in hand.
@@ -95,6 +95,7 @@ impl PacketSource {
             return Err(StreamEnd::TooLong);
         }
         let count = self.read_on(source)?;
+        // There was room for more, so that no bytes are the end.
         if count == 0 {
             return Err(StreamEnd::Whole {
                 cut: self.filled as u64,
@@ -106,10 +107,11 @@ impl PacketSource {
         Ok(())
     }
 
-    /// Gives up the packets in hand: the bytes behind them move to the front of the room.
+    /// Drops the packets in hand: the bytes behind them move to the beginning of the room.
     fn give_up(&mut self)
         ensures { self.new ≡ given_up self.old }
     {
+        // A source gives its bytes once: those of a packet that the read cut are moved, and the next read goes on behind them.
         let count = self.filled / PACKET_LENGTH;
         let start = count * PACKET_LENGTH;
         self.room.copy_within(start..self.filled, 0);
@@ -142,7 +144,7 @@ impl PacketSource {
     }
 }
 
-/// Reads into the room behind the bytes at its front, of which so many are kept.
+/// Reads into the room behind so many bytes at its beginning, which are kept.
 fn read_behind<A: Source>(source: &mut A, room: &mut [u8], kept: usize) -> Result<usize, ReadFailed>
     requires { kept < length room.old }
     ensures bound { ReadsAtMost result (drop kept room.new) }

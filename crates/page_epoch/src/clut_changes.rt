@@ -14,6 +14,7 @@ use sub_base::Items;
 /// A tick at which colours of a CLUT change.
 #[derive(Drop)]
 pub struct Change {
+    /// The tick.
     pub tick: u64,
     /// The rows that give the entries of the CLUT their colours from then on, by depth and entry.
     pub rows: Items<u32>,
@@ -22,7 +23,9 @@ pub struct Change {
 /// A CLUT and its changes, in order.
 #[derive(Drop)]
 pub struct ClutChanges {
+    /// The number of the CLUT.
     pub clut: u8,
+    /// Its changes, one for each tick that sets an entry of it.
     pub changes: Items<Change>,
 }
 
@@ -58,6 +61,7 @@ fn changes_at(
     let mut come = 0;
     let mut changes = Vec::new(alloc);
     for tick in ticks {
+        // Rows are in order of their ticks, so each is applied once, at the first tick that has it.
         let next = rows_by(colours, rows, *tick);
         take_in(&mut current, colours, rows, come, next);
         changes.push(Change {
@@ -106,6 +110,7 @@ pub fn all_changes(alloc: Global, colours: &[ColourRow]) -> Result<Items<ClutCha
 {
     let entries = all_entries(alloc)?;
     let mut cluts = Vec::new(alloc);
+    // By number, as sets send them; a CLUT that no row names keeps its default colours and is not sent.
     for clut in 0..CLUTS {
         if is_named(colours, clut as u8) {
             cluts.push(changes_of(alloc, colours, entries.as_slice(), clut as u8)?)?;

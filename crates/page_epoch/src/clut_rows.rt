@@ -14,7 +14,9 @@ use sub_base::{Depth, Items};
 /// An entry of a CLUT: the depth of its pixel codes, and its number.
 #[derive(Clone, Copy, Debug, PartialEq, Eq)]
 pub struct Entry {
+    /// The depth whose table has it.
     pub depth: Depth,
+    /// Its number, below the codes of the depth.
     pub number: u8,
 }
 
@@ -66,6 +68,7 @@ fn tick_of(colours: &[ColourRow], place: u32) -> u64
 {
     match colours.get(place as usize) {
         Some(row) => row.tick,
+        // No place comes here that has no row; the sort's key has to answer all the same.
         None => 0,
     }
 }
@@ -75,6 +78,7 @@ pub fn in_order(alloc: Global, colours: &[ColourRow], own: &[u32]) -> Result<Vec
     ensures { IfOk result (λ rows. AreInOrder colours.now own.now rows.items) }
 {
     let mut rows = Vec::from_slice(alloc, own)?;
+    // The sort is stable, so that of rows with one tick the later one in the script stays later, and counts.
     rows.sort_by_key(|place| tick_of(colours, *place))?;
     Ok(rows)
 }
@@ -115,12 +119,13 @@ fn note(current: &mut Vec<Option<u32>>, row: &ColourRow, place: u32)
     ensures long { length current.new.items ≡ length current.old.items }
     ensures each { (k : ℕ) (d : Entry) → k < length entries_of → get_or current.new.items k None ≡ (if is_of (get_or entries_of k d) row.now then Some place else get_or current.old.items k None) }
 {
+    // Each row of a script is such: the test is here so that nothing has to be asked of the rows.
     if u16::from(row.entry) < row.depth.code_count() {
         current[first_entry(row.depth) + row.entry as usize] = Some(place);
     }
 }
 
-/// Takes in the rows of these that have come since, in order of their ticks: the later one counts.
+/// Applies the rows that have come due since `come`, up to `next`, in order of their ticks: the later one counts.
 pub fn take_in(
     current: &mut Vec<Option<u32>>,
     colours: &[ColourRow],
@@ -144,6 +149,7 @@ pub fn take_in(
 pub fn defined_rows(alloc: Global, current: &[Option<u32>]) -> Result<Items<u32>, AllocError>
     ensures { IfOk result (λ rows. rows ≡ flat_map option_to_list current.now) }
 {
+    // Counted first, so that the list is as long as it needs to be: there is one for each change of a CLUT.
     let count = current.iter().flatten().count();
     let mut rows = Vec::with_capacity(alloc, count)?;
     for found in current {

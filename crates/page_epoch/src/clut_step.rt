@@ -16,16 +16,22 @@ use sub_base::Items;
 /// A CLUT at the next instant, as its set sends it, and its nodes.
 #[derive(Drop)]
 pub struct ClutStep {
+    /// Its version, none before its first change.
     pub version: Option<u8>,
+    /// What the set sends of it, if anything.
     pub sent: Option<SentClut>,
+    /// The nodes that it takes in a receiver.
     pub nodes: u64,
 }
 
 /// The CLUTs of an epoch at the next instant, those that its set sends, and their nodes.
 #[derive(Drop)]
 pub struct ClutSteps {
+    /// The versions of all CLUTs of the layout, in its order.
     pub versions: Items<Option<u8>>,
+    /// Those that the set sends.
     pub sent: Items<SentClut>,
+    /// The nodes that all of them take in a receiver.
     pub nodes: u64,
 }
 
@@ -52,6 +58,7 @@ fn nodes_of(rows: &[u32]) -> u64
     if rows.is_empty() {
         0
     } else {
+        // A node for the CLUT, and one for each entry that is set.
         1 + rows.len() as u64
     }
 }
@@ -69,8 +76,10 @@ fn sent_rows(
     ensures { IfOk result (λ sent. sent ≡ rows_from colours.now whole tick change.now.rows) }
 {
     if whole {
+        // A receiver that begins here knows of no entry.
         return Ok(Items::new(alloc, Vec::from_slice(alloc, change.rows.as_slice())?));
     }
+    // A normal set sends what changed at its own tick: the set of an earlier change has sent that.
     if change.tick != tick {
         return Ok(Items::new(alloc, Vec::new(alloc)));
     }
@@ -83,6 +92,7 @@ fn next_version(changed: bool, version: Option<u8>) -> Option<u8>
     ensures { result ≡ clut_after changed version }
 {
     match version {
+        // A CLUT that is sent again has the version of before, so that a receiver that has it keeps it.
         _ if !changed => version,
         None => Some(0),
         Some(version) => Some((version + 1) % 16),

@@ -19,27 +19,35 @@ use sub_base::Items;
 /// What changes in an epoch from instant to instant.
 #[derive(Drop)]
 pub struct Course {
+    /// The regions, in order of their numbers.
     pub regions: Items<RegionCourse>,
     /// The versions of the CLUTs that changed so far.
     pub versions: Items<Option<u8>>,
+    /// The version of the page, 0 to 15.
     pub page_version: u8,
-    /// Whether no instant of the epoch was yet.
+    /// True until the epoch's first instant.
     pub first: bool,
 }
 
 /// Where the walk over the instants stands: the place of the epoch in the script, what stays in it, and what changes.
 #[derive(Drop)]
 pub struct Sweep {
+    /// The index of the epoch in the script.
     pub place: u32,
+    /// What stays in it.
     pub layout: Layout,
+    /// What changes in it.
     pub course: Course,
 }
 
 /// An epoch one instant on, the set of that instant, and the nodes that the set needs.
 #[derive(Drop)]
 pub struct Step {
+    /// The epoch one instant on.
     pub course: Course,
+    /// The set of that instant.
     pub set: PlannedSet,
+    /// The nodes that a receiver holds behind the set.
     pub nodes: u64,
 }
 
@@ -86,6 +94,7 @@ fn next_page_version(version: u8, first: bool, named: bool) -> u8
     ensures value { result ≡ page_after first named version }
     ensures small { result < 16 }
 {
+    // A refresh shows the same page once more, in the same version.
     if !first && named {
         (version + 1) % 16
     } else {
@@ -147,6 +156,7 @@ impl Course {
         let shown = shown(alloc, layout.by_y.as_slice(), regions.courses.as_slice())?;
         let listed = listed(alloc, regions.sent.as_slice())?;
         let page_version = next_page_version(self.page_version, self.first, instant.named);
+        // What a receiver holds behind this set: regions, page entries, listings, and CLUTs with the entries that are set.
         let nodes = epoch.regions.len() as u64
             + shown.len() as u64
             + held(regions.courses.as_slice())
@@ -199,6 +209,7 @@ impl Sweep {
         ensures { IfOk result (GoesOn epochs.now tick self) }
     {
         let next = self.place + 1;
+        // One epoch at most begins from one instant to the next, as the start of an epoch is itself an instant.
         if (next as usize) < epochs.len() && epochs[next as usize].start <= tick {
             return Sweep::begin(alloc, epochs, next);
         }

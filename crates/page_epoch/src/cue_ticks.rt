@@ -12,7 +12,9 @@ use sub_base::Items;
 /// The ticks at which the cues of a script start, and those at which they end, each list in order.
 #[derive(Drop)]
 pub struct CueTicks {
+    /// The ticks at which cues start.
     pub starts: Items<u64>,
+    /// The ticks at which cues end.
     pub ends: Items<u64>,
 }
 

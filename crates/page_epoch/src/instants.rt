@@ -14,6 +14,7 @@ pub const REFRESH_ROOM: u64 = 3_600;
 /// An instant at which a display set is shown.
 #[derive(Clone, Copy, Debug)]
 pub struct Instant {
+    /// The presentation time of its set.
     pub tick: u64,
     /// The record that brings it.
     pub row: u64,
@@ -67,6 +68,7 @@ pub fn instants_of(
             row: moment.row,
             named: true,
         })?;
+        // A page without a cue shows nothing that a late receiver misses. No cue is live at the last tick, as it would end later.
         if i + 1 < moments.len() && cues.show_cue(moment.tick) {
             push_refreshes(&mut instants, *moment, moments[i + 1].tick, refresh)?;
         }

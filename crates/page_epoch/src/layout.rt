@@ -17,9 +17,13 @@ use sub_base::Items;
 /// the bytes of its regions' pixels.
 #[derive(Drop)]
 pub struct Layout {
+    /// The regions in order of their numbers, as sets send them.
     pub by_id: Items<RegionCues>,
+    /// The regions from the top of the display, as the page lists them.
     pub by_y: Items<Spot>,
+    /// The CLUTs that colours set, in order of their numbers.
     pub cluts: Items<ClutChanges>,
+    /// The bytes of the pixels of all regions.
     pub pixels: u64,
 }
 
@@ -27,8 +31,11 @@ pub struct Layout {
 /// their numbers.
 #[derive(Clone, Copy, Debug)]
 pub struct Spot {
+    /// The upper edge.
     pub y: u16,
+    /// The number of the region.
     pub id: u8,
+    /// Its index among the regions in order of their numbers.
     pub place: u32,
 }
 
@@ -54,6 +61,7 @@ fn from_top(alloc: Global, regions: &[Region]) -> Result<Items<Spot>, AllocError
             place: place as u32,
         })?;
     }
+    // No two regions of an epoch share a row, so this order is one of the whole display.
     spots.sort_by_key(|spot| spot.y)?;
     Ok(Items::new(alloc, spots))
 }
@@ -128,11 +136,12 @@ pub fn listed(alloc: Global, regions: &[SentRegion]) -> Result<Items<u32>, Alloc
     for region in regions {
         cues.extend_from_slice(region.cues.as_slice())?;
     }
+    // Regions come by their numbers, objects in the script's order.
     cues.sort()?;
     Ok(Items::new(alloc, cues))
 }
 
-/// The cues that the regions of an epoch were last drawn with.
+/// How many objects the receiver's regions list: the cues with which each region of the epoch was last drawn.
 pub fn held(courses: &[RegionCourse]) -> u64
     requires few { length courses.now ≤ 64 }
     requires small { All IsSmallCourse courses.now }

@@ -2,19 +2,28 @@
 //! (EN 300 743, clauses 5 and 7).
 #![tactic(auto)]
 
+// What is planned, and why there is no plan.
+mod fault;
+mod planned_set;
+
+// The instants of a script.
+mod cue_ticks;
+mod instants;
+mod moments;
+
+// What stays in an epoch: regions with their cues, and CLUTs with their changes.
 mod clut_changes;
 mod clut_rows;
-mod clut_step;
-mod course;
-mod cue_ticks;
-mod fault;
-mod instants;
 mod layout;
 mod live;
-mod moments;
-mod plan;
-mod planned_set;
+
+// An epoch from instant to instant: its regions, its CLUTs, and the set of each instant.
+mod clut_step;
+mod course;
 mod region_course;
+
+// The plan.
+mod plan;
 
 pub use fault::PlanFault;
 pub use plan::Plan;

@@ -11,7 +11,9 @@ use sub_base::Items;
 /// A cue of a region: the tick at which it starts, and its place.
 #[derive(Clone, Copy, Debug)]
 pub struct Begin {
+    /// The tick at which the cue starts.
     pub tick: u64,
+    /// Its index in the epoch's list of cues.
     pub place: u32,
 }
 
@@ -21,6 +23,7 @@ fn is_live_at(cues: &[Cue], place: u32, tick: u64) -> bool
 {
     match cues.get(place as usize) {
         Some(cue) => cue.is_live_at(tick),
+        // No place comes here that has no cue.
         None => false,
     }
 }
@@ -100,6 +103,7 @@ pub fn live_after(
     let mut live = live_of(alloc, cues, old, tick)?;
     if before < begun {
         push_live(&mut live, cues, &begins[before..begun], tick)?;
+        // Cues are drawn in the script's order, and not in that of their starts.
         live.sort()?;
     }
     Ok(Items::new(alloc, live))

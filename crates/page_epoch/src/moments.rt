@@ -11,7 +11,9 @@ use std::collections::BTreeMap;
 /// A tick that a record of the script names.
 #[derive(Clone, Copy, Debug)]
 pub struct Event {
+    /// The tick.
     pub tick: u64,
+    /// The record.
     pub row: u64,
 }
 
@@ -72,6 +74,7 @@ fn all_events(alloc: Global, epochs: &[Epoch]) -> Result<Vec<Event>, AllocError>
 fn note(rows: &mut BTreeMap<u64, u64>, tick: u64, row: u64) -> Result<(), AllocError>
     ensures { OnOk result ((other : ℕ) → get nat_cmp rows.new other ≡ (if other == tick then Some (least_of (get nat_cmp rows.old tick) row) else get nat_cmp rows.old other)) }
 {
+    // A refusal names the least record of its tick, so that one tick has one name.
     let least = match rows.get(&tick) {
         Some(known) => row.min(*known),
         None => row,

@@ -17,6 +17,7 @@ use sub_base::{Items, Profile};
 /// The display sets that a script is sent as, in order of their presentation times.
 #[derive(Drop)]
 pub struct Plan {
+    /// The sets, one for each instant of the script.
     pub sets: Items<PlannedSet>,
 }
 
@@ -29,6 +30,7 @@ impl Plan {
         ensures cause { IfErr result (IsCause script.now profile.now) }
     {
         if u32::from(script.width) > profile.width || u32::from(script.height) > profile.height {
+            // The display is always the second record.
             return Err(PlanFault::DisplayTooLarge { row: 2 });
         }
         let sets = plan_sets(alloc, script.epochs.as_slice(), script.refresh, profile)?;
@@ -38,8 +40,8 @@ impl Plan {
     }
 }
 
-/// The state of a set: of the first one of an epoch, of a refresh, of one that a receiver is due to begin at, or of
-/// another one.
+/// The page state of a set: a mode change where the epoch begins; an acquisition point at a refresh, or where an entry point is
+/// due; else normal.
 fn state_of(begins: bool, named: bool, due: bool) -> State
     ensures { result ≡ state_by begins named due }
 {
@@ -84,6 +86,7 @@ fn plan_sets(
     for instant in &instants {
         sweep = sweep.at(alloc, epochs, instant.tick)?;
         let epoch = &epochs[sweep.place as usize];
+        // Named instants may come so thick that no refresh has room between them: then one of them is the entry point.
         let due = whole + refresh <= instant.tick;
         let state = state_of(sweep.course.first, instant.named, due);
         let step = sweep

@@ -14,7 +14,9 @@ use sub_base::Items;
 /// A region and the cues that it shows, in order of their starts.
 #[derive(Drop)]
 pub struct RegionCues {
+    /// The number of the region.
     pub id: u8,
+    /// Its cues, in order of their starts.
     pub begins: Items<Begin>,
 }
 
@@ -25,6 +27,7 @@ pub struct RegionCourse {
     pub live: Items<u32>,
     /// How many cues have started.
     pub begun: usize,
+    /// The version of the region, 0 to 15.
     pub version: u8,
     /// How many cues were live at the latest instant at which some were.
     pub held: u64,
@@ -40,12 +43,14 @@ impl RegionCourse {
         ensures next { result ≡ region_after first self.now begun new }
         ensures small { IsSmallCourse result }
     {
+        // Versions are 0 at the first instant, at which all is new to a receiver.
         let risen = !first && is_risen(self.live.as_slice(), new.as_slice());
         let version = if risen {
             (self.version + 1) % 16
         } else {
             self.version
         };
+        // A region that goes empty is not drawn again: the receiver keeps its listings, and the nodes of these.
         let held = if new.len() == 0 {
             self.held
         } else {
@@ -63,7 +68,9 @@ impl RegionCourse {
 /// The regions of an epoch at the next instant, and those that its set sends.
 #[derive(Drop)]
 pub struct RegionSteps {
+    /// All regions of the layout, in its order.
     pub courses: Items<RegionCourse>,
+    /// Those that the set sends.
     pub sent: Items<SentRegion>,
 }
 
@@ -145,6 +152,7 @@ pub fn push_some<T: Drop>(items: &mut Vec<T>, found: Option<T>) -> Result<(), Al
 pub fn is_risen(old: &[u32], new: &[u32]) -> bool
     ensures { result ≡ is_risen_of old.now new.now }
 {
+    // An empty region leaves the page and is not sent.
     old != new && !new.is_empty()
 }
 
@@ -153,6 +161,8 @@ pub fn is_extended(old: &[u32], new: &[u32]) -> bool
     ensures value { result ≡ is_extended_of old.now new.now }
     ensures longer { result ≡ true → length old.now ≤ length new.now }
 {
+    // Later cues lie over earlier ones, so new ones behind the old ones can be drawn over what is there. Over an empty region
+    // nothing is kept: what is in it are the cues that it had last.
     !old.is_empty() && old.len() < new.len() && new.starts_with(old)
 }
 
@@ -167,6 +177,8 @@ pub fn send_region(
 ) -> Result<Option<SentRegion>, AllocError>
     ensures { IfOk result (λ sent. option_to_list sent ≡ region_from id version whole old.now new.now) }
 {
+    // At a set at which a receiver may begin all regions are sent, the empty ones with them: it has to know every region of the
+    // epoch, as normal sets send no region for the first time.
     if !whole && !is_risen(old, new) {
         return Ok(None);
     }
@@ -175,6 +187,7 @@ pub fn send_region(
     Ok(Some(SentRegion {
         id,
         version,
+        // Without a fill a receiver draws over the codes that it has.
         fill: !keeps,
         cues: Items::new(alloc, Vec::from_slice(alloc, cues)?),
     }))

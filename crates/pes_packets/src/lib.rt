@@ -3,9 +3,12 @@
 //! Segments that are too many for one packet are shared out to several.
 #![tactic(auto)]
 
+// One packet, both ways.
 mod reading;
-mod units;
 mod writing;
+
+// How segments are shared out to packets.
+mod units;
 
 pub use reading::{Pes, read_pes};
 pub use stream_syntax::PesFault;

@@ -12,7 +12,9 @@ use stream_syntax::PesFault;
 /// data identifier and subtitle stream id.
 #[derive(Clone, Copy, Debug, PartialEq, Eq)]
 pub struct Pes<'a> {
+    /// The presentation time, below 2^33.
     pub pts: u64,
+    /// The bytes in which segments stand one after another.
     pub segments: &'a [u8],
 }
 
@@ -63,6 +65,7 @@ fn fault_of(bytes: &[u8]) -> Option<PesFault>
     if bytes[6] >> 4 & 3 != 0 {
         return Some(PesFault::Scrambled);
     }
+    // PTS_DTS_flags: 2 and 3 say that there is a presentation time.
     if bytes[7] >> 6 < 2 {
         return Some(PesFault::NoPts);
     }
@@ -78,7 +81,7 @@ fn fault_of(bytes: &[u8]) -> Option<PesFault>
     None
 }
 
-/// Tells bytes that are fewer than prefix, stream id and length, or that have no start code prefix.
+/// Whether the bytes are too short for prefix, stream id and length, or lack the start code prefix.
 fn lacks_prefix(bytes: &[u8]) -> bool
     ensures exact { result ≡ prefix_fails bytes.now }
     ensures enough { OnFalse result (6 ≤ length bytes.now) }
@@ -86,7 +89,7 @@ fn lacks_prefix(bytes: &[u8]) -> bool
     bytes.len() < 6 || bytes[0] != 0 || bytes[1] != 0 || bytes[2] != 1
 }
 
-/// Tells a head that is cut, another count of bytes than the length says, and a header that does not begin with the bits 10.
+/// Whether the head is cut, the length field gives another count of bytes, or the header does not begin with the bits 10.
 fn has_bad_head(bytes: &[u8]) -> bool
     requires { 6 ≤ length bytes.now }
     ensures exact { result ≡ head_fails bytes.now }
@@ -97,7 +100,7 @@ fn has_bad_head(bytes: &[u8]) -> bool
         || bytes[6] >> 6 != 2
 }
 
-/// Tells a header without room for the presentation time, and a data field that is cut.
+/// Whether the header has no room for the presentation time, or the data field is cut.
 fn has_bad_header_length(bytes: &[u8]) -> bool
     requires { 9 ≤ length bytes.now }
     ensures exact { result ≡ header_length_fails bytes.now }
@@ -106,7 +109,7 @@ fn has_bad_header_length(bytes: &[u8]) -> bool
     bytes[8] < 5 || bytes.len() < FIXED_LENGTH + usize::from(bytes[8]) + 2
 }
 
-/// Tells a presentation time with a marker bit of 0.
+/// Whether a marker bit of the presentation time is 0.
 fn lacks_marker(bytes: &[u8]) -> bool
     requires { 14 ≤ length bytes.now }
     ensures exact { result ≡ marker_fails bytes.now }
@@ -114,7 +117,7 @@ fn lacks_marker(bytes: &[u8]) -> bool
     bytes[9] & 1 == 0 || bytes[11] & 1 == 0 || bytes[13] & 1 == 0
 }
 
-/// Tells a data field of another data identifier or subtitle stream id.
+/// Whether the PES data field has another data identifier or subtitle stream id.
 fn is_other_field(bytes: &[u8]) -> bool
     requires { field_place bytes.now + 2 ≤ length bytes.now }
     ensures exact { result ≡ field_fails bytes.now }

@@ -62,11 +62,13 @@ impl OpenUnit {
     }
 }
 
-/// Tells whether a unit with so many bytes of segments takes one of that many more. The first one is always taken.
+/// Whether a unit with so many bytes of segments takes one of that many more. The first one is always taken.
 fn has_room(taken: u64, bytes: u64) -> bool
     requires { taken + bytes < 2 ^ 64 }
     ensures { IsTrue result ↔ (0 < taken → taken + bytes ≤ UNIT_ROOM) }
 {
+    // A segment that no unit has room for stands in one by itself, so that every set has a size. Such a set is refused by its
+    // longest segment later.
     taken == 0 || taken + bytes <= UNIT_ROOM
 }
 

@@ -36,6 +36,7 @@ pub fn write_pes(pts: u64, field: &[u8], out: &mut Vec<u8>) -> Result<(), NoMemo
     ensures unit { (size : ℕ) → 14 + length field.now ≤ size → IsUnit size (written_pes pts field.now) }
     ensures size { length (written_pes pts field.now) ≡ 14 + length field.now }
 {
+    // All memory first: nothing behind this can fail, and `out` is as before where this does.
     out.reserve(HEADER_LENGTH + field.len())?;
     let header = header(pts, (LENGTH_BEFORE_FIELD + field.len()) as u16);
     out.extend_from_slice(&header).unwrap();
@@ -66,6 +67,8 @@ fn header(pts: u64, packet_length: u16) -> [u8; HEADER_LENGTH]
     requires { pts < 2 ^ 33 }
     ensures { result ≡ written_header pts packet_length }
 {
+    // 84 says that nothing is scrambled and that the data field begins with a segment (data_alignment_indicator), 80 that there
+    // is a presentation time and no decoding time, and 5 is the length of that.
     let mut bytes = [
         0,
         0,
@@ -83,6 +86,7 @@ fn header(pts: u64, packet_length: u16) -> [u8; HEADER_LENGTH]
         0,
     ];
     BigEndian::write_u16(&mut bytes[4..6], packet_length);
+    // 0010, the highest three bits of the time, and a marker bit.
     bytes[9] = 0x21 + 2 * (pts >> 30) as u8;
     BigEndian::write_u16(&mut bytes[10..12], time_part(pts >> 15));
     BigEndian::write_u16(&mut bytes[12..14], time_part(pts));

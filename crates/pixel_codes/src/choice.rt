@@ -53,6 +53,7 @@ fn two_bit_few(code: u8, count: usize) -> Spelling
     match (code, count) {
         (0, 1) => single(1, 4, 1),
         (0, 2) => single(1, 6, 2),
+        // One by one they take two bits each, and as a run eight.
         (1.., 1..=3) => single(code, 2, 1),
         _ => {
             let field = (count - 3).min(7);
@@ -97,9 +98,11 @@ fn eight_bit_spelling(code: u8, count: usize) -> Spelling
     requires { 1 ≤ count }
     ensures { Spells Eight (least.first_code Eight code count) result }
 {
+    // The greatest length comes first: of the strings with the least bits that is the one that is wanted.
     let most = count.min(127);
     match (code, count) {
         (0, _) => single(most as u8, 16, most),
+        // Two take 16 bits one by one, and 24 as a run.
         (_, 1..=2) => single(code, 8, 1),
         _ => run(0x8000, 256, most, code, 24, most),
     }

@@ -109,6 +109,7 @@ impl<'a> Cursor<'a> {
         ensures { Says result self.old self.new }
     {
         self.place = next;
+        // The 8 bit code for runs can have the length 0.
         if length == 0 {
             return Step::Moved;
         }
@@ -124,6 +125,7 @@ impl<'a> Cursor<'a> {
     }
 
     /// Reads the head of the next sub-block, and a table or an end of line whole.
+    // Kept out of the loop over the codes of strings, which is the one that has to be fast.
     #[inline(never)]
     fn step_at_part(&mut self) -> Step
         requires { self.old.string ≡ None }

@@ -17,6 +17,7 @@ pub(crate) fn field(bytes: &[u8], place: usize, width: usize) -> Option<u8>
     let at = place / 8;
     let high = bytes[at];
     let low = bytes.get(at + 1).copied().unwrap_or(0);
+    // Eight bits at the most are asked for, so that they lie in two bytes.
     let window = u32::from(high) * 256 + u32::from(low);
     let below = 16 - place % 8 - width;
     Some(((window >> below) % (1 << width)) as u8)

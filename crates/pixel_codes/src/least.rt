@@ -14,6 +14,7 @@ pub fn run_bits(depth: Depth, code: u8, length: u32) -> u64
     requires code { code < code_count depth }
     ensures { IsLeast depth code length result }
 {
+    // Among the strings with the least bits there is always one that has as many longest codes as fit.
     let most = longest(depth);
     longest_bits(depth, code) * u64::from(length / most) + rest_bits(depth, code, length % most)
 }

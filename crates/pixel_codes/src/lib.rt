@@ -3,19 +3,24 @@
 //! that it draws, in place.
 #![tactic(auto)]
 
-mod block;
+// Writing a row: the next code of a run, the bits that wait, and the size.
 mod choice;
-mod cursor;
-mod field;
 mod least;
 mod maximal;
-mod part;
 mod pending;
 mod row;
-mod runs;
 mod size;
+
+// Reading a block: its sub-blocks, codes and map tables.
+mod cursor;
+mod field;
+mod part;
 mod tables;
 mod token;
+
+// Blocks that were checked, and their runs.
+mod block;
+mod runs;
 
 pub use block::{CodeBlock, check_block};
 pub use least::run_bits;

@@ -5,7 +5,7 @@ ghost use Rattle.pixel_codes.specs.Maximal.{is_code, differs};
 
 use std::simd::prelude::*;
 
-/// How many codes at the front are equal.
+/// How many codes from the first on are equal.
 #[inline]
 pub fn run_length(codes: &[u8]) -> usize
     requires { 0 < length codes.now }
@@ -23,7 +23,7 @@ pub fn run_length(codes: &[u8]) -> usize
     end_of_run(codes, first)
 }
 
-/// How many codes at the front are this one, found sixteen at a time.
+/// How many codes from the first on are this one, found sixteen at a time.
 #[inline(always)]
 fn end_of_run(codes: &[u8], code: u8) -> usize
     ensures value { result ≡ prefix_len (is_code code) codes.now }

@@ -34,6 +34,7 @@ impl Pending {
     {
         let all = (self.value << width) + u64::from(value);
         let count = self.count + width;
+        // Four bytes are put out at once: runs of text take few bits, and a call on the vector for each byte costs more.
         if count < 32 {
             self.value = all;
             self.count = count;

@@ -6,6 +6,7 @@ ghost use Rattle.pixel_codes.specs.Walk.{half_of};
 use stream_syntax::MapTable;
 use sub_base::Depth;
 
+// The default contents of the map tables (EN 300 743, clause 10). The first one has two entries in a byte.
 static TWO_TO_FOUR: [u8; 2] = [0x07, 0x8F];
 
 static TWO_TO_EIGHT: [u8; 4] = [0x00, 0x77, 0x88, 0xFF];

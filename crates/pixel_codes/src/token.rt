@@ -44,6 +44,7 @@ fn two_bit_token(bytes: &[u8], place: usize) -> Option<(Token, usize)>
     if second == 1 {
         return Some((pixels(1, 0), place + 4));
     }
+    // The length has three bits, of which the first is the lower one of `second`.
     let low = field(bytes, place + 4, 2)?;
     let code = field(bytes, place + 6, 2)?;
     let length = u32::from(second - 2) * 4 + u32::from(low) + 3;
@@ -139,6 +140,7 @@ fn eight_bit_token(bytes: &[u8], place: usize) -> Option<(Token, usize)>
     if second == 0 {
         return Some((Token::End, place + 16));
     }
+    // The high bit says whether a pixel code follows the length.
     if second < 128 {
         return Some((pixels(u32::from(second), 0), place + 16));
     }

@@ -31,7 +31,9 @@ impl Model for Slot {
 #[derive(Clone, Copy, Debug, PartialEq, Eq, Error)]
 #[error("a region needs {need} bytes, and {free} are free")]
 pub struct StoreFull {
+    /// The bytes of the region.
     pub need: u64,
+    /// The bytes that are free.
     pub free: u64,
 }
 

@@ -7,6 +7,7 @@ use thiserror::Error;
 /// Why display sets have no schedule. Sets are counted from 0.
 #[derive(Clone, Copy, Debug, PartialEq, Eq, Error)]
 pub enum ScheduleFault {
+    /// No memory was found for the slots.
     #[error("out of memory")]
     Memory,
     /// The set has more bytes than the coded data buffer.

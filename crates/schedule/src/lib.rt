@@ -2,8 +2,11 @@
 //! coded data buffer never overflows, and the ticks at which the sets are done.
 #![tactic(auto)]
 
+// Limits, and why there is no schedule.
 mod fault;
 mod limits;
+
+// The slot of one packet, those of a set, those of all sets.
 mod place;
 mod schedule;
 mod send;

@@ -11,8 +11,11 @@ use sub_base::{Pace, WriteLoad};
 /// how many sets have left it.
 #[derive(Clone, Copy, Debug)]
 pub struct Search {
+    /// The first slot that is still free.
     pub slot: u64,
+    /// The bytes that were sent so far and whose sets have not left the buffer.
     pub level: u64,
+    /// How many sets have left the buffer.
     pub gone: usize,
 }
 
@@ -43,6 +46,7 @@ pub fn place(pace: &Pace, loads: &[WriteLoad], dones: &[u64], from: Search, payl
     let mut level = from.level;
     let mut gone = from.gone;
     while gone < dones.len() && (dones[gone] <= pace.tick(slot) || level + payload > pace.coded) {
+        // Sets are done in their order, so the next to leave is the first that is still there.
         slot = slot.max(pace.first_slot_at(dones[gone]));
         level -= loads[gone].load.size;
         gone += 1;

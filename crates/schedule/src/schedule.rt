@@ -70,6 +70,7 @@ impl Schedule {
         };
         for (set, write) in loads.iter().enumerate() {
             let load = write.load;
+            // Before its slots are looked for: in an empty buffer its last packets would still have no room.
             if load.size > pace.coded {
                 return Err(ScheduleFault::CodedFull {
                     set: set as u64,
@@ -83,6 +84,7 @@ impl Schedule {
                 });
             }
             search = send_set(&pace, loads, &dones, search, &mut slots)?;
+            // The search stands one slot behind the set's last packet.
             let done = load.done(pace.tick(search.slot - 1), shown);
             if done > load.pts {
                 return Err(ScheduleFault::Late {

@@ -34,6 +34,7 @@ pub fn send_set(
     ensures stood { IfOk result (λ _. HaveStood loads.now pace.now slots.new.items dones.now (length dones.now) (packets_of loads.now (length dones.now))) }
 {
     let write = &loads[dones.len()];
+    // Early in a programme the window reaches back before tick 0: slots begin at the origin all the same.
     let window = pace.first_slot_at(write.load.pts.saturating_sub(SEND_WINDOW));
     let mut search = Search {
         slot: from.slot.max(window),

@@ -11,6 +11,7 @@ pub(crate) fn append(out: &mut Vec<u8>, bytes: &[u8])
     ensures len { vec_len out.new ≡ vec_len out.old + length bytes.now }
     ensures capacity { vec_capacity out.old ≤ vec_capacity out.new }
 {
+    // Room was reserved, so that this takes no memory.
     out.extend_from_slice(bytes).unwrap();
 }
 

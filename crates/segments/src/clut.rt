@@ -17,7 +17,9 @@ const SHORT: usize = 4;
 /// Entries of a CLUT (EN 300 743, CLUT definition segment).
 #[derive(Clone, Copy, Debug, PartialEq, Eq)]
 pub struct ClutSeg<'a> {
+    /// The id of the CLUT.
     pub clut: u8,
+    /// The version, 0 to 15.
     pub version: u8,
     /// The entries, as bytes.
     pub entries: &'a [u8],
@@ -50,6 +52,7 @@ impl Iterator for ClutItems<'_> {
     #[tactic(auto, using(crate::proofs::Entries::no_entry))]
     fn next(&mut self) -> Option<ClutEntry> {
         let size = entry_size(self.rest);
+        // A segment that was read has whole entries; of other bytes a cut entry is none.
         if self.rest.len() < size {
             return None;
         }

@@ -17,9 +17,13 @@ const WITH_WINDOW: usize = 13;
 /// segment).
 #[derive(Clone, Copy, Debug, PartialEq, Eq)]
 pub struct DisplaySeg {
+    /// The version, 0 to 15.
     pub version: u8,
+    /// The columns of the display, 1 to 65,536.
     pub width: u32,
+    /// The rows of the display, 1 to 65,536.
     pub height: u32,
+    /// The part in which regions are placed; all of the display where none is sent.
     pub window: Option<Window>,
 }
 
@@ -36,12 +40,14 @@ pub(crate) fn display_of(body: &[u8]) -> Result<DisplaySeg, SegmentFault>
     }
     if windowed && !is_window(body) {
         return Err(SegmentFault {
+            // The window begins there, behind the head and the sides.
             place: 11,
             kind: SegmentKind::BadWindow,
         });
     }
     Ok(DisplaySeg {
         version: body[0] >> 4,
+        // The standard sends the sides less one.
         width: read_word(body, 1) as u32 + 1,
         height: read_word(body, 3) as u32 + 1,
         window: if windowed {

@@ -2,17 +2,22 @@
 //! is borrowed from the bytes.
 #![tactic(auto)]
 
+// Words, bits and faults.
 mod append;
+mod fault;
+mod word;
+
+// The kinds of segments.
 mod clut;
 mod display;
-mod fault;
-mod frame;
-mod laws;
 mod object;
 mod page;
-mod reading;
 mod region;
-mod word;
+
+// Reading and writing a segment, and laws on both.
+mod frame;
+mod laws;
+mod reading;
 mod writing;
 
 pub use clut::{ClutItems, ClutSeg};

@@ -19,11 +19,15 @@ const METHOD: u32 = 8;
 /// segment). Where the bottom block is empty, the top block serves for both fields.
 #[derive(Clone, Copy, Debug, PartialEq, Eq)]
 pub struct ObjectSeg<'a> {
+    /// The id of the object.
     pub object: u16,
+    /// The version, 0 to 15.
     pub version: u8,
     /// Whether pixels of code 1 leave the region as it is.
     pub see_through: bool,
+    /// The pixel data block of the rows 0, 2, 4 and so on.
     pub top: &'a [u8],
+    /// The pixel data block of the rows between these; empty where it equals the top one.
     pub bottom: &'a [u8],
 }
 
@@ -32,6 +36,7 @@ pub(crate) fn object_of(body: &[u8]) -> Result<ObjectSeg<'_>, SegmentFault>
     ensures exact { Gives object_value result (object_at body.now) }
     ensures room { IfOk result (λ object. 7 + length object.top.now + length object.bottom.now ≤ length body.now) }
 {
+    // The coding method is tested before the length that pixels ask for: the body of characters is another one.
     if body.len() < 3 {
         return Err(bad_length());
     }
@@ -46,6 +51,7 @@ pub(crate) fn object_of(body: &[u8]) -> Result<ObjectSeg<'_>, SegmentFault>
     }
     let (top, bottom) = (read_word(body, 3) as usize, read_word(body, 5) as usize);
     let end = FIXED + top + bottom;
+    // One byte 00 may follow, which makes the length even (8_stuff_bits).
     if body.len() != end && !(body.len() == end + 1 && body[end] == 0) {
         return Err(bad_length());
     }
@@ -74,6 +80,7 @@ pub(crate) fn check_blocks(top: &[u8], bottom: &[u8]) -> Result<(), SegmentFault
     ensures right { OnOk result (AreBlocks top.now bottom.now) }
     ensures fault { IfErr result (IsBlocksFault top.now bottom.now) }
 {
+    // A segment does not know its regions: strings that are too deep for one of these are found as the object is painted.
     if let Err(code) = check_block(top, Depth::Eight) {
         return Err(in_block(13, code));
     }

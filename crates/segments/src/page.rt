@@ -9,13 +9,14 @@ use stream_syntax::{PageEntry, SegmentFault, SegmentKind, State};
 /// The bytes of an entry.
 const ENTRY: usize = 6;
 
-/// A page: the regions that it shows, and how it stands to the pages before it (EN 300 743, page composition
-/// segment).
+/// A page: the regions that it lists, and its page state (EN 300 743, page composition segment).
 #[derive(Clone, Copy, Debug, PartialEq, Eq)]
 pub struct PageSeg<'a> {
     /// The seconds after which the page is no longer shown.
     pub time_out: u8,
+    /// The version, 0 to 15.
     pub version: u8,
+    /// The page state.
     pub state: State,
     /// The entries, as bytes.
     pub entries: &'a [u8],

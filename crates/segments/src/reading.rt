@@ -28,10 +28,15 @@ use stream_syntax::{
 /// A segment (EN 300 743, clause 7.2), borrowed from the bytes that it was read from.
 #[derive(Clone, Copy, Debug, PartialEq, Eq)]
 pub enum Segment<'a> {
+    /// A page composition.
     Page(PageSeg<'a>),
+    /// A region composition.
     Region(RegionSeg<'a>),
+    /// A CLUT definition.
     Clut(ClutSeg<'a>),
+    /// Object data.
     Object(ObjectSeg<'a>),
+    /// A display definition.
     Display(DisplaySeg),
     /// The end of a display set.
     End,
@@ -48,7 +53,7 @@ pub fn read_segment(bytes: &[u8]) -> Result<(Segment<'_>, usize), SegmentFault>
     ensures kind { IfOk result (λ found. IsKindOf (contents found.0) (byte_at 1 bytes.now)) }
     ensures size { IfOk result (λ found. found.1 ≡ 6 + word_at 4 bytes.now) }
     ensures within { IfOk result (λ found. found.1 ≤ length bytes.now) }
-    // No other bytes at the front are a segment, and none with another value.
+    // No other prefix of the bytes is a segment, and none with another value.
     ensures every_segment { (value : SegmentValue) (size : ℕ) → size ≤ length bytes.now → IsSegment (take size bytes.now) value
         → IsOkAnd result (λ found. (contents found.0 ≡ value) × (found.1 ≡ size)) }
     ensures fault { IfErr result (IsSegmentFault bytes.now) }

@@ -19,13 +19,19 @@ const LISTING: usize = 6;
 /// segment).
 #[derive(Clone, Copy, Debug, PartialEq, Eq)]
 pub struct RegionSeg<'a> {
+    /// The id of the region.
     pub region: u8,
+    /// The version, 0 to 15.
     pub version: u8,
     /// Whether the region is filled before its objects are painted.
     pub fill: bool,
+    /// The pixels of a row, at least 1.
     pub width: u16,
+    /// The rows, at least 1.
     pub height: u16,
+    /// The bits of its pixel codes.
     pub depth: Depth,
+    /// The id of its CLUT.
     pub clut: u8,
     /// The code that fills a region of eight bits.
     pub code8: u8,
@@ -94,6 +100,7 @@ fn head_of(body: &[u8]) -> Result<RegionHead, SegmentFault>
         return Err(bad_length());
     }
     let (width, height) = (read_word(body, 2), read_word(body, 4));
+    // Tests go from the left, and the sides stand before the depth.
     if width == 0 || height == 0 {
         return Err(SegmentFault {
             place: 8,
@@ -161,6 +168,7 @@ fn check_listing(listings: &[u8], place: u32) -> Result<(), SegmentFault>
             kind: SegmentKind::CharacterObject,
         });
     }
+    // object_provider_flag: 0 says that the stream brings the object.
     if bits(listings[2], 4, 2) != 0 {
         return Err(SegmentFault {
             place: place + 2,

@@ -34,22 +34,34 @@ const RESERVED: u8 = 0xFF;
 /// A segment that is to be written.
 #[derive(Clone, Copy, Debug)]
 pub enum SegmentOut<'a> {
+    /// A page composition.
     Page {
         /// The seconds after which the page is no longer shown.
         time_out: u8,
+        /// The version, 0 to 15.
         version: u8,
+        /// The page state.
         state: State,
+        /// The regions that the page lists; a later one lies over those before it.
         entries: &'a [PageEntry],
     },
+    /// A region composition.
     Region {
+        /// All of the region but its objects.
         head: RegionHead,
+        /// The objects that it lists.
         listings: &'a [Listing],
     },
+    /// A CLUT definition.
     Clut {
+        /// The id of the CLUT.
         clut: u8,
+        /// The version, 0 to 15.
         version: u8,
+        /// The entries that are set; others keep their colours.
         entries: &'a [ClutEntry],
     },
+    /// Object data.
     Object(ObjectSeg<'a>),
     /// The sides of the display in pixels, without a window.
     Display {
@@ -73,6 +85,7 @@ pub fn write_segment(page: u16, segment: &SegmentOut<'_>, out: &mut Vec<u8>) -> 
     ensures err { OnErr result (out.new.items ≡ out.old.items) }
 {
     let size = body_size(segment);
+    // All memory first, so that no part of a segment is left where there is none.
     out.reserve(HEAD + size)?;
     append(out, &frame_bytes(kind_of(segment), page, size as u16));
     put_body(out, segment);
@@ -163,6 +176,7 @@ fn listing_bytes(listing: &Listing) -> [u8; 6]
     requires { listing.now.y < 4096 }
     ensures { result ≡ listing_bytes listing.now }
 {
+    // Above x are the object's type and provider, above y four reserved bits.
     let (object, x, y) = (
         word(listing.object),
         word(listing.x),
@@ -175,6 +189,7 @@ fn listing_bytes(listing: &Listing) -> [u8; 6]
 fn clut_entry_bytes(entry: &ClutEntry) -> [u8; 6]
     ensures { result ≡ clut_entry_bytes entry.now }
 {
+    // Below the flags of the three tables are four reserved bits and that of the full range.
     let flags = u8::from(entry.two) * 128 + u8::from(entry.four) * 64 + u8::from(entry.eight) * 32;
     let colour = entry.colour;
     [
@@ -231,6 +246,7 @@ fn head_bytes(head: &RegionHead) -> [u8; 10]
     ensures { result ≡ head_bytes head.now }
 {
     let (width, height) = (word(head.width), word(head.height));
+    // The level of compatibility is the least CLUT that a receiver has to have: that of the depth.
     let depth = depth_number(head.depth);
     [
         head.region,

@@ -14,10 +14,13 @@ use sub_base::{Depth, NoMemory};
 /// has none.
 #[derive(Clone, Copy, Debug, PartialEq, Eq)]
 pub struct FieldLengths {
+    /// The bytes of the top block.
     pub top: u32,
+    /// The bytes of the bottom block, 0 where the bottom field equals the top field.
     pub bottom: u32,
 }
 
+/// The sub-block that ends a line (EN 300 743, end_of_object_line_code).
 const LINE_END: u8 = 0xF0;
 
 /// Appends the pixel data blocks of a picture's top and bottom field, for a region of a depth (EN 300 743, object
@@ -73,6 +76,7 @@ fn append_fields(
     let start = out.len();
     append_field(picture.depth(), region, picture.top_rows(), out)?;
     let middle = out.len();
+    // A bottom block without bytes says that the top block serves for both (EN 300 743, object data segment).
     if !picture.fields_equal() {
         append_bottom_field(picture, region, out)?;
     }
@@ -90,6 +94,7 @@ fn append_bottom_field(picture: &Indexed, region: Depth, out: &mut Vec<u8>) -> R
     ensures short { OnOk result (2 * length out.new.items ≤ 2 * length out.old.items + 34 + room_of (bottom_field picture.now)) }
     ensures extends { Extends out.old.items out.new.items }
 {
+    // No rows are left for it then, and a block without bytes would stand for the top one.
     if picture.height() == 1 {
         out.push(LINE_END)?;
         return Ok(());
@@ -149,6 +154,7 @@ fn type_of_string(depth: Depth) -> u8
 pub(crate) fn table_bytes(depth: Depth, region: Depth) -> &'static [u8]
     ensures { result.now ≡ identity_table depth region }
 {
+    // A picture's codes are codes of the region, while the default tables would spread them over its range.
     match (depth, region) {
         (Depth::Two, Depth::Four) => b"\x20\x01\x23",
         (Depth::Two, Depth::Eight) => b"\x21\x00\x01\x02\x03",

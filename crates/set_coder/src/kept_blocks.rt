@@ -58,6 +58,7 @@ impl KeptBlocks {
         ensures { OnOk result (AreCoded pictures.now self.new.coded.items) }
     {
         let place = number as usize;
+        // No script has such a picture. Tested here, that need not be a premise.
         if place >= pictures.len() || place >= self.slots.len() {
             return Ok(());
         }
@@ -118,6 +119,7 @@ fn can_be_kept(picture: &Indexed, region: Depth) -> bool
     if u32::from(picture.width()) * u32::from(picture.height()) <= FEW_PIXELS {
         return true;
     }
+    // Measured before it is coded, so that no memory is taken for what no buffer holds.
     let sizes = field_sizes(picture, region);
     sizes.top + sizes.bottom <= MOST_BYTES
 }
@@ -176,6 +178,7 @@ impl<'a> BlockLookup<'a> {
             return None;
         }
         let coded = &self.coded[at];
+        // Slots are a hint: what they lead to is looked at before it is used.
         if coded.number != number || coded.region != region {
             return None;
         }

@@ -2,15 +2,22 @@
 //! packets of a set of a plan, with their sizes.
 #![tactic(auto)]
 
-mod coded_picture;
+// Blocks of a picture's two interlace fields, and their sizes.
 mod field_sizes;
 mod fields;
+
+// Blocks that are kept for all sets of a script.
+mod coded_picture;
 mod kept_blocks;
+
+// A set's regions, cues and colours by their names, and its segments.
 mod named;
-mod segment_sizes;
 mod set_objects;
-mod set_packets;
 mod set_segments;
+
+// Its sizes, and its PES packets.
+mod segment_sizes;
+mod set_packets;
 mod set_sizes;
 
 pub use coded_picture::KeptBlocks;

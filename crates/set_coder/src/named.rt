@@ -30,6 +30,7 @@ pub(crate) fn region_of(epoch: &Epoch, id: u8) -> Region
             return *region;
         }
     }
+    // A plan names regions of its epoch alone.
     unreachable!()
 }
 

@@ -51,6 +51,7 @@ impl<'a> SegmentSizes<'a> {
             kept,
             epoch: epoch_of(script, set),
             display: display_size(set.state),
+            // The head has 6 bytes, the page 2, and each entry 6.
             page: Some(8 + 6 * set.shown.len() as u32),
             regions: set.regions.as_slice(),
             cluts: set.cluts.as_slice(),
@@ -103,6 +104,7 @@ fn region_size(sent: &SentRegion) -> u32
     requires { length sent.now.cues ≤ 4096 }
     ensures { result ≡ region_size sent.now }
 {
+    // The head has 6 bytes, the region 10, and each listing 6.
     16 + 6 * sent.cues.len() as u32
 }
 
@@ -111,6 +113,7 @@ fn clut_size(sent: &SentClut) -> u32
     requires { length sent.now.rows ≤ 8192 }
     ensures { result ≡ clut_size sent.now }
 {
+    // The head has 6 bytes, the CLUT 2, and each entry in the full range 6.
     8 + 6 * sent.rows.len() as u32
 }
 

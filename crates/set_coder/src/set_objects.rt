@@ -61,6 +61,7 @@ fn append_object(
     let cue = cue_at(epoch, place);
     let picture = &script.pictures.as_slice()[cue.picture as usize];
     let region = region_of(epoch, cue.region);
+    // Apart from the segment, whose head has the lengths of both blocks.
     let mut blocks = Vec::new(*field.allocator());
     let lengths = kept.write_fields(
         script.pictures.as_slice(),
@@ -92,6 +93,7 @@ fn fields_of<'a>(
     ensures top { length result.0.now ≡ top }
     ensures whole { length result.0.now + length result.1.now ≡ length blocks.now }
 {
+    // The picture and the depth are parameters for the contract, which says what the blocks are of.
     blocks.split_at(top)
 }
 

@@ -74,9 +74,11 @@ fn write_with(
     ensures kept { OnErr result (out.new.items ≡ out.old.items) }
 {
     let alloc = *out.allocator();
+    // Measured again: this says where the units end, and how much room their segments need.
     let load = load_with(alloc, kept, script, set)?;
     let segments = segments_of(alloc, script, kept, set, page, load.load.size)?;
     write_units(
+        // A PES packet has 33 bits for its time.
         set.pts % TIME_ROUND,
         load.units.as_slice(),
         segments.as_slice(),

@@ -39,6 +39,7 @@ fn append_display(
 ) -> Result<(), NoMemory>
     ensures bytes { OnOk result (field.new.items ≡ field.old.items ++ flat_map (spelled page) (display_of script.now state)) }
 {
+    // Whoever shows a normal set has the display from the entry point before.
     if state == State::Normal {
         return Ok(());
     }
@@ -55,6 +56,7 @@ fn time_out(script: &Script) -> u8
     ensures value { result ≡ time_out_of script.now }
     ensures short { result ≤ 122 }
 {
+    // Longer than a refresh, so that a page stays where one refresh is lost.
     (2 * (script.refresh / 90000) + 2) as u8
 }
 

@@ -23,6 +23,8 @@ pub enum CodeKind {
 #[derive(Clone, Copy, Debug, PartialEq, Eq, Error)]
 #[error("{kind} at byte {place}")]
 pub struct CodeFault {
+    /// The offset of the type byte in the block.
     pub place: u32,
+    /// The first test that fails there.
     pub kind: CodeKind,
 }

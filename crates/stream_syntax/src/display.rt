@@ -2,8 +2,12 @@
 /// ends included (EN 300 743, display definition segment, display_window).
 #[derive(Clone, Copy, Debug, PartialEq, Eq)]
 pub struct Window {
+    /// The first column, in pixels of the display.
     pub left: u16,
+    /// The last column.
     pub right: u16,
+    /// The first row.
     pub top: u16,
+    /// The last row.
     pub bottom: u16,
 }

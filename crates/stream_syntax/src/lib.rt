@@ -3,17 +3,24 @@
 //! `specs/`, over numbers and lists; readers and writers above cite them.
 #![tactic(auto)]
 
-mod clut;
-mod code_fault;
-mod display;
-mod map_table;
-mod page;
+// Numbers of the standards.
+mod wire;
+
+// Transport packets and PES packets.
 mod pes;
-mod pixel_run;
+mod transport;
+
+// Segments.
+mod clut;
+mod display;
+mod page;
 mod region;
 mod segment_fault;
-mod transport;
-mod wire;
+
+// Pixel data blocks.
+mod code_fault;
+mod map_table;
+mod pixel_run;
 
 pub use clut::ClutEntry;
 pub use code_fault::{CodeFault, CodeKind};

@@ -2,7 +2,10 @@
 /// (EN 300 743, pixel-data sub-block).
 #[derive(Clone, Copy, Debug, PartialEq, Eq)]
 pub enum MapTable {
+    /// Of 2 bit codes in a region of 4 bits.
     TwoToFour,
+    /// Of 2 bit codes in a region of 8 bits.
     TwoToEight,
+    /// Of 4 bit codes in a region of 8 bits.
     FourToEight,
 }

@@ -1,4 +1,4 @@
-/// How a display set stands to those before it (EN 300 743, page composition segment, page_state).
+/// The page state of a display set: whether a receiver can begin at it (EN 300 743, page composition segment, page_state).
 #[derive(Clone, Copy, Debug, PartialEq, Eq)]
 pub enum State {
     /// The set changes the page that is shown.
@@ -13,7 +13,10 @@ pub enum State {
 /// (EN 300 743, page composition segment).
 #[derive(Clone, Copy, Debug, PartialEq, Eq)]
 pub struct PageEntry {
+    /// The id of the region.
     pub region: u8,
+    /// The column of its left edge.
     pub x: u16,
+    /// The row of its upper edge.
     pub y: u16,
 }

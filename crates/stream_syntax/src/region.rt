@@ -4,8 +4,11 @@ use sub_base::Depth;
 /// (EN 300 743, region composition segment).
 #[derive(Clone, Copy, Debug, PartialEq, Eq)]
 pub struct Listing {
+    /// The id of the object.
     pub object: u16,
+    /// The column of its left edge, 0 to 4,095.
     pub x: u16,
+    /// The row of its upper edge, 0 to 4,095.
     pub y: u16,
 }
 
@@ -13,14 +16,24 @@ pub struct Listing {
 /// pixel codes, its CLUT, and the codes with which it is filled at each depth.
 #[derive(Clone, Copy, Debug, PartialEq, Eq)]
 pub struct RegionHead {
+    /// The id of the region.
     pub region: u8,
+    /// The version, 0 to 15: a segment of the same version as the last one of its id changes nothing.
     pub version: u8,
+    /// Whether the region is filled with the code of its depth before its objects are drawn.
     pub fill: bool,
+    /// The pixels of a row, at least 1.
     pub width: u16,
+    /// The rows, at least 1.
     pub height: u16,
+    /// The bits of its pixel codes.
     pub depth: Depth,
+    /// The id of its CLUT.
     pub clut: u8,
+    /// The code that fills a region of 8 bits.
     pub code8: u8,
+    /// The code that fills a region of 4 bits, 0 to 15.
     pub code4: u8,
+    /// The code that fills a region of 2 bits, 0 to 3.
     pub code2: u8,
 }

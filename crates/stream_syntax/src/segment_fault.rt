@@ -46,6 +46,8 @@ pub enum SegmentKind {
 #[derive(Clone, Copy, Debug, PartialEq, Eq, Error)]
 #[error("{kind} at byte {place} of the segment")]
 pub struct SegmentFault {
+    /// The offset from the segment's first byte.
     pub place: u32,
+    /// The first test that fails.
     pub kind: SegmentKind,
 }

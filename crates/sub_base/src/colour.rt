@@ -8,9 +8,13 @@ use crate::depth::Depth;
 /// lets all of the video through (EN 300 743, CLUT definition segment).
 #[derive(Clone, Copy, Debug, PartialEq, Eq)]
 pub struct Colour {
+    /// Luminance, 0 to 255. 0 is read as full transparency.
     pub y: u8,
+    /// The red colour difference, 128 where there is none.
     pub cr: u8,
+    /// The blue colour difference, 128 where there is none.
     pub cb: u8,
+    /// Transparency: 0 is opaque, 255 is clear.
     pub t: u8,
 }
 
@@ -47,8 +51,11 @@ pub fn default_colour(depth: Depth, entry: u8) -> Colour
 /// Red, green and blue, each in sixths of its full strength.
 #[derive(Clone, Copy, Debug)]
 pub struct Sixths {
+    /// Red, 0 to 6.
     pub red: u32,
+    /// Green, 0 to 6.
     pub green: u32,
+    /// Blue, 0 to 6.
     pub blue: u32,
 }
 
@@ -59,6 +66,8 @@ fn colour_of(mix: Sixths, t: u8) -> Colour
     requires blue { mix.blue ≤ 6 }
     ensures { result ≡ colour_of_mix mix t }
 {
+    // The coefficients of ITU-R BT.601 in thousandths. The divisor is 6 * 1,000, and half of it is in each sum, so that values
+    // are rounded to the nearest. 771,000 is 128 * 6,000 and that half: the differences of grey are 128.
     let Sixths { red, green, blue } = mix;
     Colour {
         y: (16 + (65_481 * red + 128_553 * green + 24_966 * blue + 3_000) / 6_000) as u8,

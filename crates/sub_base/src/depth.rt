@@ -5,8 +5,11 @@ ghost use Rattle.sub_base.specs.Depth.{bits_of, code_count as codes_of};
 /// segment, region_depth).
 #[derive(Clone, Copy, Debug, PartialEq, Eq)]
 pub enum Depth {
+    /// 2 bits, 4 colours.
     Two,
+    /// 4 bits, 16 colours.
     Four,
+    /// 8 bits, 256 colours.
     Eight,
 }
 

@@ -34,10 +34,13 @@ pub struct WriteFailed;
 /// Why a source was not read whole.
 #[derive(Clone, Copy, Debug, PartialEq, Eq, Error)]
 pub enum ReadAllFault {
+    /// No memory was found for the bytes.
     #[error("out of memory")]
     Memory,
+    /// A read failed. The count of faults of the source rose.
     #[error("the source could not be read")]
     Read,
+    /// The source gave more bytes than the limit.
     #[error("the source has more bytes than its limit")]
     TooLong,
 }

@@ -7,6 +7,7 @@ use std::io::{Read, Write};
 /// A file or stream as a source. It tells nothing of what is in it.
 #[derive(Drop)]
 pub struct FileSource<R: Read + Drop> {
+    // None where the file could not be opened. The first read says so, in the command's own order of its sources.
     inner: Option<R>,
     given: u64,
     faults: u64,
@@ -50,6 +51,8 @@ impl<R: Read + Drop> Source for FileSource<R> {
 /// A file or stream as a sink. It tells nothing of what was written.
 #[derive(Drop)]
 pub struct FileSink<W: Write + Drop> {
+    // None where the file could not be made. The first write says so: a command that is refused before it writes ends as
+    // if it could.
     inner: Option<W>,
     faults: u64,
 }
@@ -72,6 +75,7 @@ impl<W: Write + Drop> Sink for FileSink<W> {
             None => None,
         };
         match outcome {
+            // A writer that takes nothing of a piece has failed: a loop over what is left would not end.
             Some(count) if count > 0 || piece.is_empty() => Ok(count),
             _ => {
                 self.faults = self.faults.saturating_add(1);

@@ -82,7 +82,7 @@ impl Source for MemSource {
     }
 }
 
-/// Copies the front of what is left into the buffer, at most `most` bytes, and answers how many.
+/// Copies a prefix of what is left into the buffer, at most `most` bytes, and answers how many.
 fn give(left: &[u8], most: usize, buf: &mut [u8]) -> usize
     ensures count { result ≡ min (min most (length buf.new)) (length left.now) }
     ensures front { take result buf.new ≡ take result left.now }

@@ -22,6 +22,7 @@ impl<T> Items<T> {
     pub fn new(_alloc: Global, items: Vec<T>) -> Items<T>
         ensures { result ≡ items.items }
     {
+        // The allocator is asked for all the same, as by every call that makes a value which may grow.
         Items { items }
     }
 

@@ -2,20 +2,29 @@
 //! a command line, and the sources and sinks through which bytes come and go.
 #![tactic(auto)]
 
+// Numbers, lists and memory.
 mod buffer;
+mod items;
+mod number;
+
+// Pictures: depths and colours.
 mod colour;
 mod depth;
-mod faults;
-mod file;
-mod gate;
-mod in_memory;
-mod items;
+
+// Receivers, and what is sent to them.
 mod load;
-mod number;
 mod pace;
 mod profile;
+
+// A command's words, its sources and sinks, and how these fail.
+mod faults;
+mod file;
+mod in_memory;
 mod transfer;
 mod words;
+
+// What lets a test see bands at work together.
+mod gate;
 
 pub use buffer::zeros;
 pub use colour::{CLEAR, Colour, default_colour};

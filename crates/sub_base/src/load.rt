@@ -31,6 +31,7 @@ impl SetLoad {
 /// What sending a display set takes: its load, and the PES packets that it is sent in.
 #[derive(Drop)]
 pub struct WriteLoad {
+    /// What the set asks of a receiver.
     pub load: SetLoad,
     /// The bytes of its longest segment.
     pub longest: u64,

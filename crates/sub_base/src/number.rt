@@ -37,6 +37,7 @@ fn is_number(text: &[u8], most_digits: usize) -> bool
 fn leads_with_zero(text: &[u8]) -> bool
     ensures { result ≡ has_leading_zero text.now }
 {
+    // A number has one text, so `0` is one and `00` and `01` are none.
     text.len() > 1 && text[0] == b'0'
 }
 
@@ -57,6 +58,7 @@ fn value_of(digits: &[u8]) -> u64
     requires digits { list_all is_digit digits.now ≡ true }
     ensures { result ≡ value_from 0 digits.now }
 {
+    // Nineteen digits at most come here, so that no sum passes 2^64.
     let mut value = 0;
     for digit in digits {
         value = 10 * value + u64::from(*digit - b'0');

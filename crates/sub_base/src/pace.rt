@@ -7,8 +7,11 @@ use crate::profile::Profile;
 /// The receiver's coded data buffer has that many bytes.
 #[derive(Clone, Copy, Debug)]
 pub struct Pace {
+    /// The tick of slot 0.
     pub origin: u64,
+    /// The ticks from one slot to the next, at least 1 where packets are sent.
     pub step: u64,
+    /// The bytes of the coded data buffer.
     pub coded: u64,
 }
 
@@ -42,6 +45,7 @@ impl Pace {
         ensures least { (slot : ℕ) → tick ≤ tick_of self.now slot → result ≤ slot }
         ensures near { tick_of self.now result ≤ max self.now.origin (tick + self.now.step) }
     {
+        // A tick before the origin is reached by slot 0.
         tick.saturating_sub(self.origin).div_ceil(self.step)
     }
 }

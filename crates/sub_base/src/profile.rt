@@ -4,9 +4,13 @@ ghost use Rattle.sub_base.specs.Profile.{profile_of};
 /// The names of the receiver profiles.
 #[derive(Clone, Copy, Debug, PartialEq, Eq)]
 pub enum ProfileName {
+    /// Standard definition: displays of up to 720 by 576 pixels.
     Sd,
+    /// High definition: displays of up to 1,920 by 1,080 pixels.
     Hd,
+    /// Displays of up to 4,096 by 2,304 pixels. For reading alone: it has no pace at which packets are sent.
     Wide,
+    /// High definition, with the buffers of `Wide`.
     Large,
 }
 

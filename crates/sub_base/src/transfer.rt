@@ -13,9 +13,10 @@ use std::alloc::Global;
 /// Contracts see what is left in it, where it tells that, a count of the bytes that it gave, and a count of its faults.
 /// Both counts stay at 2^64 - 1 once they are there.
 pub trait Source {
+    /// What the source has left to give, where it tells that, and its counts of bytes and faults.
     ghost supplied: { Self → Supplied };
 
-    /// Reads some of the next bytes into the front of the buffer. 0 bytes into a buffer with room are the end.
+    /// Reads some of the next bytes into the first places of the buffer. 0 bytes into a buffer with room are the end.
     fn read(&mut self, buf: &mut [u8]) -> Result<usize, ReadFailed>
         ensures bound { ReadsAtMost result buf.new }
         ensures bytes { ReadConsumes (supplied self.old).left (supplied self.new).left result buf.new }
@@ -29,9 +30,10 @@ pub trait Source {
 /// Contracts see what was written to it, where it tells that, and a count of its faults, which stays at 2^64 - 1 once it
 /// is there.
 pub trait Sink {
+    /// What the sink has received, where it tells that, and its count of faults.
     ghost received: { Self → Received };
 
-    /// Writes some bytes from the front of the piece, at least one where it has any.
+    /// Writes a prefix of the piece, of at least one byte where it has any.
     fn write(&mut self, piece: &[u8]) -> Result<usize, WriteFailed>
         ensures bound { WritesAtMost result piece.now }
         ensures some { IfOk result (λ n. 0 < length piece.now → 0 < n) }
@@ -49,6 +51,7 @@ pub fn write_whole<K: Sink>(sink: &mut K, bytes: &[u8]) -> Result<(), WriteFaile
 {
     let mut done = 0usize;
     while done < bytes.len() {
+        // A sink takes at least one byte, so the loop ends.
         done += sink.write(&bytes[done..])?;
     }
     Ok(())
@@ -83,6 +86,7 @@ pub fn read_all<A: Source>(
         if count == 0 {
             return Ok(bytes);
         }
+        // Compared with what is left of the limit: the sum of both could pass 2^64.
         if count as u64 > limit - bytes.len() as u64 {
             return Err(ReadAllFault::TooLong);
         }

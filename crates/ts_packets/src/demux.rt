@@ -43,7 +43,9 @@ impl Model for Demux {
 /// What became of a packet, and the unit that it ended.
 #[derive(Clone, Copy, Debug, PartialEq, Eq)]
 pub struct Fed<'a> {
+    /// What became of the packet.
     pub event: Event,
+    /// The unit that the packet ended, lent until the next packet is fed.
     pub unit: Option<&'a [u8]>,
 }
 
@@ -82,6 +84,7 @@ impl Demux {
         ensures size { IfOk result (λ demux. demux.size ≡ size) }
         ensures stands { IfOk result (λ demux. Stands demux []) }
     {
+        // No PES packet with a length is longer, however many bytes the caller takes.
         let room = size.min(LONGEST_UNIT) as usize + ROOM_BEHIND;
         Ok(Demux {
             pid,
@@ -150,7 +153,9 @@ impl Demux {
         let Some(last) = last else {
             return self.follow(payload);
         };
+        // What is kept is below 16. Taken modulo 16 it need not be known to be.
         let expected = (last % 16 + 1) % 16;
+        // Each packet may be sent twice (ISO/IEC 13818-1, 2.4.3.3).
         if payload.counter == last {
             Step::alone(Event::Double)
         } else if payload.counter == expected {
@@ -166,6 +171,7 @@ impl Demux {
         ensures answers { Answers self.old self.new result Next payload.entry.start payload.entry.bytes.now }
         ensures counter { self.new.counter ≡ self.old.counter }
     {
+        // No packet is missing, so the unit in hand was sent with fewer bytes than its length says.
         if payload.start && self.holds {
             let event = Event::Short {
                 have: self.bytes.len() as u32,
@@ -226,6 +232,7 @@ impl Demux {
         ensures fate { let bytes = self.old.bytes ++ payload.now in
             IsFate self.old.size bytes (fate_of self.old.size bytes) result }
     {
+        // The buffer was made with room for the longest unit and one payload more.
         self.bytes.extend_from_slice(payload).unwrap();
         let fate = fate_of_unit(self.size, &self.bytes);
         self.holds = matches!(fate, Fate::Waits);
@@ -257,6 +264,7 @@ impl Fate {
                 unit: Some(count),
             },
             Fate::Over(need) => Step::alone(match event {
+                // A packet has one event: a gap before it, or a short unit, is told in its place.
                 Event::Followed => Event::TooLong { need, size },
                 _ => event,
             }),
@@ -273,6 +281,7 @@ fn fate_of_unit(size: u64, bytes: &[u8]) -> Fate
         return Fate::Waits;
     }
     let length = BigEndian::read_u16(&bytes[4..LENGTH_END]);
+    // No PES packet, or one without a length: it is for the reader of units to say what is wrong with it.
     if bytes[0] != 0 || bytes[1] != 0 || bytes[2] != 1 || length == 0 {
         return Fate::Whole(bytes.len());
     }

@@ -21,8 +21,11 @@ pub enum Kind<'a> {
 /// The bytes of a unit in a packet, with the packet's counter, and whether a unit begins with them.
 #[derive(Clone, Copy)]
 pub struct Payload<'a> {
+    /// The continuity counter, 0 to 15.
     pub counter: u8,
+    /// Whether a unit begins with these bytes.
     pub start: bool,
+    /// The bytes of the payload.
     pub bytes: &'a [u8],
 }
 
@@ -34,9 +37,11 @@ pub fn kind_of(pid: u16, packet: &[u8; 188]) -> Result<Kind<'_>, PacketFault>
     if packet[0] != SYNC_BYTE {
         return Err(PacketFault::NoSync);
     }
+    // Most packets of a stream end here.
     if BigEndian::read_u16(&packet[1..3]) & 0x1FFF != pid {
         return Ok(Kind::Other);
     }
+    // Nothing that follows in a damaged packet can be trusted, so that it is tested no further.
     if packet[1] >> 7 == 1 {
         return Ok(Kind::Damaged);
     }

@@ -2,10 +2,15 @@
 //! from a list of packets the units and the losses.
 #![tactic(auto)]
 
+// Packets out of a unit.
+mod packetiser;
+
+// Units and losses out of packets.
 mod demux;
 mod kind;
+
+// That every way to cut a unit gives it again.
 mod laws;
-mod packetiser;
 
 pub use demux::{Demux, Fed};
 pub use laws::every_cutting_gives_its_unit;

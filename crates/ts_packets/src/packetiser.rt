@@ -83,6 +83,7 @@ fn write_packet(pid: u16, counter: u8, piece: &[u8], start: bool, out: &mut [u8;
     ensures { out.new ≡ written_packet pid start counter piece.now }
 {
     let room = PAYLOAD_LENGTH - piece.len();
+    // What a payload leaves free is filled in front of it: behind a PES packet there is no stuffing.
     let control = if room == 0 { 1 } else { 3 };
     let (head, rest) = out.split_at_mut(HEAD_LENGTH);
     let (field, payload) = rest.split_at_mut(room);
@@ -111,6 +112,7 @@ fn write_adaptation_field(field: &mut [u8])
     ensures { field.new ≡ adaptation_field (length field.old) }
 {
     field.fill(STUFFING);
+    // One byte is the length alone, without flags.
     if field.len() == 1 {
         field[0] = 0;
     }
