@@ -1,6 +1,6 @@
 -- The units of a PID in a list of transport packets, and what becomes of each packet (ISO/IEC 13818-1, 2.4.3). The list has
 -- no packet that cannot be taken. Units are looked for in the whole list.
-use Rattle.std.specs.Prelude.{ℕ, ◌+◌, ◌%◌, Bool, true, false, ◌==◌, ◌||◌, ◌&&◌, not, nat_lt, if◌then◌else◌, List, [], ◌∷◌, ◌++◌, length, take, drop, map, reverse, find, Option, Some, None}
+use Rattle.std.specs.Prelude.{ℕ, ◌+◌, ◌%◌, Bool, true, false, ◌==◌, ◌||◌, ◌&&◌, not, nat_lt, if◌then◌else◌, List, [], ◌∷◌, ◌++◌, length, take, drop, reverse, find, Option, Some, None}
 use Rattle.std.specs.Option.{option_map}
 use Rattle.std.specs.List.{list_any, list_all, flat_map, filter_map}
 use Rattle.byteorder.specs.Endian.{big_number}
