@@ -1,0 +1,4 @@
+pub mod Showing
+pub mod Slots
+pub mod Lent
+pub mod Screens
