@@ -2,3 +2,4 @@ pub mod Showing
 pub mod Slots
 pub mod Lent
 pub mod Screens
+pub mod Arrived

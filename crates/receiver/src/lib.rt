@@ -1,8 +1,10 @@
 //! A receiver of DVB subtitles: from transport packets to the pictures that are shown.
 #![tactic(auto)]
 
+mod arrival;
 mod picture;
 mod screen;
 mod view;
 
+pub use arrival::Arrival;
 pub use view::View;
