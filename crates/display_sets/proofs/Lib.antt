@@ -1,1 +1,2 @@
 pub mod CountedLaws
+pub mod FillingLaws

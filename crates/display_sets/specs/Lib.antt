@@ -1,1 +1,3 @@
 pub mod Counted
+pub mod Filling
+pub mod Hands
