@@ -1,2 +1,4 @@
 pub mod CountedLaws
 pub mod FillingLaws
+pub mod Searches
+pub mod FillLoop
