@@ -5,3 +5,9 @@
 
 mod counted;
 mod filling;
+mod hand;
+mod ready;
+
+pub use decoder_model::SetFault;
+pub use hand::UnitEnd;
+pub use ready::Ready;
