@@ -5,9 +5,11 @@
 
 mod counted;
 mod filling;
+mod gathering;
 mod hand;
 mod ready;
 
 pub use decoder_model::SetFault;
+pub use gathering::Gathering;
 pub use hand::UnitEnd;
 pub use ready::Ready;
