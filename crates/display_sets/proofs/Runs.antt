@@ -112,7 +112,7 @@ abbrev pub AreAlike : List PesUnit → Type 0
 AreAlike [] = Unit {0}
 AreAlike (first ∷ units) = HaveTime first.time units
 
-some_follow : (hand : List PesUnit) (next : Stretch) (rest : List Stretch) → IsStart hand (next ∷ rest)
+pub some_follow : (hand : List PesUnit) (next : Stretch) (rest : List Stretch) → IsStart hand (next ∷ rest)
 some_follow hand next rest = λ e. absurd (cc)
 
 pub last_extends : (one : PesUnit) (hand : List PesUnit) (some all : List Stretch) → Extends one some all → IsStart hand some → AreAlike (last_of hand some)
@@ -126,7 +126,7 @@ last_extends one hand some all (behind_loss {some = behind} {all = rest} more) s
 last_extends one hand some all (behind_run {first = first} {units = units} {next = next} {some = behind} {all = rest} more) start alike =
     last_extends one (first ∷ units) (next ∷ behind) rest more (some_follow (first ∷ units) next behind) alike
 
-last_of-loss : (hand : List PesUnit) (stretches : List Stretch) → last_of hand (stretches ++ loss_between ∷ []) ≡ []
+pub last_of-loss : (hand : List PesUnit) (stretches : List Stretch) → last_of hand (stretches ++ loss_between ∷ []) ≡ []
 last_of-loss hand [] = refl
 last_of-loss hand (loss_between ∷ rest) = last_of-loss [] rest
 last_of-loss hand (run first units ∷ rest) = last_of-loss (first ∷ units) rest
