@@ -6,3 +6,5 @@ pub mod Runs
 pub mod RunSets
 pub mod LastRun
 pub mod Units
+pub mod Meetings
+pub mod Standings
