@@ -8,3 +8,4 @@ pub mod LastRun
 pub mod Units
 pub mod Meetings
 pub mod Standings
+pub mod UnitSteps
