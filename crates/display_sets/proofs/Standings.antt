@@ -1,6 +1,7 @@
 -- A gathering goes on standing for all that arrived: what each call changes.
 use Rattle.std.proofs.Common.{◌≡◌, ◌∙◌, ℕ, ◌+◌, ◌<◌, Bool, true, false, not, ◌==◌, cond, List, [], ◌∷◌, ◌++◌, length, reverse, Option, Some, None, refl, sym, ap, subst, arith, append-nil, append_assoc}
 use Rattle.std.specs.Bool.{if◌then◌else◌, OnFalse}
+use Rattle.std.specs.Option.{is_some}
 use Rattle.decoder_model.specs.Arrivals.{PesUnit, Arrival, loss, refused_unit, aside, unit, unit_with}
 use Rattle.decoder_model.specs.PacketArrivals.{of_time, last_run, is_in_hand, makes_ready, is_dropped}
 use Rattle.decoder_model.specs.Sets.{Delivery, lost, whole, refused, runs_of, sets_in, is_ended, frames_in, size_in}
@@ -159,3 +160,65 @@ given_behind hand.Empty bytes = refl
 given_behind (hand.Open time size) bytes = refl
 given_behind (hand.Ready head) bytes = refl
 given_behind (hand.Given time) bytes = refl
+
+-- ---- the calls
+
+pub closed_by : (inside now : Gathered) (own : Hand) → own ≡ closed_hand inside.hand → inside ≡ now → record inside { hand = own } ≡ ended_up now
+closed_by inside now own is same = ap (λ (own : Hand). record inside { hand = own }) is ∙ ap ended_up same
+
+without_parted : (old : Gathered) → is_some old.parted ≡ true → ready_sets (record old { parted = None }) ≡ sets_behind (ready_sets old)
+without_parted old there = by old.parted there
+  where
+    by : (parted : Option Head) → is_some parted ≡ true → ready_in (ready_head old.hand) old.bytes ≡ sets_behind (ready_in parted old.parted_bytes ++ ready_in (ready_head old.hand) old.bytes)
+    by None there = absurd (cc)
+    by (Some head) there = refl
+
+-- the set that a unit of another time made ready is given
+pub give_parted : (inside now : Gathered) (there : Bool) → inside ≡ now → there ≡ is_some inside.parted → there ≡ true
+    → (arrivals : List Arrival) (ended : Bool) (given rest : Deliveries) (delivery : Delivery (List ℕ)) → Stands arrivals ended given now → sets_in now.coded ended (runs_of arrivals) ≡ given ++ delivery ∷ rest
+    → Stands arrivals ended (given ++ delivery ∷ []) (record inside { parted = None })
+give_parted inside now there same is holds arrivals ended given rest delivery h split =
+    subst (λ (old : Gathered). Stands arrivals ended (given ++ delivery ∷ []) (record old { parted = None })) (sym same)
+    (give_stands now (record now { parted = None }) refl (without_parted now (ap (λ (old : Gathered). is_some old.parted) (sym same) ∙ sym is ∙ holds)) (λ units. λ own. own) arrivals ended given rest delivery h split)
+
+without_hand : (old : Gathered) → is_some old.parted ≡ false → ready_sets (record old { hand = given_hand old.hand }) ≡ sets_behind (ready_sets old)
+without_hand old there = by old.parted there
+  where
+    by : (parted : Option Head) → is_some parted ≡ false
+        → ready_in parted old.parted_bytes ++ ready_in (ready_head (given_hand old.hand)) old.bytes ≡ sets_behind (ready_in parted old.parted_bytes ++ ready_in (ready_head old.hand) old.bytes)
+    by None there = given_behind old.hand old.bytes
+    by (Some head) there = absurd (cc)
+
+-- the set in hand is given
+pub give_hand : (inside now : Gathered) (there : Bool) (own : Hand) → inside ≡ now → there ≡ is_some inside.parted → there ≡ false → own ≡ given_hand inside.hand
+    → (arrivals : List Arrival) (ended : Bool) (given rest : Deliveries) (delivery : Delivery (List ℕ)) → Stands arrivals ended given now → sets_in now.coded ended (runs_of arrivals) ≡ given ++ delivery ∷ rest
+    → Stands arrivals ended (given ++ delivery ∷ []) (record inside { hand = own })
+give_hand inside now there own same is fails given_is arrivals ended given rest delivery h split =
+    subst (λ (own : Hand). Stands arrivals ended (given ++ delivery ∷ []) (record inside { hand = own })) (sym given_is)
+    (subst (λ (old : Gathered). Stands arrivals ended (given ++ delivery ∷ []) (record old { hand = given_hand old.hand })) (sym same)
+    (give_stands now (record now { hand = given_hand now.hand }) refl (without_hand now (ap (λ (old : Gathered). is_some old.parted) (sym same) ∙ sym is ∙ fails))
+    (λ units. λ own. given_kept now.coded now.hand now.bytes units own) arrivals ended given rest delivery h split))
+
+-- what is ready first, by what is kept
+first_parted : (inside now : Gathered) (head : Head) → inside ≡ now → inside.parted ≡ Some head → Some (ready_set inside.parted_bytes head) ≡ first_ready (ready_sets now)
+first_parted inside now head same is =
+    sym (ap (λ (parted : Option Head). first_ready (ready_in parted inside.parted_bytes ++ ready_in (ready_head inside.hand) inside.bytes)) is) ∙ ap (λ (old : Gathered). first_ready (ready_sets old)) same
+
+first_hand : (inside now : Gathered) (found : Option Head) → inside ≡ now → inside.parted ≡ None → found ≡ ready_head inside.hand → first_ready (ready_in found inside.bytes) ≡ first_ready (ready_sets now)
+first_hand inside now found same is found_is =
+    ap (λ (found : Option Head). first_ready (ready_in found inside.bytes)) found_is
+    ∙ sym (ap (λ (parted : Option Head). first_ready (ready_in parted inside.parted_bytes ++ ready_in (ready_head inside.hand) inside.bytes)) is) ∙ ap (λ (old : Gathered). first_ready (ready_sets old)) same
+
+pub ready_parted : (inside now : Gathered) (head : Head) (bytes : List ℕ) (set : ReadySet) → inside ≡ now → inside.parted ≡ Some head → set ≡ ready_set bytes head → bytes ≡ inside.parted_bytes
+    → (arrivals : List Arrival) (ended : Bool) (given : Deliveries) → Stands arrivals ended given now → IsFirst (sets_in now.coded ended (runs_of arrivals)) given (Some set)
+ready_parted inside now head bytes set same is lent bytes_are =
+    first_is now (Some set) (ap Some (lent ∙ ap (λ (bytes : List ℕ). ready_set bytes head) bytes_are) ∙ first_parted inside now head same is)
+
+pub ready_hand : (inside now : Gathered) (head : Head) (bytes : List ℕ) (set : ReadySet) → inside ≡ now → inside.parted ≡ None → Some head ≡ ready_head inside.hand → set ≡ ready_set bytes head → bytes ≡ inside.bytes
+    → (arrivals : List Arrival) (ended : Bool) (given : Deliveries) → Stands arrivals ended given now → IsFirst (sets_in now.coded ended (runs_of arrivals)) given (Some set)
+ready_hand inside now head bytes set same is found lent bytes_are =
+    first_is now (Some set) (ap Some (lent ∙ ap (λ (bytes : List ℕ). ready_set bytes head) bytes_are) ∙ first_hand inside now (Some head) same is found)
+
+pub ready_none : (inside now : Gathered) → inside ≡ now → inside.parted ≡ None → None ≡ ready_head inside.hand
+    → (arrivals : List Arrival) (ended : Bool) (given : Deliveries) → Stands arrivals ended given now → IsFirst (sets_in now.coded ended (runs_of arrivals)) given None
+ready_none inside now same is found = first_is now None (first_hand inside now None same is found)

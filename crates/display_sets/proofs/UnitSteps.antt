@@ -232,3 +232,15 @@ pub aside_right : (old : Gathered) (time size place : ℕ) (field : List ℕ) �
 aside_right old time size place field none arrivals given h =
     subst (λ (frames : List Frame). IsRight old old arrivals given (unit_with place size time frames) end.Aside) (sym (no_frames_count (counted_in old.page field) none))
     (record { stands = aside_stands old arrivals given h; right_end = record { passed_over = refl; dropped = refl; before = refl } })
+
+-- ---- what the call finds
+
+pub counts_now : (inside now : Gathered) (field : List ℕ) (found some : Bool) → inside ≡ now → found ≡ is_any (counted_in inside.page field) → found ≡ some → is_any (counted_in now.page field) ≡ some
+counts_now inside now field found some same is found_is = sym (ap (λ (old : Gathered). is_any (counted_in old.page field)) same) ∙ sym is ∙ found_is
+
+pub meets_now : (inside now : Gathered) (time : ℕ) (met : Meeting) → inside ≡ now → met ≡ meeting_of time inside.hand → met ≡ meeting_of time now.hand
+meets_now inside now time met same is = is ∙ ap (λ (old : Gathered). meeting_of time old.hand) same
+
+-- a set begun behind one that was put aside
+pub begun_behind : (old mid new : Gathered) (head : Head) (time size : ℕ) (field : List ℕ) → mid ≡ put_aside old head → TakesUp (started mid) new time size field → TakesUp (started (put_aside old head)) new time size field
+begun_behind old mid new head time size field is takes = subst (λ (mid : Gathered). TakesUp (started mid) new time size field) is takes
