@@ -6,7 +6,7 @@ use Rattle.decoder_model.specs.Arrivals.{PesUnit, Arrival, loss, refused_unit, a
 use Rattle.decoder_model.specs.PacketArrivals.{of_time, last_run, is_in_hand, makes_ready, is_dropped}
 use Rattle.decoder_model.specs.Sets.{Delivery, lost, whole, refused, runs_of, sets_in, is_ended, frames_in, size_in}
 use Rattle.decoder_model.proofs.OnePacket.{IsLossArrival}
-use Rattle.display_sets.specs.Gathered.{Gathered, ReadySet, ready_set, ready_in, ready_sets, first_ready}
+use Rattle.display_sets.specs.Gathered.{Gathered, ReadySet, ready_set, ready_in, ready_sets, first_ready, sets_behind}
 use Rattle.display_sets.specs.Hands.{ready_head, given_hand, closed_hand}
 use Rattle.display_sets.specs.Standing.{IsOpenRun, IsEndedRun, IsInHand, IsReady, AreReady, Stands, IsFirst}
 use Rattle.display_sets.specs.declared.hand.Hand.{Hand}
@@ -125,11 +125,6 @@ same_behind : (given some others : Deliveries) → given ++ some ≡ given ++ ot
 same_behind [] some others e = e
 same_behind (one ∷ given) some others e = same_behind given some others (let tails : given ++ some ≡ given ++ others = cc in tails)
 
--- the ready sets but the first
-abbrev pub sets_behind : List ReadySet → List ReadySet
-sets_behind [] = []
-sets_behind (set ∷ sets) = sets
-
 behind_first : (delivery : Delivery (List ℕ)) (rest waiting : Deliveries) (sets : List ReadySet) → waiting ≡ delivery ∷ rest → AreReady waiting sets → AreReady rest (sets_behind sets)
 behind_first delivery rest [] sets e h = absurd (cc)
 behind_first delivery rest (one ∷ waiting) [] e h = absurd h
@@ -198,6 +193,14 @@ give_hand inside now there own same is fails given_is arrivals ended given rest 
     (subst (λ (old : Gathered). Stands arrivals ended (given ++ delivery ∷ []) (record old { hand = given_hand old.hand })) (sym same)
     (give_stands now (record now { hand = given_hand now.hand }) refl (without_hand now (ap (λ (old : Gathered). is_some old.parted) (sym same) ∙ sym is ∙ fails))
     (λ units. λ own. given_kept now.coded now.hand now.bytes units own) arrivals ended given rest delivery h split))
+
+pub left_parted : (inside now : Gathered) (there : Bool) → inside ≡ now → there ≡ is_some inside.parted → there ≡ true → ready_sets (record inside { parted = None }) ≡ sets_behind (ready_sets now)
+left_parted inside now there same is holds = without_parted inside (sym is ∙ holds) ∙ ap (λ (old : Gathered). sets_behind (ready_sets old)) same
+
+pub left_hand : (inside now : Gathered) (there : Bool) (own : Hand) → inside ≡ now → there ≡ is_some inside.parted → there ≡ false → own ≡ given_hand inside.hand
+    → ready_sets (record inside { hand = own }) ≡ sets_behind (ready_sets now)
+left_hand inside now there own same is fails given_is =
+    ap (λ (own : Hand). ready_sets (record inside { hand = own })) given_is ∙ without_hand inside (sym is ∙ fails) ∙ ap (λ (old : Gathered). sets_behind (ready_sets old)) same
 
 -- what is ready first, by what is kept
 first_parted : (inside now : Gathered) (head : Head) → inside ≡ now → inside.parted ≡ Some head → Some (ready_set inside.parted_bytes head) ≡ first_ready (ready_sets now)

@@ -46,6 +46,11 @@ abbrev pub first_ready : List ReadySet → Option ReadySet
 first_ready [] = None
 first_ready (one ∷ sets) = Some one
 
+-- those behind the first
+abbrev pub sets_behind : List ReadySet → List ReadySet
+sets_behind [] = []
+sets_behind (one ∷ sets) = sets
+
 -- the bytes fit the memory; each byte of an open set stands for less than 2^32 bytes of units, so that their size fits 64 bits
 pub record IsSound (gathered : Gathered) : Type 0 where
   pub within : length gathered.bytes ≤ gathered.coded

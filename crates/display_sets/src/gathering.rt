@@ -41,7 +41,7 @@ impl Gathering {
     ghost use Rattle.decoder_model.specs.PacketArrivals.{last_run};
     ghost use Rattle.decoder_model.specs.Sets.{Delivery, lost, runs_of, sets_in};
     ghost use Rattle.display_sets.specs.Counted.{counted_in, is_any};
-    ghost use Rattle.display_sets.specs.Gathered.{TakesUp, first_ready, ready_sets};
+    ghost use Rattle.display_sets.specs.Gathered.{TakesUp, first_ready, ready_sets, sets_behind};
     ghost use Rattle.display_sets.specs.Lent.{lent};
     ghost use Rattle.display_sets.specs.Standing.{IsFirst, IsUnitEnd, Stands};
     ghost use Rattle.display_sets.specs.declared.hand.Hand.TheVariants as hand_is;
@@ -141,10 +141,11 @@ impl Gathering {
         }
     }
 
-    /// The first set that is ready was taken.
+    /// The first set that is ready was taken; those behind it are left. Where none is ready nothing changes.
     pub fn give(&mut self)
         ensures page { self.new.page ≡ self.old.page }
         ensures coded { self.new.coded ≡ self.old.coded }
+        ensures left { ready_sets self.new ≡ sets_behind (ready_sets self.old) }
         ensures stands { (arrivals : List Arrival) (ended : Bool) (given rest : List (Delivery (List ℕ))) (delivery : Delivery (List ℕ))
             → Stands arrivals ended given self.old → sets_in self.old.coded ended (runs_of arrivals) ≡ given ++ delivery ∷ rest
             → Stands arrivals ended (given ++ delivery ∷ []) self.new }
