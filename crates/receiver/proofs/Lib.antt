@@ -1,3 +1,4 @@
 pub mod Planes
 pub mod Turns
 pub mod Arrivals
+pub mod Gatherings

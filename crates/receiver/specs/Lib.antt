@@ -3,3 +3,5 @@ pub mod Slots
 pub mod Lent
 pub mod Screens
 pub mod Arrived
+pub mod Receiving
+pub mod Ends

@@ -4,6 +4,7 @@
 mod arrival;
 mod picture;
 mod screen;
+mod units;
 mod view;
 
 pub use arrival::Arrival;
