@@ -13,3 +13,6 @@ pub use decoder_model::SetFault;
 pub use gathering::Gathering;
 pub use hand::UnitEnd;
 pub use ready::Ready;
+
+#[cfg(test)]
+mod tests;
