@@ -9,3 +9,5 @@ pub mod Units
 pub mod Meetings
 pub mod Standings
 pub mod UnitSteps
+pub mod PacketLaws
+pub mod ReadLaws

@@ -102,8 +102,8 @@ gone_on coded one first units (Some front) alike same e =
     ap (λ sets. sets ++ []) (ended_run coded first units (one ∷ []) front false false e)
     ∙ sym (append-nil (set_of coded first.time (first ∷ units) false (Some front) ++ []))
     ∙ sym (ap (λ added. (set_of coded first.time (first ∷ units) false (Some front) ++ []) ++ added)
-        (ap (λ parted. parted ++ ended_by coded (first ∷ units) one) (parted-none coded (first ∷ units) one (makes-same coded (first ∷ units) one (ap (λ b. b || has_time one.time units) same)))
-        ∙ ended-behind coded (first ∷ units) (first ∷ units) one (all_of_time first.time one.time (first ∷ units) (refl, alike) same) (found_ended coded (frames_in (first ∷ units)) front e)))
+    (ap (λ parted. parted ++ ended_by coded (first ∷ units) one) (parted-none coded (first ∷ units) one (makes-same coded (first ∷ units) one (ap (λ b. b || has_time one.time units) same)))
+    ∙ ended-behind coded (first ∷ units) (first ∷ units) one (all_of_time first.time one.time (first ∷ units) (refl, alike) same) (found_ended coded (frames_in (first ∷ units)) front e)))
 
 followed : (coded : ℕ) (one first : PesUnit) (units : List PesUnit) (found : Option (List Frame)) (last : List (Delivery (List ℕ))) → HaveTime first.time units → (first.time == one.time) ≡ false
     → first_end coded (first ∷ units) ≡ found → set_of coded one.time (one ∷ []) false (first_end coded (one ∷ [])) ≡ last
@@ -115,8 +115,8 @@ followed coded one first units None last alike other e ends =
 followed coded one first units (Some front) last alike other e ends =
     let hand : is_in_hand coded (first ∷ units) ≡ false = ap not (found_ended coded (frames_in (first ∷ units)) front e) in
     ap (λ sets. set_of coded first.time (first ∷ units) false (Some front) ++ sets)
-        (append-nil last ∙ sym ends ∙ sym (ended-open coded (first ∷ units) [] one (none_of_time first.time one.time (first ∷ units) (refl, alike) other) (no_frames coded))
-        ∙ sym (ap (λ parted. parted ++ ended_by coded (first ∷ units) one) (parted-none coded (first ∷ units) one (makes-none coded (first ∷ units) one hand))))
+    (append-nil last ∙ sym ends ∙ sym (ended-open coded (first ∷ units) [] one (none_of_time first.time one.time (first ∷ units) (refl, alike) other) (no_frames coded))
+    ∙ sym (ap (λ parted. parted ++ ended_by coded (first ∷ units) one) (parted-none coded (first ∷ units) one (makes-none coded (first ∷ units) one hand))))
 
 same_follow : (one : PesUnit) (next : Stretch) (some all : List Stretch) → Extends one (next ∷ some) all → is_followed false (next ∷ some) ≡ is_followed false all
 same_follow one next some all (same_run e) = refl

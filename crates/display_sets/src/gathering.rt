@@ -91,7 +91,7 @@ impl Gathering {
             → Stands (arrivals ++ unit_with place size time (counted_in self.old.page field.now) ∷ []) false given self.new }
         ensures end { (arrivals : List Arrival) (given : List (Delivery (List ℕ))) (place : ℕ) → Stands arrivals false given self.old
             → IsUnitEnd self.old.coded (last_run (reverse arrivals))
-                (unit_with place size time (counted_in self.old.page field.now)) result }
+            (unit_with place size time (counted_in self.old.page field.now)) result }
     {
         if !counts(self.page, field) {
             return UnitEnd::Aside;
