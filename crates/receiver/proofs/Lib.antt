@@ -2,3 +2,4 @@ pub mod Planes
 pub mod Turns
 pub mod Arrivals
 pub mod Gatherings
+pub mod Feeds

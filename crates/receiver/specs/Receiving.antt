@@ -10,7 +10,8 @@ use Rattle.decoder_model.specs.Arrivals.{Arrival, arrivals_of, packets_taken}
 use Rattle.decoder_model.specs.PacketArrivals.{PacketArrival}
 use Rattle.decoder_model.specs.Readings.{Reading, AreDeliveriesRead}
 use Rattle.decoder_model.specs.Sets.{Delivery, lost}
-use Rattle.display_sets.specs.Gathered.{Gathered}
+use Rattle.display_sets.specs.Gathered.{Gathered, ReadySet}
+use Rattle.page_core.specs.Memory.{IsSameReceiver}
 use Rattle.display_sets.specs.Standing as sets
 use Rattle.receiver.specs.Showing as pictures
 use Rattle.receiver.specs.Showing.{Showing}
@@ -55,3 +56,12 @@ AreLosses deliveries = AllByRecursion (λ delivery. delivery ≡ lost) deliverie
 -- the loss that an event means
 abbrev pub lost_with : Event → List (Delivery (List ℕ))
 lost_with event = if is_loss event then lost ∷ [] else []
+
+-- the same receiver: its PID, profile, page and anchor
+pub record IsSame (old new : Receiving) : Type 0 where
+  pub pid : new.demux.pid ≡ old.demux.pid
+  pub core : IsSameReceiver old.showing.core new.showing.core
+
+-- the time of a set that is ready, as read
+abbrev pub set_time : ReadySet → ℕ
+set_time set = set.time

@@ -6,6 +6,8 @@ ghost use Rattle.stream_syntax.specs.Units.{fate_of};
 ghost use Rattle.decoder_model.specs.Arrivals.{is_over};
 ghost use Rattle.receiver.specs.Arrived.{bytes_by, too_long_by};
 
+use crate::feeding::Outcome;
+use crate::units::{drops, parts};
 use byteorder::{BigEndian, ByteOrder};
 use stream_syntax::Event;
 
@@ -20,8 +22,29 @@ pub struct Arrival {
     pub dropped: bool,
 }
 
+impl Outcome {
+    ghost use Rattle.std.specs.Prelude.{◌≡◌, ◌||◌};
+    ghost use Rattle.receiver.specs.Arrived.{arrival_value, bytes_by, too_long_by};
+    ghost use Rattle.receiver.specs.Ends.{end_drops, end_parts};
+
+    /// What the packet brought to a coded data buffer of that size.
+    pub(crate) fn arrival(self, coded: u64, packet: &[u8; 188]) -> Arrival
+        ensures { arrival_value result ≡ record {
+            bytes = bytes_by self.event packet.now;
+            before = end_parts self.end;
+            dropped = too_long_by coded self.event packet.now || end_drops self.end;
+        } }
+    {
+        Arrival {
+            bytes: bytes_taken(self.event, packet),
+            before: parts(self.end),
+            dropped: is_too_long(coded, self.event, packet) || drops(self.end),
+        }
+    }
+}
+
 /// How many bytes of a packet begin or continue a unit, by what became of the packet.
-pub(crate) fn bytes_taken(event: Event, packet: &[u8; 188]) -> u32
+fn bytes_taken(event: Event, packet: &[u8; 188]) -> u32
     ensures { result ≡ bytes_by event packet.now }
 {
     match event {
@@ -38,7 +61,7 @@ pub(crate) fn bytes_taken(event: Event, packet: &[u8; 188]) -> u32
 }
 
 /// Whether the unit of a packet is dropped since it needs more bytes than there are, by what became of the packet.
-pub(crate) fn is_too_long(size: u64, event: Event, packet: &[u8; 188]) -> bool
+fn is_too_long(size: u64, event: Event, packet: &[u8; 188]) -> bool
     ensures { result ≡ too_long_by size event packet.now }
 {
     match event {

@@ -2,10 +2,13 @@
 #![tactic(auto)]
 
 mod arrival;
+mod feeding;
 mod picture;
+mod receiver;
 mod screen;
 mod units;
 mod view;
 
 pub use arrival::Arrival;
+pub use receiver::Receiver;
 pub use view::View;

@@ -108,3 +108,17 @@ fn is_passed_over(fault: PesFault) -> bool
         | PesFault::BadMarker => false,
     }
 }
+
+/// Whether the unit that a packet ended is dropped.
+pub(crate) fn drops(end: Option<UnitEnd>) -> bool
+    ensures { result ≡ end_drops end }
+{
+    matches!(end, Some(UnitEnd::Aside | UnitEnd::Dropped))
+}
+
+/// Whether the unit that a packet ended makes the set in hand ready before it.
+pub(crate) fn parts(end: Option<UnitEnd>) -> bool
+    ensures { result ≡ end_parts end }
+{
+    matches!(end, Some(UnitEnd::Parted))
+}
