@@ -1,7 +1,6 @@
 -- What a packet brings to a gathering.
-use Rattle.std.proofs.Common.{◌≡◌, ◌∙◌, ℕ, Bool, true, false, List, [], ◌∷◌, ◌++◌, length, reverse, Option, Some, None, Result, Ok, Err, refl, sym, ap, subst, append-nil, append_assoc}
+use Rattle.std.proofs.Common.{◌≡◌, ◌∙◌, ℕ, Bool, true, false, List, [], ◌∷◌, ◌++◌, reverse, Some, Result, Ok, Err, refl, sym, ap, subst, append-nil, append_assoc}
 use Rattle.std.specs.Bool.{if◌then◌else◌}
-use Rattle.stream_syntax.specs.Pes.{pes_of}
 use Rattle.stream_syntax.specs.Units.{is_loss}
 use Rattle.stream_syntax.specs.declared.pes.PesFault.{PesFault}
 use Rattle.stream_syntax.specs.declared.transport.Event.{Event}

@@ -39,13 +39,13 @@ impl Gathering {
         // The losses count as given.
         ensures stands { (arrivals : List Arrival) (given : List (Delivery (List ℕ))) (place : ℕ) → Stands arrivals false given self.old
             → Stands (arrivals ++ (losses_at event ++ units_at self.old.page place (option_copied unit.entry))) false
-                (given ++ losses_of result.losses) self.new }
+            (given ++ losses_of result.losses) self.new }
         ensures before { (arrivals : List Arrival) (given : List (Delivery (List ℕ))) (place : ℕ) → Stands arrivals false given self.old
             → result.before ≡ makes_ready self.old.coded (last_run (losses_at event ++ reverse arrivals))
-                (option_map (arrival_of_unit self.old.page place) (option_copied unit.entry)) }
+            (option_map (arrival_of_unit self.old.page place) (option_copied unit.entry)) }
         ensures dropped { (arrivals : List Arrival) (given : List (Delivery (List ℕ))) (place : ℕ) → Stands arrivals false given self.old
             → result.dropped ≡ is_dropped self.old.coded (last_run (losses_at event ++ reverse arrivals))
-                (option_map (arrival_of_unit self.old.page place) (option_copied unit.entry)) }
+            (option_map (arrival_of_unit self.old.page place) (option_copied unit.entry)) }
     {
         let losses = self.take_event(event);
         match unit {
@@ -109,7 +109,7 @@ impl Gathering {
         ensures dropped { result.dropped ≡ true }
         ensures stands { (arrivals : List Arrival) (given : List (Delivery (List ℕ))) → Stands arrivals false (given ++ losses_of losses) self.old
             → Stands (arrivals ++ (if is_passed_over_fault fault then aside else refused_unit) ∷ []) false
-                (given ++ losses_of result.losses) self.new }
+            (given ++ losses_of result.losses) self.new }
     {
         if is_passed_over(fault) {
             Brought {
