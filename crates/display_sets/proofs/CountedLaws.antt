@@ -1,5 +1,5 @@
 -- What counts for a page at the front of a data field.
-use Rattle.std.proofs.Common.{◌≡◌, ◌∙◌, ℕ, ◌+◌, ◌*◌, ◌<◌, ◌≤◌, Bool, true, false, ◌==◌, ◌&&◌, cond, List, [], ◌∷◌, length, take, drop, Option, Some, None, Result, Ok, Err, refl, sym, ap, subst, arith, length-drop}
+use Rattle.std.proofs.Common.{◌≡◌, ◌∙◌, ℕ, ◌+◌, ◌*◌, ◌<◌, ◌≤◌, true, false, ◌==◌, ◌&&◌, cond, List, [], ◌∷◌, length, take, drop, Option, Some, None, Result, Ok, Err, refl, sym, ap, subst, arith, length-drop}
 use Rattle.std.specs.Option.{is_some}
 use Rattle.std.specs.List.{filter, list_any}
 use Rattle.std.proofs.lemmas.Bool.Decides.{nat_tests}
@@ -7,7 +7,7 @@ use Rattle.std.proofs.lemmas.List.{get_or-take, length-take-le}
 use Rattle.stream_syntax.specs.SegmentTests.{frame_tests}
 use Rattle.stream_syntax.specs.Tests.{byte_at, word_at, first_fault}
 use Rattle.stream_syntax.specs.declared.segment_fault.SegmentFault.{SegmentFault}
-use Rattle.stream_syntax.specs.DataField.{Frame, segment, broken, ends_segments, segment_size, AreFrames, no_more, cut_off, one_more, frames_of}
+use Rattle.stream_syntax.specs.DataField.{segment, broken, ends_segments, segment_size, no_more, cut_off, one_more, frames_of}
 use Rattle.decoder_model.specs.Frames.{counts_for, is_of_page, set_kinds}
 use Rattle.decoder_model.specs.Received.{IsFramed}
 use Rattle.decoder_model.proofs.FieldFrames.{frames_are, one_list_of_frames}

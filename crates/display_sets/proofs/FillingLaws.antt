@@ -1,5 +1,5 @@
 -- One frame behind those of an open set.
-use Rattle.std.proofs.Common.{◌≡◌, ◌∙◌, ℕ, ◌+◌, ◌<◌, ◌≤◌, Bool, true, false, ◌||◌, ◌==◌, ltb, cond, List, [], ◌∷◌, ◌++◌, length, Option, Some, None, refl, sym, ap, subst, arith, append-nil, length-append}
+use Rattle.std.proofs.Common.{◌≡◌, ◌∙◌, ℕ, ◌+◌, ◌<◌, ◌≤◌, Bool, true, false, ◌||◌, ◌==◌, ltb, cond, List, [], ◌∷◌, ◌++◌, length, Some, None, refl, sym, ap, subst, arith, append-nil, length-append}
 use Rattle.std.specs.List.{AllByRecursion, concat, sum_by, list_any}
 use Rattle.std.specs.Option.{option_or, is_some}
 use Rattle.std.proofs.lemmas.Bool.{or_parts}
@@ -12,7 +12,6 @@ use Rattle.stream_syntax.specs.declared.segment_fault.SegmentFault.{SegmentFault
 use Rattle.decoder_model.specs.Frames.{segments_in, bytes_in, is_end, fault_of}
 use Rattle.decoder_model.specs.Received.{IsFramed}
 use Rattle.decoder_model.specs.Sets.{is_ended, first_fault_in, excess_in}
-use Rattle.decoder_model.specs.declared.set_fault.SetFault.{SetFault}
 use Rattle.decoder_model.specs.declared.set_fault.SetFault.TheVariants.{Segment, SetTooLong}
 use Rattle.decoder_model.proofs.Growth.{segments-append}
 use Rattle.decoder_model.proofs.SentSets.{all-append}

@@ -1,13 +1,12 @@
 -- The last run of all that arrived, and what one arrival more adds.
 use Rattle.std.proofs.Common.{◌≡◌, ◌∙◌, ℕ, Bool, true, false, ◌==◌, cond, List, [], ◌∷◌, ◌++◌, reverse, refl, sym, ap, subst}
-use Rattle.std.specs.List.{AllByRecursion}
 use Rattle.std.proofs.lemmas.List.{reverse-append, reverse-reverse}
 use Rattle.decoder_model.specs.Arrivals.{PesUnit, Arrival, loss, refused_unit, aside, unit}
 use Rattle.decoder_model.specs.PacketArrivals.{of_time, last_run}
-use Rattle.decoder_model.specs.Sets.{loss_between, runs_of, sets_in, Delivery, lost}
+use Rattle.decoder_model.specs.Sets.{runs_of, sets_in, lost}
 use Rattle.decoder_model.proofs.OnePacket.{IsLossArrival, runs_loss, loss_adds, runs_aside}
 use Rattle.decoder_model.proofs.SentSets.{all-append}
-use Rattle.display_sets.proofs.Runs.{HaveTime, time_is, Extends, unit_extends, last_of, AreAlike, last_extends, last_of-loss}
+use Rattle.display_sets.proofs.Runs.{HaveTime, time_is, unit_extends, last_of, AreAlike, last_extends, last_of-loss}
 use Rattle.display_sets.proofs.RunSets.{added_by, sets_extend, open_set, sets_finish}
 
 -- ---- units of one time

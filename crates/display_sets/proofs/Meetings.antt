@@ -1,19 +1,18 @@
 -- What the time of a unit says of the run in hand.
-use Rattle.std.proofs.Common.{◌≡◌, ◌∙◌, ℕ, ◌<◌, Bool, true, false, not, ◌==◌, ◌||◌, cond, List, [], ◌∷◌, length, Option, Some, None, Ok, refl, sym, ap, subst, arith}
+use Rattle.std.proofs.Common.{◌≡◌, ℕ, ◌<◌, Bool, true, false, not, ◌==◌, ◌||◌, List, [], ◌∷◌, length, Some, None, refl, sym, ap, subst, arith}
 use Rattle.std.specs.Bool.{if◌then◌else◌}
 use Rattle.decoder_model.specs.Arrivals.{PesUnit}
 use Rattle.decoder_model.specs.PacketArrivals.{of_time, is_in_hand}
 use Rattle.decoder_model.specs.Sets.{is_ended, frames_in}
-use Rattle.display_sets.specs.Filling.{AreOpen}
 use Rattle.display_sets.specs.Gathered.{content_of, ready_in}
 use Rattle.display_sets.specs.Hands.{meeting_of}
-use Rattle.display_sets.specs.Standing.{AreOfTime, IsOpenRun, IsEndedRun, IsInHand, IsReady, AreReady}
+use Rattle.display_sets.specs.Standing.{AreOfTime, IsOpenRun, IsEndedRun, IsInHand, AreReady}
 use Rattle.display_sets.specs.declared.hand.Hand.{Hand}
 use Rattle.display_sets.specs.declared.hand.Hand.TheVariants as hand
 use Rattle.display_sets.specs.declared.hand.Head.{Head}
 use Rattle.display_sets.specs.declared.hand.Meeting.{Meeting}
 use Rattle.display_sets.specs.declared.hand.Meeting.TheVariants as meeting
-use Rattle.display_sets.proofs.Runs.{HaveTime, has_time, time_is, time_same, all_of_time, none_of_time, none_has_time}
+use Rattle.display_sets.proofs.Runs.{has_time, time_is, time_same, none_of_time}
 use Rattle.display_sets.proofs.RunSets.{set_of_run}
 
 -- ---- runs of one time

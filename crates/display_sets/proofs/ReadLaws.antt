@@ -1,8 +1,8 @@
 -- The bytes of a set's segments, as they are read one after another.
-use Rattle.std.proofs.Common.{◌≡◌, ◌∙◌, ℕ, List, [], ◌∷◌, ◌++◌, refl, sym, subst}
+use Rattle.std.proofs.Common.{ℕ, List, [], ◌∷◌, refl, sym, subst}
 use Rattle.std.specs.List.{AllByRecursion, concat}
-use Rattle.decoder_model.specs.Readings.{Reading, IsReading, AreReadings}
-use Rattle.decoder_model.specs.Received.{IsFramed, BeginsWith, AreRead}
+use Rattle.decoder_model.specs.Readings.{Reading, AreReadings}
+use Rattle.decoder_model.specs.Received.{IsFramed, AreRead}
 use Rattle.display_sets.specs.Filling.{AreBytes}
 
 joined_read : (segments : List (List ℕ)) (readings : List Reading) → AllByRecursion IsFramed segments → AreReadings segments readings → AreRead readings (concat segments)

@@ -1,5 +1,5 @@
 -- What one unit more adds to the sets, by the last run: a set that it makes ready, and the set that it ends.
-use Rattle.std.proofs.Common.{◌≡◌, ◌∙◌, ℕ, Bool, true, false, not, ◌&&◌, ◌||◌, ◌==◌, cond, ltb, List, [], ◌∷◌, ◌++◌, Option, Some, None, refl, sym, ap, subst, arith, append-nil, append_assoc}
+use Rattle.std.proofs.Common.{◌≡◌, ◌∙◌, ℕ, Bool, true, false, not, ◌&&◌, ◌||◌, ◌==◌, ltb, List, [], ◌∷◌, ◌++◌, Option, Some, None, refl, sym, ap, arith, append-nil, append_assoc}
 use Rattle.std.specs.Prelude.{find}
 use Rattle.std.specs.Bool.{if◌then◌else◌}
 use Rattle.std.proofs.lemmas.Bool.Decides.{nat_tests}

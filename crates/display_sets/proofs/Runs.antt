@@ -1,17 +1,11 @@
 -- What one unit more adds to the runs and to the sets, by the last run.
-use Rattle.std.proofs.Common.{◌≡◌, ◌∙◌, ℕ, Bool, true, false, not, ◌&&◌, ◌||◌, ◌==◌, cond, ltb, List, [], ◌∷◌, ◌++◌, Option, Some, None, refl, sym, ap, subst, arith, append-nil, append_assoc}
-use Rattle.std.specs.Prelude.{find}
+use Rattle.std.proofs.Common.{◌≡◌, ◌∙◌, ℕ, Bool, true, false, ◌||◌, ◌==◌, cond, List, [], ◌∷◌, ◌++◌, refl, sym, ap, arith}
 use Rattle.std.specs.Bool.{if◌then◌else◌}
 use Rattle.std.specs.List.{AllByRecursion, list_any}
 use Rattle.std.proofs.lemmas.Bool.Decides.{nat_tests}
-use Rattle.sub_base.specs.Lists.{prefixes}
-use Rattle.stream_syntax.specs.DataField.{Frame}
 use Rattle.decoder_model.specs.Arrivals.{PesUnit, Arrival, loss, refused_unit, aside, unit}
-use Rattle.decoder_model.specs.Frames.{segments_in}
-use Rattle.decoder_model.specs.PacketArrivals.{of_time, is_in_hand, makes_ready}
-use Rattle.decoder_model.specs.Sets.{Stretch, loss_between, run, runs_of, joined_to, Delivery, lost, whole, is_ended, frames_in, size_in, set_of, is_followed, sets_in}
-use Rattle.decoder_model.proofs.Growth.{ended_more, ended_run, found_passes, found_is_front, whole_is_found}
-use Rattle.decoder_model.proofs.OnePacket.{first_end}
+use Rattle.decoder_model.specs.PacketArrivals.{of_time}
+use Rattle.decoder_model.specs.Sets.{Stretch, loss_between, run, runs_of, joined_to}
 
 -- ---- times
 

@@ -1,14 +1,14 @@
 -- A gathering goes on standing for all that arrived: what each call changes.
-use Rattle.std.proofs.Common.{◌≡◌, ◌∙◌, ℕ, ◌+◌, ◌<◌, Bool, true, false, not, ◌==◌, cond, List, [], ◌∷◌, ◌++◌, length, reverse, Option, Some, None, refl, sym, ap, subst, arith, append-nil, append_assoc}
+use Rattle.std.proofs.Common.{◌≡◌, ◌∙◌, ℕ, Bool, true, false, List, [], ◌∷◌, ◌++◌, reverse, Option, Some, None, refl, sym, ap, subst, append-nil, append_assoc}
 use Rattle.std.specs.Bool.{if◌then◌else◌, OnFalse}
 use Rattle.std.specs.Option.{is_some}
-use Rattle.decoder_model.specs.Arrivals.{PesUnit, Arrival, loss, refused_unit, aside, unit, unit_with}
-use Rattle.decoder_model.specs.PacketArrivals.{of_time, last_run, is_in_hand, makes_ready, is_dropped}
-use Rattle.decoder_model.specs.Sets.{Delivery, lost, whole, refused, runs_of, sets_in, is_ended, frames_in, size_in}
+use Rattle.decoder_model.specs.Arrivals.{PesUnit, Arrival, loss, refused_unit, aside, unit}
+use Rattle.decoder_model.specs.PacketArrivals.{last_run, is_in_hand}
+use Rattle.decoder_model.specs.Sets.{Delivery, lost, runs_of, sets_in}
 use Rattle.decoder_model.proofs.OnePacket.{IsLossArrival}
 use Rattle.display_sets.specs.Gathered.{Gathered, ReadySet, ready_set, ready_in, ready_sets, first_ready, sets_behind}
 use Rattle.display_sets.specs.Hands.{ready_head, given_hand, closed_hand}
-use Rattle.display_sets.specs.Standing.{IsOpenRun, IsEndedRun, IsInHand, IsReady, AreReady, Stands, IsFirst}
+use Rattle.display_sets.specs.Standing.{IsInHand, AreReady, Stands, IsFirst}
 use Rattle.display_sets.specs.declared.hand.Hand.{Hand}
 use Rattle.display_sets.specs.declared.hand.Hand.TheVariants as hand
 use Rattle.display_sets.specs.declared.hand.Head.{Head}

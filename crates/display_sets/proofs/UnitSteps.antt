@@ -1,17 +1,16 @@
 -- What becomes of a unit, by what it is to the run in hand.
-use Rattle.std.proofs.Common.{◌≡◌, ◌∙◌, ℕ, ◌+◌, Bool, true, false, not, ◌==◌, List, [], ◌∷◌, ◌++◌, length, reverse, Option, Some, None, refl, sym, ap, subst, arith, append-nil, length-append}
+use Rattle.std.proofs.Common.{◌≡◌, ◌∙◌, ℕ, ◌+◌, Bool, true, false, ◌==◌, List, [], ◌∷◌, ◌++◌, reverse, Option, Some, None, refl, sym, ap, subst, arith, append-nil, length-append}
 use Rattle.std.specs.Bool.{if◌then◌else◌}
 use Rattle.stream_syntax.specs.DataField.{Frame}
 use Rattle.decoder_model.specs.Arrivals.{PesUnit, Arrival, unit, unit_with}
-use Rattle.decoder_model.specs.PacketArrivals.{of_time, last_run, is_in_hand, makes_ready, is_dropped}
-use Rattle.decoder_model.specs.Sets.{Delivery, runs_of, sets_in, is_ended, frames_in, size_in, set_of}
+use Rattle.decoder_model.specs.PacketArrivals.{of_time, last_run, is_dropped}
+use Rattle.decoder_model.specs.Sets.{Delivery, runs_of, sets_in, is_ended, frames_in, size_in}
 use Rattle.decoder_model.proofs.Growth.{frames-append, ended_more}
-use Rattle.decoder_model.proofs.OnePacket.{first_end}
 use Rattle.display_sets.specs.Counted.{counted_in, is_any}
 use Rattle.display_sets.specs.Filling.{AreOpen, Fills}
-use Rattle.display_sets.specs.Gathered.{Gathered, ReadySet, ready_in, ready_sets, TakesUp}
+use Rattle.display_sets.specs.Gathered.{Gathered, ready_in, ready_sets, TakesUp}
 use Rattle.display_sets.specs.Hands.{hand_with, ready_head, meeting_of}
-use Rattle.display_sets.specs.Standing.{AreOfTime, IsOpenRun, IsEndedRun, IsInHand, AreReady, Stands, IsUnitEnd}
+use Rattle.display_sets.specs.Standing.{AreOfTime, IsEndedRun, IsInHand, AreReady, Stands, IsUnitEnd}
 use Rattle.display_sets.specs.declared.hand.Hand.{Hand}
 use Rattle.display_sets.specs.declared.hand.Hand.TheVariants as hand
 use Rattle.display_sets.specs.declared.hand.Head.{Head}

@@ -1,22 +1,20 @@
 -- A unit that is put to the set in hand.
-use Rattle.std.proofs.Common.{◌≡◌, ◌∙◌, ℕ, ◌+◌, ◌<◌, Bool, true, false, not, ◌==◌, ◌||◌, cond, List, [], ◌∷◌, ◌++◌, length, Option, Some, None, Ok, Err, refl, sym, ap, subst, arith, append-nil, append_assoc, length-append}
+use Rattle.std.proofs.Common.{◌≡◌, ◌∙◌, ℕ, ◌+◌, true, false, List, [], ◌∷◌, ◌++◌, Option, Some, None, Err, refl, sym, ap, subst, arith, append-nil, length-append}
 use Rattle.std.specs.Prelude.{find, unwrap_or, IfNone}
-use Rattle.std.specs.List.{sum_by}
 use Rattle.std.specs.Option.{option_or}
 use Rattle.std.proofs.lemmas.List.Sums.{sum_by-append}
 use Rattle.sub_base.specs.Lists.{prefixes}
 use Rattle.stream_syntax.specs.DataField.{Frame}
 use Rattle.decoder_model.specs.Arrivals.{PesUnit}
 use Rattle.decoder_model.specs.Frames.{segments_in}
-use Rattle.decoder_model.specs.PacketArrivals.{of_time, is_in_hand}
 use Rattle.decoder_model.specs.Sets.{is_ended, frames_in, size_in, units_to_end, first_fault_in, excess_in, handed, set_of}
 use Rattle.decoder_model.specs.declared.set_fault.SetFault.{SetFault}
 use Rattle.decoder_model.proofs.Growth.{frames-append, ended_more}
 use Rattle.decoder_model.proofs.OnePacket.{first_end}
-use Rattle.display_sets.specs.Filling.{AreBytes, AreOpen, IsEnd, EndsWithin, Fills}
+use Rattle.display_sets.specs.Filling.{AreBytes, AreOpen, EndsWithin, Fills}
 use Rattle.display_sets.specs.Gathered.{ready_set, ready_in}
 use Rattle.display_sets.specs.Hands.{hand_with, ready_head}
-use Rattle.display_sets.specs.Standing.{AreOfTime, IsOpenRun, IsEndedRun, IsInHand, IsReady, AreReady}
+use Rattle.display_sets.specs.Standing.{AreOfTime, IsInHand, IsReady, AreReady}
 use Rattle.display_sets.specs.declared.hand.Hand.{Hand}
 use Rattle.display_sets.specs.declared.filling.Filled.{Filled}
 use Rattle.display_sets.specs.declared.filling.Filled.TheVariants.{Open, Ended}

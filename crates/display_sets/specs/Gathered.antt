@@ -1,6 +1,5 @@
 -- What a gathering of display sets keeps, and what it then does.
 use Rattle.std.specs.Prelude.{◌≡◌, ℕ, ◌*◌, ◌≤◌, List, [], ◌∷◌, ◌++◌, length, Option, Some, None, Result, Ok, Err}
-use Rattle.std.specs.Option.{option_to_list}
 use Rattle.stream_syntax.specs.DataField.{Frame}
 use Rattle.decoder_model.specs.declared.set_fault.SetFault.{SetFault}
 use Rattle.display_sets.specs.Counted.{counted_in}

@@ -1,11 +1,10 @@
 -- What a gathering has to do with all that arrived (EN 300 743, clauses 5.1 and 6).
-use Rattle.std.specs.Prelude.{◌≡◌, ℕ, ◌<◌, Bool, true, false, List, [], ◌∷◌, ◌++◌, length, reverse, Option, Some, None, Result, Ok, Err, option_map}
+use Rattle.std.specs.Prelude.{◌≡◌, ℕ, ◌<◌, Bool, true, false, List, [], ◌∷◌, ◌++◌, length, reverse, Option, Some, None, Ok, Err}
 use Rattle.std.specs.Bool.{OnFalse}
 use Rattle.std.specs.List.{AllByRecursion}
 use Rattle.decoder_model.specs.Arrivals.{PesUnit, Arrival, loss, refused_unit, aside, unit}
 use Rattle.decoder_model.specs.PacketArrivals.{last_run, makes_ready, is_dropped}
 use Rattle.decoder_model.specs.Sets.{Delivery, lost, whole, refused, is_ended, frames_in, size_in, runs_of, sets_in}
-use Rattle.decoder_model.specs.declared.set_fault.SetFault.{SetFault}
 use Rattle.display_sets.specs.Filling.{AreBytes, AreOpen}
 use Rattle.display_sets.specs.Gathered.{Gathered, ReadySet, ready_sets}
 use Rattle.display_sets.specs.declared.hand.Hand.{Hand}

@@ -1,5 +1,4 @@
-use Rattle.std.proofs.Common.{refl, arith, rules}
-use Rattle.std.proofs.lemmas.Bool.Decides.{nat_tests}
+use Rattle.std.proofs.Common.{refl, arith}
 use Rattle.display_sets.proofs.FillingLaws.{ends_too_long, ends_whole, stays_open}
 use Rattle.display_sets.proofs.filling.add.Goals as goal
 
