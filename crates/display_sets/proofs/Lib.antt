@@ -11,4 +11,3 @@ pub mod Standings
 pub mod UnitSteps
 pub mod PacketLaws
 pub mod ReadLaws
-pub mod BringingLaws

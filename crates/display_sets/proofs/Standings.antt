@@ -1,7 +1,11 @@
 -- A gathering goes on standing for all that arrived: what each call changes.
-use Rattle.std.proofs.Common.{◌≡◌, ◌∙◌, ℕ, Bool, true, false, List, [], ◌∷◌, ◌++◌, reverse, Option, Some, None, refl, sym, ap, subst, append-nil, append_assoc}
+use Rattle.std.proofs.Common.{◌≡◌, ◌∙◌, ◌<◌, ◌≤◌, ◌^◌, arith, length, ℕ, Bool, true, false, List, [], ◌∷◌, ◌++◌, reverse, Option, Some, None, refl, sym, ap, subst, append-nil, append_assoc}
 use Rattle.std.specs.Bool.{if◌then◌else◌, OnFalse}
+use Rattle.std.specs.Borrow.{Bor}
 use Rattle.std.specs.Option.{is_some}
+use Rattle.std.specs.Prelude.{Result, Ok, Err, IfOk}
+use Rattle.decoder_model.specs.declared.set_fault.SetFault.{SetFault}
+use Rattle.display_sets.specs.declared.ready.Ready.{Ready}
 use Rattle.decoder_model.specs.Arrivals.{PesUnit, Arrival, loss, refused_unit, aside, unit}
 use Rattle.decoder_model.specs.PacketArrivals.{last_run, is_in_hand}
 use Rattle.decoder_model.specs.Sets.{Delivery, lost, runs_of, sets_in}
@@ -225,3 +229,12 @@ ready_hand inside now head bytes set same is found lent bytes_are =
 pub ready_none : (inside now : Gathered) → inside ≡ now → inside.parted ≡ None → None ≡ ready_head inside.hand
     → (arrivals : List Arrival) (ended : Bool) (given : Deliveries) → Stands arrivals ended given now → IsFirst (sets_in now.coded ended (runs_of arrivals)) given None
 ready_none inside now same is found = first_is now None (first_hand inside now None same is found)
+
+-- the bytes that are lent are as few as those that are kept
+pub lent_within : (found ready : Ready) (bytes : List ℕ) (coded : ℕ) → Some found ≡ Some ready → IfOk found.segments (λ segments. segments.now ≡ bytes) → length bytes ≤ coded → coded < 2 ^ 32
+    → IfOk ready.segments (λ segments. length segments.now < 2 ^ 32)
+lent_within found ready bytes coded is same within few = subst (λ (one : Ready). IfOk one.segments (λ segments. length segments.now < 2 ^ 32)) (let e : found ≡ ready = cc in e) (by found.segments same)
+  where
+    by : (content : Result (Bor (List ℕ)) SetFault) → IfOk content (λ segments. segments.now ≡ bytes) → IfOk content (λ segments. length segments.now < 2 ^ 32)
+    by (Ok segments) is = omega (arith, ap (λ (all : List ℕ). length all) is, within, few)
+    by (Err fault) is = tt

@@ -1,10 +1,11 @@
 -- What a gathering of display sets keeps, and what it then does.
-use Rattle.std.specs.Prelude.{◌≡◌, ℕ, ◌*◌, ◌≤◌, List, [], ◌∷◌, ◌++◌, length, Option, Some, None, Result, Ok, Err}
+use Rattle.std.specs.Prelude.{◌≡◌, ℕ, ◌*◌, ◌^◌, ◌<◌, ◌≤◌, List, [], ◌∷◌, ◌++◌, length, Option, Some, None, Result, Ok, Err}
+use Rattle.std.specs.Option.{ForSome}
 use Rattle.stream_syntax.specs.DataField.{Frame}
 use Rattle.decoder_model.specs.declared.set_fault.SetFault.{SetFault}
 use Rattle.display_sets.specs.Counted.{counted_in}
 use Rattle.display_sets.specs.Filling.{AreOpen, Fills}
-use Rattle.display_sets.specs.Hands.{hand_with, ready_head, open_size}
+use Rattle.display_sets.specs.Hands.{hand_time, hand_with, ready_head, open_size}
 use Rattle.display_sets.specs.declared.filling.Filled.{Filled}
 use Rattle.display_sets.specs.declared.hand.Hand.{Hand}
 use Rattle.display_sets.specs.declared.hand.Head.{Head}
@@ -52,9 +53,13 @@ sets_behind (one ∷ sets) = sets
 
 -- the bytes fit the memory; each byte of an open set stands for less than 2^32 bytes of units, so that their size fits 64 bits
 pub record IsSound (gathered : Gathered) : Type 0 where
+  pub few : gathered.coded < 2 ^ 32
   pub within : length gathered.bytes ≤ gathered.coded
   pub parted_within : length gathered.parted_bytes ≤ gathered.coded
   pub small : open_size gathered.hand ≤ length gathered.bytes * 4294967296
+  -- times have 33 bits
+  pub timely : hand_time gathered.hand < 2 ^ 33
+  pub parted_timely : ForSome gathered.parted (λ head. head.time < 2 ^ 33)
 
 -- a unit's segments were put to the set in hand, whose units have that size with it
 pub record TakesUp (old new : Gathered) (time size : ℕ) (field : List ℕ) : Type 0 where

@@ -52,3 +52,17 @@ open_size hand.Empty = 0
 open_size (hand.Open time size) = size
 open_size (hand.Ready head) = 0
 open_size (hand.Given time) = 0
+
+-- the time of the run in hand, and 0 where there is none
+abbrev pub hand_time : Hand → ℕ
+hand_time hand.Empty = 0
+hand_time (hand.Open time size) = time
+hand_time (hand.Ready head) = head.time
+hand_time (hand.Given time) = time
+
+-- the time of the set that a unit makes ready, and 0 where it makes none
+abbrev pub parted_time : Meeting → ℕ
+parted_time meeting.Begins = 0
+parted_time (meeting.Joins size) = 0
+parted_time (meeting.Parts head) = head.time
+parted_time meeting.Behind = 0

@@ -4,4 +4,3 @@ pub mod Hands
 pub mod Gathered
 pub mod Lent
 pub mod Standing
-pub mod Bringing

@@ -36,7 +36,8 @@ impl Model for Gathering {
 }
 
 impl Gathering {
-    ghost use Rattle.std.specs.Prelude.{◌≡◌, ℕ, ◌+◌, ◌*◌, ◌≤◌, Bool, true, false, List, [], ◌∷◌, ◌++◌, length, reverse, filter, IfOk, Some, None, option_map};
+    ghost use Rattle.std.specs.Option.{ForSome};
+    ghost use Rattle.std.specs.Prelude.{◌^◌, ◌<◌, ◌≡◌, ℕ, ◌+◌, ◌*◌, ◌≤◌, Bool, true, false, List, [], ◌∷◌, ◌++◌, length, reverse, filter, IfOk, Some, None, option_map};
     ghost use Rattle.decoder_model.specs.Arrivals.{Arrival, loss, refused_unit, unit_with};
     ghost use Rattle.decoder_model.specs.PacketArrivals.{last_run};
     ghost use Rattle.decoder_model.specs.Sets.{Delivery, lost, runs_of, sets_in};
@@ -82,7 +83,8 @@ impl Gathering {
     /// Takes the unit of a PES packet with this presentation time and so many bytes, whose segments are in `field`: the
     /// bytes of its data field behind the first two.
     pub fn take_unit(&mut self, time: u64, size: u32, field: &[u8]) -> UnitEnd
-        requires { ready_sets self.old ≡ [] }
+        requires none { ready_sets self.old ≡ [] }
+        requires time { time < 2 ^ 33 }
         ensures page { self.new.page ≡ self.old.page }
         ensures coded { self.new.coded ≡ self.old.coded }
 
@@ -128,6 +130,8 @@ impl Gathering {
     /// The first set that is ready and was not given.
     pub fn ready(&self) -> Option<Ready<'_>>
         ensures first { option_map lent result ≡ first_ready (ready_sets self.now) }
+        ensures timely { ForSome result (λ ready. ready.time < 2 ^ 33) }
+        ensures within { ForSome result (λ ready. IfOk ready.segments (λ bytes. length bytes.now < 2 ^ 32)) }
         ensures delivery { (arrivals : List Arrival) (ended : Bool) (given : List (Delivery (List ℕ)))
             → Stands arrivals ended given self.now
             → IsFirst (sets_in self.now.coded ended (runs_of arrivals)) given (option_map lent result) }
@@ -159,6 +163,7 @@ impl Gathering {
 
     /// Makes the open set in hand, which has this head, the set that is ready first.
     fn part(&mut self, head: Head)
+        requires { head.time < 2 ^ 33 }
         ensures { self.new ≡ record self.old { hand = hand_is.Empty; bytes = self.old.parted_bytes; parted = Some head; parted_bytes = self.old.bytes } }
     {
         mem::swap(&mut self.bytes, &mut self.parted_bytes);
@@ -168,7 +173,8 @@ impl Gathering {
 
     /// Begins a set with a unit.
     fn begin(&mut self, time: u64, size: u32, field: &[u8])
-        requires { is_any (counted_in self.old.page field.now) ≡ true }
+        requires time { time < 2 ^ 33 }
+        requires counted { is_any (counted_in self.old.page field.now) ≡ true }
         ensures { TakesUp (record self.old { hand = hand_is.Empty; bytes = [] }) self.new time size field.now }
     {
         self.hand = Hand::Empty;
@@ -178,6 +184,7 @@ impl Gathering {
 
     /// Puts a unit's segments to the set in hand, whose units had `before` bytes.
     fn take_up(&mut self, time: u64, before: u64, size: u32, field: &[u8])
+        requires time { time < 2 ^ 33 }
         requires before { before ≤ length self.old.bytes * 4294967296 }
         requires counted { is_any (counted_in self.old.page field.now) ≡ true }
         ensures { TakesUp self.old self.new time (before + size) field.now }

@@ -1,7 +1,8 @@
 //! The set of the run in hand: the last units of one presentation time with no loss between them.
 
-ghost use Rattle.std.specs.Prelude.{◌≡◌};
-ghost use Rattle.display_sets.specs.Hands.{closed_hand, given_hand, hand_with, meeting_of, ready_head};
+ghost use Rattle.std.specs.Prelude.{◌≡◌, ◌≤◌};
+ghost use Rattle.std.specs.Option.{ForSome};
+ghost use Rattle.display_sets.specs.Hands.{closed_hand, given_hand, hand_time, hand_with, meeting_of, parted_time, ready_head};
 
 use crate::filling::Filled;
 use decoder_model::SetFault;
@@ -56,7 +57,8 @@ pub(crate) enum Meeting {
 impl Hand {
     /// What a unit of this time is to the run in hand.
     pub(crate) fn meet(self, time: u64) -> Meeting
-        ensures { result ≡ meeting_of time self }
+        ensures meeting { result ≡ meeting_of time self }
+        ensures timely { parted_time result ≤ hand_time self }
     {
         match self {
             Hand::Empty => Meeting::Begins,
@@ -78,7 +80,8 @@ impl Hand {
 
     /// The run in hand once its set has come so far.
     pub(crate) fn with(time: u64, size: u64, filled: Filled) -> Hand
-        ensures { result ≡ hand_with time size filled }
+        ensures hand { result ≡ hand_with time size filled }
+        ensures timely { hand_time result ≡ time }
     {
         match filled {
             Filled::Open => Hand::Open { time, size },
@@ -88,7 +91,8 @@ impl Hand {
 
     /// The set in hand, where it is ready.
     pub(crate) fn ready(self) -> Option<Head>
-        ensures { result ≡ ready_head self }
+        ensures ready { result ≡ ready_head self }
+        ensures timely { ForSome result (λ head. head.time ≡ hand_time self) }
     {
         match self {
             Hand::Ready(head) => Some(head),
@@ -98,7 +102,8 @@ impl Hand {
 
     /// The run in hand once a set that is ready was given.
     pub(crate) fn given(self) -> Hand
-        ensures { result ≡ given_hand self }
+        ensures hand { result ≡ given_hand self }
+        ensures timely { hand_time result ≡ hand_time self }
     {
         match self {
             Hand::Ready(head) => Hand::Given { time: head.time },
@@ -110,7 +115,8 @@ impl Hand {
 
     /// The run in hand at the end of the stream: an open set is ready.
     pub(crate) fn closed(self) -> Hand
-        ensures { result ≡ closed_hand self }
+        ensures hand { result ≡ closed_hand self }
+        ensures timely { hand_time result ≡ hand_time self }
     {
         match self {
             Hand::Open { time, size } => Hand::Ready(Head {

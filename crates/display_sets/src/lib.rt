@@ -8,14 +8,12 @@ mod filling;
 mod gathering;
 mod hand;
 mod laws;
-mod packets;
 mod ready;
 
 pub use decoder_model::SetFault;
 pub use gathering::Gathering;
 pub use hand::UnitEnd;
 pub use laws::{bytes_are_read, packet_brings_arrivals, sets_of_arrivals};
-pub use packets::Brought;
 pub use ready::Ready;
 
 #[cfg(test)]

@@ -17,13 +17,14 @@ pub struct Ready<'a> {
 }
 
 impl Head {
-    ghost use Rattle.std.specs.Prelude.{◌≡◌};
+    ghost use Rattle.std.specs.Prelude.{◌≡◌, IfOk};
     ghost use Rattle.display_sets.specs.Gathered.{ready_set};
     ghost use Rattle.display_sets.specs.Lent.{lent};
 
     /// The set with these bytes.
     pub(crate) fn lend(self, bytes: &[u8]) -> Ready<'_>
-        ensures { lent result ≡ ready_set bytes.now self }
+        ensures set { lent result ≡ ready_set bytes.now self }
+        ensures bytes { IfOk result.segments (λ segments. segments.now ≡ bytes.now) }
     {
         let segments = match self.fault {
             None => Ok(bytes),
