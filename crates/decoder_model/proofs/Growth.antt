@@ -57,7 +57,7 @@ runs_grow (unit one ∷ arrivals) more = joined_grows one (runs_of arrivals) (ru
 -- ---- what has ended stays so
 
 -- what is found among the prefixes of a list is found among those of a longer one
-found_more : {X : Type 0} (test : List X → Bool) (xs ys : List X) (front : List X) → find test (prefixes xs) ≡ Some front → find test (prefixes (xs ++ ys)) ≡ Some front
+pub found_more : {X : Type 0} (test : List X → Bool) (xs ys : List X) (front : List X) → find test (prefixes xs) ≡ Some front → find test (prefixes (xs ++ ys)) ≡ Some front
 found_more test [] ys front e = absurd (cc)
 found_more {X} test (x ∷ xs) ys front e = by (test (x ∷ [])) (found_more (λ (behind : List X). test (x ∷ behind)) xs ys) e
   where
@@ -78,7 +78,7 @@ found_more {X} test (x ∷ xs) ys front e = by (test (x ∷ [])) (found_more (λ
 
 -- ---- ended prefixes
 
-any_front : {X : Type 0} (test : X → Bool) (xs ys : List X) → list_any test xs ≡ true → list_any test (xs ++ ys) ≡ true
+pub any_front : {X : Type 0} (test : X → Bool) (xs ys : List X) → list_any test xs ≡ true → list_any test (xs ++ ys) ≡ true
 any_front test [] ys e = absurd (cc)
 any_front {X} test (x ∷ xs) ys e = by (test x) (any_front test xs ys) e
   where
@@ -86,7 +86,7 @@ any_front {X} test (x ∷ xs) ys e = by (test x) (any_front test xs ys) e
     by true again e = refl
     by false again e = again e
 
-segments-append : (xs ys : List Frame) → segments_in (xs ++ ys) ≡ segments_in xs ++ segments_in ys
+pub segments-append : (xs ys : List Frame) → segments_in (xs ++ ys) ≡ segments_in xs ++ segments_in ys
 segments-append [] ys = refl
 segments-append (segment bytes ∷ xs) ys = ap (λ rest. bytes ∷ rest) (segments-append xs ys)
 segments-append (broken fault ∷ xs) ys = segments-append xs ys
@@ -101,7 +101,7 @@ or_last false true c e = refl
 or_last false false c e = e
 
 -- an ended front makes what it begins ended
-ended_more : (coded : ℕ) (xs ys : List Frame) → is_ended coded xs ≡ true → is_ended coded (xs ++ ys) ≡ true
+pub ended_more : (coded : ℕ) (xs ys : List Frame) → is_ended coded xs ≡ true → is_ended coded (xs ++ ys) ≡ true
 ended_more coded xs ys e =
     by (list_any is_end xs) (list_any (λ frame. is_some (fault_of frame)) xs) (ltb coded (bytes_in xs)) (any_front is_end xs ys) (any_front (λ frame. is_some (fault_of frame)) xs ys) more e
   where
@@ -115,12 +115,12 @@ ended_more coded xs ys e =
     by false false true ha hb hc e = or_last (list_any is_end (xs ++ ys)) (list_any (λ frame. is_some (fault_of frame)) (xs ++ ys)) (ltb coded (bytes_in (xs ++ ys))) (hc refl)
     by false false false ha hb hc e = absurd (cc)
 
-frames-append : (xs ys : List PesUnit) → frames_in (xs ++ ys) ≡ frames_in xs ++ frames_in ys
+pub frames-append : (xs ys : List PesUnit) → frames_in (xs ++ ys) ≡ frames_in xs ++ frames_in ys
 frames-append [] ys = refl
 frames-append (one ∷ xs) ys = ap (λ rest. one.frames ++ rest) (frames-append xs ys) ∙ sym (append_assoc one.frames (frames_in xs) (frames_in ys))
 
 -- where a front is found, it passes
-found_passes : {X : Type 0} (test : X → Bool) (xs : List X) (found : X) → find test xs ≡ Some found → test found ≡ true
+pub found_passes : {X : Type 0} (test : X → Bool) (xs : List X) (found : X) → find test xs ≡ Some found → test found ≡ true
 found_passes test [] found e = absurd (cc)
 found_passes {X} test (x ∷ xs) found e = by (test x) refl (found_passes test xs found) e
   where
@@ -129,7 +129,7 @@ found_passes {X} test (x ∷ xs) found e = by (test x) refl (found_passes test x
     by false is again e = again e
 
 -- and it is a front
-found_is_front : {X : Type 0} (test : List X → Bool) (xs front : List X) → find test (prefixes xs) ≡ Some front → (rest : List X) × (xs ≡ front ++ rest)
+pub found_is_front : {X : Type 0} (test : List X → Bool) (xs front : List X) → find test (prefixes xs) ≡ Some front → (rest : List X) × (xs ≡ front ++ rest)
 found_is_front test [] front e = absurd (cc)
 found_is_front {X} test (x ∷ xs) front e = by (test (x ∷ [])) (found_is_front (λ (behind : List X). test (x ∷ behind)) xs) e
   where
@@ -150,7 +150,7 @@ found_is_front {X} test (x ∷ xs) front e = by (test (x ∷ [])) (found_is_fron
     by false again e = behind_first again (find (λ (behind : List X). test (x ∷ behind)) (prefixes xs)) refl (sym moved ∙ e)
 
 -- where the whole list passes, some front is found
-whole_is_found : {X : Type 0} (test : List X → Bool) (x : X) (xs : List X) → test (x ∷ xs) ≡ true → (front : List X) × (find test (prefixes (x ∷ xs)) ≡ Some front)
+pub whole_is_found : {X : Type 0} (test : List X → Bool) (x : X) (xs : List X) → test (x ∷ xs) ≡ true → (front : List X) × (find test (prefixes (x ∷ xs)) ≡ Some front)
 whole_is_found {X} test x [] e = (x ∷ [], ap (λ passes. cond passes (Some (x ∷ [])) None) e)
 whole_is_found {X} test x (y ∷ ys) e = by (test (x ∷ [])) (whole_is_found (λ (behind : List X). test (x ∷ behind)) y ys e)
   where
@@ -162,7 +162,7 @@ whole_is_found {X} test x (y ∷ ys) e = by (test (x ∷ [])) (whole_is_found (�
 -- ---- sets
 
 -- a run that has its end keeps the units up to it
-same_units : (coded : ℕ) (first : PesUnit) (units further : List PesUnit) (front : List Frame) → find (is_ended coded) (prefixes (frames_in (first ∷ units))) ≡ Some front
+pub same_units : (coded : ℕ) (first : PesUnit) (units further : List PesUnit) (front : List Frame) → find (is_ended coded) (prefixes (frames_in (first ∷ units))) ≡ Some front
     → units_to_end coded (first ∷ (units ++ further)) ≡ units_to_end coded (first ∷ units)
 same_units coded first units further front e =
     let there = found_is_front (is_ended coded) (frames_in (first ∷ units)) front e in

@@ -12,7 +12,7 @@ use Rattle.decoder_model.specs.Shown.{view_at}
 use Rattle.decoder_model.proofs.Views.{view_without, view_before}
 
 -- a kept set is later than those before it
-lift_above : (last ticks at : ℕ) → lift_by last ticks ≡ Some at → last < at
+pub lift_above : (last ticks at : ℕ) → lift_by last ticks ≡ Some at → last < at
 lift_above last ticks at e = by (nat_le 1 ticks && (nat_lt ticks 4294967296 && nat_lt (last + ticks) 4611686018427387904)) refl e
   where
     by : (kept : Bool) → (nat_le 1 ticks && (nat_lt ticks 4294967296 && nat_lt (last + ticks) 4611686018427387904)) ≡ kept → (if kept then Some (last + ticks) else None) ≡ Some at → last < at

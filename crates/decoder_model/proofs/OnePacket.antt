@@ -93,13 +93,13 @@ pub record FewSets (some all : List (Delivery (List ℕ))) : Type 0 where
   pub are : all ≡ some ++ sets
   pub few : AreFew 2 sets
 
-same_follow : (one : PesUnit) (next : Stretch) (some all : List Stretch) → AddsUnit one (next ∷ some) all → is_followed false (next ∷ some) ≡ is_followed false all
+pub same_follow : (one : PesUnit) (next : Stretch) (some all : List Stretch) → AddsUnit one (next ∷ some) all → is_followed false (next ∷ some) ≡ is_followed false all
 same_follow one next some all (same_run) = refl
 same_follow one next some all (other_run) = refl
 same_follow one next some all (behind_loss more) = refl
 same_follow one next some all (behind_run more) = refl
 
-abbrev first_end : ℕ → List PesUnit → Option (List Frame)
+abbrev pub first_end : ℕ → List PesUnit → Option (List Frame)
 first_end coded units = find (is_ended coded) (prefixes (frames_in units))
 
 in_same_run : (coded : ℕ) (one first : PesUnit) (units : List PesUnit) (found : Option (List Frame)) → first_end coded (first ∷ units) ≡ found
@@ -155,7 +155,7 @@ sets_add coded one some all (behind_run {first = first} {units = units} {next = 
 
 -- ---- a loss more
 
-joined_loss : (ahead : PesUnit) (stretches : List Stretch) → joined_to ahead (stretches ++ loss_between ∷ []) ≡ joined_to ahead stretches ++ loss_between ∷ []
+pub joined_loss : (ahead : PesUnit) (stretches : List Stretch) → joined_to ahead (stretches ++ loss_between ∷ []) ≡ joined_to ahead stretches ++ loss_between ∷ []
 joined_loss ahead [] = refl
 joined_loss ahead (loss_between ∷ rest) = refl
 joined_loss ahead (run first units ∷ rest) = by (eqb ahead.time first.time)
@@ -166,13 +166,13 @@ joined_loss ahead (run first units ∷ rest) = by (eqb ahead.time first.time)
     by false = refl
 
 -- an arrival that is a loss
-abbrev IsLossArrival : Arrival → Type 0
+abbrev pub IsLossArrival : Arrival → Type 0
 IsLossArrival loss = Unit {0}
 IsLossArrival refused_unit = Unit {0}
 IsLossArrival aside = ⊥
 IsLossArrival (unit one) = ⊥
 
-runs_loss : (arrivals : List Arrival) (last : Arrival) → IsLossArrival last → runs_of (arrivals ++ last ∷ []) ≡ runs_of arrivals ++ loss_between ∷ []
+pub runs_loss : (arrivals : List Arrival) (last : Arrival) → IsLossArrival last → runs_of (arrivals ++ last ∷ []) ≡ runs_of arrivals ++ loss_between ∷ []
 runs_loss [] loss h = refl
 runs_loss [] refused_unit h = refl
 runs_loss [] aside h = absurd h
@@ -182,7 +182,7 @@ runs_loss (refused_unit ∷ arrivals) last h = ap (λ runs. loss_between ∷ run
 runs_loss (aside ∷ arrivals) last h = runs_loss arrivals last h
 runs_loss (unit one ∷ arrivals) last h = ap (joined_to one) (runs_loss arrivals last h) ∙ joined_loss one (runs_of arrivals)
 
-loss_adds : (coded : ℕ) (stretches : List Stretch) → sets_in coded false (stretches ++ loss_between ∷ []) ≡ sets_in coded false stretches ++ lost ∷ []
+pub loss_adds : (coded : ℕ) (stretches : List Stretch) → sets_in coded false (stretches ++ loss_between ∷ []) ≡ sets_in coded false stretches ++ lost ∷ []
 loss_adds coded [] = refl
 loss_adds coded (loss_between ∷ rest) = ap (λ sets. lost ∷ sets) (loss_adds coded rest)
 loss_adds coded (run first units ∷ []) = sym (append_assoc (set_of coded first.time (first ∷ units) false (first_end coded (first ∷ units))) [] (lost ∷ []))
@@ -193,7 +193,7 @@ loss_adds coded (run first units ∷ run next more ∷ rest) =
     let here = set_of coded first.time (first ∷ units) true (first_end coded (first ∷ units)) in
     ap (λ sets. here ++ sets) (loss_adds coded (run next more ∷ rest)) ∙ sym (append_assoc here (sets_in coded false (run next more ∷ rest)) (lost ∷ []))
 
-runs_aside : (arrivals : List Arrival) → runs_of (arrivals ++ aside ∷ []) ≡ runs_of arrivals
+pub runs_aside : (arrivals : List Arrival) → runs_of (arrivals ++ aside ∷ []) ≡ runs_of arrivals
 runs_aside [] = refl
 runs_aside (loss ∷ arrivals) = ap (λ runs. loss_between ∷ runs) (runs_aside arrivals)
 runs_aside (refused_unit ∷ arrivals) = ap (λ runs. loss_between ∷ runs) (runs_aside arrivals)

@@ -92,7 +92,7 @@ none_lost pid size before (unit ∷ units) packets cutting lossless hand sent =
 -- ---- packets that are taken
 
 -- where each item passes a test, none is left behind
-all_pass : {X : Type 0} (test : X → Bool) (xs : List X) → AllByRecursion (λ x. test x ≡ true) xs → take_while test xs ≡ xs
+pub all_pass : {X : Type 0} (test : X → Bool) (xs : List X) → AllByRecursion (λ x. test x ≡ true) xs → take_while test xs ≡ xs
 all_pass test [] h = refl
 all_pass {X} test (x ∷ xs) h =
     let one_more : 1 + prefix_len test xs ≡ suc (prefix_len test xs) = omega arith in

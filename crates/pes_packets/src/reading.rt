@@ -31,13 +31,17 @@ pub fn read_pes(bytes: &[u8]) -> Result<Pes<'_>, PesFault>
     // A fault is that of the first test that fails.
     ensures fault { IfErr result (λ fault. pes_fault bytes.now ≡ Some fault) }
     ensures exact { Gives (λ pes. (pes.pts, pes.segments.now)) result (pes_of bytes.now) }
+
+    // A presentation time has 33 bits.
+    ensures timely { IfOk result (λ pes. pes.pts < 2 ^ 33) }
 {
     read(bytes)
 }
 
 /// The packet's time and segments, or the fault of the first test that fails.
 fn read(bytes: &[u8]) -> Result<Pes<'_>, PesFault>
-    ensures { Gives (λ pes. (pes.pts, pes.segments.now)) result (pes_of bytes.now) }
+    ensures gives { Gives (λ pes. (pes.pts, pes.segments.now)) result (pes_of bytes.now) }
+    ensures timely { IfOk result (λ pes. pes.pts < 2 ^ 33) }
 {
     match fault_of(bytes) {
         Some(fault) => Err(fault),
@@ -129,7 +133,8 @@ fn is_other_field(bytes: &[u8]) -> bool
 /// The presentation time in the header.
 fn pts_of(bytes: &[u8]) -> u64
     requires { 14 ≤ length bytes.now }
-    ensures { result ≡ pts_in bytes.now }
+    ensures value { result ≡ pts_in bytes.now }
+    ensures timely { result < 2 ^ 33 }
 {
     let high = u64::from(bytes[9] >> 1 & 7);
     let middle = u64::from(BigEndian::read_u16(&bytes[10..]) >> 1);

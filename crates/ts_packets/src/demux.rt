@@ -1,6 +1,6 @@
-ghost use Rattle.std.specs.Prelude.{◌≡◌, None};
+ghost use Rattle.std.specs.Prelude.{◌≡◌, ◌≤◌, None, length};
 ghost use Rattle.stream_syntax.specs.Units.{fate_of};
-ghost use Rattle.ts_packets.specs.Fates.{IsFate};
+ghost use Rattle.ts_packets.specs.Fates.{IsFate, IsShort, longest_unit};
 
 use crate::kind::{Kind, Payload, kind_of};
 use byteorder::{BigEndian, ByteOrder};
@@ -74,7 +74,7 @@ impl Demux {
     ghost use Rattle.stream_syntax.specs.TransportPackets.{packet_fault};
     ghost use Rattle.stream_syntax.specs.Units.{Next, Missing, fate_of, event_at, unit_at, succession};
     ghost use Rattle.ts_packets.specs.Demuxing.{lent_bytes, taken_up, Stands};
-    ghost use Rattle.ts_packets.specs.Fates.{IsFate};
+    ghost use Rattle.ts_packets.specs.Fates.{IsFate, IsShort, longest_unit};
     ghost use Rattle.ts_packets.specs.Feeding.{IsFed};
     ghost use Rattle.ts_packets.specs.Steps.{Answers, StepsOn};
 
@@ -109,6 +109,9 @@ impl Demux {
             → fed.event ≡ event_at self.old.pid self.old.size packets packet.now) }
         ensures unit { IfOk result (λ fed. (packets : List (List ℕ)) → Stands self.old packets
             → option_copied fed.unit ≡ unit_at self.old.pid self.old.size packets packet.now) }
+
+        // A PES packet with a length has at most 65,541 bytes, and one without a length ends with its packet.
+        ensures short { IfOk result (λ fed. ForSome fed.unit (λ unit. length unit.now ≤ longest_unit)) }
     {
         let step = self.step(packet)?;
         Ok(Fed {
@@ -120,7 +123,8 @@ impl Demux {
     /// The first bytes of the buffer, where there are some to lend.
     fn first_bytes(&self, count: Option<usize>) -> Option<&[u8]>
         requires { ForSome count (λ n. n ≤ length self.now.bytes) }
-        ensures { option_copied result ≡ lent_bytes self.now.bytes count }
+        ensures lent { option_copied result ≡ lent_bytes self.now.bytes count }
+        ensures short { ForSome result (λ bytes. (n : ℕ) × (count ≡ Some n) × (length bytes.now ≡ n)) }
     {
         match count {
             Some(count) => Some(&self.bytes[..count]),
@@ -130,8 +134,9 @@ impl Demux {
 
     /// Takes one packet, or finds why it cannot be taken.
     fn step(&mut self, packet: &[u8; 188]) -> Result<Step, PacketFault>
-        ensures { MatchResult result (λ step. StepsOn self.old self.new step packet.now)
+        ensures steps { MatchResult result (λ step. StepsOn self.old self.new step packet.now)
             (λ fault. (self.new ≡ self.old) × (packet_fault self.old.pid packet.now ≡ Some fault)) }
+        ensures short { IfOk result (λ step. ForSome step.unit (λ count. count ≤ longest_unit)) }
     {
         match kind_of(self.pid, packet)? {
             Kind::Other => Ok(Step::alone(Event::Other)),
@@ -147,6 +152,7 @@ impl Demux {
         ensures answers { let order = succession self.old.counter payload.entry.counter in
             Answers self.old self.new result order payload.entry.start payload.entry.bytes.now }
         ensures counter { self.new.counter ≡ Some payload.entry.counter }
+        ensures short { ForSome result.unit (λ count. count ≤ longest_unit) }
     {
         let last = self.counter;
         self.counter = Some(payload.counter);
@@ -170,6 +176,7 @@ impl Demux {
         requires { length payload.bytes.now ≤ 184 }
         ensures answers { Answers self.old self.new result Next payload.entry.start payload.entry.bytes.now }
         ensures counter { self.new.counter ≡ self.old.counter }
+        ensures short { ForSome result.unit (λ count. count ≤ longest_unit) }
     {
         // No packet is missing, so the unit in hand was sent with fewer bytes than its length says.
         if payload.start && self.holds {
@@ -192,6 +199,7 @@ impl Demux {
         ensures answers { let order = Missing expected payload.entry.counter in
             Answers self.old self.new result order payload.entry.start payload.entry.bytes.now }
         ensures counter { self.new.counter ≡ self.old.counter }
+        ensures short { ForSome result.unit (λ count. count ≤ longest_unit) }
     {
         let event = Event::Gap {
             expected,
@@ -218,6 +226,7 @@ impl Demux {
         requires { length payload.now ≤ 184 }
         ensures state { self.new ≡ taken_up self.old payload.now }
         ensures fate { IsFate self.old.size payload.now (fate_of self.old.size payload.now) result }
+        ensures short { IsShort result }
     {
         self.bytes.clear();
         self.holds = true;
@@ -231,6 +240,7 @@ impl Demux {
         ensures state { self.new ≡ taken_up self.old (self.old.bytes ++ payload.now) }
         ensures fate { let bytes = self.old.bytes ++ payload.now in
             IsFate self.old.size bytes (fate_of self.old.size bytes) result }
+        ensures short { IsShort result }
     {
         // The buffer was made with room for the longest unit and one payload more.
         self.bytes.extend_from_slice(payload).unwrap();
@@ -250,12 +260,15 @@ impl Step {
 }
 
 impl Fate {
-    ghost use Rattle.std.specs.Prelude.{◌≡◌};
+    ghost use Rattle.std.specs.Prelude.{◌≡◌, ◌≤◌};
+    ghost use Rattle.std.specs.Option.{ForSome};
+    ghost use Rattle.ts_packets.specs.Fates.{IsShort, longest_unit};
     ghost use Rattle.ts_packets.specs.Steps.{answered};
 
     /// What a packet with this event answers where its unit has this fate.
     fn answer(self, size: u64, event: Event) -> Step
-        ensures { result ≡ answered size event self }
+        ensures answer { result ≡ answered size event self }
+        ensures short { IsShort self → ForSome result.unit (λ count. count ≤ longest_unit) }
     {
         match self {
             Fate::Waits => Step::alone(event),
@@ -275,7 +288,9 @@ impl Fate {
 /// What becomes of a unit of which these bytes are there.
 #[tactic(auto, unfolding(stream_syntax::specs::Units::fate_of))]
 fn fate_of_unit(size: u64, bytes: &[u8]) -> Fate
-    ensures { IsFate size bytes.now (fate_of size bytes.now) result }
+    requires { length bytes.now ≤ longest_unit }
+    ensures fate { IsFate size bytes.now (fate_of size bytes.now) result }
+    ensures short { IsShort result }
 {
     if bytes.len() < LENGTH_END {
         return Fate::Waits;

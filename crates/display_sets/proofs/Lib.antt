@@ -1,0 +1,13 @@
+pub mod CountedLaws
+pub mod FillingLaws
+pub mod Searches
+pub mod FillLoop
+pub mod Runs
+pub mod RunSets
+pub mod LastRun
+pub mod Units
+pub mod Meetings
+pub mod Standings
+pub mod UnitSteps
+pub mod PacketLaws
+pub mod ReadLaws

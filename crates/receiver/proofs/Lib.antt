@@ -1,0 +1,5 @@
+pub mod Planes
+pub mod Turns
+pub mod Arrivals
+pub mod Gatherings
+pub mod Feeds
