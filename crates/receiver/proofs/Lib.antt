@@ -1,5 +1,0 @@
-pub mod Planes
-pub mod Turns
-pub mod Arrivals
-pub mod Gatherings
-pub mod Feeds

@@ -1,7 +1,0 @@
-pub mod Showing
-pub mod Slots
-pub mod Lent
-pub mod Screens
-pub mod Arrived
-pub mod Receiving
-pub mod Ends
