@@ -41,3 +41,9 @@ pub mod EverywhereWalks
 pub mod EverywhereWrites
 pub mod EverywhereKept
 pub mod EverywhereCodes
+pub mod KeptIds
+pub mod NodeCounts
+pub mod OtherSegments
+pub mod ObjectMemory
+pub mod SetOrder
+pub mod ObjectWalks

@@ -23,3 +23,4 @@ pub mod Everywhere
 pub mod Scenes
 pub mod PageEntries
 pub mod Accepted
+pub mod SetSteps
