@@ -47,3 +47,6 @@ pub mod OtherSegments
 pub mod ObjectMemory
 pub mod SetOrder
 pub mod ObjectWalks
+pub mod DisplaySteps
+pub mod SetRoom
+pub mod SetVerdicts

@@ -36,9 +36,6 @@ sum_there f g (x ∷ xs) same =
 
 -- ---- what is kept
 
-listings_of_kept : KeptRegion → ℕ
-listings_of_kept kept = length kept.listings
-
 module _ (segments : List Content) (memory : Memory) (holds : Holds segments memory) where
   pub regions_counted : length memory.composition.regions ≡ length (region_ids (taken_of segments))
   regions_counted = sym (length-map memory.composition.regions id_of_kept) ∙ ap length holds.region_ids ∙ length-reverse (region_ids (taken_of segments))

@@ -45,7 +45,7 @@ impl CompositionMemory {
     }
 }
 
-/// The fault in the region of an id, which is a byte.
+/// The fault in the region of an id; that the id is a byte is what contracts want of it.
 fn fault_at(region: u8, fault: SegmentFault) -> SegmentFault
     ensures fault { result ≡ fault }
     ensures byte { region < 256 }

@@ -1,6 +1,4 @@
-use Rattle.std.proofs.Common.{◌≡◌, ◌∙◌, ◌<◌, Option, Some, None, ap, option_map, refl, subst, sym, arith}
-use Rattle.std.specs.Prelude.{IfSome}
-use Rattle.decoder_model.specs.declared.set_fault.SetFault.{SetFault}
+use Rattle.std.proofs.Common.{Some, None, ap, refl}
 use Rattle.segments.specs.Contents.{object_value}
 use Rattle.page_core.specs.Listings.{painter_of}
 use Rattle.page_core.proofs.ObjectRegions.{fault_answered, byte_answered}

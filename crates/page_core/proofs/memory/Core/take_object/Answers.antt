@@ -1,12 +1,10 @@
 -- An object is painted, or has a fault.
-use Rattle.std.proofs.Common.{◌≡◌, ◌∙◌, ◌<◌, List, Some, None, Option, ap, refl, subst, sym}
-use Rattle.std.specs.Prelude.{IfSome}
-use Rattle.stream_syntax.specs.Segments.{SegmentValue, of_object}
-use Rattle.decoder_model.specs.Readings.{AreFields, Content}
+use Rattle.std.proofs.Common.{Some, None, refl, subst, sym}
+use Rattle.stream_syntax.specs.Segments.{SegmentValue}
+use Rattle.decoder_model.specs.Readings.{AreFields}
 use Rattle.segments.specs.Contents.{object_value}
-use Rattle.page_core.specs.Cores.{memory_of}
 use Rattle.page_core.specs.Listings.{IsPainter, painter_of}
-use Rattle.page_core.specs.Memory.{Holds, Memory}
+use Rattle.page_core.specs.Memory.{Holds}
 use Rattle.page_core.proofs.KeptIds.{ids_apart}
 use Rattle.page_core.proofs.ObjectMemory.{regions_there, still_whole, painted_holds, fault_is, no_fault_is}
 use Rattle.page_core.proofs.memory.Core.take_object.Goals as goal
@@ -36,6 +34,7 @@ invariant_of-self c = record {
       c.self.invariant.whole;
   anchored = c.self.invariant.anchored;
   timed = c.self.invariant.timed;
+  display = c.self.invariant.display;
 }
 
 pub returns-clause-fault : goal.returns-clause-fault

@@ -1,5 +1,5 @@
 -- The objects of a set are taken, up to the first with a fault.
-use Rattle.std.proofs.Common.{◌∙◌, ◌∷◌, Some, None, refl, sym}
+use Rattle.std.proofs.Common.{refl, sym}
 use Rattle.segments.specs.Contents.{object_value}
 use Rattle.page_core.proofs.ObjectWalks.{none_taken, next_taken, one_taken, one_fails, all_without_fault, all_taken, keeps_twice, keeps_all}
 use Rattle.page_core.proofs.memory.Core.take_objects.Goals as goal
