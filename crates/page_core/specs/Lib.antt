@@ -24,3 +24,4 @@ pub mod Scenes
 pub mod PageEntries
 pub mod Accepted
 pub mod SetSteps
+pub mod Losses
