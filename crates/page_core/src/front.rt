@@ -35,7 +35,7 @@ pub(crate) fn cut_front(bytes: &[u8]) -> Option<Front<'_>>
 
 /// Reads bytes that are one segment and no more.
 pub(crate) fn read_one(bytes: &[u8]) -> Result<Segment<'_>, SegmentFault>
-    ensures reading { (reading : Reading) → IsReading bytes.now reading → Matches result reading }
+    ensures matches { (reading : Reading) → IsReading bytes.now reading → Matches result reading }
     ensures fields { IfOk result (λ segment. HasFieldSizes (contents segment)) }
 {
     match read_segment(bytes) {
