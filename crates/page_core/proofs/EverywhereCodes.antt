@@ -130,7 +130,7 @@ pixels_behind segments memory whole holds content object painter is value_is new
 
 -- ---- the regions behind an object
 
-region_behind : (painter : Painter) (id : ℕ) (regions : List KeptRegion)
+pub region_behind : (painter : Painter) (id : ℕ) (regions : List KeptRegion)
     → find (λ (kept : KeptRegion). eqb kept.head.region id) (map (painted_kept painter) regions) ≡ option_map (painted_kept painter) (find (λ (kept : KeptRegion). eqb kept.head.region id) regions)
 region_behind painter id [] = refl
 region_behind painter id (kept ∷ regions) = by (eqb kept.head.region id) (region_behind painter id regions)

@@ -69,7 +69,7 @@ or_false : (a b : Bool) → (a || b) ≡ false → (a ≡ false) × (b ≡ false
 or_false true b e = absurd (cc)
 or_false false b e = (refl, e)
 
-none_has : {X : Type 0} (t : X → Bool) (xs : List X) (x : X) → list_any t xs ≡ false → Contains xs x → t x ≡ false
+pub none_has : {X : Type 0} (t : X → Bool) (xs : List X) (x : X) → list_any t xs ≡ false → Contains xs x → t x ≡ false
 none_has t [] x none there = absurd (omega (arith, there.1))
 none_has t (y ∷ ys) x none (zero, short, e) = ap t (sym e) ∙ (or_false (t y) (list_any t ys) none).0
 none_has t (y ∷ ys) x none (suc k, short, e) = none_has t ys x (or_false (t y) (list_any t ys) none).1 (k, omega (arith, short), e)

@@ -11,7 +11,7 @@ use Rattle.comp_pool.specs.Pool.{PoolOf, list_of}
 use Rattle.decoder_model.specs.Faults.{depth_fault}
 use Rattle.decoder_model.specs.Readings.{Content}
 use Rattle.pixel_store.specs.Regions.{Regions, KeepsOthers}
-use Rattle.page_core.specs.Everywhere.{HasNoFault, HasRegionAt, KeepsAt, IsWrittenIn, IsWrittenAt, painted_where, HasNoFaults, AreApart, AreWritten, HaveRegions}
+use Rattle.page_core.specs.Everywhere.{HasNoFault, HasRegionAt, KeepsAt, KeepsRoom, IsWrittenIn, IsWrittenAt, painted_where, HasNoFaults, AreApart, AreWritten, HaveRegions}
 use Rattle.page_core.specs.Listings.{code_by_pair}
 use Rattle.page_core.specs.Memory.{HasSides}
 use Rattle.page_core.specs.Nodes.{kept_in, region_node, is_region_of, listings_list}
@@ -48,6 +48,19 @@ stays_at item (node.Colour place) old new keeps region = tt
 
 pub regions_stay : (pool : PoolOf Node) (item : Node) (old new : Regions) → KeepsAt item old new → HaveRegions pool old → HaveRegions pool new
 regions_stay pool item old new keeps have = λ pair there. stays_at item pair.1 old new keeps (have pair there)
+
+-- the room of a store stays
+room_at : (item : Node) (old new : Regions) → KeepsAt item old new → KeepsRoom old new
+room_at (node.Entry entry) old new keeps = subst (λ (s : Regions). KeepsRoom old s) (sym keeps) (record { count = refl; size = refl; free = refl })
+room_at (node.Region region) old new keeps = record { count = keeps.count; size = keeps.size; free = keeps.free }
+room_at (node.Listing kept) old new keeps = subst (λ (s : Regions). KeepsRoom old s) (sym keeps) (record { count = refl; size = refl; free = refl })
+room_at (node.Clut clut) old new keeps = subst (λ (s : Regions). KeepsRoom old s) (sym keeps) (record { count = refl; size = refl; free = refl })
+room_at (node.Colour place) old new keeps = subst (λ (s : Regions). KeepsRoom old s) (sym keeps) (record { count = refl; size = refl; free = refl })
+
+pub room_kept : (item : Node) (begin old new : Regions) → KeepsAt item old new → KeepsRoom begin old → KeepsRoom begin new
+room_kept item begin old new keeps before =
+    let after = room_at item old new keeps in
+    record { count = after.count ∙ before.count; size = after.size ∙ before.size; free = after.free ∙ before.free }
 
 -- ---- on the way
 

@@ -41,3 +41,13 @@ pub mod EverywhereWalks
 pub mod EverywhereWrites
 pub mod EverywhereKept
 pub mod EverywhereCodes
+pub mod KeptIds
+pub mod NodeCounts
+pub mod OtherSegments
+pub mod ObjectMemory
+pub mod SetOrder
+pub mod ObjectWalks
+pub mod DisplaySteps
+pub mod SetRoom
+pub mod SetVerdicts
+pub mod SetsTaken

@@ -1,5 +1,6 @@
 -- The fault of an object in the regions of a page memory is that in the regions of the taken segments.
 use Rattle.std.proofs.Common.{◌≡◌, ◌∙◌, refl, sym, ap, ℕ, suc, ◌<◌, ◌≤◌, Bool, true, false, not, ◌&&◌, ◌||◌, cond, eqb, List, [], ◌∷◌, length, map, Contains, Option, Some, None, option_map, arith}
+use Rattle.std.specs.Prelude.{IfSome}
 use Rattle.std.specs.List.{list_any, range_with_len}
 use Rattle.std.proofs.lemmas.Bool.{eqb-true}
 use Rattle.std.proofs.lemmas.Bool.Decides.{nat_tests}
@@ -14,8 +15,9 @@ use Rattle.decoder_model.specs.declared.set_fault.SetFault.{SetFault}
 use Rattle.page_core.specs.Composition.{KeptRegion, region_in}
 use Rattle.page_core.specs.Listings.{is_due, IsPainter}
 use Rattle.page_core.specs.Memory.{Memory, Holds, head_of, kept_listing}
-use Rattle.page_core.specs.ObjectFaults.{least_of, in_region, fault_in_kept, AreById}
+use Rattle.page_core.specs.ObjectFaults.{least_of, in_region, fault_in_kept}
 use Rattle.page_core.specs.declared.composition.listings.Painter.{Painter}
+use Rattle.page_core.proofs.KeptIds.{ids_apart, found_by_id}
 use Rattle.page_core.proofs.ObjectRegions.{IsLeastOf, least_is, first_at, none_at}
 use Rattle.page_core.proofs.ObjectSteps.{due_is}
 use Rattle.page_core.proofs.RegionNodes.{found_there}
@@ -87,19 +89,19 @@ module _ (taken : Taken) (id : ℕ) (object : Object) (painter : Painter) (is : 
 
 -- ---- all regions
 
-module _ (segments : List Content) (memory : Memory) (holds : Holds segments memory) (by_id : AreById memory.composition) (content : Content) (object : Object) (painter : Painter) (is : IsPainter painter object) where
+module _ (segments : List Content) (memory : Memory) (holds : Holds segments memory) (content : Content) (object : Object) (painter : Painter) (is : IsPainter painter object) where
   region_of_kept : (kept : KeptRegion) → Contains memory.composition.regions kept → fault_in_kept painter content object kept
       ≡ option_map (in_region kept.head.region) (fault_in_region (taken_of segments) content object kept.head.region)
   region_of_kept kept there = by (taken_region kept.head.region (taken_of segments)) refl
     where
       found : region_in memory.composition kept.head.region ≡ Some kept
-      found = by_id.found kept there
+      found = found_by_id memory.composition.regions (ids_apart segments memory holds) kept there
 
       heads : Some kept.head ≡ option_map head_of (taken_region kept.head.region (taken_of segments))
-      heads = ap (option_map (λ (kept : KeptRegion). kept.head)) (sym (by_id.found kept there)) ∙ holds.heads kept.head.region
+      heads = ap (option_map (λ (kept : KeptRegion). kept.head)) (sym found) ∙ holds.heads kept.head.region
 
       listings : Some kept.listings ≡ option_map (λ (region : Region). map (kept_listing (taken_of segments) kept.head.region) region.listings) (taken_region kept.head.region (taken_of segments))
-      listings = ap (option_map (λ (kept : KeptRegion). kept.listings)) (sym (by_id.found kept there)) ∙ holds.listings kept.head.region
+      listings = ap (option_map (λ (kept : KeptRegion). kept.listings)) (sym found) ∙ holds.listings kept.head.region
 
       by : (region : Option Region) → taken_region kept.head.region (taken_of segments) ≡ region → fault_in_kept painter content object kept
           ≡ option_map (in_region kept.head.region) (fault_in_region (taken_of segments) content object kept.head.region)
@@ -140,14 +142,14 @@ module _ (segments : List Content) (memory : Memory) (holds : Holds segments mem
       )
 
   -- the fault in the region of the least id is the first one over all ids
-  below_count : (count : ℕ) → ((kept : KeptRegion) → Contains memory.composition.regions kept → kept.head.region < count)
+  below_count : (count : ℕ) → IfSome (least_of (fault_in_kept painter content object) memory.composition.regions) (λ found. found.0 < count)
       → option_map (λ (found : ℕ × SetFault). found.1) (least_of (fault_in_kept painter content object) memory.composition.regions)
       ≡ first_given (fault_in_region (taken_of segments) content object) (range_with_len 0 count)
-  below_count count bytes = by (least_of (fault_in_kept painter content object) memory.composition.regions) (least_is (fault_in_kept painter content object) memory.composition.regions)
+  below_count count low = by (least_of (fault_in_kept painter content object) memory.composition.regions) low (least_is (fault_in_kept painter content object) memory.composition.regions)
     where
-      by : (found : Option (ℕ × SetFault)) → IsLeastOf (fault_in_kept painter content object) memory.composition.regions found
+      by : (found : Option (ℕ × SetFault)) → IfSome found (λ found. found.0 < count) → IsLeastOf (fault_in_kept painter content object) memory.composition.regions found
           → option_map (λ (found : ℕ × SetFault). found.1) found ≡ first_given (fault_in_region (taken_of segments) content object) (range_with_len 0 count)
-      by None all = sym (none_at (fault_in_region (taken_of segments) content object) 0 count (λ id. nothing id (fault_in_region (taken_of segments) content object id) refl))
+      by None below all = sym (none_at (fault_in_region (taken_of segments) content object) 0 count (λ id. nothing id (fault_in_region (taken_of segments) content object id) refl))
         where
           nothing : (id : ℕ) (fault : Option SetFault) → fault_in_region (taken_of segments) content object id ≡ fault → fault_in_region (taken_of segments) content object id ≡ None
           nothing id None e = e
@@ -156,8 +158,8 @@ module _ (segments : List Content) (memory : Memory) (holds : Holds segments mem
               let no_one = all kept.0 kept.1 in
               let one = kept.2 in
               absurd (cc)
-      by (Some found) least =
-          sym (first_at (fault_in_region (taken_of segments) content object) 0 count found.0 found.1 (omega arith) (omega (arith, here.0, bytes least.item least.there)) earlier here.1)
+      by (Some found) below least =
+          sym (first_at (fault_in_region (taken_of segments) content object) 0 count found.0 found.1 (omega arith) (omega (arith, below)) earlier here.1)
         where
           at : (fault : Option SetFault) → fault_in_region (taken_of segments) content object least.item.head.region ≡ fault
               → (found.0 ≡ least.item.head.region) × (fault_in_region (taken_of segments) content object found.0 ≡ Some found.1)
@@ -183,6 +185,7 @@ module _ (segments : List Content) (memory : Memory) (holds : Holds segments mem
           earlier : (id : ℕ) → id < found.0 → fault_in_region (taken_of segments) content object id ≡ None
           earlier id before = none_yet id before (fault_in_region (taken_of segments) content object id) refl
 
-  pub object_fault_is : option_map (λ (found : ℕ × SetFault). found.1) (least_of (fault_in_kept painter content object) memory.composition.regions) ≡ fault_in_regions (taken_of segments) content object
+  pub object_fault_is : IfSome (least_of (fault_in_kept painter content object) memory.composition.regions) (λ found. found.0 < 256)
+      → option_map (λ (found : ℕ × SetFault). found.1) (least_of (fault_in_kept painter content object) memory.composition.regions) ≡ fault_in_regions (taken_of segments) content object
   unfolding all_region_ids
-  object_fault_is = below_count 256 by_id.bytes
+  object_fault_is byte = below_count 256 byte

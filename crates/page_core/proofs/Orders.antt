@@ -27,7 +27,7 @@ is_object content = is_some (object_of content)
 pub moved : (content : Content) (xs before : List Content) → reverse (content ∷ xs) ++ before ≡ reverse xs ++ content ∷ before
 moved content xs before = ap (λ ys. ys ++ before) (reverse-append (content ∷ []) xs) ∙ append_assoc (reverse xs) (content ∷ []) before
 
-or_assoc : {X : Type 0} (a b c : Option X) → option_or a (option_or b c) ≡ option_or (option_or a b) c
+pub or_assoc : {X : Type 0} (a b c : Option X) → option_or a (option_or b c) ≡ option_or (option_or a b) c
 or_assoc None b c = refl
 or_assoc (Some x) b c = refl
 

@@ -85,6 +85,15 @@ cleared_first old new list is count = record {
   free = ap (λ (pool : PoolOf Node). pool.free) is;
 }
 
+-- an empty list has no entries
+pub no_entries : (pool : PoolOf Node) → list_of pool 0 ≡ [] → HasEntries [] pool pool
+no_entries pool empty = record {
+  beside = record { lists = refl; others = λ k other. refl; count = refl };
+  kinds = subst (AreKind entry_in) (sym empty) (All-nil (λ (pair : NodeId × Node). is_some (entry_in pair.1) ≡ true));
+  are = ap (kept_in entry_in) empty;
+  free = omega arith;
+}
+
 -- as many entries as nodes, where all are entries
 pub entries_counted : (pairs : List (NodeId × Node)) → AreKind entry_in pairs → length (kept_in entry_in pairs) ≡ length pairs
 entries_counted [] all = refl

@@ -3,8 +3,9 @@ use Rattle.std.proofs.Common.{◌≡◌, ◌∙◌, ℕ, ◌||◌, Bool, true, f
 use Rattle.std.specs.Prelude.{filter_map}
 use Rattle.std.specs.List.{list_any, cons_option}
 use Rattle.std.specs.Option.{option_or, is_some}
-use Rattle.stream_syntax.specs.Segments.{SegmentValue, of_page, of_region, of_clut, of_object, of_display, end_of_set, passed_over, Page, Region}
-use Rattle.decoder_model.specs.Contents.{page_in, page_of, region_in, region_named, page_in_set}
+use Rattle.sub_base.specs.Lists.{first_given}
+use Rattle.stream_syntax.specs.Segments.{SegmentValue, of_page, of_region, of_clut, of_object, of_display, end_of_set, passed_over, Page, Display, Region}
+use Rattle.decoder_model.specs.Contents.{page_in, page_of, display_in, display_of, region_in, region_named}
 use Rattle.decoder_model.specs.Faults.{contents_in, fault_of_segment, segment_fault, twice_among}
 use Rattle.decoder_model.specs.Readings.{Content, Reading, read, faulty}
 use Rattle.decoder_model.specs.Received.{AreRead}
@@ -70,7 +71,48 @@ apart_behind before (read content ∷ left) none =
         subst (λ b. AreApart mid (cond b (content ∷ after) after)) (sym is) (subst (λ b. AreApart (cond b (content ∷ mid) mid) after) is rest)
 apart_behind before (faulty fault ∷ left) none = absurd (no_fault (Segment fault) (neither (fault_of_segment before (faulty fault)) (fault_behind (faulty fault ∷ before) left) none).0)
 
--- ---- pages
+-- ---- kinds of which a set has one
+
+module _ {X : Type 0} (of_kind : Content → Option X)
+    (once : (before : List Content) (content : Content) (x : X) → of_kind content ≡ Some x → twice_among before content.value ≡ None → list_any (λ content. is_some (of_kind content)) before ≡ false) where
+  has_one : List Content → Bool
+  has_one before = list_any (λ content. is_some (of_kind content)) before
+
+  -- behind one there is none
+  no_second : (before left : List Reading) → has_one (contents_in before) ≡ true → fault_behind before left ≡ None → filter_map of_kind (contents_in left) ≡ []
+  unfolding has_one
+  no_second before [] has none = refl
+  no_second before (read content ∷ left) has none =
+      let parts = neither (fault_of_segment before (read content)) (fault_behind (read content ∷ before) left) none in
+      by (of_kind content) refl (no_second (read content ∷ before) left (either (is_some (of_kind content)) (has_one (contents_in before)) has) parts.1) parts.0
+    where
+      either : (a b : Bool) → b ≡ true → (a || b) ≡ true
+      either true b is = refl
+      either false b is = is
+
+      by : (found : Option X) → of_kind content ≡ found → filter_map of_kind (contents_in left) ≡ [] → twice_among (contents_in before) content.value ≡ None → cons_option (of_kind content) (filter_map of_kind (contents_in left)) ≡ []
+      by None is rest free = ap (λ (o : Option X). cons_option o (filter_map of_kind (contents_in left))) is ∙ rest
+      by (Some x) is rest free = absurd (let twice = once (contents_in before) content x is free in let e : true ≡ false = sym has ∙ twice in cc)
+  no_second before (faulty fault ∷ left) has none = absurd (no_fault (Segment fault) (neither (fault_of_segment before (faulty fault)) (fault_behind (faulty fault ∷ before) left) none).0)
+
+  one_behind : (before left : List Reading) (x : X) → fault_behind before left ≡ None → first_given of_kind (contents_in left) ≡ Some x → filter_map of_kind (contents_in left) ≡ x ∷ []
+  unfolding has_one
+  one_behind before [] x none first = absurd (cc)
+  one_behind before (read content ∷ left) x none first =
+      let parts = neither (fault_of_segment before (read content)) (fault_behind (read content ∷ before) left) none in
+      by (of_kind content) refl (λ has. no_second (read content ∷ before) left (ap (λ b. b || has_one (contents_in before)) has) parts.1) (λ later. one_behind (read content ∷ before) left x parts.1 later) first
+    where
+      by : (found : Option X) → of_kind content ≡ found → (is_some (of_kind content) ≡ true → filter_map of_kind (contents_in left) ≡ [])
+          → (first_given of_kind (contents_in left) ≡ Some x → filter_map of_kind (contents_in left) ≡ x ∷ []) → option_or (of_kind content) (first_given of_kind (contents_in left)) ≡ Some x
+          → cons_option (of_kind content) (filter_map of_kind (contents_in left)) ≡ x ∷ []
+      by None is none_left more all =
+          ap (λ (o : Option X). cons_option o (filter_map of_kind (contents_in left))) is ∙ more (sym (ap (λ (o : Option X). option_or o (first_given of_kind (contents_in left))) is) ∙ all)
+      by (Some here) is none_left more all =
+          let same : Some here ≡ Some x = sym (ap (λ (o : Option X). option_or o (first_given of_kind (contents_in left))) is) ∙ all in
+          ap (λ (o : Option X). cons_option o (filter_map of_kind (contents_in left))) (is ∙ same) ∙ ap (λ (rest : List X). x ∷ rest) (none_left (ap is_some is))
+  one_behind before (faulty fault ∷ left) x none first = absurd (no_fault (Segment fault) (neither (fault_of_segment before (faulty fault)) (fault_behind (faulty fault ∷ before) left) none).0)
+
+-- ---- pages and displays
 
 page_is : (value : SegmentValue) (page : Page) → page_in value ≡ Some page → value ≡ of_page page
 page_is (of_page v) page is = ap of_page (let same : v ≡ page = cc in same)
@@ -81,43 +123,23 @@ page_is (of_display v) page is = absurd (cc)
 page_is end_of_set page is = absurd (cc)
 page_is passed_over page is = absurd (cc)
 
-has_page : List Content → Bool
-has_page before = list_any (λ content. is_some (page_of content)) before
+display_is : (value : SegmentValue) (display : Display) → display_in value ≡ Some display → value ≡ of_display display
+display_is (of_page v) display is = absurd (cc)
+display_is (of_region v) display is = absurd (cc)
+display_is (of_clut v) display is = absurd (cc)
+display_is (of_object v) display is = absurd (cc)
+display_is (of_display v) display is = ap of_display (let same : v ≡ display = cc in same)
+display_is end_of_set display is = absurd (cc)
+display_is passed_over display is = absurd (cc)
 
--- behind a page there is none
-no_second : (before left : List Reading) → has_page (contents_in before) ≡ true → fault_behind before left ≡ None → filter_map page_of (contents_in left) ≡ []
-unfolding has_page
-no_second before [] has none = refl
-no_second before (read content ∷ left) has none =
-    let parts = neither (fault_of_segment before (read content)) (fault_behind (read content ∷ before) left) none in
-    by (page_in content.value) refl (no_second (read content ∷ before) left (either (is_some (page_of content)) (has_page (contents_in before)) has) parts.1) parts.0
-  where
-    either : (a b : Bool) → b ≡ true → (a || b) ≡ true
-    either true b is = refl
-    either false b is = is
+page_once : (before : List Content) (content : Content) (page : Page) → page_of content ≡ Some page → twice_among before content.value ≡ None → list_any (λ content. is_some (page_of content)) before ≡ false
+page_once before content page is free =
+    none_twice (list_any (λ content. is_some (page_of content)) before) (TwiceInSet 0x10 0) (ap (twice_among before) (sym (page_is content.value page is)) ∙ free)
 
-    by : (found : Option Page) → page_in content.value ≡ found → filter_map page_of (contents_in left) ≡ [] → twice_among (contents_in before) content.value ≡ None → cons_option (page_of content) (filter_map page_of (contents_in left)) ≡ []
-    by None is rest free = ap (λ (o : Option Page). cons_option o (filter_map page_of (contents_in left))) is ∙ rest
-    by (Some page) is rest free =
-        absurd (let twice : has_page (contents_in before) ≡ false = none_twice (has_page (contents_in before)) (TwiceInSet 0x10 0) (ap (twice_among (contents_in before)) (sym (page_is content.value page is)) ∙ free) in let e = sym has ∙ twice in cc)
-no_second before (faulty fault ∷ left) has none = absurd (no_fault (Segment fault) (neither (fault_of_segment before (faulty fault)) (fault_behind (faulty fault ∷ before) left) none).0)
-
-one_behind : (before left : List Reading) (page : Page) → fault_behind before left ≡ None → page_in_set (contents_in left) ≡ Some page → filter_map page_of (contents_in left) ≡ page ∷ []
-unfolding has_page
-one_behind before [] page none first = absurd (cc)
-one_behind before (read content ∷ left) page none first =
-    let parts = neither (fault_of_segment before (read content)) (fault_behind (read content ∷ before) left) none in
-    by (page_in content.value) refl (λ has. no_second (read content ∷ before) left (ap (λ b. b || has_page (contents_in before)) has) parts.1) (λ later. one_behind (read content ∷ before) left page parts.1 later) first
-  where
-    by : (found : Option Page) → page_in content.value ≡ found → (is_some (page_of content) ≡ true → filter_map page_of (contents_in left) ≡ [])
-        → (page_in_set (contents_in left) ≡ Some page → filter_map page_of (contents_in left) ≡ page ∷ []) → option_or (page_of content) (page_in_set (contents_in left)) ≡ Some page
-        → cons_option (page_of content) (filter_map page_of (contents_in left)) ≡ page ∷ []
-    by None is none_left more all =
-        ap (λ (o : Option Page). cons_option o (filter_map page_of (contents_in left))) is ∙ more (sym (ap (λ (o : Option Page). option_or o (page_in_set (contents_in left))) is) ∙ all)
-    by (Some here) is none_left more all =
-        let same : Some here ≡ Some page = sym (ap (λ (o : Option Page). option_or o (page_in_set (contents_in left))) is) ∙ all in
-        ap (λ (o : Option Page). cons_option o (filter_map page_of (contents_in left))) (is ∙ same) ∙ ap (λ (rest : List Page). page ∷ rest) (none_left (ap is_some is))
-one_behind before (faulty fault ∷ left) page none first = absurd (no_fault (Segment fault) (neither (fault_of_segment before (faulty fault)) (fault_behind (faulty fault ∷ before) left) none).0)
+display_once : (before : List Content) (content : Content) (display : Display) → display_of content ≡ Some display → twice_among before content.value ≡ None
+    → list_any (λ content. is_some (display_of content)) before ≡ false
+display_once before content display is free =
+    none_twice (list_any (λ content. is_some (display_of content)) before) (TwiceInSet 0x14 0) (ap (twice_among before) (sym (display_is content.value display is)) ∙ free)
 
 -- ---- all of it
 
@@ -125,5 +147,6 @@ pub sound : (readings : List Reading) (bytes : List ℕ) → segment_fault readi
 sound readings bytes none are = record {
   contents = subst (λ (all : List Reading). AreRead all bytes) (read_behind [] readings none) are;
   apart = apart_behind [] readings none;
-  one_page = λ page is. one_behind [] readings page none is;
+  one_page = λ page is. one_behind page_of page_once [] readings page none is;
+  one_display = λ display is. one_behind display_of display_once [] readings display none is;
 }

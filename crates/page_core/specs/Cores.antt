@@ -6,7 +6,7 @@ use Rattle.pixel_store.specs.Regions.{Regions}
 use Rattle.segments.specs.Contents.{display_value}
 use Rattle.segments.specs.declared.display.DisplaySeg.{DisplaySeg}
 use Rattle.page_core.specs.Composition.{Composition}
-use Rattle.page_core.specs.Memory.{Memory, IsWhole}
+use Rattle.page_core.specs.Memory.{Memory, IsDisplayOf, IsWhole}
 
 -- the memory of a core
 abbrev pub memory_of : Profile → ℕ → ℕ → Option ℕ → Bool → ℕ → DisplaySeg → Composition → List Colour → Regions → Memory
@@ -23,8 +23,9 @@ memory_of profile page anchor last known time_out display composition inks store
   store = store;
 }
 
--- what a core keeps to: its memory is whole, and its times are below the ends that are set to them
+-- what a core keeps to: its memory is whole, its times are below the ends that are set to them, and its display is one of the profile
 pub record IsCore (memory : Memory) : Type 0 where
   pub whole : IsWhole memory
   pub anchored : memory.anchor < 2 ^ 34
   pub timed : IfSome memory.last (λ time. time < 2 ^ 62)
+  pub display : IsDisplayOf memory.profile memory.display

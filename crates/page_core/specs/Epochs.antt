@@ -1,7 +1,7 @@
 -- How a set stands to the epoch before it (EN 300 743, clauses 5.1 and 7.2.2, page_state).
 use Rattle.std.specs.Prelude.{◌≡◌, List, [], ◌∷◌, filter_map, Some, None}
-use Rattle.stream_syntax.specs.Segments.{Page}
-use Rattle.decoder_model.specs.Contents.{page_of}
+use Rattle.stream_syntax.specs.Segments.{Page, Display}
+use Rattle.decoder_model.specs.Contents.{page_of, display_of}
 use Rattle.decoder_model.specs.Kept.{epoch_of}
 use Rattle.decoder_model.specs.Readings.{Content}
 use Rattle.page_core.specs.declared.epoch.Start.{Start}
@@ -16,3 +16,7 @@ IsStart sets set start.Waits = epoch_of (set ∷ sets) ≡ None
 -- a set has no other page
 abbrev pub HasOnePage : List Content → Page → Type 0
 HasOnePage set page = filter_map page_of set ≡ page ∷ []
+
+-- and no other display
+abbrev pub HasOneDisplay : List Content → Display → Type 0
+HasOneDisplay set display = filter_map display_of set ≡ display ∷ []

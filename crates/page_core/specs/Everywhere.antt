@@ -105,6 +105,12 @@ AreWritten painter content pool (region ∷ regions) old new =
 abbrev pub HaveRegions : PoolOf Node → Regions → Type 0
 HaveRegions pool store = (pair : NodeId × Node) → Contains (list_of pool 1) pair → HasRegionAt pair.1 store
 
+-- a store has as many bytes, as many of them free, and as many regions
+pub record KeepsRoom (old new : Regions) : Type 0 where
+  pub count : length new.regions ≡ length old.regions
+  pub size : new.size ≡ old.size
+  pub free : new.free ≡ old.free
+
 -- no two regions that are kept have one id
 abbrev pub AreIdsApart : List KeptRegion → Type 0
 AreIdsApart [] = Unit {0}

@@ -1,5 +1,6 @@
 -- The bytes of a set as a core is handed them: whole segments, one behind the other.
-use Rattle.std.specs.Prelude.{◌≡◌, List, map, Result, Ok, Err, ℕ}
+use Rattle.std.specs.Prelude.{◌≡◌, ◌≤◌, List, length, map, Result, Ok, Err, ℕ}
+use Rattle.stream_syntax.specs.Segments.{SegmentValue, of_page, of_region, of_clut, of_object, of_display, end_of_set, passed_over}
 use Rattle.stream_syntax.specs.declared.segment_fault.SegmentFault.{SegmentFault}
 use Rattle.decoder_model.specs.Readings.{Content, Reading, read, faulty, IsReading}
 use Rattle.decoder_model.specs.Received.{AreRead}
@@ -24,3 +25,13 @@ pub record IsCutOff (reading : Reading) (rest : List ℕ) (front : Front) : Type
   pub is_reading : IsReading front.segment.now reading
   pub kind : front.kind ≡ byte_at 1 front.segment.now
   pub behind : front.rest.now ≡ rest
+
+-- the blocks of an object's two fields have lengths of 16 bits (7.2.5, top and bottom field data block length)
+abbrev pub HasFieldSizes : SegmentValue → Type 0
+HasFieldSizes (of_page value) = Unit {0}
+HasFieldSizes (of_region value) = Unit {0}
+HasFieldSizes (of_clut value) = Unit {0}
+HasFieldSizes (of_object value) = (length value.top ≤ 65535) × (length value.bottom ≤ 65535)
+HasFieldSizes (of_display value) = Unit {0}
+HasFieldSizes end_of_set = Unit {0}
+HasFieldSizes passed_over = Unit {0}

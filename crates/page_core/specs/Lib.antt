@@ -23,3 +23,7 @@ pub mod Everywhere
 pub mod Scenes
 pub mod PageEntries
 pub mod Accepted
+pub mod SetSteps
+pub mod ClutSteps
+pub mod RegionSteps
+pub mod Losses

@@ -1,6 +1,6 @@
 -- What a receiver keeps of the display sets and losses that it was handed, and what that has to do with them (EN 300 743, clauses
 -- 5.1 and 5.2).
-use Rattle.std.specs.Prelude.{◌≡◌, ℕ, ◌+◌, ◌*◌, ◌<◌, Bool, false, List, [], ◌∷◌, length, map, reverse, slice_index_or, Option, Some, None, option_map, unwrap_or, All}
+use Rattle.std.specs.Prelude.{◌≡◌, ℕ, ◌+◌, ◌*◌, ◌<◌, ◌≤◌, ◌⊎◌, Bool, false, List, [], ◌∷◌, length, map, reverse, slice_index_or, Option, Some, None, option_map, unwrap_or, All}
 use Rattle.std.specs.List.{list_any, range_with_len}
 use Rattle.std.specs.Option.{is_some}
 use Rattle.sub_base.specs.Colour.{clear, default_of}
@@ -119,6 +119,10 @@ pub record IsSameReceiver (old new : Memory) : Type 0 where
   pub profile : new.profile ≡ old.profile
   pub page : new.page ≡ old.page
   pub anchor : new.anchor ≡ old.anchor
+
+-- the profile holds the display, or it is the one where none is defined
+abbrev pub IsDisplayOf : Profile → Display → Type 0
+IsDisplayOf profile display = ((display.width ≤ profile.width) × (display.height ≤ profile.height)) ⊎ (display ≡ display_or_default None)
 
 -- no epoch is known; all nodes and all bytes of pixels are free, and all colours are the default ones
 pub record IsForgotten (memory : Memory) : Type 0 where

@@ -1,5 +1,5 @@
 -- The fault of an object in the regions in which it paints: that of the region of the least id.
-use Rattle.std.specs.Prelude.{◌≡◌, ℕ, ◌<◌, Bool, false, nat_lt, if◌then◌else◌, List, [], ◌∷◌, Option, Some, None, option_map, Contains}
+use Rattle.std.specs.Prelude.{ℕ, Bool, false, nat_lt, if◌then◌else◌, List, [], ◌∷◌, Option, Some, None, option_map}
 use Rattle.std.specs.List.{list_any}
 use Rattle.stream_syntax.specs.Segments.{Object}
 use Rattle.comp_pool.specs.Pool.{PoolOf, list_of}
@@ -8,7 +8,7 @@ use Rattle.decoder_model.specs.Faults.{depth_fault}
 use Rattle.decoder_model.specs.Readings.{Content}
 use Rattle.decoder_model.specs.declared.set_fault.SetFault.{SetFault}
 use Rattle.decoder_model.specs.declared.set_fault.SetFault.TheVariants as fault
-use Rattle.page_core.specs.Composition.{Composition, KeptRegion, region_in}
+use Rattle.page_core.specs.Composition.{KeptRegion}
 use Rattle.page_core.specs.Listings.{is_due, due_node}
 use Rattle.page_core.specs.Nodes.{listings_list}
 use Rattle.page_core.specs.declared.composition.listings.Painter.{Painter}
@@ -69,10 +69,3 @@ fault_in_pair pool painter content object pair = fault_in_node pool painter cont
 -- what a value of the program tells
 abbrev pub told : RegionFault → ℕ × SetFault
 told found = (found.region, fault.Segment found.fault)
-
--- ---- regions and ids
-
--- each region that is kept is found by its id, which is a byte
-pub record AreById (composition : Composition) : Type 0 where
-  pub found : (kept : KeptRegion) → Contains composition.regions kept → region_in composition kept.head.region ≡ Some kept
-  pub bytes : (kept : KeptRegion) → Contains composition.regions kept → kept.head.region < 256

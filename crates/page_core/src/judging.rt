@@ -1,6 +1,6 @@
 //! The tests of a set by its epoch, in the order of the standard (EN 300 743, clauses 5.1, 5.2 and 7.2).
 
-ghost use Rattle.std.specs.Prelude.{◌-◌, ◌≡◌, ◌++◌, List, option_and_then, option_map, reverse, slice_index_or, false, ◌<◌};
+ghost use Rattle.std.specs.Prelude.{◌-◌, ◌≡◌, ◌++◌, List, None, option_and_then, option_map, reverse, slice_index_or, false, ◌<◌};
 ghost use Rattle.std.specs.Option.{is_none};
 ghost use Rattle.decoder_model.specs.Contents.{in_order};
 ghost use Rattle.decoder_model.specs.Faults.{display_fault as fault_of_display, page_fault as fault_of_page};
@@ -31,11 +31,12 @@ pub(crate) fn fault_before_nodes(
     page: &PageSeg<'_>,
     bytes: &[u8],
 ) -> Option<SetFault>
-    ensures { (set : List Content) (before : List (List Content))
+    ensures fault { (set : List Content) (before : List (List Content))
         → free ≡ profile.now.pixels - pixels_used (taken_of (segments_of before))
         → HasHeads (segments_of before) composition.now
         → IsFound set found.now → IsSound set bytes.now
         → result ≡ first_of_tests profile.now before set (page_value page.now) }
+    ensures display { result ≡ None → option_and_then (fault_of_display profile.now) (option_map display_value found.now.display) ≡ None }
 {
     if let Some(fault) = display_fault(profile, found.display) {
         return Some(fault);

@@ -1,7 +1,7 @@
 //! The page memory of a receiver, and what becomes of the sets that it is handed.
 
-ghost use Rattle.std.specs.Prelude.{unwrap_or, ◌≡◌, ◌<◌, ◌^◌, ◌∷◌, [], List, ℕ, Some, None, IfOk, IfSome};
-ghost use Rattle.decoder_model.specs.Faults.{display_or_default};
+ghost use Rattle.std.specs.Prelude.{unwrap_or, ◌≡◌, ◌<◌, ◌^◌, ◌∷◌, [], List, ℕ, Some, None, IfErr, IfOk, IfSome, OnErr, option_and_then, option_map};
+ghost use Rattle.decoder_model.specs.Faults.{display_fault as fault_of_display, display_or_default};
 ghost use Rattle.decoder_model.specs.Free.{free_nodes_after, free_pixels_after};
 ghost use Rattle.decoder_model.specs.Kept.{lifted_time};
 ghost use Rattle.decoder_model.specs.Readings.{Content, Reading};
@@ -17,9 +17,13 @@ ghost use Rattle.page_core.specs.Seen.{IsFound};
 ghost use Rattle.page_core.specs.Sound.{IsSound};
 ghost use Rattle.page_core.specs.Accepted.{IsBefore, IsBegun, IsEarly, IsTakenEarly};
 ghost use Rattle.page_core.specs.Epochs.{IsStart};
+ghost use Rattle.page_core.specs.declared.epoch.Start.TheVariants.{Waits};
 ghost use Rattle.page_core.specs.Memory.{Stands, IsForgotten, IsSameReceiver, Forgets};
 
+mod objects;
 mod scene;
+mod sets;
+mod stubs;
 
 use crate::composition::CompositionMemory;
 use crate::epoch::Start;
@@ -172,6 +176,9 @@ impl Core {
         ensures taken { (past : List (Delivery Reading)) (pts size : ℕ) (readings : List Reading) → Stands past self.old
             → lifted_time self.old.anchor past (whole pts size readings) ≡ Some time → AreRead readings bytes.now
             → IsTakenEarly self.old past pts size readings bytes.now self.new result }
+        ensures start { IfOk result (λ accepted. accepted.start ≡ Waits → ⊥) }
+        ensures early { IfErr result IsEarly }
+        ensures forgotten { OnErr result (IsForgotten self.new) }
         ensures last { self.new.last ≡ Some time }
         ensures same { IsSameReceiver self.old self.new }
     {
@@ -189,8 +196,10 @@ impl Core {
 
     // The first fault of a set by its epoch, up to the count of nodes.
     fn fault_by_epoch(&self, accepted: &Accepted<'_>, bytes: &[u8]) -> Option<SetFault>
-        ensures { (set : List Content) (before : List (List Content)) → IsBefore before self.now → IsFound set accepted.now.found → IsSound set bytes.now
+        ensures fault { (set : List Content) (before : List (List Content)) → IsBefore before self.now → IsFound set accepted.now.found → IsSound set bytes.now
             → result ≡ first_of_tests self.now.profile before set (page_value accepted.now.page) }
+        ensures display { result ≡ None
+            → option_and_then (fault_of_display self.now.profile) (option_map display_value accepted.now.found.display) ≡ None }
     {
         let free = self.store.free();
         fault_before_nodes(

@@ -1,12 +1,13 @@
 //! What becomes of a set that is kept.
 
-ghost use Rattle.std.specs.Prelude.{◌≡◌, IfErr, List};
+ghost use Rattle.std.specs.Prelude.{◌≡◌, IfErr, IfOk, List};
 ghost use Rattle.std.specs.Option.{is_some};
 ghost use Rattle.sub_base.specs.declared.profile.Profile.{Profile};
 ghost use Rattle.decoder_model.specs.Kept.{epoch_of};
 ghost use Rattle.decoder_model.specs.Readings.{Content, Reading};
 ghost use Rattle.decoder_model.specs.Received.{AreRead};
 ghost use Rattle.page_core.specs.Accepted.{IsAccepted, IsEarly};
+ghost use Rattle.page_core.specs.declared.epoch.Start.TheVariants.{Waits};
 
 use crate::epoch::{Start, start_of};
 use crate::seen::{Found, scan};
@@ -27,6 +28,7 @@ pub(crate) fn accept(known: bool, bytes: &[u8]) -> Result<Accepted<'_>, SetEnd>
         → known ≡ is_some (epoch_of sets) → AreRead readings bytes.now
         → IsAccepted profile sets readings bytes.now result }
     ensures early { IfErr result IsEarly }
+    ensures start { IfOk result (λ accepted. accepted.start ≡ Waits → ⊥) }
 {
     let found = match scan(bytes) {
         Ok(found) => found,

@@ -5,7 +5,7 @@ ghost use Rattle.std.specs.Prelude.{◌≡◌, ◌<◌, [], List, IfSome, MatchO
 ghost use Rattle.stream_syntax.specs.Segments.{IsPassedOver, of_clut, of_object, of_region};
 ghost use Rattle.decoder_model.specs.Readings.{Content};
 ghost use Rattle.segments.specs.Contents.{clut_value, contents, object_value, region_value};
-ghost use Rattle.page_core.specs.Handed.{AreContents};
+ghost use Rattle.page_core.specs.Handed.{AreContents, HasFieldSizes};
 ghost use Rattle.page_core.specs.Walks.{IsNextOf, is_clut, is_content_of, is_object, is_region};
 
 use crate::front::{cut_front, read_one};
@@ -26,6 +26,7 @@ fn next_of(bytes: &[u8], kind: u8) -> Option<Next<'_, Segment<'_>>>
         → MatchOption result (filter (is_content_of kind) set ≡ [])
         (λ next. IsNextOf (is_content_of kind) set (contents next.segment) next.rest.now) }
     ensures shorter { IfSome result (λ next. length next.rest.now < length bytes.now) }
+    ensures fields { IfSome result (λ next. HasFieldSizes (contents next.segment)) }
 {
     let mut rest = bytes;
     while let Some(front) = cut_front(rest) {
@@ -80,6 +81,7 @@ pub(crate) fn next_object(bytes: &[u8]) -> Option<Next<'_, ObjectSeg<'_>>>
     ensures next { (set : List Content) → AreContents set bytes.now → MatchOption result (filter is_object set ≡ [])
         (λ next. IsNextOf is_object set (of_object (object_value next.segment)) next.rest.now) }
     ensures shorter { IfSome result (λ next. length next.rest.now < length bytes.now) }
+    ensures fields { IfSome result (λ next. HasFieldSizes (of_object (object_value next.segment))) }
 {
     let next = next_of(bytes, OBJECT_DATA)?;
     match next.segment {

@@ -10,8 +10,8 @@ ghost use Rattle.pixel_store.specs.Regions.{KeepsOthers};
 ghost use Rattle.segments.specs.Contents.{object_value};
 ghost use Rattle.stream_syntax.specs.Segments.{of_object};
 ghost use Rattle.page_core.specs.Composition.{KeptRegion};
-ghost use Rattle.page_core.specs.Everywhere.{AreApart, AreIdsApart, AreKeptWritten, AreWritten, HasNoFault, HasNoFaults, HasRegionAt, HaveRegions, IsEverywhere, IsPaintedAt, KeepsAt, IsWrittenAt, IsWrittenIn, with_all_painted};
-ghost use Rattle.page_core.specs.Listings.{code_by_pair, painted_node};
+ghost use Rattle.page_core.specs.Everywhere.{AreApart, AreIdsApart, AreKeptWritten, AreWritten, HasNoFault, HasNoFaults, HasRegionAt, HaveRegions, IsEverywhere, IsPaintedAt, KeepsAt, KeepsRoom, IsWrittenAt, IsWrittenIn, with_all_painted};
+ghost use Rattle.page_core.specs.Listings.{code_by_pair, painted_node, painter_of};
 ghost use Rattle.page_core.specs.Lists.{IsRewritten};
 ghost use Rattle.page_core.specs.Nodes.{kept_in, list_count, listings_list, region_node};
 ghost use Rattle.page_core.specs.ObjectFaults.{fault_in_kept, least_of};
@@ -19,6 +19,7 @@ ghost use Rattle.page_core.specs.Painted.{HasRegion, IsWritten, field_runs};
 
 use crate::composition::CompositionMemory;
 use crate::composition::listings::{Painter, listings_of, paint_list};
+use crate::composition::objects::painter;
 use crate::node::{Node, RegionNode};
 use crate::painting_objects::fields_for;
 use comp_pool::Pool;
@@ -31,22 +32,18 @@ const REGIONS: u32 = 1;
 impl CompositionMemory {
     /// Paints the object through all listings that it paints, region by region, and keeps its version for them. It writes nothing to a
     /// region in which it is refused.
-    pub(crate) fn paint_everywhere(
-        &mut self,
-        painter: Painter,
-        object: &ObjectSeg<'_>,
-        store: &mut Store,
-    )
+    pub(crate) fn paint_everywhere(&mut self, object: &ObjectSeg<'_>, store: &mut Store)
         requires regions { All (λ (kept : KeptRegion). HasRegion kept.head kept.slot store.old) self.old.regions }
         requires top { length object.now.top.now ≤ 65535 }
         requires bottom { length object.now.bottom.now ≤ 65535 }
-        ensures composition { self.new ≡ with_all_painted painter self.old }
+        ensures composition { self.new ≡ with_all_painted (painter_of object.now) self.old }
         ensures regions { All (λ (kept : KeptRegion). HasRegion kept.head kept.slot store.new) self.old.regions }
+        ensures room { KeepsRoom store.old store.new }
         ensures written { (content : Content) → AreFields (of_object (object_value object.now)) content.top content.bottom
-            → least_of (fault_in_kept painter content (object_value object.now)) self.old.regions ≡ None → AreIdsApart self.old.regions
-            → AreKeptWritten painter content self.old.regions store.old store.new }
+            → least_of (fault_in_kept (painter_of object.now) content (object_value object.now)) self.old.regions ≡ None → AreIdsApart self.old.regions
+            → AreKeptWritten (painter_of object.now) content self.old.regions store.old store.new }
     {
-        paint_regions(&mut self.pool, painter, object, store);
+        paint_regions(&mut self.pool, painter(object), object, store);
     }
 }
 
@@ -58,6 +55,7 @@ fn paint_regions(pool: &mut Pool<Node>, painter: Painter, object: &ObjectSeg<'_>
     requires bottom { length object.now.bottom.now ≤ 65535 }
     ensures nodes { IsEverywhere painter pool.old pool.new }
     ensures regions { HaveRegions pool.old store.new }
+    ensures room { KeepsRoom store.old store.new }
     ensures written { (content : Content) → AreFields (of_object (object_value object.now)) content.top content.bottom
         → HasNoFaults painter content (object_value object.now) pool.old → AreApart pool.old
         → AreWritten painter content pool.old (kept_in region_node (list_of pool.old 1)) store.old store.new }

@@ -1,6 +1,6 @@
 //! The regions in which an object paints, and its fault in them (EN 300 743, clause 7.2.5).
 
-ghost use Rattle.std.specs.Prelude.{◌≡◌, ◌<◌, ◌≤◌, length, option_map};
+ghost use Rattle.std.specs.Prelude.{◌≡◌, ◌<◌, ◌≤◌, IfSome, length, option_map};
 ghost use Rattle.std.specs.List.{list_any};
 ghost use Rattle.comp_pool.specs.Pool.{list_of};
 ghost use Rattle.decoder_model.specs.Readings.{Content, AreFields};
@@ -35,16 +35,27 @@ impl CompositionMemory {
     pub(crate) fn object_fault(&self, object: &ObjectSeg<'_>) -> Option<SegmentFault>
         requires top { length object.now.top.now ≤ 65535 }
         requires bottom { length object.now.bottom.now ≤ 65535 }
-        ensures { (content : Content) → AreFields (of_object (object_value object.now)) content.top content.bottom
+        ensures fault { (content : Content) → AreFields (of_object (object_value object.now)) content.top content.bottom
             → option_map SetFault.Segment result ≡ option_map (λ found. found.1) (least_of (fault_in_kept (painter_of object.now) content (object_value object.now)) self.now.regions) }
+        ensures byte { (content : Content) → AreFields (of_object (object_value object.now)) content.top content.bottom
+            → IfSome (least_of (fault_in_kept (painter_of object.now) content (object_value object.now)) self.now.regions) (λ found. found.0 < 256) }
     {
         let found = least_fault(&self.pool, painter(object), object)?;
-        Some(found.fault)
+        Some(fault_at(found.region, found.fault))
     }
 }
 
+/// The fault in the region of an id; that the id is a byte is what contracts want of it.
+fn fault_at(region: u8, fault: SegmentFault) -> SegmentFault
+    ensures fault { result ≡ fault }
+    ensures byte { region < 256 }
+{
+    let _ = region;
+    fault
+}
+
 /// By what an object is painted.
-fn painter(object: &ObjectSeg<'_>) -> Painter
+pub(crate) fn painter(object: &ObjectSeg<'_>) -> Painter
     ensures { result ≡ painter_of object.now }
 {
     Painter {

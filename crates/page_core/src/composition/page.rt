@@ -23,6 +23,13 @@ impl CompositionMemory {
         self.pool.clear(ENTRIES);
         push_entries(&mut self.pool, page);
     }
+
+    /// Takes the entries of the page out.
+    pub fn clear_entries(&mut self)
+        ensures { self.new ≡ with_entries [] self.old }
+    {
+        self.pool.clear(ENTRIES);
+    }
 }
 
 // Puts the entries of a page into their list, which is empty.

@@ -2,7 +2,7 @@ ghost use Rattle.std.specs.Prelude.{◌≡◌, ◌<◌, ℕ, List, Some, true, l
 ghost use Rattle.decoder_model.specs.Readings.{Reading};
 ghost use Rattle.decoder_model.specs.Sets.{Delivery};
 ghost use Rattle.decoder_model.specs.Shown.{Standing, standing_after};
-ghost use Rattle.page_core.specs.Memory.{Stands};
+ghost use Rattle.page_core.specs.Memory.{IsDisplayOf, Stands};
 ghost use Rattle.page_core.specs.Rows.{IsLineLent, listed_in, row_in};
 ghost use Rattle.page_core.specs.Scenes.{Shows, until_in};
 
@@ -33,6 +33,7 @@ impl Core {
     pub fn scene(&self) -> Scene<'_>
         requires { self.now.known ≡ true }
         ensures same { result ≡ self.now }
+        ensures display { IsDisplayOf self.now.profile self.now.display }
         ensures shown { (past : List (Delivery Reading)) → Stands past self.now
             → (standing : Standing) × (standing_after self.now.profile self.now.anchor past ≡ Some standing) × Shows standing self.now }
     {

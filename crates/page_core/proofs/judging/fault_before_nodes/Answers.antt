@@ -8,8 +8,8 @@ use Rattle.segments.specs.Contents.{display_value, page_value}
 use Rattle.page_core.proofs.TestsInOrder.{knows_by_heads, display_is, page_is, second_is, third_is, last_is}
 use Rattle.page_core.proofs.judging.fault_before_nodes.Goals as goal
 
-pub returns-in-Some-page_fault : goal.returns-in-Some-page_fault
-returns-in-Some-page_fault c set before free heads found sound =
+pub returns-in-Some-page_fault-clause-fault : goal.returns-in-Some-page_fault-clause-fault
+returns-in-Some-page_fault-clause-fault c set before free heads found sound =
     let older = segments_of before in
     let knows = knows_by_heads older c.args.composition.now heads in
     sym (second_is (option_and_then (display_fault c.args.profile.now) (display_in_set set)) (page_fault (segments_of (set ∷ before)) (page_value c.args.page.now))
@@ -17,8 +17,8 @@ returns-in-Some-page_fault c set before free heads found sound =
     (display_is c.args.profile.now set (option_map display_value c.args.found.now.display) None found.display c.in_default.ensures)
     (page_is set before (page_value c.args.page.now) (Some c.in-Some-page_fault.fault) (c.in-Some-page_fault.ensures set older knows found.regions)))
 
-pub returns-in-Some-changed_region : goal.returns-in-Some-changed_region
-returns-in-Some-changed_region c set before free heads found sound =
+pub returns-in-Some-changed_region-clause-fault : goal.returns-in-Some-changed_region-clause-fault
+returns-in-Some-changed_region-clause-fault c set before free heads found sound =
     let older = segments_of before in
     let knows = knows_by_heads older c.args.composition.now heads in
     sym (third_is (option_and_then (display_fault c.args.profile.now) (display_in_set set)) (page_fault (segments_of (set ∷ before)) (page_value c.args.page.now))
@@ -27,8 +27,8 @@ returns-in-Some-changed_region c set before free heads found sound =
     (page_is set before (page_value c.args.page.now) None (c.in_default-page_fault.ensures set older knows found.regions))
     (sym (c.in-Some-changed_region.ensures set older heads sound.contents sound.apart)))
 
-pub returns : goal.returns
-returns c set before free heads found sound =
+pub returns-clause-fault : goal.returns-clause-fault
+returns-clause-fault c set before free heads found sound =
     let older = segments_of before in
     let knows = knows_by_heads older c.args.composition.now heads in
     let unchanged : first_fault_by region_changed older set ≡ None = sym (c.in_default-changed_region.ensures set older heads sound.contents sound.apart) in

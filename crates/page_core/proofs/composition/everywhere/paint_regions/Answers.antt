@@ -1,16 +1,17 @@
-use Rattle.std.proofs.Common.{ap, length, arith}
+use Rattle.std.proofs.Common.{ap, length, refl, arith}
 use Rattle.comp_pool.specs.Pool.{IsInList}
 use Rattle.comp_pool.proofs.NodeLaws.{in_some_list}
 use Rattle.comp_pool.proofs.WalkLaws.{walk_start}
 use Rattle.segments.specs.Contents.{object_value}
 use Rattle.page_core.proofs.EverywhereWalks.{all_begin, all_go_on, from_node}
-use Rattle.page_core.proofs.EverywhereWrites.{regions_stay, writing_all_begins, writing_all_goes_on}
+use Rattle.page_core.proofs.EverywhereWrites.{regions_stay, room_kept, writing_all_begins, writing_all_goes_on}
 use Rattle.page_core.proofs.composition.everywhere.paint_regions.Goals as goal
 
 pub loop-place-init : goal.loop-place-init
 loop-place-init c = record {
   nodes = all_begin c.args.painter c.args.pool.now c.first-place.result c.first-place.ensures.distinct c.first-place.ensures.first;
   regions = c.requires.regions;
+  room = record { count = refl; size = refl; free = refl };
   written = λ content fields.
       writing_all_begins c.args.painter content (object_value c.args.object.now) c.args.pool.now c.args.store.now c.first-place.result (walk_start c.args.pool.now 1 c.first-place.result c.first-place.ensures.first);
 }
@@ -42,6 +43,7 @@ loop-place-preserved c =
     record {
       nodes = all_go_on c.args.painter c.args.pool.now c.loop-place.place pool c.paint_at.new.pool node c.item-item.result c.next-place.result on c.in-Some.is there behind_is c.paint_at.ensures.nodes;
       regions = regions_stay c.args.pool.now c.item-item.result c.loop-place.store c.paint_at.new.store c.paint_at.ensures.others c.loop-place.invariant.regions;
+      room = room_kept c.item-item.result c.args.store.now c.loop-place.store c.paint_at.new.store c.paint_at.ensures.others c.loop-place.invariant.room;
       written = λ content fields.
           writing_all_goes_on c.args.painter content (object_value c.args.object.now) c.args.pool.now c.args.store.now c.loop-place.place pool c.loop-place.store c.paint_at.new.store node c.item-item.result c.next-place.result
           on c.in-Some.is there behind_is c.paint_at.ensures.others (c.paint_at.ensures.written content fields) (c.loop-place.invariant.written content fields);

@@ -4,7 +4,7 @@ use Rattle.comp_pool.specs.Places.{rest_from}
 use Rattle.comp_pool.specs.Pool.{list_of}
 use Rattle.decoder_model.specs.Readings.{Content, AreFields}
 use Rattle.segments.specs.Contents.{object_value}
-use Rattle.page_core.specs.Everywhere.{HaveRegions}
+use Rattle.page_core.specs.Everywhere.{HaveRegions, KeepsRoom}
 use Rattle.page_core.proofs.EverywhereWalks.{IsPaintingAll}
 use Rattle.page_core.proofs.EverywhereWrites.{IsWritingAll}
 use Rattle.page_core.proofs.composition.everywhere.paint_regions.Given as goal
@@ -13,6 +13,7 @@ abbrev pub invariant-loop-place : goal.invariant-loop-place
 invariant-loop-place l = record {
   nodes : IsPaintingAll l.painter l.initial.pool l.place l.pool;
   regions : HaveRegions l.initial.pool l.store;
+  room : KeepsRoom l.initial.store l.store;
   written : (content : Content) → AreFields (of_object (object_value l.object)) content.top content.bottom
       → IsWritingAll l.painter content (object_value l.object) l.initial.pool l.initial.store l.place l.store;
 }
