@@ -41,3 +41,5 @@ pub mod EverywhereWalks
 pub mod EverywhereWrites
 pub mod EverywhereKept
 pub mod EverywhereCodes
+pub mod ListingPushes
+pub mod RegionPools

@@ -8,6 +8,7 @@ use Rattle.comp_pool.specs.declared.node.NodeId.{NodeId}
 use Rattle.decoder_model.specs.Readings.{Content}
 use Rattle.pixel_store.specs.Regions.{Regions, KeepsOthers}
 use Rattle.page_core.specs.Composition.{Composition, KeptRegion}
+pub use Rattle.page_core.specs.Composition.{AreIdsApart}
 use Rattle.page_core.specs.Listings.{code_by_kept, code_by_pair, painted_listing, painted_node}
 use Rattle.page_core.specs.Lists.{IsRewritten, with_changed}
 use Rattle.page_core.specs.Nodes.{is_region_of, region_node, listings_list}
@@ -104,11 +105,6 @@ AreWritten painter content pool (region ∷ regions) old new =
 -- the slots of all regions have them, with their sides and depths
 abbrev pub HaveRegions : PoolOf Node → Regions → Type 0
 HaveRegions pool store = (pair : NodeId × Node) → Contains (list_of pool 1) pair → HasRegionAt pair.1 store
-
--- no two regions that are kept have one id
-abbrev pub AreIdsApart : List KeptRegion → Type 0
-AreIdsApart [] = Unit {0}
-AreIdsApart (kept ∷ regions) = (list_any (λ (other : KeptRegion). other.head.region == kept.head.region) regions ≡ false) × AreIdsApart regions
 
 -- the object writes to some regions that are kept, one after another
 abbrev pub AreKeptWritten : Painter → Content → List KeptRegion → Regions → Regions → Type 0

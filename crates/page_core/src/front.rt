@@ -1,9 +1,11 @@
 //! The segments of a set one after another, as they are handed over.
 
-ghost use Rattle.std.specs.Prelude.{◌≡◌, ◌<◌, IfSome, IsSomeAnd, List, ℕ, length};
+ghost use Rattle.std.specs.Prelude.{◌≡◌, ◌<◌, IfOk, IfSome, IsSomeAnd, List, ℕ, length};
 ghost use Rattle.decoder_model.specs.Readings.{Reading, IsReading};
 ghost use Rattle.decoder_model.specs.Received.{BeginsWith};
+ghost use Rattle.segments.specs.Contents.{contents};
 ghost use Rattle.page_core.specs.Handed.{IsCutOff, Matches};
+ghost use Rattle.page_core.specs.RegionSteps.{IsRightValue};
 
 use segments::{Segment, SegmentFault, read_frame, read_segment};
 
@@ -34,7 +36,8 @@ pub(crate) fn cut_front(bytes: &[u8]) -> Option<Front<'_>>
 
 /// Reads bytes that are one segment and no more.
 pub(crate) fn read_one(bytes: &[u8]) -> Result<Segment<'_>, SegmentFault>
-    ensures { (reading : Reading) → IsReading bytes.now reading → Matches result reading }
+    ensures matches { (reading : Reading) → IsReading bytes.now reading → Matches result reading }
+    ensures right { IfOk result (λ segment. IsRightValue (contents segment)) }
 {
     match read_segment(bytes) {
         Ok((segment, _whole)) => Ok(segment),

@@ -22,13 +22,13 @@ pub returns-in-Err-clause-found : goal.returns-in-Err-clause-found
 returns-in-Err-clause-found c readings are =
     let some : 0 < length c.loop-front.rest.now = let shorter = c.in-Some.ensures.shorter in omega arith in
     is_refused readings c.loop-front.seen c.see.new.seen (option_map page_value c.loop-front.page) (option_map display_value c.loop-front.display) c.loop-front.rest.now c.in-Some.front.rest.now c.read_one.result c.in-Err.fault
-    some (reads_front c.loop-front.rest.now c.in-Some.front c.read_one.result c.in-Some.ensures.cut c.read_one.ensures) c.in-Err.ensures (c.loop-front.invariant readings are)
+    some (reads_front c.loop-front.rest.now c.in-Some.front c.read_one.result c.in-Some.ensures.cut c.read_one.ensures.matches) c.in-Err.ensures (c.loop-front.invariant readings are)
 
 pub loop-front-preserved : goal.loop-front-preserved
 loop-front-preserved c readings are =
     let some : 0 < length c.loop-front.rest.now = let shorter = c.in-Some.ensures.shorter in omega arith in
     let p = goes_on readings c.loop-front.seen c.see.new.seen (option_map page_value c.loop-front.page) (option_map display_value c.loop-front.display) c.loop-front.rest.now c.in-Some.front.rest.now c.read_one.result c.in-Ok.segment
-    some (reads_front c.loop-front.rest.now c.in-Some.front c.read_one.result c.in-Some.ensures.cut c.read_one.ensures) c.in-Ok.ensures (c.loop-front.invariant readings are) in
+    some (reads_front c.loop-front.rest.now c.in-Some.front c.read_one.result c.in-Some.ensures.cut c.read_one.ensures.matches) c.in-Ok.ensures (c.loop-front.invariant readings are) in
     rw (c.with_page-page.ensures, c.with_display-display.ensures) p
 
 pub returns-clause-found : goal.returns-clause-found

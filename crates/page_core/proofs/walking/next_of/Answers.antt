@@ -12,7 +12,7 @@ loop-front-init c = (omega arith, λ set are. start (is_content_of c.args.kind) 
 pub returns-in-Ok-clause-next : goal.returns-in-Ok-clause-next
 returns-in-Ok-clause-next c set are =
     let f = front_of c.args.kind set c.loop-front.rest.now c.in-Some.front c.requires c.in-Some.ensures.shorter c.in-Some.ensures.cut (c.loop-front.invariant.1 set are) in
-    found c.args.kind set c.in-Some.front c.in-Ok.segment (eq-eqb c.in-Some.front.kind c.args.kind c.if-front-kind.true) f (c.in-Ok.ensures (read f.content) f.is_reading)
+    found c.args.kind set c.in-Some.front c.in-Ok.segment (eq-eqb c.in-Some.front.kind c.args.kind c.if-front-kind.true) f (c.in-Ok.ensures.matches (read f.content) f.is_reading)
 
 pub returns-in-Ok-clause-shorter : goal.returns-in-Ok-clause-shorter
 returns-in-Ok-clause-shorter c = let a = c.loop-front.invariant.0 in let b = c.in-Some.ensures.shorter in omega arith
@@ -20,7 +20,7 @@ returns-in-Ok-clause-shorter c = let a = c.loop-front.invariant.0 in let b = c.i
 pub returns-in-Err-clause-next : goal.returns-in-Err-clause-next
 returns-in-Err-clause-next c set are =
     let f = front_of c.args.kind set c.loop-front.rest.now c.in-Some.front c.requires c.in-Some.ensures.shorter c.in-Some.ensures.cut (c.loop-front.invariant.1 set are) in
-    absurd (c.in-Err.ensures (read f.content) f.is_reading)
+    absurd (c.in-Err.ensures.matches (read f.content) f.is_reading)
 
 pub loop-front-preserved : goal.loop-front-preserved
 loop-front-preserved c =
