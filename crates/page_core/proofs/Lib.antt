@@ -43,3 +43,4 @@ pub mod EverywhereKept
 pub mod EverywhereCodes
 pub mod ListingPushes
 pub mod RegionPools
+pub mod RegionHeadsSet
