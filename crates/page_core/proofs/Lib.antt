@@ -44,3 +44,5 @@ pub mod EverywhereCodes
 pub mod ListingPushes
 pub mod RegionPools
 pub mod RegionHeadsSet
+pub mod StrayListings
+pub mod RegionAdds

@@ -51,7 +51,7 @@ neither true b is = absurd (cc)
 
 -- ---- regions of other ids
 
-region_of_id : (id : ℕ) (item : Node) (found : Option RegionNode) → region_node item ≡ found → option_map_or (λ (region : RegionNode). region.head.region == id) found false ≡ true
+pub region_of_id : (id : ℕ) (item : Node) (found : Option RegionNode) → region_node item ≡ found → option_map_or (λ (region : RegionNode). region.head.region == id) found false ≡ true
     → (region : RegionNode) × (region_node item ≡ Some region) × (region.head.region ≡ id)
 region_of_id id item None is hit = absurd (cc)
 region_of_id id item (Some region) is hit = (region, is, eqb-true region.head.region id hit)

@@ -56,8 +56,9 @@ impl CompositionMemory {
         requires apart { AreIdsApart self.old.regions }
         ensures { self.new ≡ with_region region.head region.slot self.old }
     {
+        let id = region.head.region;
         if let Ok(node) = self.pool.push_back(REGIONS, Node::Region(region)) {
-            name_node(&mut self.regions, region.head.region, node);
+            name_node(&mut self.regions, id, node);
         }
     }
 }
