@@ -2,21 +2,21 @@
 use Rattle.std.specs.Prelude.{◌≡◌, ℕ, ◌+◌, ◌-◌, ◌==◌, ◌≤◌, ◌<◌, Bool, true, false, if◌then◌else◌, List, [], ◌∷◌, ◌++◌, length, map, filter, reverse, sum_by, Option, Some, None, option_map, All}
 use Rattle.std.specs.List.{list_any, range_with_len}
 use Rattle.std.specs.Option.{option_map_or}
-use Rattle.stream_syntax.specs.Segments.{Display, Region, SegmentValue, of_page, of_region, of_clut, of_object, of_display, end_of_set, passed_over}
+use Rattle.stream_syntax.specs.Segments.{Region, SegmentValue, of_page, of_region, of_clut, of_object, of_display, end_of_set, passed_over}
 use Rattle.stream_syntax.specs.declared.region.Listing.{Listing}
 use Rattle.stream_syntax.specs.declared.region.RegionHead.{RegionHead}
-use Rattle.decoder_model.specs.Contents.{region_named}
-use Rattle.decoder_model.specs.Faults.{pixels_full, region_changed}
+use Rattle.decoder_model.specs.Contents.{region_named, region_of}
+use Rattle.decoder_model.specs.Faults.{has_same_shape, pixels_full, region_changed}
 use Rattle.decoder_model.specs.Nodes.{listings_held, pixels_used, region_ids}
-use Rattle.decoder_model.specs.Pixels.{code_by_fill}
+use Rattle.decoder_model.specs.Pixels.{code_by_fill, pixel_of}
 use Rattle.decoder_model.specs.Readings.{Content}
-use Rattle.decoder_model.specs.Taken.{Taken, taken_of}
-use Rattle.sub_base.specs.declared.colour.Colour.{Colour}
-use Rattle.pixel_store.specs.Regions.{PlacesOne, Regions, region_at}
-use Rattle.page_core.specs.Composition.{AreIdsApart, Composition, KeptListing, KeptRegion, KeptClut, region_in, taken_nodes}
-use Rattle.page_core.specs.Memory.{HasSides, Memory}
+use Rattle.decoder_model.specs.Taken.{is_taken, taken_of, taken_region}
+use Rattle.sub_base.specs.declared.profile.Profile.{Profile}
+use Rattle.pixel_store.specs.Regions.{PlacesOne, Regions, code_of, need_of, region_at}
+use Rattle.page_core.specs.Composition.{AreIdsApart, Composition, KeptListing, KeptRegion, region_in, taken_nodes}
+use Rattle.page_core.specs.Memory.{HasSides, Memory, head_of, kept_listing}
 use Rattle.page_core.specs.Painted.{FitsHead, IsWritten}
-use Rattle.page_core.specs.RegionTests.{first_in, is_new}
+use Rattle.page_core.specs.RegionTests.{first_in, head_in, is_new}
 use Rattle.page_core.specs.Walks.{is_region}
 
 -- ---- one change of a composition
@@ -130,6 +130,14 @@ pub record IsTakenAgain (region : Region) (old : Composition) (before : Regions)
   pub composition : new ≡ with_listings region.head.region region.listings (with_head region.head old)
   pub written : IsWritten kept.slot (λ x y. code_by_fill region.head.region region.head) before after
 
+-- a region segment is taken or not, by the head that is known: where there is room, and the region keeps its size and depth
+pub record IsRegionTaken (region : Region) (old : Composition) (before : Regions) (new : Composition) (after : Regions) : Type 0 where
+  pub held : is_new region.head (head_in old region.head.region) ≡ false → (new ≡ old) × (after ≡ before)
+  pub first : head_in old region.head.region ≡ None → 1 + length region.listings ≤ old.free
+      → need_of region.head.width region.head.height region.head.depth ≤ before.free → IsNewRegion region old before new after
+  pub again : (last : RegionHead) → head_in old region.head.region ≡ Some last → is_new region.head (Some last) ≡ true → has_same_shape region.head last ≡ true
+      → length region.listings ≤ old.free → IsTakenAgain region old before new after
+
 -- ---- the regions of a set
 
 -- a region segment of a set takes the place of that head
@@ -146,6 +154,15 @@ bare_where renewed kept = if renewed then bare kept else kept
 abbrev pub bare_by : List Content → KeptRegion → KeptRegion
 bare_by set kept = bare_where (is_renewed set kept.head) kept
 
+-- a segment takes the place of a head that is known
+abbrev pub takes_place : RegionHead → Option RegionHead → Bool
+takes_place head None = false
+takes_place head (Some last) = is_new head (Some last)
+
+-- the listings of the region of an id are out, where that is so
+abbrev pub cleared_where : Bool → ℕ → Composition → Composition
+cleared_where renewed id composition = if renewed then without_listings id composition else composition
+
 -- the regions that a set renews are without their listings, and all else is as it was
 pub record IsBare (set : List Content) (old new : Composition) : Type 0 where
   pub regions : new.regions ≡ map (bare_by set) old.regions
@@ -158,6 +175,47 @@ listings_kept composition = sum_by (λ (kept : KeptRegion). length kept.listings
 -- the segments of an epoch with the regions of a set
 abbrev pub with_regions_of : List Content → List Content → List Content
 with_regions_of older set = reverse (filter is_region set) ++ older
+
+-- ---- some regions of a set taken, and others not yet
+
+-- the listings of a region, where segments that are not taken yet leave them
+abbrev pub awaited : Bool → List KeptListing → List KeptListing
+awaited renewed listings = if renewed then [] else listings
+
+-- a composition and a store have the regions that these segments of an epoch give, the latest first; those that some further regions
+-- of a set renew are without their listings
+pub record AwaitRegions (segments left : List Content) (composition : Composition) (store : Regions) : Type 0 where
+  pub region_ids : map (λ (kept : KeptRegion). kept.head.region) composition.regions ≡ reverse (region_ids (taken_of segments))
+  pub heads : (id : ℕ) → head_in composition id ≡ option_map head_of (taken_region id (taken_of segments))
+  pub listings : (id : ℕ) →
+      option_map (λ (kept : KeptRegion). kept.listings) (region_in composition id)
+      ≡ option_map (λ (region : Region). awaited (is_renewed left region.head) (map (kept_listing (taken_of segments) id) region.listings)) (taken_region id (taken_of segments))
+  pub pixels : (id x y : ℕ) (kept : KeptRegion) → region_in composition id ≡ Some kept → x < kept.head.width → y < kept.head.height →
+      code_of (region_at store kept.slot) x y ≡ pixel_of (taken_of segments) id x y
+
+-- how many nodes the regions of a set need behind earlier segments: one for each that is new, and one for each listing
+abbrev pub nodes_needed_by : Bool → Option Region → Region → ℕ
+nodes_needed_by false known region = 0
+nodes_needed_by true None region = 1 + length region.listings
+nodes_needed_by true (Some last) region = length region.listings
+
+abbrev pub nodes_needed_for : List Content → Content → Option Region → ℕ
+nodes_needed_for earlier content None = 0
+nodes_needed_for earlier content (Some region) = nodes_needed_by (is_taken earlier content.value) (taken_region region.head.region (taken_of earlier)) region
+
+abbrev pub nodes_needed : List Content → List Content → ℕ
+nodes_needed earlier [] = 0
+nodes_needed earlier (content ∷ left) = nodes_needed_for earlier content (region_of content) + nodes_needed (content ∷ earlier) left
+
+-- some regions of a set can be taken behind earlier segments
+pub record AreReady (profile : Profile) (segments left : List Content) (composition : Composition) (store : Regions) : Type 0 where
+  pub regions : AwaitRegions segments left composition store
+  pub changed : first_in region_changed segments left ≡ None
+  pub room : first_in (pixels_full profile) segments left ≡ None
+  pub free : store.free ≡ profile.pixels - pixels_used (taken_of segments)
+  pub nodes : nodes_needed segments left ≤ composition.free
+
+-- ---- all of it
 
 -- the regions of a set are right behind older segments: none changes the size or depth of another, all have room in the store, and
 -- there are nodes for what the epoch has with them
