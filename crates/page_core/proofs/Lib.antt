@@ -46,3 +46,6 @@ pub mod RegionPools
 pub mod RegionHeadsSet
 pub mod StrayListings
 pub mod RegionAdds
+pub mod RegionIds
+pub mod RegionsStored
+pub mod RenewedRegions

@@ -24,7 +24,7 @@ use segments::{RegionHead, RegionSeg};
 /// Frees the listings of all regions whose place a segment of a set takes. A set may give one region fewer listings and another
 /// more, so all are free before the first new one is put in.
 pub(crate) fn clear_renewed(composition: &mut CompositionMemory, bytes: &[u8])
-    requires apart { AreIdsApart composition.old.regions }
+    requires { AreIdsApart composition.old.regions }
     ensures stored { (store : Regions) → AreStored composition.old store → AreStored composition.new store }
     ensures bare { (set : List Content) → AreContents set bytes.now → IsBare (filter is_region set) composition.old composition.new }
 {
