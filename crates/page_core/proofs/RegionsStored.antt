@@ -19,7 +19,7 @@ use Rattle.pixel_store.specs.Regions.{Region as StoredRegion}
 use Rattle.page_core.specs.Composition.{AreIdsApart, Composition, KeptRegion, region_in, taken_nodes}
 use Rattle.page_core.specs.Memory.{HasSides}
 use Rattle.page_core.specs.Painted.{HasRegion}
-use Rattle.page_core.specs.RegionSteps.{AreStored, changed_at, fresh, headed, listing_more, with_head, with_listings, with_region, with_regions}
+use Rattle.page_core.specs.RegionSteps.{AreStored, IsRightHead, changed_at, fresh, headed, listing_more, with_head, with_listings, with_region, with_regions}
 use Rattle.page_core.proofs.DrawnEntries.{placed_in_order}
 use Rattle.page_core.proofs.Finds.{found_all}
 use Rattle.page_core.proofs.RegionIds.{all_with, apart_by_ids, apart_with, changed_here, fewer, found_changed, found_has, id_of, ids_kept, none_has, sum_with}
@@ -186,3 +186,23 @@ pub headed_found : (composition : Composition) (head : RegionHead) (kept : KeptR
 headed_found composition head kept found =
     found_changed head.region (headed head) (λ other is. refl) head.region composition.regions ∙ ap (option_map (changed_at head.region (headed head))) found
     ∙ ap Some (changed_here head.region (headed head) kept (found_has head.region composition.regions kept found))
+
+-- ---- a segment that is taken
+
+pub stored_first : (composition new : Composition) (before between after : Regions) (head : RegionHead) (slot : ℕ) (listings : List Listing) → new ≡ with_listings head.region listings (with_region head slot composition)
+    → PlacesOne head.width head.height head.depth slot before between → KeepsOthers slot between after → AreStored composition before → region_in composition head.region ≡ None → 1 + length listings ≤ composition.free
+    → IsRightHead head → AreStored new after
+stored_first composition new before between after head slot listings is placed keeps stored none room right =
+    let one : KeptRegion = record { head = head; slot = slot; listings = [] } in
+    let put = stored_with_region composition before between head slot stored placed none (omega (arith, room)) right.fits.clut right.region in
+    subst (λ (c : Composition). AreStored c after) (sym is)
+    (stored_written (with_listings head.region listings (with_region head slot composition)) slot between after keeps
+    (stored_with_listings (with_region head slot composition) between head.region one listings put (one_found composition head slot none) (omega (arith, room))))
+
+pub stored_again : (composition new : Composition) (before after : Regions) (head : RegionHead) (kept : KeptRegion) (listings : List Listing) → new ≡ with_listings head.region listings (with_head head composition)
+    → KeepsOthers kept.slot before after → AreStored composition before → region_in composition head.region ≡ Some kept → has_same_shape head kept.head ≡ true → length listings ≤ composition.free → IsRightHead head → AreStored new after
+stored_again composition new before after head kept listings is keeps stored found same room right =
+    subst (λ (c : Composition). AreStored c after) (sym is)
+    (stored_written (with_listings head.region listings (with_head head composition)) kept.slot before after keeps
+    (stored_with_listings (with_head head composition) before head.region (headed head kept) listings
+    (stored_with_head composition before head kept stored found same right.fits.clut right.region) (headed_found composition head kept found) room))
