@@ -49,3 +49,7 @@ pub mod RegionAdds
 pub mod RegionIds
 pub mod RegionsStored
 pub mod RenewedRegions
+pub mod TakenRegions
+pub mod RegionLookups
+pub mod RegionMeanings
+pub mod RegionReady

@@ -10,7 +10,7 @@ use Rattle.decoder_model.specs.Faults.{has_same_shape, pixels_full, region_chang
 use Rattle.decoder_model.specs.Nodes.{listings_held, pixels_used, region_ids}
 use Rattle.decoder_model.specs.Pixels.{code_by_fill, pixel_of}
 use Rattle.decoder_model.specs.Readings.{Content}
-use Rattle.decoder_model.specs.Taken.{is_taken, taken_of, taken_region}
+use Rattle.decoder_model.specs.Taken.{Taken, is_taken, taken_of, taken_region}
 use Rattle.sub_base.specs.declared.profile.Profile.{Profile}
 use Rattle.pixel_store.specs.Regions.{PlacesOne, Regions, code_of, need_of, region_at}
 use Rattle.page_core.specs.Composition.{AreIdsApart, Composition, KeptListing, KeptRegion, region_in, taken_nodes}
@@ -182,16 +182,16 @@ with_regions_of older set = reverse (filter is_region set) ++ older
 abbrev pub awaited : Bool → List KeptListing → List KeptListing
 awaited renewed listings = if renewed then [] else listings
 
--- a composition and a store have the regions that these segments of an epoch give, the latest first; those that some further regions
--- of a set renew are without their listings
-pub record AwaitRegions (segments left : List Content) (composition : Composition) (store : Regions) : Type 0 where
-  pub region_ids : map (λ (kept : KeptRegion). kept.head.region) composition.regions ≡ reverse (region_ids (taken_of segments))
-  pub heads : (id : ℕ) → head_in composition id ≡ option_map head_of (taken_region id (taken_of segments))
+-- a composition and a store have the regions that taken segments of an epoch give; those that some further regions of a set renew
+-- are without their listings
+pub record AwaitRegions (taken : Taken) (left : List Content) (composition : Composition) (store : Regions) : Type 0 where
+  pub region_ids : map (λ (kept : KeptRegion). kept.head.region) composition.regions ≡ reverse (region_ids taken)
+  pub heads : (id : ℕ) → head_in composition id ≡ option_map head_of (taken_region id taken)
   pub listings : (id : ℕ) →
       option_map (λ (kept : KeptRegion). kept.listings) (region_in composition id)
-      ≡ option_map (λ (region : Region). awaited (is_renewed left region.head) (map (kept_listing (taken_of segments) id) region.listings)) (taken_region id (taken_of segments))
+      ≡ option_map (λ (region : Region). awaited (is_renewed left region.head) (map (kept_listing taken id) region.listings)) (taken_region id taken)
   pub pixels : (id x y : ℕ) (kept : KeptRegion) → region_in composition id ≡ Some kept → x < kept.head.width → y < kept.head.height →
-      code_of (region_at store kept.slot) x y ≡ pixel_of (taken_of segments) id x y
+      code_of (region_at store kept.slot) x y ≡ pixel_of taken id x y
 
 -- how many nodes the regions of a set need behind earlier segments: one for each that is new, and one for each listing
 abbrev pub nodes_needed_by : Bool → Option Region → Region → ℕ
@@ -209,7 +209,7 @@ nodes_needed earlier (content ∷ left) = nodes_needed_for earlier content (regi
 
 -- some regions of a set can be taken behind earlier segments
 pub record AreReady (profile : Profile) (segments left : List Content) (composition : Composition) (store : Regions) : Type 0 where
-  pub regions : AwaitRegions segments left composition store
+  pub regions : AwaitRegions (taken_of segments) left composition store
   pub changed : first_in region_changed segments left ≡ None
   pub room : first_in (pixels_full profile) segments left ≡ None
   pub free : store.free ≡ profile.pixels - pixels_used (taken_of segments)

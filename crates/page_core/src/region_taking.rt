@@ -57,6 +57,22 @@ fn is_renewing(composition: &CompositionMemory, region: &RegionSeg<'_>) -> bool
     }
 }
 
+/// Takes all region segments of a set, one after another.
+pub(crate) fn take_all(composition: &mut CompositionMemory, store: &mut Store, bytes: &[u8])
+    requires { AreStored composition.old store.old }
+    ensures stored { AreStored composition.new store.new }
+    ensures beside { KeepsBesideRegions composition.old composition.new }
+    ensures size { store.new.size ≡ store.old.size }
+    ensures taken { (profile : Profile) (older set : List Content) → AreContents set bytes.now → AreApart [] (filter is_region set)
+        → AreReady profile older (filter is_region set) composition.old store.old → AreReady profile (with_regions_of older set) [] composition.new store.new }
+{
+    let mut rest = bytes;
+    while let Some(next) = next_region(rest) {
+        take_one(composition, store, &next.segment);
+        rest = next.rest;
+    }
+}
+
 // Takes a region segment that is new in the epoch, or has another version than the last one. The tests before let no set through that
 // has no room, or that changes the size or depth of a region: nothing is done then.
 fn take_one(composition: &mut CompositionMemory, store: &mut Store, region: &RegionSeg<'_>)
