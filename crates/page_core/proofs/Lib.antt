@@ -53,3 +53,6 @@ pub mod TakenRegions
 pub mod RegionLookups
 pub mod RegionMeanings
 pub mod RegionReady
+pub mod RegionNeeds
+pub mod RegionsBegin
+pub mod RegionsHeld

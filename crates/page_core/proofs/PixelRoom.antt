@@ -107,7 +107,7 @@ ids_with content region segments is =
     ap (λ (found : Option Region). different is_same (map region_id (cons_option found (filter_map region_of segments)))) is
     ∙ ap (λ b. cond b (different is_same (map region_id (filter_map region_of segments))) (region.head.region ∷ different is_same (map region_id (filter_map region_of segments)))) (id_among region.head.region segments)
 
-apart_ids : (id : ℕ) (segments : List Content) → last_region id segments ≡ None → list_any (is_same id) (region_ids (of_segments segments)) ≡ false
+pub apart_ids : (id : ℕ) (segments : List Content) → last_region id segments ≡ None → list_any (is_same id) (region_ids (of_segments segments)) ≡ false
 unfolding region_ids
 apart_ids id segments none = id_among_different id (map region_id (filter_map region_of segments)) ∙ id_among id segments ∙ ap is_some none
 

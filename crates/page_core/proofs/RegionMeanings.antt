@@ -39,7 +39,7 @@ none_renewed head (content ∷ left) none =
 
 module _ (taken : Taken) (left : List Content) (content : Content) (region : Region) (value : of_region region ≡ content.value) where
   -- a region of another id is not renewed by the segment
-  not_renewed : (head : RegionHead) → head.region ≢ region.head.region → is_renewed (content ∷ left) head ≡ is_renewed left head
+  pub not_renewed : (head : RegionHead) → head.region ≢ region.head.region → is_renewed (content ∷ left) head ≡ is_renewed left head
   not_renewed head other =
       ap (λ b. b || is_renewed left head) (renews_is head content region value ∙ ap (λ b. cond b (is_new region.head (Some head)) false) (ne_eqb region.head.region head.region (λ e. other (sym e))))
 
@@ -90,6 +90,17 @@ module _ (taken : Taken) (left : List Content) (content : Content) (region : Reg
     ];
   }
 
+  -- one that is not taken renews none
+  pub held_renewed : (id : ℕ) (one : Region) → is_new region.head (option_map head_of (taken_region region.head.region taken)) ≡ false → taken_region id taken ≡ Some one
+      → is_renewed (content ∷ left) one.head ≡ is_renewed left one.head
+  held_renewed id one held is = elim (cases_eq one.head.region region.head.region) [
+    | inl same ↦
+        let there : taken_region region.head.region taken ≡ Some one = ap (λ n. taken_region n taken) (sym same ∙ id_of_last id taken.segments one is) ∙ is in
+        let not_new : is_new region.head (Some one.head) ≡ false = sym (ap (λ (o : Option Region). is_new region.head (option_map head_of o)) there) ∙ held in
+        ap (λ b. b || is_renewed left one.head) (renews_is one.head content region value ∙ ap (λ b. cond b (is_new region.head (Some one.head)) false) (eq-eqb region.head.region one.head.region (sym same)) ∙ not_new)
+    | inr other ↦ not_renewed one.head other
+  ]
+
   -- a segment that is not taken changes nothing
   pub await_held : (old : Composition) (store : Regions) → is_new region.head (option_map head_of (taken_region region.head.region taken)) ≡ false → AwaitRegions taken (content ∷ left) old store → AwaitRegions taken left old store
   await_held old store held await = record {
@@ -103,10 +114,4 @@ module _ (taken : Taken) (left : List Content) (content : Content) (region : Reg
           → option_map (λ (one : Region). awaited (is_renewed (content ∷ left) one.head) (map (kept_listing taken id) one.listings)) found
           ≡ option_map (λ (one : Region). awaited (is_renewed left one.head) (map (kept_listing taken id) one.listings)) found
       by id None is = refl
-      by id (Some one) is = ap (λ b. Some (awaited b (map (kept_listing taken id) one.listings))) (elim (cases_eq one.head.region region.head.region) [
-        | inl same ↦
-            let there : taken_region region.head.region taken ≡ Some one = ap (λ n. taken_region n taken) (sym same ∙ id_of_last id taken.segments one is) ∙ is in
-            let not_new : is_new region.head (Some one.head) ≡ false = sym (ap (λ (o : Option Region). is_new region.head (option_map head_of o)) there) ∙ held in
-            ap (λ b. b || is_renewed left one.head) (renews_is one.head content region value ∙ ap (λ b. cond b (is_new region.head (Some one.head)) false) (eq-eqb region.head.region one.head.region (sym same)) ∙ not_new)
-        | inr other ↦ not_renewed one.head other
-      ])
+      by id (Some one) is = ap (λ b. Some (awaited b (map (kept_listing taken id) one.listings))) (held_renewed id one held is)

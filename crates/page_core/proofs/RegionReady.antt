@@ -159,7 +159,7 @@ some_in : {X : Type 0} {a b : X} → Some a ≡ Some b → a ≡ b
 some_in e = cc
 
 -- how many nodes a region segment needs
-needed_is : (segments : List Content) (content : Content) (region : Region) (taken : Bool) (known : Option Region) → of_region region ≡ content.value → is_taken segments content.value ≡ taken
+pub needed_is : (segments : List Content) (content : Content) (region : Region) (taken : Bool) (known : Option Region) → of_region region ≡ content.value → is_taken segments content.value ≡ taken
     → taken_region region.head.region (taken_of segments) ≡ known → nodes_needed_for segments content (region_of content) ≡ nodes_needed_by taken known region
 needed_is segments content region taken known value is_taken_so known_so =
     ap (nodes_needed_for segments content) (ap region_in (sym value))
@@ -272,7 +272,7 @@ pub record IsTaking (profile : Profile) (older set : List Content) (composition 
   pub all : reverse (filter is_region left) ++ (mid ++ older) ≡ with_regions_of older set
 
 -- regions behind one in its set have other ids
-apart_behind : (id : ℕ) (before left : List Content) → defines id before ≡ true → AreApart before left → defines id left ≡ false
+pub apart_behind : (id : ℕ) (before left : List Content) → defines id before ≡ true → AreApart before left → defines id left ≡ false
 apart_behind id before [] among apart = refl
 apart_behind id before (content ∷ left) among apart = by (region_named id content) refl (apart_behind id (content ∷ before) left (either_true (is_some (region_named id content)) (defines id before) among) apart.1)
   where
