@@ -14,7 +14,7 @@ use Rattle.decoder_model.specs.Taken.{Taken, taken_of, taken_region}
 use Rattle.pixel_store.specs.Regions.{Regions, code_of, region_at}
 use Rattle.page_core.specs.Composition.{AreIdsApart, Composition, KeptListing, KeptRegion, region_in, taken_nodes}
 use Rattle.page_core.specs.Memory.{Holds, IsWhole, Memory, head_of, kept_listing}
-use Rattle.page_core.specs.RegionSteps.{AreReady, AreRegionsRight, AreStored, AwaitRegions, IsBare, awaited, bare, bare_by, bare_where, is_renewed, listings_kept, nodes_needed}
+use Rattle.page_core.specs.RegionSteps.{AreBare, AreReady, AreRegionsRight, AreStored, AwaitRegions, KeepsBesideRegions, awaited, bare, bare_by, bare_where, is_renewed, listings_kept, nodes_needed}
 use Rattle.page_core.specs.RegionTests.{AreApart}
 use Rattle.page_core.specs.Walks.{is_region}
 use Rattle.page_core.proofs.RegionIds.{has_id, id_of, listings_at}
@@ -50,9 +50,9 @@ ids_bare : (set : List Content) (regions : List KeptRegion) → map (λ (kept : 
 ids_bare set [] = refl
 ids_bare set (kept ∷ regions) = λ i. (bare_head set kept i).region ∷ ids_bare set regions i
 
-module _ (older set : List Content) (memory : Memory) (composition : Composition) (holds : Holds older memory) (bared : IsBare set memory.composition composition) where
+module _ (older set : List Content) (memory : Memory) (composition : Composition) (holds : Holds older memory) (bared : AreBare set memory.composition composition) where
   found_is : (id : ℕ) → region_in composition id ≡ option_map (bare_by set) (region_in memory.composition id)
-  found_is id = ap (find (λ (kept : KeptRegion). kept.head.region == id)) bared.regions ∙ found_bare set id memory.composition.regions
+  found_is id = ap (find (λ (kept : KeptRegion). kept.head.region == id)) bared ∙ found_bare set id memory.composition.regions
 
   heads_are : (id : ℕ) → option_map (λ (kept : KeptRegion). kept.head) (region_in composition id) ≡ option_map head_of (taken_region id (taken_of older))
   heads_are id = ap (option_map (λ (kept : KeptRegion). kept.head)) (found_is id) ∙ by (region_in memory.composition id) ∙ holds.heads id
@@ -84,7 +84,7 @@ module _ (older set : List Content) (memory : Memory) (composition : Composition
 
   pub await_begins : AwaitRegions (taken_of older) set composition memory.store
   await_begins = record {
-    region_ids = ap (map (λ (kept : KeptRegion). kept.head.region)) bared.regions ∙ ids_bare set memory.composition.regions ∙ holds.region_ids;
+    region_ids = ap (map (λ (kept : KeptRegion). kept.head.region)) bared ∙ ids_bare set memory.composition.regions ∙ holds.region_ids;
     heads = heads_are;
     listings = listings_are;
     pixels = λ id x y kept found narrow low. by id x y kept (region_in memory.composition id) refl (sym (found_is id) ∙ found) narrow low;
@@ -159,8 +159,8 @@ listings_counted taken set composition store await apart =
 
 -- the regions of a set can be taken
 pub ready_begins : (older set : List Content) (memory : Memory) (composition : Composition) → Holds older memory → IsWhole memory → AreApart [] (filter is_region set) → AreRegionsRight older set memory
-    → IsBare (filter is_region set) memory.composition composition → AreStored composition memory.store → AreReady memory.profile older (filter is_region set) composition memory.store
-ready_begins older set memory composition holds whole apart right bared stored =
+    → AreBare (filter is_region set) memory.composition composition → KeepsBesideRegions memory.composition composition → AreStored composition memory.store → AreReady memory.profile older (filter is_region set) composition memory.store
+ready_begins older set memory composition holds whole apart right bared beside stored =
     let await = await_begins older (filter is_region set) memory composition holds bared in
     record {
       regions = await;
@@ -174,9 +174,9 @@ ready_begins older set memory composition holds whole apart right bared stored =
             right.nodes,
             whole.counted,
             stored.counted,
-            ap length bared.beside.entries,
-            ap length bared.beside.cluts,
-            ap length bared.beside.set_entries,
-            bared.beside.size,
+            ap length beside.entries,
+            ap length beside.cluts,
+            ap length beside.set_entries,
+            beside.size,
           );
     }

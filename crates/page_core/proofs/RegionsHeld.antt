@@ -16,7 +16,7 @@ use Rattle.decoder_model.specs.Taken.{Taken, clut_version, is_taken, last_clut, 
 use Rattle.page_core.specs.Composition.{Composition, KeptClut, clut_in}
 use Rattle.page_core.specs.Cores.{IsCore}
 use Rattle.page_core.specs.Memory.{AreInks, Holds, IsWhole, Memory, ink_in}
-use Rattle.page_core.specs.RegionSteps.{AreStored, AwaitRegions, KeepsButRegions}
+use Rattle.page_core.specs.RegionSteps.{AreStored, AwaitRegions, KeepsBesideRegions, KeepsButRegions}
 use Rattle.page_core.proofs.Orders.{moved}
 use Rattle.page_core.proofs.PixelRoom.{of_segments}
 use Rattle.page_core.proofs.RegionNeeds.{AreRegions}
@@ -116,3 +116,24 @@ core_behind old new core keeps stored size = record {
 
 pub stored_whole : (memory : Memory) → IsWhole memory → AreStored memory.composition memory.store
 stored_whole memory whole = record { counted = whole.counted; slots = whole.slots; sides = whole.sides; cluts = whole.cluts; ids = whole.ids; apart = whole.apart }
+
+-- all but the regions and their pixels stays, where two steps keep the rest of the composition
+pub keeps_regions : (old new : Memory) {between : Composition} → new.profile ≡ old.profile → new.page ≡ old.page → new.anchor ≡ old.anchor → new.last ≡ old.last → new.known ≡ old.known → new.time_out ≡ old.time_out
+    → new.display ≡ old.display → KeepsBesideRegions old.composition between → KeepsBesideRegions between new.composition → new.inks ≡ old.inks → KeepsButRegions old new
+keeps_regions old new profile page anchor last known time_out display first second inks = record {
+  profile = profile;
+  page = page;
+  anchor = anchor;
+  last = last;
+  known = known;
+  time_out = time_out;
+  display = display;
+  size = second.size ∙ first.size;
+  entries = second.entries ∙ first.entries;
+  cluts = second.cluts ∙ first.cluts;
+  set_entries = second.set_entries ∙ first.set_entries;
+  inks = inks;
+}
+
+pub keeps_from : (old now new : Memory) → old ≡ now → KeepsButRegions old new → KeepsButRegions now new
+keeps_from old now new same keeps = subst (λ (memory : Memory). KeepsButRegions memory new) same keeps

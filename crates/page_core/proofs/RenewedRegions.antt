@@ -12,7 +12,7 @@ use Rattle.page_core.specs.Composition.{AreIdsApart, Composition, KeptRegion}
 use Rattle.page_core.specs.Composition.{region_in as kept_in}
 use Rattle.page_core.specs.Handed.{AreContents}
 use Rattle.page_core.specs.Memory.{HasSides}
-use Rattle.page_core.specs.RegionSteps.{AreStored, IsBare, KeepsBesideRegions, bare, bare_by, bare_where, changed_at, cleared_where, count_kept, is_renewed, renews, takes_place, without_listings}
+use Rattle.page_core.specs.RegionSteps.{AreBare, AreStored, KeepsBesideRegions, bare, bare_by, bare_where, changed_at, cleared_where, count_kept, is_renewed, renews, takes_place, without_listings}
 use Rattle.page_core.specs.RegionTests.{head_in, is_new}
 use Rattle.page_core.specs.Walks.{IsNextOf, is_region}
 use Rattle.page_core.proofs.Finds.{found_all}
@@ -80,9 +80,12 @@ apart_cleared head old new is apart = subst (λ (c : Composition). AreIdsApart c
     by false = apart
     by true = apart_by_ids old.regions (map (changed_at head.region bare) old.regions) (sym (ids_kept head.region bare (λ kept same. same) old.regions)) apart
 
-beside_cleared : (head : RegionHead) (renewed : Bool) (old : Composition) → KeepsBesideRegions old (cleared_where renewed head.region old)
-beside_cleared head false old = record { size = refl; entries = refl; cluts = refl; set_entries = refl }
-beside_cleared head true old = record { size = refl; entries = refl; cluts = refl; set_entries = refl }
+pub beside_cleared : (head : RegionHead) (before old new : Composition) → new ≡ cleared_where (takes_place head (head_in old head.region)) head.region old → KeepsBesideRegions before old → KeepsBesideRegions before new
+beside_cleared head before old new is beside = subst (KeepsBesideRegions before) (sym is) (by (takes_place head (head_in old head.region)))
+  where
+    by : (renewed : Bool) → KeepsBesideRegions before (cleared_where renewed head.region old)
+    by false = beside
+    by true = record { size = beside.size; entries = beside.entries; cluts = beside.cluts; set_entries = beside.set_entries }
 
 -- what a set leaves of the regions is what the rest of it leaves behind its first segment
 cleared_first : (content : Content) (region : Region) (set : List Content) (old : Composition) → of_region region ≡ content.value → AreIdsApart old.regions
@@ -136,17 +139,15 @@ pub record IsClearing (set : List Content) (old now : Composition) (bytes : List
   pub left : List Content
   pub are : AreContents left bytes
   pub regions : map (bare_by (filter is_region set)) old.regions ≡ map (bare_by (filter is_region left)) now.regions
-  pub beside : KeepsBesideRegions old now
 
 pub clearing_starts : (set : List Content) (old : Composition) (bytes : List ℕ) → AreContents set bytes → IsClearing set old old bytes
-clearing_starts set old bytes are = record { left = set; are = are; regions = refl; beside = record { size = refl; entries = refl; cluts = refl; set_entries = refl } }
+clearing_starts set old bytes are = record { left = set; are = are; regions = refl }
 
 pub clearing_goes_on : (set : List Content) (old now new : Composition) (bytes rest : List ℕ) (region : Region) → AreIdsApart now.regions
     → ((other : List Content) → AreContents other bytes → IsNextOf is_region other (of_region region) rest)
     → new ≡ cleared_where (takes_place region.head (head_in now region.head.region)) region.head.region now → IsClearing set old now bytes → IsClearing set old new rest
 clearing_goes_on set old now new bytes rest region apart next is c =
     let n = next c.left c.are in
-    let beside : KeepsBesideRegions now new = subst (λ (c : Composition). KeepsBesideRegions now c) (sym is) (beside_cleared region.head (takes_place region.head (head_in now region.head.region)) now) in
     record {
       left = n.more;
       are = n.are;
@@ -154,12 +155,6 @@ clearing_goes_on set old now new bytes rest region apart next is c =
           c.regions ∙ ap (λ (contents : List Content). map (bare_by contents) now.regions) n.split
           ∙ cleared_first n.content region (filter is_region n.more) now n.same apart
           ∙ sym (ap (λ (c : Composition). map (bare_by (filter is_region n.more)) c.regions) is);
-      beside = record {
-        size = beside.size ∙ c.beside.size;
-        entries = beside.entries ∙ c.beside.entries;
-        cluts = beside.cluts ∙ c.beside.cluts;
-        set_entries = beside.set_entries ∙ c.beside.set_entries;
-      };
     }
 
 nothing_left : (regions : List KeptRegion) → map (bare_by []) regions ≡ regions
@@ -167,8 +162,5 @@ nothing_left [] = refl
 nothing_left (kept ∷ regions) = λ i. kept ∷ nothing_left regions i
 
 pub clearing_ends : (set : List Content) (old now : Composition) (bytes : List ℕ) → ((other : List Content) → AreContents other bytes → filter is_region other ≡ []) → IsClearing set old now bytes
-    → IsBare (filter is_region set) old now
-clearing_ends set old now bytes none c = record {
-  regions = sym (c.regions ∙ ap (λ (contents : List Content). map (bare_by contents) now.regions) (none c.left c.are) ∙ nothing_left now.regions);
-  beside = c.beside;
-}
+    → AreBare (filter is_region set) old now
+clearing_ends set old now bytes none c = sym (c.regions ∙ ap (λ (contents : List Content). map (bare_by contents) now.regions) (none c.left c.are) ∙ nothing_left now.regions)

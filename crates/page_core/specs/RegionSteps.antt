@@ -163,10 +163,9 @@ takes_place head (Some last) = is_new head (Some last)
 abbrev pub cleared_where : Bool → ℕ → Composition → Composition
 cleared_where renewed id composition = if renewed then without_listings id composition else composition
 
--- the regions that a set renews are without their listings, and all else is as it was
-pub record IsBare (set : List Content) (old new : Composition) : Type 0 where
-  pub regions : new.regions ≡ map (bare_by set) old.regions
-  pub beside : KeepsBesideRegions old new
+-- the regions that a set renews are without their listings
+abbrev pub AreBare : List Content → Composition → Composition → Type 0
+AreBare set old new = new.regions ≡ map (bare_by set) old.regions
 
 -- how many listings the regions have
 abbrev pub listings_kept : Composition → ℕ

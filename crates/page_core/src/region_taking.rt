@@ -12,7 +12,7 @@ ghost use Rattle.page_core.specs.Composition.{AreIdsApart, region_in, taken_node
 ghost use Rattle.page_core.specs.Handed.{AreContents};
 ghost use Rattle.page_core.specs.Known.{IsRegionIn};
 ghost use Rattle.page_core.specs.Painted.{HasRegion, IsWritten};
-ghost use Rattle.page_core.specs.RegionSteps.{AreReady, AreStored, IsBare, IsNewRegion, IsRegionTaken, IsRightHead, IsTakenAgain, KeepsBesideRegions};
+ghost use Rattle.page_core.specs.RegionSteps.{AreBare, AreReady, AreStored, IsNewRegion, IsRegionTaken, IsRightHead, IsTakenAgain, KeepsBesideRegions};
 ghost use Rattle.page_core.specs.RegionSteps.{cleared_where, slot_in, takes_place, with_head, with_listings, with_region, with_regions_of};
 ghost use Rattle.page_core.specs.RegionTests.{AreApart, head_in, is_new};
 ghost use Rattle.page_core.specs.Walks.{is_region};
@@ -30,7 +30,8 @@ use segments::{RegionHead, RegionSeg};
 pub(crate) fn clear_renewed(composition: &mut CompositionMemory, bytes: &[u8])
     requires { AreIdsApart composition.old.regions }
     ensures stored { (store : Regions) → AreStored composition.old store → AreStored composition.new store }
-    ensures bare { (set : List Content) → AreContents set bytes.now → IsBare (filter is_region set) composition.old composition.new }
+    ensures beside { KeepsBesideRegions composition.old composition.new }
+    ensures bare { (set : List Content) → AreContents set bytes.now → AreBare (filter is_region set) composition.old composition.new }
 {
     let mut rest = bytes;
     while let Some(next) = next_region(rest) {
