@@ -1,5 +1,5 @@
 -- The listings of a region segment put into a pool, one after another.
-use Rattle.std.proofs.Common.{◌≡◌, ◌∙◌, ℕ, zero, suc, ◌+◌, ◌-◌, ◌<◌, ◌≤◌, true, List, [], ◌∷◌, ◌++◌, length, map, take, Option, Some, None, Result, Ok, Err, refl, sym, ap, subst, append_assoc, arith}
+use Rattle.std.proofs.Common.{◌≡◌, ◌∙◌, ℕ, ◌+◌, ◌-◌, ◌<◌, ◌≤◌, true, List, [], ◌∷◌, ◌++◌, length, map, take, Some, None, Result, Ok, Err, refl, sym, ap, subst, append_assoc, arith}
 use Rattle.std.specs.Prelude.{IfOk, IsErr, ◌↔◌}
 use Rattle.std.specs.List.{slice_get}
 use Rattle.std.specs.Option.{is_some}
@@ -15,7 +15,6 @@ use Rattle.page_core.specs.Lists.{KeepsBeside}
 use Rattle.page_core.specs.Nodes.{AreKind, kept_in, listing_in}
 use Rattle.page_core.specs.PoolChanges.{HasListings}
 use Rattle.page_core.specs.RegionSteps.{fresh}
-use Rattle.page_core.specs.declared.node.ListingNode.{ListingNode}
 use Rattle.page_core.specs.declared.node.Node.{Node}
 use Rattle.page_core.specs.declared.node.Node.TheVariants as node
 use Rattle.page_core.proofs.PagePushes.{take_one}

@@ -1,7 +1,6 @@
 -- The composition of a pool with one more region.
-use Rattle.std.proofs.Common.{◌≡◌, ◌≢◌, ◌∙◌, ℕ, ◌+◌, ◌-◌, ◌==◌, ◌<◌, Bool, true, false, cond, List, [], ◌∷◌, ◌++◌, find, length, map, get_or, Option, Some, None, option_map, refl, sym, ap, subst, inl, inr, arith}
+use Rattle.std.proofs.Common.{◌≡◌, ◌≢◌, ◌∙◌, ℕ, ◌+◌, ◌<◌, true, cond, List, [], ◌∷◌, ◌++◌, find, length, map, Option, Some, None, option_map, refl, sym, ap, subst, inl, inr, arith}
 use Rattle.std.specs.Prelude.{option_and_then, slice_set, slice_index_or}
-use Rattle.std.specs.List.{cons_option}
 use Rattle.std.specs.Option.{is_some, option_or}
 use Rattle.std.proofs.lemmas.Bool.{cases_eq, eq-eqb, ne_eqb}
 use Rattle.std.proofs.lemmas.List.{get_or-set_same, get_or-set_other, length-set, map-append}
@@ -11,13 +10,12 @@ use Rattle.comp_pool.specs.Changes.{pushed}
 use Rattle.comp_pool.specs.Pool.{PoolOf, list_of, node_count}
 use Rattle.comp_pool.specs.declared.node.NodeId.{NodeId}
 use Rattle.page_core.specs.Composition.{AreIdsApart, Composition, KeptRegion, region_in, taken_nodes}
-use Rattle.page_core.specs.Lists.{KeepsBeside}
 use Rattle.page_core.specs.Nodes.{AreKind, IsIndexed, IsSorted, clut_node, colour_in, composition_of, entry_in, is_clut_of, is_region_of, kept_in, listing_in, listings_list, node_of, region_kept, region_node}
 use Rattle.page_core.specs.RegionSteps.{with_region}
 use Rattle.page_core.specs.declared.node.Node.{Node}
 use Rattle.page_core.specs.declared.node.Node.TheVariants as node
 use Rattle.page_core.specs.declared.node.RegionNode.{RegionNode}
-use Rattle.page_core.proofs.RegionHeadsSet.{IsFoundIn, found_in, region_of_id}
+use Rattle.page_core.proofs.RegionHeadsSet.{found_in, region_of_id}
 use Rattle.page_core.proofs.RegionNodes.{region_lookup}
 use Rattle.page_core.proofs.StrayListings.{no_strays}
 

@@ -1,22 +1,20 @@
 -- The composition of a pool in which a region has another head.
-use Rattle.std.proofs.Common.{◌≡◌, ◌≢◌, ◌∙◌, ℕ, zero, suc, ◌+◌, ◌-◌, ◌==◌, ◌<◌, ◌≤◌, ◌||◌, Bool, true, false, cond, List, [], ◌∷◌, ◌++◌, find, length, map, Option, Some, None, option_map, refl, sym, ap, subst, inl, inr, arith}
+use Rattle.std.proofs.Common.{◌≡◌, ◌≢◌, ◌∙◌, ℕ, ◌==◌, ◌||◌, Bool, true, false, cond, List, [], ◌∷◌, ◌++◌, find, map, Option, Some, None, option_map, refl, sym, ap, subst, arith}
 use Rattle.std.specs.Prelude.{option_and_then}
 use Rattle.std.specs.List.{cons_option, list_any}
 use Rattle.std.specs.Option.{is_some, option_map_or}
 use Rattle.std.proofs.lemmas.Bool.{eqb-true, eq-eqb}
 use Rattle.std.proofs.lemmas.List.{map-append}
-use Rattle.std.proofs.lemmas.List.Elements.{All-nil, All-cons, All-head, All-tail, filter_map-append}
-use Rattle.comp_pool.specs.Changes.{replaced}
-use Rattle.comp_pool.specs.Pool.{PoolOf, list_of, node_count, NoneTwice, IsInList}
+use Rattle.std.proofs.lemmas.List.Elements.{All-cons, All-head, All-tail, filter_map-append}
+use Rattle.comp_pool.specs.Pool.{PoolOf, list_of, IsInList}
 use Rattle.comp_pool.specs.declared.node.NodeId.{NodeId}
 use Rattle.comp_pool.proofs.ItemLaws.{in_list_from_item}
 use Rattle.comp_pool.proofs.WalkLaws.{set_split}
-use Rattle.stream_syntax.specs.declared.region.RegionHead.{RegionHead}
 use Rattle.page_core.specs.Composition.{AreIdsApart, Composition, KeptRegion, region_in}
 use Rattle.page_core.specs.Lists.{KeepsBeside}
 use Rattle.page_core.specs.Nodes.{AreKind, IsIndexed, IsSorted, clut_node, colour_in, composition_of, entry_in, is_clut_of, is_region_of, kept_in, listing_in, listings_list, node_of, region_kept, region_node}
 use Rattle.page_core.specs.PoolChanges.{IsItemSet, IsRegionSet}
-use Rattle.page_core.specs.RegionSteps.{changed_at, headed, slot_in, with_head, with_regions}
+use Rattle.page_core.specs.RegionSteps.{changed_at, headed, slot_in, with_head}
 use Rattle.page_core.specs.declared.node.Node.{Node}
 use Rattle.page_core.specs.declared.node.Node.TheVariants as node
 use Rattle.page_core.specs.declared.node.RegionNode.{RegionNode}

@@ -1,8 +1,8 @@
 -- Regions that are kept, by their ids, where those of one id are changed.
-use Rattle.std.proofs.Common.{◌≡◌, ◌≢◌, ◌∙◌, ℕ, suc, ◌+◌, ◌-◌, ◌==◌, ◌<◌, ◌≤◌, ◌||◌, Bool, true, false, cond, eqb, List, [], ◌∷◌, ◌++◌, find, length, map, sum_by, All, Option, Some, None, option_map, refl, sym, ap, subst, arith}
+use Rattle.std.proofs.Common.{◌≡◌, ◌∙◌, ℕ, ◌+◌, ◌==◌, ◌<◌, ◌||◌, Bool, true, false, cond, eqb, List, [], ◌∷◌, ◌++◌, find, length, map, sum_by, All, Some, None, option_map, refl, sym, ap, subst, arith}
 use Rattle.std.specs.List.{AllByRecursion, IsDistinct, list_any}
 use Rattle.std.proofs.lemmas.Bool.{eqb-true, eq-eqb}
-use Rattle.std.proofs.lemmas.List.Elements.{All-nil, All-cons, All-head, All-tail}
+use Rattle.std.proofs.lemmas.List.Elements.{All-cons, All-head, All-tail}
 use Rattle.std.proofs.lemmas.List.Sums.{sum_by-cons}
 use Rattle.std.proofs.lemmas.Map.Steps.{length-le_from_distinct_below}
 use Rattle.page_core.specs.Composition.{AreIdsApart, KeptRegion}

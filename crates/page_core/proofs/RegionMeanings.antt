@@ -1,20 +1,18 @@
 -- What a region segment that is taken means: one more of the taken segments.
-use Rattle.std.proofs.Common.{◌≡◌, ◌≢◌, ◌∙◌, ℕ, zero, suc, ◌+◌, ◌-◌, ◌==◌, ◌<◌, ◌≤◌, ◌||◌, ◌&&◌, Bool, true, false, cond, List, [], ◌∷◌, ◌++◌, find, get_or, length, map, reverse, Contains, Option, Some, None, option_map, refl, sym, ap, subst, inl, inr, arith}
-use Rattle.std.specs.List.{list_any, range_with_len}
+use Rattle.std.proofs.Common.{◌≡◌, ◌≢◌, ◌∙◌, ℕ, ◌<◌, ◌||◌, Bool, true, false, cond, List, [], ◌∷◌, map, reverse, Option, Some, None, option_map, refl, sym, ap, subst, inl, inr}
 use Rattle.std.specs.Option.{is_some, option_map_or}
 use Rattle.std.proofs.lemmas.Bool.{cases_eq, ne_eqb, eq-eqb}
-use Rattle.stream_syntax.specs.Segments.{Region, SegmentValue, of_region}
-use Rattle.stream_syntax.specs.declared.region.Listing.{Listing}
+use Rattle.stream_syntax.specs.Segments.{Region, of_region}
 use Rattle.stream_syntax.specs.declared.region.RegionHead.{RegionHead}
 use Rattle.decoder_model.specs.Contents.{region_named}
 use Rattle.decoder_model.specs.Nodes.{region_ids}
-use Rattle.decoder_model.specs.Pixels.{code_by_segment, pixel_of}
+use Rattle.decoder_model.specs.Pixels.{pixel_of}
 use Rattle.decoder_model.specs.Readings.{Content}
 use Rattle.decoder_model.specs.Taken.{Taken, taken_region}
 use Rattle.pixel_store.specs.Regions.{Regions, code_of, region_at}
-use Rattle.page_core.specs.Composition.{Composition, KeptListing, KeptRegion, region_in}
+use Rattle.page_core.specs.Composition.{Composition, KeptRegion, region_in}
 use Rattle.page_core.specs.Memory.{head_of, kept_listing}
-use Rattle.page_core.specs.RegionSteps.{AwaitRegions, awaited, fresh, is_renewed, renews}
+use Rattle.page_core.specs.RegionSteps.{AwaitRegions, awaited, fresh, is_renewed}
 use Rattle.page_core.specs.RegionTests.{is_new}
 use Rattle.page_core.specs.Seen.{defines}
 use Rattle.page_core.proofs.PixelRoom.{with_segment}

@@ -1,23 +1,23 @@
 -- The nodes that the regions of a set need, and those that they free.
-use Rattle.std.proofs.Common.{◌≡◌, ◌≢◌, ◌∙◌, ℕ, zero, suc, ◌+◌, ◌-◌, ◌==◌, ◌<◌, ◌≤◌, ◌||◌, Bool, true, false, cond, List, [], ◌∷◌, ◌++◌, filter, find, length, map, reverse, sum_by, Option, Some, None, option_map, refl, sym, ap, subst, inl, inr, arith}
+use Rattle.std.proofs.Common.{◌≡◌, ◌∙◌, ℕ, ◌+◌, ◌==◌, ◌||◌, Bool, true, false, cond, List, [], ◌∷◌, ◌++◌, filter, length, map, reverse, sum_by, Option, Some, None, option_map, refl, sym, ap, arith}
 use Rattle.std.specs.Prelude.{filter_map}
 use Rattle.std.specs.List.{list_any}
-use Rattle.std.specs.Option.{is_some, option_or}
-use Rattle.std.proofs.lemmas.Bool.{cases_eq, eqb-true, eq-eqb, ne_eqb}
+use Rattle.std.specs.Option.{is_some}
+use Rattle.std.proofs.lemmas.Bool.{eqb-true, eq-eqb}
 use Rattle.std.proofs.lemmas.List.Sums.{sum_by-cons}
 use Rattle.sub_base.specs.Lists.{different}
 use Rattle.stream_syntax.specs.Segments.{Region, SegmentValue, of_page, of_region, of_clut, of_object, of_display, end_of_set, passed_over}
-use Rattle.decoder_model.specs.Contents.{region_in, region_named, region_of}
+use Rattle.decoder_model.specs.Contents.{region_in, region_of}
 use Rattle.decoder_model.specs.Nodes.{is_same, listing_count, listings_held, region_id, region_ids}
 use Rattle.decoder_model.specs.Readings.{Content}
 use Rattle.decoder_model.specs.Taken.{Taken, is_taken, last_region, taken_among, taken_of, taken_region}
 use Rattle.page_core.specs.Memory.{head_of}
-use Rattle.page_core.specs.RegionSteps.{is_renewed, nodes_needed, nodes_needed_by, nodes_needed_for}
+use Rattle.page_core.specs.RegionSteps.{is_renewed, nodes_needed, nodes_needed_for}
 use Rattle.page_core.specs.RegionTests.{AreApart, is_new}
 use Rattle.page_core.specs.Seen.{defines}
 use Rattle.page_core.specs.Walks.{is_region}
 use Rattle.page_core.proofs.Orders.{moved}
-use Rattle.page_core.proofs.PixelRoom.{apart_ids, id_among, id_among_different, ids_with, named_same, of_segments, sum_apart, turned, with_segment}
+use Rattle.page_core.proofs.PixelRoom.{apart_ids, id_among, id_among_different, ids_with, named_same, of_segments, sum_apart, with_segment}
 use Rattle.page_core.proofs.RegionLaws.{taken_by_head}
 use Rattle.page_core.proofs.RegionMeanings.{held_renewed, none_renewed, not_renewed}
 use Rattle.page_core.proofs.RegionReady.{apart_behind, needed_is}

@@ -1,5 +1,5 @@
 -- The composition of a pool whose listings of a region are changed.
-use Rattle.std.proofs.Common.{◌≡◌, ◌≢◌, ◌∙◌, ℕ, suc, ◌+◌, ◌-◌, ◌==◌, ◌<◌, ◌≤◌, Bool, true, false, cond, List, [], ◌∷◌, ◌++◌, find, length, map, Option, Some, None, option_map, refl, sym, ap, subst, inl, inr, arith}
+use Rattle.std.proofs.Common.{◌≡◌, ◌≢◌, ◌∙◌, ℕ, suc, ◌+◌, ◌-◌, ◌==◌, ◌<◌, Bool, true, false, cond, List, [], ◌∷◌, ◌++◌, find, length, map, Option, Some, None, option_map, refl, sym, ap, subst, inl, inr, arith}
 use Rattle.std.specs.List.{cons_option}
 use Rattle.std.specs.Option.{is_some}
 use Rattle.std.proofs.lemmas.Bool.{cases_eq, eqb-true, eq-eqb}
@@ -11,7 +11,7 @@ use Rattle.comp_pool.specs.Pool.{PoolOf, list_of, node_count}
 use Rattle.comp_pool.specs.declared.node.NodeId.{NodeId}
 use Rattle.page_core.specs.Composition.{Composition, KeptRegion, region_in}
 use Rattle.page_core.specs.Lists.{KeepsBeside}
-use Rattle.page_core.specs.Nodes.{AreKind, IsIndexed, IsSorted, clut_node, colour_in, composition_of, entry_in, is_clut_of, is_region_of, kept_in, list_count, listing_in, listings_list, node_of, region_kept, region_node}
+use Rattle.page_core.specs.Nodes.{AreKind, IsIndexed, IsSorted, clut_node, colour_in, composition_of, entry_in, is_clut_of, is_region_of, kept_in, listing_in, listings_list, node_of, region_kept, region_node}
 use Rattle.page_core.specs.PoolChanges.{HasListings}
 use Rattle.page_core.specs.RegionSteps.{bare, changed_at, count_kept, fresh, listing_more, with_listings, with_regions, without_listings}
 use Rattle.page_core.specs.declared.node.Node.{Node}

@@ -1,38 +1,37 @@
 -- The regions of a set taken one after another behind earlier segments.
-use Rattle.std.proofs.Common.{◌≡◌, ◌≢◌, ◌∙◌, ℕ, zero, suc, ◌+◌, ◌-◌, ◌*◌, ◌/◌, ◌==◌, ◌<◌, ◌≤◌, ◌||◌, ◌&&◌, Bool, true, false, cond, List, [], ◌∷◌, ◌++◌, filter, find, get_or, length, map, reverse, Contains, Option, Some, None, option_map, refl, sym, ap, subst, inl, inr, arith}
+use Rattle.std.proofs.Common.{◌≡◌, ◌≢◌, ◌∙◌, ℕ, zero, suc, ◌+◌, ◌-◌, ◌==◌, ◌<◌, ◌≤◌, ◌||◌, ◌&&◌, Bool, true, false, cond, List, [], ◌∷◌, ◌++◌, filter, get_or, length, map, reverse, Option, Some, None, option_map, refl, sym, ap, subst, arith}
 use Rattle.std.specs.Prelude.{nat_lt, option_and_then}
-use Rattle.std.specs.List.{list_any, range_with_len}
+use Rattle.std.specs.List.{range_with_len}
 use Rattle.std.specs.Option.{is_none, is_some, option_or}
 use Rattle.std.proofs.lemmas.Bool.{eqb-true}
 use Rattle.std.proofs.lemmas.Bool.Decides.{nat_tests}
 use Rattle.std.proofs.lemmas.List.{reverse-append}
 use Rattle.sub_base.specs.Depth.{bits_of}
 use Rattle.sub_base.specs.declared.profile.Profile.{Profile}
-use Rattle.stream_syntax.specs.Segments.{Region, SegmentValue, of_region}
+use Rattle.stream_syntax.specs.Segments.{Region, of_region}
 use Rattle.stream_syntax.specs.declared.region.RegionHead.{RegionHead}
 use Rattle.decoder_model.specs.Contents.{region_in, region_named, region_of, where_passes}
 use Rattle.decoder_model.specs.Faults.{changed_from, changed_region, has_same_shape, pixels_full, region_changed, region_too_large}
 use Rattle.decoder_model.specs.Nodes.{pixel_bytes, pixels_used, region_ids}
-use Rattle.decoder_model.specs.Pixels.{code_by_fill, code_by_segment, pixel_of}
+use Rattle.decoder_model.specs.Pixels.{code_by_fill, code_by_segment}
 use Rattle.decoder_model.specs.Readings.{Content}
-use Rattle.decoder_model.specs.Taken.{Taken, is_taken, last_region, taken_among, taken_of, taken_region}
-use Rattle.decoder_model.specs.declared.set_fault.SetFault.{SetFault}
+use Rattle.decoder_model.specs.Taken.{Taken, is_taken, taken_among, taken_of, taken_region}
 use Rattle.decoder_model.specs.declared.set_fault.SetFault.TheVariants.{PixelFull}
-use Rattle.pixel_store.specs.Regions.{Regions, code_of, need_of, region_at}
+use Rattle.pixel_store.specs.Regions.{Regions}
 use Rattle.page_core.specs.Composition.{Composition, KeptListing, KeptRegion}
 use Rattle.page_core.specs.Composition.{region_in as kept_in}
 use Rattle.page_core.specs.Handed.{AreContents}
 use Rattle.page_core.specs.Memory.{head_of, kept_listing}
 use Rattle.page_core.specs.Painted.{HasRegion, IsWritten}
-use Rattle.page_core.specs.RegionSteps.{AreReady, AreStored, AwaitRegions, IsNewRegion, IsRegionTaken, IsTakenAgain, awaited, is_renewed, nodes_needed, nodes_needed_by, nodes_needed_for, renews, with_regions_of}
-use Rattle.page_core.specs.RegionTests.{AreApart, IsAsBefore, first_in, head_in, is_new}
+use Rattle.page_core.specs.RegionSteps.{AreReady, AreStored, AwaitRegions, IsNewRegion, IsRegionTaken, IsTakenAgain, awaited, is_renewed, nodes_needed_by, nodes_needed_for, with_regions_of}
+use Rattle.page_core.specs.RegionTests.{AreApart, first_in, is_new}
 use Rattle.page_core.specs.Seen.{defines}
 use Rattle.page_core.specs.Walks.{IsNextOf, is_region}
 use Rattle.page_core.proofs.DrawnEntries.{placed_in_order}
 use Rattle.page_core.proofs.Finds.{found_all}
 use Rattle.page_core.proofs.ObjectSteps.{pixel_step}
 use Rattle.page_core.proofs.Orders.{moved}
-use Rattle.page_core.proofs.PixelRoom.{ids_with, named_same, of_segments, same_bytes, shape_kept, taken_or_held, used_with_new, used_with_same, with_segment}
+use Rattle.page_core.proofs.PixelRoom.{ids_with, named_same, of_segments, same_bytes, shape_kept, used_with_new, used_with_same, with_segment}
 use Rattle.page_core.proofs.RegionIds.{found_has}
 use Rattle.page_core.proofs.RegionLaws.{taken_by_head}
 use Rattle.page_core.proofs.RegionLookups.{IsLookedUp, again_ids, again_looked_up, first_ids, first_looked_up}

@@ -1,5 +1,5 @@
 -- The regions of a set before the first of them is taken: the listings of those that it renews are free.
-use Rattle.std.proofs.Common.{◌≡◌, ◌≢◌, ◌∙◌, ℕ, zero, suc, ◌+◌, ◌-◌, ◌==◌, ◌<◌, ◌≤◌, ◌||◌, Bool, true, false, cond, List, [], ◌∷◌, ◌++◌, filter, find, length, map, reverse, sum_by, Option, Some, None, option_map, refl, sym, ap, subst, arith}
+use Rattle.std.proofs.Common.{◌≡◌, ◌∙◌, ℕ, ◌+◌, ◌==◌, ◌<◌, ◌||◌, Bool, true, false, cond, List, [], ◌∷◌, filter, find, length, map, reverse, sum_by, Option, Some, None, option_map, refl, sym, ap, subst, arith}
 use Rattle.std.specs.List.{list_any}
 use Rattle.std.proofs.lemmas.Bool.{eq-eqb, eqb-true}
 use Rattle.std.proofs.lemmas.List.{length-map, length-reverse, reverse-append}
@@ -7,14 +7,14 @@ use Rattle.std.proofs.lemmas.List.Sums.{sum_by-append, sum_by-cons}
 use Rattle.stream_syntax.specs.Segments.{Region}
 use Rattle.stream_syntax.specs.declared.region.Listing.{Listing}
 use Rattle.stream_syntax.specs.declared.region.RegionHead.{RegionHead}
-use Rattle.decoder_model.specs.Nodes.{listings_held, pixels_used, region_ids}
+use Rattle.decoder_model.specs.Nodes.{region_ids}
 use Rattle.decoder_model.specs.Pixels.{pixel_of}
 use Rattle.decoder_model.specs.Readings.{Content}
 use Rattle.decoder_model.specs.Taken.{Taken, taken_of, taken_region}
 use Rattle.pixel_store.specs.Regions.{Regions, code_of, region_at}
-use Rattle.page_core.specs.Composition.{AreIdsApart, Composition, KeptListing, KeptRegion, region_in, taken_nodes}
+use Rattle.page_core.specs.Composition.{AreIdsApart, Composition, KeptRegion, region_in}
 use Rattle.page_core.specs.Memory.{Holds, IsWhole, Memory, head_of, kept_listing}
-use Rattle.page_core.specs.RegionSteps.{AreBare, AreReady, AreRegionsRight, AreStored, AwaitRegions, KeepsBesideRegions, awaited, bare, bare_by, bare_where, is_renewed, listings_kept, nodes_needed}
+use Rattle.page_core.specs.RegionSteps.{AreBare, AreReady, AreRegionsRight, AreStored, AwaitRegions, KeepsBesideRegions, awaited, bare_by, bare_where, is_renewed, listings_kept}
 use Rattle.page_core.specs.RegionTests.{AreApart}
 use Rattle.page_core.specs.Walks.{is_region}
 use Rattle.page_core.proofs.RegionIds.{has_id, id_of, listings_at}
@@ -168,15 +168,15 @@ ready_begins older set memory composition holds whole apart right bared beside s
       room = right.room;
       free = right.free;
       nodes = omega (
-            arith,
-            listings_counted (taken_of older) (filter is_region set) composition memory.store await stored.apart,
-            nodes_with older [] (filter is_region set) (are_regions set) apart,
-            right.nodes,
-            whole.counted,
-            stored.counted,
-            ap length beside.entries,
-            ap length beside.cluts,
-            ap length beside.set_entries,
-            beside.size,
-          );
+        arith,
+        listings_counted (taken_of older) (filter is_region set) composition memory.store await stored.apart,
+        nodes_with older [] (filter is_region set) (are_regions set) apart,
+        right.nodes,
+        whole.counted,
+        stored.counted,
+        ap length beside.entries,
+        ap length beside.cluts,
+        ap length beside.set_entries,
+        beside.size,
+      );
     }

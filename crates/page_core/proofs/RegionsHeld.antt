@@ -1,19 +1,18 @@
 -- A memory behind the regions of a set.
-use Rattle.std.proofs.Common.{◌≡◌, ◌∙◌, ℕ, ◌==◌, ◌<◌, ◌^◌, Bool, true, false, cond, List, [], ◌∷◌, ◌++◌, find, length, map, reverse, Option, Some, None, option_map, refl, sym, ap, subst}
+use Rattle.std.proofs.Common.{◌≡◌, ◌∙◌, ℕ, ◌==◌, ◌<◌, ◌^◌, Bool, true, false, cond, List, [], ◌∷◌, ◌++◌, find, length, map, reverse, Option, option_map, refl, sym, ap, subst}
 use Rattle.std.specs.Prelude.{IfSome}
 use Rattle.std.specs.List.{list_any}
-use Rattle.sub_base.specs.Depth.{code_count}
 use Rattle.sub_base.specs.declared.colour.Colour.{Colour}
 use Rattle.sub_base.specs.declared.depth.Depth.{Depth}
 use Rattle.sub_base.specs.declared.profile.Profile.{Profile}
 use Rattle.stream_syntax.specs.PixelBlocks.{Part}
-use Rattle.stream_syntax.specs.Segments.{Clut, Display, Region, SegmentValue, of_region}
+use Rattle.stream_syntax.specs.Segments.{Region, SegmentValue, of_region}
 use Rattle.decoder_model.specs.Faults.{display_in_force}
 use Rattle.decoder_model.specs.Ink.{ink_of}
 use Rattle.decoder_model.specs.Nodes.{TableEntry, clut_ids, is_same_entry, table_entries}
 use Rattle.decoder_model.specs.Readings.{Content}
-use Rattle.decoder_model.specs.Taken.{Taken, clut_version, is_taken, last_clut, taken_among, taken_of}
-use Rattle.page_core.specs.Composition.{Composition, KeptClut, clut_in}
+use Rattle.decoder_model.specs.Taken.{clut_version, is_taken, last_clut, taken_among, taken_of}
+use Rattle.page_core.specs.Composition.{Composition, KeptClut}
 use Rattle.page_core.specs.Cores.{IsCore}
 use Rattle.page_core.specs.Memory.{AreInks, Holds, IsWhole, Memory, ink_in}
 use Rattle.page_core.specs.RegionSteps.{AreStored, AwaitRegions, KeepsBesideRegions, KeepsButRegions}

@@ -1,5 +1,5 @@
 -- The regions of a composition with their slots of a store, through each change.
-use Rattle.std.proofs.Common.{◌≡◌, ◌≢◌, ◌∙◌, ℕ, zero, suc, ◌+◌, ◌-◌, ◌==◌, ◌<◌, ◌≤◌, ◌&&◌, Bool, true, false, cond, List, [], ◌∷◌, ◌++◌, find, get_or, length, map, sum_by, All, Option, Some, None, option_map, refl, sym, ap, subst, inl, inr, arith}
+use Rattle.std.proofs.Common.{◌≡◌, ◌∙◌, ℕ, zero, suc, ◌+◌, ◌-◌, ◌==◌, ◌<◌, ◌≤◌, ◌&&◌, Bool, true, false, cond, List, [], ◌∷◌, ◌++◌, find, get_or, length, map, All, Option, Some, None, option_map, refl, sym, ap, subst, inl, inr, arith}
 use Rattle.std.specs.List.{range_with_len}
 use Rattle.std.specs.Option.{option_or}
 use Rattle.std.proofs.lemmas.Bool.{cases_eq, eq-eqb, eqb-true}
@@ -16,7 +16,7 @@ use Rattle.stream_syntax.specs.declared.region.RegionHead.{RegionHead}
 use Rattle.decoder_model.specs.Faults.{has_same_shape}
 use Rattle.pixel_store.specs.Regions.{KeepsOthers, PlacesOne, Regions, region_at}
 use Rattle.pixel_store.specs.Regions.{Region as StoredRegion}
-use Rattle.page_core.specs.Composition.{AreIdsApart, Composition, KeptRegion, region_in, taken_nodes}
+use Rattle.page_core.specs.Composition.{Composition, KeptRegion, region_in}
 use Rattle.page_core.specs.Memory.{HasSides}
 use Rattle.page_core.specs.Painted.{HasRegion}
 use Rattle.page_core.specs.RegionSteps.{AreStored, IsRightHead, changed_at, fresh, headed, listing_more, with_head, with_listings, with_region, with_regions}
@@ -42,12 +42,12 @@ module _ (composition : Composition) (store : Regions) (stored : AreStored compo
       → AreStored (with_regions (map (changed_at id change) composition.regions) free composition) store
   stored_with change same_id same_slot sides clut low free nodes = record {
     counted = omega (
-          arith,
-          stored.counted,
-          nodes,
-          sum_with id change kept composition.regions found stored.apart,
-          length-map composition.regions (changed_at id change),
-        );
+      arith,
+      stored.counted,
+      nodes,
+      sum_with id change kept composition.regions found stored.apart,
+      length-map composition.regions (changed_at id change),
+    );
     slots = slots_kept id change same_slot composition.regions ∙ stored.slots;
     sides = all_with id change kept (λ (kept : KeptRegion). HasSides kept.head (region_at store kept.slot)) composition.regions found stored.apart sides stored.sides;
     cluts = all_with id change kept (λ (kept : KeptRegion). kept.head.clut < 256) composition.regions found stored.apart clut stored.cluts;
@@ -105,13 +105,13 @@ module _ (composition : Composition) (old new : Regions) (head : RegionHead) (sl
       λ k d within. subst (λ r. HasSides (get_or composition.regions k d).head r) (sym (placed.kept (get_or composition.regions k d).slot (in_order k d within).placed)) (stored.sides k d within) in
       record {
         counted = omega (
-              arith,
-              stored.counted,
-              room,
-              length-append composition.regions (one ∷ []),
-              sum_by-append (λ (kept : KeptRegion). length kept.listings) composition.regions (one ∷ []),
-              sum_by-cons (λ (kept : KeptRegion). length kept.listings) one [],
-            );
+          arith,
+          stored.counted,
+          room,
+          length-append composition.regions (one ∷ []),
+          sum_by-append (λ (kept : KeptRegion). length kept.listings) composition.regions (one ∷ []),
+          sum_by-cons (λ (kept : KeptRegion). length kept.listings) one [],
+        );
         slots =
             map-append (λ (kept : KeptRegion). kept.slot) composition.regions (one ∷ [])
             ∙ (λ i. stored.slots i ++ (placed.index ∙ (let same : length old.regions ≡ 0 + length old.regions = omega arith in same)) i ∷ [])

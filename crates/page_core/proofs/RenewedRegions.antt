@@ -1,7 +1,7 @@
 -- The listings of the regions that a set renews, cleared one region after another.
 use Rattle.std.proofs.Common.{◌≡◌, ◌∙◌, ℕ, ◌+◌, ◌==◌, ◌<◌, ◌||◌, Bool, true, false, cond, List, [], ◌∷◌, find, filter, length, map, Option, Some, None, option_map, refl, sym, ap, subst, arith}
 use Rattle.std.specs.List.{list_any}
-use Rattle.std.specs.Option.{is_some, option_map_or}
+use Rattle.std.specs.Option.{option_map_or}
 use Rattle.std.proofs.lemmas.Bool.{eqb-true, eq-eqb}
 use Rattle.stream_syntax.specs.Segments.{Region, SegmentValue, of_region}
 use Rattle.stream_syntax.specs.declared.region.RegionHead.{RegionHead}
@@ -12,7 +12,7 @@ use Rattle.page_core.specs.Composition.{AreIdsApart, Composition, KeptRegion}
 use Rattle.page_core.specs.Composition.{region_in as kept_in}
 use Rattle.page_core.specs.Handed.{AreContents}
 use Rattle.page_core.specs.Memory.{HasSides}
-use Rattle.page_core.specs.RegionSteps.{AreBare, AreStored, KeepsBesideRegions, bare, bare_by, bare_where, changed_at, cleared_where, count_kept, is_renewed, renews, takes_place, without_listings}
+use Rattle.page_core.specs.RegionSteps.{AreBare, AreStored, KeepsBesideRegions, bare, bare_by, bare_where, changed_at, cleared_where, count_kept, is_renewed, renews, takes_place}
 use Rattle.page_core.specs.RegionTests.{head_in, is_new}
 use Rattle.page_core.specs.Walks.{IsNextOf, is_region}
 use Rattle.page_core.proofs.Finds.{found_all}

@@ -1,17 +1,17 @@
 -- A list of listings without a region is empty, where all nodes are counted.
-use Rattle.std.proofs.Common.{◌≡◌, ◌≢◌, ◌∙◌, ℕ, zero, suc, ◌+◌, ◌-◌, ◌==◌, ◌<◌, ◌≤◌, ◌||◌, Bool, true, false, cond, List, [], ◌∷◌, ◌++◌, find, length, map, get_or, set, sum_by, Option, Some, None, option_map, refl, sym, ap, subst, inl, inr, arith}
+use Rattle.std.proofs.Common.{◌≡◌, ◌∙◌, ℕ, suc, ◌+◌, ◌==◌, ◌<◌, ◌≤◌, ◌||◌, Bool, true, false, cond, List, [], ◌∷◌, find, length, map, get_or, set, sum_by, Option, Some, None, refl, sym, ap, subst, inl, inr, arith}
 use Rattle.std.specs.List.{cons_option, list_any}
-use Rattle.std.proofs.lemmas.Bool.{cases_eq, cases_lt, eqb-true, eq-eqb, ne_eqb}
+use Rattle.std.proofs.lemmas.Bool.{cases_eq, cases_lt, eq-eqb, ne_eqb}
 use Rattle.std.proofs.lemmas.List.{get_or-set_other, get_or_past, length-map}
 use Rattle.std.proofs.lemmas.List.Sums.{sum_by-cons, sum_by-set}
-use Rattle.comp_pool.specs.Pool.{PoolOf, list_of, node_count}
+use Rattle.comp_pool.specs.Pool.{PoolOf, list_of}
 use Rattle.comp_pool.specs.declared.node.NodeId.{NodeId}
 use Rattle.decoder_model.specs.Nodes.{is_same}
 use Rattle.page_core.specs.Composition.{AreIdsApart, Composition, KeptRegion, region_in, taken_nodes}
 use Rattle.page_core.specs.Nodes.{clut_node, colour_in, composition_of, entry_in, kept_in, listing_in, listings_list, region_kept, region_node}
 use Rattle.page_core.specs.declared.node.Node.{Node}
 use Rattle.page_core.specs.declared.node.RegionNode.{RegionNode}
-use Rattle.page_core.proofs.PixelRoom.{sum_apart, turned}
+use Rattle.page_core.proofs.PixelRoom.{sum_apart}
 
 -- ---- lengths of some of the lists
 

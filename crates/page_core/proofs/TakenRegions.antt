@@ -9,7 +9,7 @@ use Rattle.stream_syntax.specs.PixelBlocks.{Part}
 use Rattle.stream_syntax.specs.Segments.{Object, Region, SegmentValue, of_page, of_region, of_clut, of_object, of_display, end_of_set, passed_over}
 use Rattle.stream_syntax.specs.declared.region.Listing.{Listing}
 use Rattle.decoder_model.specs.Contents.{object_in, region_in, region_named, region_of, where_passes}
-use Rattle.decoder_model.specs.Pixels.{code_by_fill, code_by_listings, code_by_segment, depth_of, fill_code, is_painting, last_code, listings_by, object_version, painted_listings, pixel_of, since_region}
+use Rattle.decoder_model.specs.Pixels.{code_by_fill, code_by_listings, code_by_segment, depth_of, fill_code, is_painting, last_code, listings_by, object_version, painted_listings, pixel_of}
 use Rattle.decoder_model.specs.Readings.{Content}
 use Rattle.decoder_model.specs.Taken.{Taken, last_region, taken_region}
 use Rattle.page_core.specs.Composition.{KeptListing}
@@ -99,7 +99,7 @@ module _ (content : Content) (region : Region) (value : of_region region ≡ con
   listings_then_other id other [] = refl
   listings_then_other id other (listing ∷ listings) =
       λ i. listing_behind content taken.segments id listing (named_other content region id is_region_of other)
-          (ap (λ (v : SegmentValue). where_passes (λ (object : Object). object.object == listing.object) (object_in v)) (sym value)) i ∷ listings_then_other id other listings i
+      (ap (λ (v : SegmentValue). where_passes (λ (object : Object). object.object == listing.object) (object_in v)) (sym value)) i ∷ listings_then_other id other listings i
 
   -- it writes to its own pixels alone
   pub code_then : (id x y : ℕ) → code_by_segment taken content.value content.top content.bottom id x y ≡ code_by_fill id region.head

@@ -1,5 +1,5 @@
 -- What an object does in all regions.
-use Rattle.std.specs.Prelude.{◌≡◌, ℕ, ◌==◌, ◌<◌, Bool, false, if◌then◌else◌, List, [], ◌∷◌, ◌++◌, length, map, Contains, Some, None}
+use Rattle.std.specs.Prelude.{◌≡◌, ℕ, ◌<◌, Bool, false, if◌then◌else◌, List, [], ◌∷◌, ◌++◌, length, map, Contains, Some, None}
 use Rattle.std.specs.List.{list_any}
 use Rattle.sub_base.specs.Lists.{last_given}
 use Rattle.stream_syntax.specs.Segments.{Object}

@@ -160,12 +160,7 @@ fn take_again(
 }
 
 // Gives a region the head and the listings of a segment, and fills it where the segment says so.
-fn renew(
-    composition: &mut CompositionMemory,
-    store: &mut Store,
-    region: &RegionSeg<'_>,
-    slot: Slot,
-)
+fn renew(composition: &mut CompositionMemory, store: &mut Store, region: &RegionSeg<'_>, slot: Slot)
     requires placed { HasRegion (region_value region.now).head slot store.old }
     requires right { IsRightHead (region_value region.now).head }
     requires known { slot_in composition.old region.now.region ≡ Some slot }
@@ -174,12 +169,12 @@ fn renew(
     ensures composition { composition.new ≡ with_listings region.now.region (region_value region.now).listings (with_head (region_value region.now).head composition.old) }
     ensures filled { IsWritten slot (λ x y. code_by_fill region.now.region (region_value region.now).head) store.old store.new }
 {
-    let node = RegionNode {
+    let renewed = RegionNode {
         head: head_of(region),
         slot,
     };
-    fill_region(store, &node);
-    composition.set_region(node);
+    fill_region(store, &renewed);
+    composition.set_region(renewed);
     composition.add_listings(region);
 }
 

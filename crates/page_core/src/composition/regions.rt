@@ -8,9 +8,8 @@ ghost use Rattle.page_core.specs.Composition.{AreIdsApart, region_in, taken_node
 ghost use Rattle.page_core.specs.PoolChanges.{HasListings, IsRegionSet};
 ghost use Rattle.page_core.specs.RegionSteps.{slot_in, with_head, with_listings, with_region, without_listings};
 
-use crate::composition::CompositionMemory;
 use crate::composition::listings::listings_of;
-use crate::composition::node_at;
+use crate::composition::{CompositionMemory, node_at};
 use crate::node::{ListingNode, Node, RegionNode};
 use comp_pool::{NodeId, Pool};
 use segments::RegionSeg;

@@ -1,7 +1,6 @@
 -- A region that is known is renewed.
-use Rattle.std.proofs.Common.{◌≡◌, ◌∙◌, true, refl, sym, ap, subst, arith}
+use Rattle.std.proofs.Common.{◌≡◌, ◌∙◌, true, sym, ap, subst, arith}
 use Rattle.decoder_model.specs.Faults.{has_same_shape}
-use Rattle.stream_syntax.specs.declared.region.RegionHead.{RegionHead}
 use Rattle.pixel_store.specs.Regions.{KeepsOthers}
 use Rattle.segments.specs.Contents.{region_value}
 use Rattle.page_core.specs.Painted.{HasRegion}

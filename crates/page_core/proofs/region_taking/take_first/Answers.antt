@@ -1,5 +1,5 @@
 -- A region that is new is put in.
-use Rattle.std.proofs.Common.{[], arith, refl, ap}
+use Rattle.std.proofs.Common.{[], arith, refl}
 use Rattle.segments.specs.Contents.{region_value}
 use Rattle.page_core.proofs.RegionsStored.{room_for_one, stored_first}
 use Rattle.page_core.proofs.region_taking.take_first.Goals as goal

@@ -1,7 +1,7 @@
 -- One more listing is put in.
 use Rattle.std.proofs.Common.{◌<◌, length, arith}
 use Rattle.segments.specs.Contents.{region_value}
-use Rattle.page_core.proofs.ListingPushes.{none_yet, pushed_listing, all_pushed}
+use Rattle.page_core.proofs.ListingPushes.{none_yet, pushed_listing}
 use Rattle.page_core.proofs.composition.regions.push_listings.Goals as goal
 
 pub loop-i-init : goal.loop-i-init

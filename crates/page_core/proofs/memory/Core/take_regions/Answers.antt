@@ -1,8 +1,7 @@
 -- The regions of a set are taken.
-use Rattle.std.proofs.Common.{◌∙◌, refl, sym, ap, subst, filter, reverse}
-use Rattle.page_core.specs.Cores.{memory_of}
-use Rattle.page_core.specs.Memory.{Holds, Memory}
-use Rattle.page_core.specs.RegionSteps.{AreReady, AreRegionsRight, KeepsButRegions}
+use Rattle.std.proofs.Common.{refl, sym, subst, filter}
+use Rattle.page_core.specs.Memory.{Holds}
+use Rattle.page_core.specs.RegionSteps.{AreRegionsRight}
 use Rattle.page_core.specs.Walks.{is_region}
 use Rattle.page_core.proofs.RegionNeeds.{are_regions}
 use Rattle.page_core.proofs.RegionsBegin.{ready_begins}
