@@ -262,7 +262,7 @@ pub record IsRoomed (profile : Profile) (older set : List Content) (left : ℕ) 
   pub free : left ≡ profile.pixels - pixels_used (taken_of (tested.mid ++ before_regions older set))
   pub unchanged : first_in region_changed (tested.mid ++ before_regions older set) (filter is_region tested.left) ≡ None
 
-neither : {X : Type 0} (a b : Option X) → option_or a b ≡ None → (a ≡ None) × (b ≡ None)
+pub neither : {X : Type 0} (a b : Option X) → option_or a b ≡ None → (a ≡ None) × (b ≡ None)
 neither None b is = (refl, is)
 neither (Some x) b is = absurd (cc)
 

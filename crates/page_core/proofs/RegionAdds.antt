@@ -15,6 +15,7 @@ use Rattle.page_core.specs.RegionSteps.{with_region}
 use Rattle.page_core.specs.declared.node.Node.{Node}
 use Rattle.page_core.specs.declared.node.Node.TheVariants as node
 use Rattle.page_core.specs.declared.node.RegionNode.{RegionNode}
+use Rattle.decoder_model.proofs.Searches.{option_or-none}
 use Rattle.page_core.proofs.RegionHeadsSet.{found_in, region_of_id}
 use Rattle.page_core.proofs.RegionNodes.{region_lookup}
 use Rattle.page_core.proofs.StrayListings.{no_strays}
@@ -86,12 +87,8 @@ module _ (old new : PoolOf Node) (region : RegionNode) (name : NodeId) (put : ne
         ∙ sym (ap (option_map node_of) (
         ap (find (is_region_of k)) list_new ∙ find-append (is_region_of k) (list_of old 1) ((name, node.Region region) ∷ [])
         ∙ ap (λ b. option_or (find (is_region_of k) (list_of old 1)) (cond b (Some (name, node.Region region)) None)) (ne_eqb region.head.region k (λ e. ne (sym e)))
-        ∙ or_none (find (is_region_of k) (list_of old 1))))
+        ∙ option_or-none (find (is_region_of k) (list_of old 1))))
   ]
-    where
-      or_none : {X : Type 0} (o : Option X) → option_or o None ≡ o
-      or_none None = refl
-      or_none (Some x) = refl
 
   pub sorted_with_region : (names : List (Option NodeId)) → names ≡ slice_set region_nodes region.head.region (Some name) → region.head.region < 256 → length region_nodes ≡ 256 → IsSorted new × IsIndexed new names clut_nodes
   sorted_with_region names names_are low whole =

@@ -18,6 +18,7 @@ use Rattle.page_core.specs.RegionSteps.{changed_at, headed, slot_in, with_head}
 use Rattle.page_core.specs.declared.node.Node.{Node}
 use Rattle.page_core.specs.declared.node.Node.TheVariants as node
 use Rattle.page_core.specs.declared.node.RegionNode.{RegionNode}
+use Rattle.page_core.proofs.RegionLaws.{either_false}
 use Rattle.page_core.proofs.RegionNodes.{found_there, region_lookup}
 use Rattle.page_core.proofs.Rewriting.{keeps_set}
 
@@ -42,10 +43,6 @@ found_in {X} test (y ∷ ys) x is = by (test y) refl is (found_in test ys x)
     by false here found rest =
         let more = rest found in
         record { before = y ∷ more.before; behind = more.behind; is = ap (λ zs. y ∷ zs) more.is; first = ap (λ b. b || list_any test more.before) here ∙ more.first; passes = more.passes }
-
-neither : (a b : Bool) → (a || b) ≡ false → (a ≡ false) × (b ≡ false)
-neither false b is = (refl, is)
-neither true b is = absurd (cc)
 
 -- ---- regions of other ids
 
@@ -89,7 +86,7 @@ module _ (pool : PoolOf Node) where
       → map (changed_at id change) (map (region_kept pool) (kept_in region_node pairs)) ≡ map (region_kept pool) (kept_in region_node pairs)
   others_same id change [] none = refl
   others_same id change (pair ∷ pairs) none =
-      let parts = neither (is_region_of id pair) (list_any (is_region_of id) pairs) none in
+      let parts = either_false (is_region_of id pair) (list_any (is_region_of id) pairs) none in
       by (region_node pair.1) parts.0 (others_same id change pairs parts.1)
     where
       by : (found : Option RegionNode) → option_map_or (λ (region : RegionNode). region.head.region == id) found false ≡ false

@@ -7,6 +7,7 @@ use Rattle.std.proofs.lemmas.List.Sums.{sum_by-cons}
 use Rattle.std.proofs.lemmas.Map.Steps.{length-le_from_distinct_below}
 use Rattle.page_core.specs.Composition.{AreIdsApart, KeptRegion}
 use Rattle.page_core.specs.RegionSteps.{changed_at}
+use Rattle.page_core.proofs.RegionLaws.{either_false}
 use Rattle.page_core.proofs.PixelRoom.{turned}
 
 abbrev pub has_id : ℕ → KeptRegion → Bool
@@ -17,10 +18,6 @@ id_of kept = kept.head.region
 
 abbrev pub listings_at : KeptRegion → ℕ
 listings_at kept = length kept.listings
-
-either : (a b : Bool) → (a || b) ≡ false → (a ≡ false) × (b ≡ false)
-either false b is = (refl, is)
-either true b is = absurd (cc)
 
 -- ---- ids
 
@@ -67,7 +64,7 @@ distinct (kept ∷ regions) apart = (others regions apart.0, distinct regions ap
     others : (rest : List KeptRegion) → list_any (has_id kept.head.region) rest ≡ false → AllByRecursion (λ n. eqb kept.head.region n ≡ false) (map id_of rest)
     others [] none = tt
     others (other ∷ rest) none =
-        let parts = either (other.head.region == kept.head.region) (list_any (has_id kept.head.region) rest) none in (turned kept.head.region other.head.region ∙ parts.0, others rest parts.1)
+        let parts = either_false (other.head.region == kept.head.region) (list_any (has_id kept.head.region) rest) none in (turned kept.head.region other.head.region ∙ parts.0, others rest parts.1)
 
 below_all : (n : ℕ) (regions : List KeptRegion) → All (λ (kept : KeptRegion). kept.head.region < n) regions → (q : ℕ) → list_any (eqb q) (map id_of regions) ≡ true → q < n
 below_all n [] all q hit = absurd (cc)
@@ -90,13 +87,13 @@ fewer id one regions is low none all apart =
 pub apart_with : (regions : List KeptRegion) (one : KeptRegion) → AreIdsApart regions → list_any (has_id one.head.region) regions ≡ false → AreIdsApart (regions ++ one ∷ [])
 apart_with [] one apart none = (refl, tt)
 apart_with (kept ∷ regions) one apart none =
-    let parts = either (kept.head.region == one.head.region) (list_any (has_id one.head.region) regions) none in
+    let parts = either_false (kept.head.region == one.head.region) (list_any (has_id one.head.region) regions) none in
     (behind regions apart.0 (turned one.head.region kept.head.region ∙ parts.0), apart_with regions one apart.1 parts.1)
   where
     behind : (rest : List KeptRegion) → list_any (has_id kept.head.region) rest ≡ false → (one.head.region == kept.head.region) ≡ false → list_any (has_id kept.head.region) (rest ++ one ∷ []) ≡ false
     behind [] none other = ap (λ b. b || false) other
     behind (r ∷ rest) none other =
-        let parts = either (r.head.region == kept.head.region) (list_any (has_id kept.head.region) rest) none in
+        let parts = either_false (r.head.region == kept.head.region) (list_any (has_id kept.head.region) rest) none in
         ap (λ b. b || list_any (has_id kept.head.region) (rest ++ one ∷ [])) parts.0 ∙ behind rest parts.1 other
 
 -- ---- the region of an id is changed
@@ -104,7 +101,7 @@ apart_with (kept ∷ regions) one apart none =
 pub none_changed : (id : ℕ) (change : KeptRegion → KeptRegion) (regions : List KeptRegion) → list_any (has_id id) regions ≡ false → map (changed_at id change) regions ≡ regions
 none_changed id change [] none = refl
 none_changed id change (kept ∷ regions) none =
-    let parts = either (kept.head.region == id) (list_any (has_id id) regions) none in
+    let parts = either_false (kept.head.region == id) (list_any (has_id id) regions) none in
     λ i. cond (parts.0 i) (change kept) kept ∷ none_changed id change regions parts.1 i
 
 module _ (id : ℕ) (change : KeptRegion → KeptRegion) (same_id : (kept : KeptRegion) → kept.head.region ≡ id → (change kept).head.region ≡ id) where

@@ -8,6 +8,7 @@ use Rattle.stream_syntax.specs.declared.region.Listing.{Listing}
 use Rattle.stream_syntax.specs.declared.region.RegionHead.{RegionHead}
 use Rattle.page_core.specs.Composition.{Composition, KeptRegion, region_in}
 use Rattle.page_core.specs.RegionSteps.{changed_at, fresh, headed, listing_more, with_head, with_listings, with_region}
+use Rattle.decoder_model.proofs.Searches.{option_or-none}
 use Rattle.page_core.proofs.RegionIds.{changed_here, changed_other, found_changed, found_has, id_of, ids_kept}
 use Rattle.page_core.proofs.RegionsStored.{headed_found, one_found}
 
@@ -15,10 +16,6 @@ use Rattle.page_core.proofs.RegionsStored.{headed_found, one_found}
 pub record IsLookedUp (head : RegionHead) (listings : List Listing) (slot : ℕ) (old new : Composition) : Type 0 where
   pub here : region_in new head.region ≡ Some (record { head = head; slot = slot; listings = map fresh listings })
   pub others : (id : ℕ) → id ≢ head.region → region_in new id ≡ region_in old id
-
-or_none : {X : Type 0} (o : Option X) → option_or o None ≡ o
-or_none None = refl
-or_none (Some x) = refl
 
 -- a region of another id is found as before a change
 other_found : (composition : Composition) (id n : ℕ) (change : KeptRegion → KeptRegion) → n ≢ id → option_map (changed_at id change) (region_in composition n) ≡ region_in composition n
@@ -43,7 +40,7 @@ first_looked_up composition head slot listings none =
           more_found (with_region head slot composition) head.region id listings ∙ other_found (with_region head slot composition) head.region id (listing_more listings) other
           ∙ find-append (λ (kept : KeptRegion). kept.head.region == id) composition.regions (one ∷ [])
           ∙ ap (λ b. option_or (region_in composition id) (cond b (Some one) None)) (ne_eqb head.region id (λ e. other (sym e)))
-          ∙ or_none (region_in composition id);
+          ∙ option_or-none (region_in composition id);
     }
 
 pub again_looked_up : (composition : Composition) (head : RegionHead) (kept : KeptRegion) (listings : List Listing) → region_in composition head.region ≡ Some kept → kept.listings ≡ []

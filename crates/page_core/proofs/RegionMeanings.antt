@@ -1,5 +1,5 @@
 -- What a region segment that is taken means: one more of the taken segments.
-use Rattle.std.proofs.Common.{◌≡◌, ◌≢◌, ◌∙◌, ℕ, ◌<◌, ◌||◌, Bool, true, false, cond, List, [], ◌∷◌, map, reverse, Option, Some, None, option_map, refl, sym, ap, subst, inl, inr}
+use Rattle.std.proofs.Common.{◌≡◌, ◌≢◌, ◌∙◌, ℕ, ◌<◌, ◌||◌, false, cond, List, [], ◌∷◌, map, reverse, Option, Some, None, option_map, refl, sym, ap, subst, inl, inr}
 use Rattle.std.specs.Option.{is_some, option_map_or}
 use Rattle.std.proofs.lemmas.Bool.{cases_eq, ne_eqb, eq-eqb}
 use Rattle.stream_syntax.specs.Segments.{Region, of_region}
@@ -15,20 +15,17 @@ use Rattle.page_core.specs.Memory.{head_of, kept_listing}
 use Rattle.page_core.specs.RegionSteps.{AwaitRegions, awaited, fresh, is_renewed}
 use Rattle.page_core.specs.RegionTests.{is_new}
 use Rattle.page_core.specs.Seen.{defines}
+use Rattle.page_core.proofs.RegionLaws.{either_false}
 use Rattle.page_core.proofs.PixelRoom.{with_segment}
 use Rattle.page_core.proofs.RegionLookups.{IsLookedUp}
 use Rattle.page_core.proofs.RenewedRegions.{renews_is}
 use Rattle.page_core.proofs.TakenRegions.{id_of_last, listings_then, listings_then_other, pixel_then_other, region_then, region_then_other}
 
-either : (a b : Bool) → (a || b) ≡ false → (a ≡ false) × (b ≡ false)
-either false b is = (refl, is)
-either true b is = absurd (cc)
-
 -- contents that define no region of an id renew none
 pub none_renewed : (head : RegionHead) (left : List Content) → defines head.region left ≡ false → is_renewed left head ≡ false
 none_renewed head [] none = refl
 none_renewed head (content ∷ left) none =
-    let parts = either (is_some (region_named head.region content)) (defines head.region left) none in
+    let parts = either_false (is_some (region_named head.region content)) (defines head.region left) none in
     by (region_named head.region content) parts.0 (none_renewed head left parts.1)
   where
     by : (found : Option Region) → is_some found ≡ false → is_renewed left head ≡ false → (option_map_or (λ (region : Region). is_new region.head (Some head)) found false || is_renewed left head) ≡ false

@@ -18,11 +18,10 @@ use Rattle.page_core.specs.Seen.{defines}
 use Rattle.page_core.specs.Walks.{is_region}
 use Rattle.page_core.proofs.Orders.{moved}
 use Rattle.page_core.proofs.PixelRoom.{apart_ids, id_among, id_among_different, ids_with, named_same, of_segments, sum_apart, with_segment}
-use Rattle.page_core.proofs.RegionLaws.{taken_by_head}
 use Rattle.page_core.proofs.RegionMeanings.{held_renewed, none_renewed, not_renewed}
 use Rattle.page_core.proofs.RegionReady.{apart_behind, needed_is}
 use Rattle.page_core.proofs.RenewedRegions.{renews_is}
-use Rattle.page_core.proofs.TakenRegions.{id_of_last, is_region_of, region_then, region_then_other}
+use Rattle.page_core.proofs.TakenRegions.{held_then, id_of_last, is_region_of, region_then, region_then_other, taken_by_version, taken_then}
 
 -- how many listings a region has, where the rest of a set leaves them
 abbrev pub count_by : Bool → ℕ → ℕ
@@ -80,17 +79,6 @@ sum_same f g ids same = λ j. sum_by (λ i. same i j) ids
 -- ---- one segment
 
 module _ (segments left : List Content) (content : Content) (region : Region) (value : of_region region ≡ content.value) (apart : defines region.head.region left ≡ false) where
-  taken_is : is_taken segments content.value ≡ is_new region.head (option_map head_of (taken_region region.head.region (taken_of segments)))
-  taken_is = ap (is_taken segments) (sym value) ∙ taken_by_head segments segments region (record { last = refl; taken = refl })
-
-  then_taken : is_taken segments content.value ≡ true → taken_of (content ∷ segments) ≡ with_segment content (taken_among segments)
-  unfolding taken_among
-  then_taken is = ap (λ b. of_segments (cond b (content ∷ taken_among segments) (taken_among segments))) is
-
-  then_held : is_taken segments content.value ≡ false → taken_of (content ∷ segments) ≡ taken_of segments
-  unfolding taken_among
-  then_held is = ap (λ b. of_segments (cond b (content ∷ taken_among segments) (taken_among segments))) is
-
   others : (id : ℕ) → (id ≡ region.head.region → ⊥) → counts (taken_of segments) (content ∷ left) id ≡ counts (with_segment content (taken_among segments)) left id
   others id other =
       by (taken_region id (taken_of segments)) refl ∙ sym (ap (count_awaited left) (region_then_other content region value (taken_of segments) id other))
@@ -112,13 +100,13 @@ module _ (segments left : List Content) (content : Content) (region : Region) (v
           → nodes_awaited (taken_of segments) (content ∷ left) + nodes_needed_for segments content (region_of content) ≡ nodes_awaited (taken_of (content ∷ segments)) left
       held last known same_version =
           let old : is_new region.head (option_map head_of (taken_region region.head.region (taken_of segments))) ≡ false = ap (λ (o : Option Region). is_new region.head (option_map head_of o)) known ∙ same_version in
-          let not_taken : is_taken segments content.value ≡ false = taken_is ∙ old in
+          let not_taken : is_taken segments content.value ≡ false = taken_by_version segments content region value ∙ old in
           let same : (id : ℕ) → counts (taken_of segments) (content ∷ left) id ≡ counts (taken_of segments) left id = λ id. each id (taken_region id (taken_of segments)) refl old in
           omega (
             arith,
             needed_is segments content region false (Some last) value not_taken known,
             sum_same (counts (taken_of segments) (content ∷ left)) (counts (taken_of segments) left) (region_ids (taken_of segments)) same,
-            ap (λ (taken : Taken). nodes_awaited taken left) (then_held not_taken),
+            ap (λ (taken : Taken). nodes_awaited taken left) (held_then segments content not_taken),
           )
         where
           each : (id : ℕ) (found : Option Region) → taken_region id (taken_of segments) ≡ found → is_new region.head (option_map head_of (taken_region region.head.region (taken_of segments))) ≡ false
@@ -129,7 +117,7 @@ module _ (segments left : List Content) (content : Content) (region : Region) (v
       again : (last : Region) → taken_region region.head.region (taken_of segments) ≡ Some last → is_new region.head (Some last.head) ≡ true
           → nodes_awaited (taken_of segments) (content ∷ left) + nodes_needed_for segments content (region_of content) ≡ nodes_awaited (taken_of (content ∷ segments)) left
       again last known new_version =
-          let is : is_taken segments content.value ≡ true = taken_is ∙ ap (λ (o : Option Region). is_new region.head (option_map head_of o)) known ∙ new_version in
+          let is : is_taken segments content.value ≡ true = taken_by_version segments content region value ∙ ap (λ (o : Option Region). is_new region.head (option_map head_of o)) known ∙ new_version in
           let ids : region_ids (with_segment content (taken_among segments)) ≡ region_ids (taken_of segments) =
           ids_with content region (taken_among segments) (is_region_of content region value (taken_of segments))
           ∙ ap (λ (o : Option Region). cond (is_some o) (region_ids (taken_of segments)) (region.head.region ∷ region_ids (taken_of segments))) known in
@@ -145,13 +133,13 @@ module _ (segments left : List Content) (content : Content) (region : Region) (v
             out,
             here,
             ap (λ (all : List ℕ). length all + sum_by (counts (with_segment content (taken_among segments)) left) all) ids,
-            ap (λ (taken : Taken). nodes_awaited taken left) (then_taken is),
+            ap (λ (taken : Taken). nodes_awaited taken left) (taken_then segments content is),
           )
 
       first : taken_region region.head.region (taken_of segments) ≡ None
           → nodes_awaited (taken_of segments) (content ∷ left) + nodes_needed_for segments content (region_of content) ≡ nodes_awaited (taken_of (content ∷ segments)) left
       first none =
-          let is : is_taken segments content.value ≡ true = taken_is ∙ ap (λ (o : Option Region). is_new region.head (option_map head_of o)) none in
+          let is : is_taken segments content.value ≡ true = taken_by_version segments content region value ∙ ap (λ (o : Option Region). is_new region.head (option_map head_of o)) none in
           let ids : region_ids (with_segment content (taken_among segments)) ≡ region.head.region ∷ region_ids (taken_of segments) =
           ids_with content region (taken_among segments) (is_region_of content region value (taken_of segments))
           ∙ ap (λ (o : Option Region). cond (is_some o) (region_ids (taken_of segments)) (region.head.region ∷ region_ids (taken_of segments))) none in
@@ -163,7 +151,7 @@ module _ (segments left : List Content) (content : Content) (region : Region) (v
             here,
             sum_by-cons (counts (with_segment content (taken_among segments)) left) region.head.region (region_ids (taken_of segments)),
             ap (λ (all : List ℕ). length all + sum_by (counts (with_segment content (taken_among segments)) left) all) ids,
-            ap (λ (taken : Taken). nodes_awaited taken left) (then_taken is),
+            ap (λ (taken : Taken). nodes_awaited taken left) (taken_then segments content is),
           )
 
       by_version : (last : Region) → taken_region region.head.region (taken_of segments) ≡ Some last → (newer : Bool) → is_new region.head (Some last.head) ≡ newer

@@ -2,11 +2,10 @@
 use Rattle.std.proofs.Common.{◌≡◌, ◌≢◌, ◌∙◌, ℕ, zero, suc, ◌+◌, ◌-◌, ◌==◌, ◌<◌, ◌≤◌, ◌||◌, ◌&&◌, Bool, true, false, cond, List, [], ◌∷◌, ◌++◌, filter, get_or, length, map, reverse, Option, Some, None, option_map, refl, sym, ap, subst, arith}
 use Rattle.std.specs.Prelude.{nat_lt, option_and_then}
 use Rattle.std.specs.List.{range_with_len}
-use Rattle.std.specs.Option.{is_none, is_some, option_or}
+use Rattle.std.specs.Option.{is_none, is_some}
 use Rattle.std.proofs.lemmas.Bool.{eqb-true}
 use Rattle.std.proofs.lemmas.Bool.Decides.{nat_tests}
 use Rattle.std.proofs.lemmas.List.{reverse-append}
-use Rattle.sub_base.specs.Depth.{bits_of}
 use Rattle.sub_base.specs.declared.profile.Profile.{Profile}
 use Rattle.stream_syntax.specs.Segments.{Region, of_region}
 use Rattle.stream_syntax.specs.declared.region.RegionHead.{RegionHead}
@@ -17,11 +16,11 @@ use Rattle.decoder_model.specs.Pixels.{code_by_fill, code_by_segment}
 use Rattle.decoder_model.specs.Readings.{Content}
 use Rattle.decoder_model.specs.Taken.{Taken, is_taken, taken_among, taken_of, taken_region}
 use Rattle.decoder_model.specs.declared.set_fault.SetFault.TheVariants.{PixelFull}
-use Rattle.pixel_store.specs.Regions.{Regions}
+use Rattle.pixel_store.specs.Regions.{Regions, region_at}
 use Rattle.page_core.specs.Composition.{Composition, KeptListing, KeptRegion}
 use Rattle.page_core.specs.Composition.{region_in as kept_in}
 use Rattle.page_core.specs.Handed.{AreContents}
-use Rattle.page_core.specs.Memory.{head_of, kept_listing}
+use Rattle.page_core.specs.Memory.{HasSides, head_of, kept_listing}
 use Rattle.page_core.specs.Painted.{HasRegion, IsWritten}
 use Rattle.page_core.specs.RegionSteps.{AreReady, AreStored, AwaitRegions, IsNewRegion, IsRegionTaken, IsTakenAgain, awaited, is_renewed, nodes_needed_by, nodes_needed_for, with_regions_of}
 use Rattle.page_core.specs.RegionTests.{AreApart, first_in, is_new}
@@ -31,15 +30,14 @@ use Rattle.page_core.proofs.DrawnEntries.{placed_in_order}
 use Rattle.page_core.proofs.Finds.{found_all}
 use Rattle.page_core.proofs.ObjectSteps.{pixel_step}
 use Rattle.page_core.proofs.Orders.{moved}
-use Rattle.page_core.proofs.PixelRoom.{ids_with, named_same, of_segments, same_bytes, shape_kept, used_with_new, used_with_same, with_segment}
+use Rattle.page_core.proofs.PixelRoom.{ids_with, named_same, neither, same_bytes, shape_kept, used_with_new, used_with_same, with_segment}
 use Rattle.page_core.proofs.RegionIds.{found_has}
-use Rattle.page_core.proofs.RegionLaws.{taken_by_head}
 use Rattle.page_core.proofs.RegionLookups.{IsLookedUp, again_ids, again_looked_up, first_ids, first_looked_up}
 use Rattle.page_core.proofs.RegionMeanings.{await_held, await_taken}
 use Rattle.page_core.proofs.RegionNodes.{found_there}
 use Rattle.page_core.proofs.RegionsStored.{region_again}
 use Rattle.page_core.proofs.RenewedRegions.{renews_is}
-use Rattle.page_core.proofs.TakenRegions.{code_then, is_region_of, no_pixels}
+use Rattle.page_core.proofs.TakenRegions.{code_then, held_then, is_region_of, no_pixels, taken_by_version, taken_then}
 use Rattle.page_core.proofs.Written.{written_as}
 
 -- ---- bytes and slots
@@ -117,13 +115,14 @@ module _ (taken : Taken) (left : List Content) (content : Content) (region : Reg
       ∙ ap (λ b. Some (awaited b (map (kept_listing taken region.head.region) last.listings))) renewed) in
       let looked = subst (IsLookedUp region.head region.listings is.kept.slot old) (sym is.composition) (again_looked_up old region.head is.kept region.listings is.known empty) in
       let placed = region_again old before region.head is.kept stored is.known shape in
+      let sides = found_all (λ (kept : KeptRegion). HasSides kept.head (region_at before kept.slot)) (λ (kept : KeptRegion). kept.head.region == region.head.region) old.regions is.kept stored.sides is.known in
       await_taken taken left content region value is.kept.slot old new before after apart looked
       (ap (λ (c : Composition). map (λ (kept : KeptRegion). kept.head.region) c.regions) is.composition ∙ again_ids old region.head region.listings ∙ await.region_ids
       ∙ ap reverse (sym (ids_with content region taken.segments (is_region_of content region value taken)
       ∙ ap (λ (o : Option Region). cond (is_some o) (region_ids taken) (region.head.region ∷ region_ids taken)) known)))
       (λ x y narrow low. pixel_step taken content is.kept.slot region.head.region x y before after (written_then is.kept.slot before is.written)
       (subst (λ n. x < n) (sym placed.sides.width) narrow) (subst (λ n. y < n) (sym placed.sides.height) low)
-      (await.pixels region.head.region x y is.kept is.known (subst (λ n. x < n) (width_of region.head is.kept.head shape) narrow) (subst (λ n. y < n) (height_of region.head is.kept.head shape) low)))
+      (await.pixels region.head.region x y is.kept is.known (subst (λ n. x < n) (sym placed.sides.width ∙ sides.width) narrow) (subst (λ n. y < n) (sym placed.sides.height ∙ sides.height) low)))
       (λ id kept other found. is.written.others.others kept.slot (slots_apart old before id region.head.region kept is.kept stored found is.known other))
       await
     where
@@ -136,23 +135,7 @@ module _ (taken : Taken) (left : List Content) (content : Content) (region : Reg
       by_same : (a b : ℕ) → a ≡ b → (a == b) ≡ true
       by_same a b same = grind (arith, nat_tests)
 
-      both : (x y : Bool) → (x && y) ≡ true → (x ≡ true) × (y ≡ true)
-      both true y is = (refl, is)
-      both false y is = absurd (cc)
-
-      width_of : (a b : RegionHead) → has_same_shape a b ≡ true → a.width ≡ b.width
-      width_of a b same = let first = (both (a.width == b.width) ((a.height == b.height) && (bits_of a.depth == bits_of b.depth)) same).0 in grind (arith, nat_tests)
-
-      height_of : (a b : RegionHead) → has_same_shape a b ≡ true → a.height ≡ b.height
-      height_of a b same =
-          let rest = (both (a.width == b.width) ((a.height == b.height) && (bits_of a.depth == bits_of b.depth)) same).1 in
-          let first = (both (a.height == b.height) (bits_of a.depth == bits_of b.depth) rest).0 in grind (arith, nat_tests)
-
 -- ---- ready for the next
-
-neither : {X : Type 0} (a b : Option X) → option_or a b ≡ None → (a ≡ None) × (b ≡ None)
-neither None b is = (refl, is)
-neither (Some x) b is = absurd (cc)
 
 some_in : {X : Type 0} {a b : X} → Some a ≡ Some b → a ≡ b
 some_in e = cc
@@ -177,9 +160,6 @@ fits_in profile taken region none fits =
 
 module _ (profile : Profile) (segments left : List Content) (content : Content) (region : Region) (value : of_region region ≡ content.value) (apart : defines region.head.region left ≡ false)
     (old new : Composition) (before after : Regions) (stored : AreStored old before) (ready : AreReady profile segments (content ∷ left) old before) (step : IsRegionTaken region old before new after) where
-  taken_is : is_taken segments content.value ≡ is_new region.head (option_map head_of (taken_region region.head.region (taken_of segments)))
-  taken_is = ap (is_taken segments) (sym value) ∙ taken_by_head segments segments region (record { last = refl; taken = refl })
-
   of : region_of content ≡ Some region
   of = ap region_in (sym value)
 
@@ -189,35 +169,27 @@ module _ (profile : Profile) (segments left : List Content) (content : Content) 
   rooms : (pixels_full profile segments content ≡ None) × (first_in (pixels_full profile) (content ∷ segments) left ≡ None)
   rooms = neither (pixels_full profile segments content) (first_in (pixels_full profile) (content ∷ segments) left) ready.room
 
-  then_taken : is_taken segments content.value ≡ true → taken_of (content ∷ segments) ≡ with_segment content (taken_among segments)
-  unfolding taken_among
-  then_taken is = ap (λ b. of_segments (cond b (content ∷ taken_among segments) (taken_among segments))) is
-
-  then_held : is_taken segments content.value ≡ false → taken_of (content ∷ segments) ≡ taken_of segments
-  unfolding taken_among
-  then_held is = ap (λ b. of_segments (cond b (content ∷ taken_among segments) (taken_among segments))) is
-
   pub ready_goes_on : AreReady profile (content ∷ segments) left new after
   ready_goes_on = by (taken_region region.head.region (taken_of segments)) refl
     where
       held : (last : Region) → taken_region region.head.region (taken_of segments) ≡ Some last → is_new region.head (Some last.head) ≡ false → AreReady profile (content ∷ segments) left new after
       held last known same_version =
-          let not_taken : is_taken segments content.value ≡ false = taken_is ∙ ap (λ (o : Option Region). is_new region.head (option_map head_of o)) known ∙ same_version in
+          let not_taken : is_taken segments content.value ≡ false = taken_by_version segments content region value ∙ ap (λ (o : Option Region). is_new region.head (option_map head_of o)) known ∙ same_version in
           let still = step.held (ap (is_new region.head) (ready.regions.heads region.head.region ∙ ap (option_map head_of) known) ∙ same_version) in
           let needed = needed_is segments content region false (Some last) value not_taken known in
           record {
-            regions = subst (λ (taken : Taken). AwaitRegions taken left new after) (sym (then_held not_taken))
+            regions = subst (λ (taken : Taken). AwaitRegions taken left new after) (sym (held_then segments content not_taken))
                 (subst (λ (c : Composition). AwaitRegions (taken_of segments) left c after) (sym still.0) (subst (AwaitRegions (taken_of segments) left old) (sym still.1)
                 (await_held (taken_of segments) left content region value old before (ap (λ (o : Option Region). is_new region.head (option_map head_of o)) known ∙ same_version) ready.regions)));
             changed = changes.1;
             room = rooms.1;
-            free = ap (λ (s : Regions). s.free) still.1 ∙ ready.free ∙ ap (λ (taken : Taken). profile.pixels - pixels_used taken) (sym (then_held not_taken));
+            free = ap (λ (s : Regions). s.free) still.1 ∙ ready.free ∙ ap (λ (taken : Taken). profile.pixels - pixels_used taken) (sym (held_then segments content not_taken));
             nodes = omega (arith, ready.nodes, needed, ap (λ (c : Composition). c.free) still.0);
           }
 
       again : (last : Region) → taken_region region.head.region (taken_of segments) ≡ Some last → is_new region.head (Some last.head) ≡ true → AreReady profile (content ∷ segments) left new after
       again last known new_version =
-          let is : is_taken segments content.value ≡ true = taken_is ∙ ap (λ (o : Option Region). is_new region.head (option_map head_of o)) known ∙ new_version in
+          let is : is_taken segments content.value ≡ true = taken_by_version segments content region value ∙ ap (λ (o : Option Region). is_new region.head (option_map head_of o)) known ∙ new_version in
           let unchanged : changed_from region (Some last) ≡ None =
           ap (changed_from region) (sym known) ∙ sym (ap (λ b. cond b (changed_from region (taken_region region.head.region (taken_of segments))) None) is)
           ∙ ap (changed_region segments content.value) (sym of) ∙ changes.0 in
@@ -226,28 +198,28 @@ module _ (profile : Profile) (segments left : List Content) (content : Content) 
           let renewed = step.again last.head (ready.regions.heads region.head.region ∙ ap (option_map head_of) known) new_version shape (omega (arith, ready.nodes, needed)) in
           let used : pixels_used (with_segment content (taken_among segments)) ≡ pixels_used (taken_of segments) = used_with_same content region last (taken_among segments) of known (same_bytes region.head last.head shape) in
           record {
-            regions = subst (λ (taken : Taken). AwaitRegions taken left new after) (sym (then_taken is))
+            regions = subst (λ (taken : Taken). AwaitRegions taken left new after) (sym (taken_then segments content is))
                 (again_means (taken_of segments) left content region value apart old new before after stored ready.regions last known new_version shape renewed);
             changed = changes.1;
             room = rooms.1;
-            free = renewed.written.others.free ∙ ready.free ∙ ap (λ n. profile.pixels - n) (sym used) ∙ ap (λ (taken : Taken). profile.pixels - pixels_used taken) (sym (then_taken is));
+            free = renewed.written.others.free ∙ ready.free ∙ ap (λ n. profile.pixels - n) (sym used) ∙ ap (λ (taken : Taken). profile.pixels - pixels_used taken) (sym (taken_then segments content is));
             nodes = omega (arith, ready.nodes, needed, ap (λ (c : Composition). c.free) renewed.composition);
           }
 
       first : taken_region region.head.region (taken_of segments) ≡ None → AreReady profile (content ∷ segments) left new after
       first none =
-          let is : is_taken segments content.value ≡ true = taken_is ∙ ap (λ (o : Option Region). is_new region.head (option_map head_of o)) none in
+          let is : is_taken segments content.value ≡ true = taken_by_version segments content region value ∙ ap (λ (o : Option Region). is_new region.head (option_map head_of o)) none in
           let needed = needed_is segments content region true None value is none in
           let fits = fits_in profile (taken_of segments) region none (sym (ap (option_and_then (region_too_large profile (taken_of segments))) of) ∙ rooms.0) in
           let put = step.first (ready.regions.heads region.head.region ∙ ap (option_map head_of) none) (omega (arith, ready.nodes, needed)) (omega (arith, fits, ready.free)) in
           let used : pixels_used (with_segment content (taken_among segments)) ≡ pixel_bytes region.head + pixels_used (taken_of segments) = used_with_new content region (taken_among segments) of none in
           record {
-            regions = subst (λ (taken : Taken). AwaitRegions taken left new after) (sym (then_taken is))
+            regions = subst (λ (taken : Taken). AwaitRegions taken left new after) (sym (taken_then segments content is))
                 (first_means (taken_of segments) left content region value apart old new before after stored ready.regions none put);
             changed = changes.1;
             room = rooms.1;
             free = let left_over : after.free ≡ profile.pixels - pixels_used (with_segment content (taken_among segments)) = omega (arith, put.written.others.free, put.placed.free, ready.free, used, fits) in
-                left_over ∙ ap (λ (taken : Taken). profile.pixels - pixels_used taken) (sym (then_taken is));
+                left_over ∙ ap (λ (taken : Taken). profile.pixels - pixels_used taken) (sym (taken_then segments content is));
             nodes = omega (arith, ready.nodes, needed, ap (λ (c : Composition). c.free) put.composition);
           }
 

@@ -15,13 +15,10 @@ use Rattle.page_core.specs.Memory.{HasSides}
 use Rattle.page_core.specs.RegionSteps.{AreBare, AreStored, KeepsBesideRegions, bare, bare_by, bare_where, changed_at, cleared_where, count_kept, is_renewed, renews, takes_place}
 use Rattle.page_core.specs.RegionTests.{head_in, is_new}
 use Rattle.page_core.specs.Walks.{IsNextOf, is_region}
+use Rattle.page_core.proofs.RegionLaws.{either_false}
 use Rattle.page_core.proofs.Finds.{found_all}
 use Rattle.page_core.proofs.RegionIds.{apart_by_ids, changed_here, changed_other, found_has, has_id, ids_kept}
 use Rattle.page_core.proofs.RegionsStored.{stored_with}
-
-either : (a b : Bool) → (a || b) ≡ false → (a ≡ false) × (b ≡ false)
-either false b is = (refl, is)
-either true b is = absurd (cc)
 
 -- whether a region segment takes the place of a head
 pub renews_is : (head : RegionHead) (content : Content) (region : Region) → of_region region ≡ content.value → renews head content ≡ cond (region.head.region == head.region) (is_new region.head (Some head)) false
@@ -37,7 +34,7 @@ renews_is head content region value =
 map_others : (f g : KeptRegion → KeptRegion) (id : ℕ) (regions : List KeptRegion) → list_any (has_id id) regions ≡ false → ((kept : KeptRegion) → (kept.head.region == id) ≡ false → f kept ≡ g kept) → map f regions ≡ map g regions
 map_others f g id [] none others = refl
 map_others f g id (kept ∷ regions) none others =
-    let parts = either (kept.head.region == id) (list_any (has_id id) regions) none in λ i. others kept parts.0 i ∷ map_others f g id regions parts.1 others i
+    let parts = either_false (kept.head.region == id) (list_any (has_id id) regions) none in λ i. others kept parts.0 i ∷ map_others f g id regions parts.1 others i
 
 pub map_by_id : (f g : KeptRegion → KeptRegion) (id : ℕ) (regions : List KeptRegion) → AreIdsApart regions → ((kept : KeptRegion) → (kept.head.region == id) ≡ false → f kept ≡ g kept)
     → ((kept : KeptRegion) → find (λ (kept : KeptRegion). kept.head.region == id) regions ≡ Some kept → f kept ≡ g kept) → map f regions ≡ map g regions

@@ -1,5 +1,5 @@
 -- A list of listings without a region is empty, where all nodes are counted.
-use Rattle.std.proofs.Common.{◌≡◌, ◌∙◌, ℕ, suc, ◌+◌, ◌==◌, ◌<◌, ◌≤◌, ◌||◌, Bool, true, false, cond, List, [], ◌∷◌, find, length, map, get_or, set, sum_by, Option, Some, None, refl, sym, ap, subst, inl, inr, arith}
+use Rattle.std.proofs.Common.{◌≡◌, ◌∙◌, ℕ, suc, ◌+◌, ◌==◌, ◌<◌, ◌≤◌, ◌||◌, false, List, [], ◌∷◌, length, map, get_or, set, sum_by, Option, Some, None, refl, sym, ap, subst, inl, inr, arith}
 use Rattle.std.specs.List.{cons_option, list_any}
 use Rattle.std.proofs.lemmas.Bool.{cases_eq, cases_lt, eq-eqb, ne_eqb}
 use Rattle.std.proofs.lemmas.List.{get_or-set_other, get_or_past, length-map}
@@ -11,6 +11,7 @@ use Rattle.page_core.specs.Composition.{AreIdsApart, Composition, KeptRegion, re
 use Rattle.page_core.specs.Nodes.{clut_node, colour_in, composition_of, entry_in, kept_in, listing_in, listings_list, region_kept, region_node}
 use Rattle.page_core.specs.declared.node.Node.{Node}
 use Rattle.page_core.specs.declared.node.RegionNode.{RegionNode}
+use Rattle.page_core.proofs.RegionIds.{none_has}
 use Rattle.page_core.proofs.PixelRoom.{sum_apart}
 
 -- ---- lengths of some of the lists
@@ -80,16 +81,6 @@ module _ (pool : PoolOf Node) where
         listings_le regions,
       )
 
-  not_found : (id : ℕ) (regions : List KeptRegion) → find (λ (kept : KeptRegion). kept.head.region == id) regions ≡ None → list_any (λ (kept : KeptRegion). kept.head.region == id) regions ≡ false
-  not_found id [] none = refl
-  not_found id (kept ∷ regions) none = by (kept.head.region == id) none (not_found id regions)
-    where
-      by : (hit : Bool) → cond hit (Some kept) (find (λ (kept : KeptRegion). kept.head.region == id) regions) ≡ None
-          → (find (λ (kept : KeptRegion). kept.head.region == id) regions ≡ None → list_any (λ (kept : KeptRegion). kept.head.region == id) regions ≡ false)
-          → (hit || list_any (λ (kept : KeptRegion). kept.head.region == id) regions) ≡ false
-      by true none rest = absurd (cc)
-      by false none rest = rest none
-
   empty : {X : Type 0} (xs : List X) → length xs ≡ 0 → xs ≡ []
   empty [] is = refl
   empty (x ∷ xs) is = absurd (omega (arith, is))
@@ -101,7 +92,7 @@ module _ (pool : PoolOf Node) where
       let ids : AreIdsApart (map (region_kept pool) regions) = subst (λ (c : Composition). AreIdsApart c.regions) (sym view) apart in
       let none : region_in (composition_of pool) id ≡ None = subst (λ (c : Composition). region_in c id ≡ None) (sym view) new in
       let all : (composition_of pool).free + taken_nodes (composition_of pool) ≡ (composition_of pool).size = subst (λ (c : Composition). c.free + taken_nodes c ≡ c.size) (sym view) counted in
-      let fresh : list_any (is_same (listings_list id)) (map place_of regions) ≡ false = places_among id regions ∙ not_found id (map (region_kept pool) regions) none in
+      let fresh : list_any (is_same (listings_list id)) (map place_of regions) ≡ false = places_among id regions ∙ none_has id (map (region_kept pool) regions) none in
       let low : (n : ℕ) → n < 4 → list_any (is_same n) (listings_list id ∷ map place_of regions) ≡ false =
       λ n below i. ne_eqb n (listings_list id) (λ e. omega (arith, e, below)) i || low_apart n regions below i in
       let numbers : AreNumbersApart (0 ∷ 1 ∷ 2 ∷ 3 ∷ listings_list id ∷ map place_of regions) =

@@ -1,5 +1,5 @@
 -- The taken segments of an epoch with one more region segment.
-use Rattle.std.proofs.Common.{◌≡◌, ◌≢◌, ◌∙◌, ℕ, ◌==◌, ◌&&◌, Bool, true, false, cond, List, [], ◌∷◌, map, Option, Some, None, refl, sym, ap}
+use Rattle.std.proofs.Common.{◌≡◌, ◌≢◌, ◌∙◌, ℕ, ◌==◌, ◌&&◌, Bool, true, false, cond, List, [], ◌∷◌, map, Option, Some, None, option_map, refl, sym, ap}
 use Rattle.std.specs.Prelude.{take_while, unwrap_or}
 use Rattle.std.specs.Option.{is_none, option_or}
 use Rattle.std.proofs.lemmas.Bool.{ne_eqb, eqb-true}
@@ -11,11 +11,13 @@ use Rattle.stream_syntax.specs.declared.region.Listing.{Listing}
 use Rattle.decoder_model.specs.Contents.{object_in, region_in, region_named, region_of, where_passes}
 use Rattle.decoder_model.specs.Pixels.{code_by_fill, code_by_listings, code_by_segment, depth_of, fill_code, is_painting, last_code, listings_by, object_version, painted_listings, pixel_of}
 use Rattle.decoder_model.specs.Readings.{Content}
-use Rattle.decoder_model.specs.Taken.{Taken, last_region, taken_region}
+use Rattle.decoder_model.specs.Taken.{Taken, is_taken, last_region, taken_among, taken_of, taken_region}
 use Rattle.page_core.specs.Composition.{KeptListing}
-use Rattle.page_core.specs.Memory.{kept_listing}
+use Rattle.page_core.specs.Memory.{head_of, kept_listing}
 use Rattle.page_core.specs.RegionSteps.{fresh}
-use Rattle.page_core.proofs.PixelRoom.{named_other, named_same, with_segment}
+use Rattle.page_core.specs.RegionTests.{is_new}
+use Rattle.page_core.proofs.RegionLaws.{taken_by_head}
+use Rattle.page_core.proofs.PixelRoom.{named_other, named_same, neither, of_segments, with_segment}
 use Rattle.page_core.proofs.QuietSteps.{listing_behind}
 
 -- the last region of an id has that id
@@ -34,10 +36,6 @@ id_of_last id (segment ∷ segments) region is = by (region_in segment.value) is
     by (Some found) is rest = chosen found (found.head.region == id) refl is rest
 
 -- ---- a region that no segment defines has no pixels written
-
-neither : {X : Type 0} (a b : Option X) → option_or a b ≡ None → (a ≡ None) × (b ≡ None)
-neither None b is = (refl, is)
-neither (Some x) b is = absurd (cc)
 
 no_code : (earlier : List Content) (value : SegmentValue) (top bottom : List Part) (id x y : ℕ) → where_passes (λ (one : Region). one.head.region == id) (region_in value) ≡ None → last_region id earlier ≡ None
     → code_by_segment (record { segments = earlier }) value top bottom id x y ≡ None
@@ -110,3 +108,17 @@ module _ (content : Content) (region : Region) (value : of_region region ≡ con
   pixel_then_other id x y other =
       ap (λ (o : Option ℕ). unwrap_or (option_or o (last_code taken.segments id x y)) 0)
       (code_then id x y ∙ ap (λ b. cond (b && region.head.fill) (Some (fill_code region.head.depth region.head)) None) (ne_eqb region.head.region id (λ e. other (sym e))))
+
+-- ---- whether it is taken
+
+pub taken_by_version : (segments : List Content) (content : Content) (region : Region) → of_region region ≡ content.value
+    → is_taken segments content.value ≡ is_new region.head (option_map head_of (taken_region region.head.region (taken_of segments)))
+taken_by_version segments content region value = ap (is_taken segments) (sym value) ∙ taken_by_head segments segments region (record { last = refl; taken = refl })
+
+pub taken_then : (segments : List Content) (content : Content) → is_taken segments content.value ≡ true → taken_of (content ∷ segments) ≡ with_segment content (taken_among segments)
+unfolding taken_among
+taken_then segments content is = ap (λ b. of_segments (cond b (content ∷ taken_among segments) (taken_among segments))) is
+
+pub held_then : (segments : List Content) (content : Content) → is_taken segments content.value ≡ false → taken_of (content ∷ segments) ≡ taken_of segments
+unfolding taken_among
+held_then segments content is = ap (λ b. of_segments (cond b (content ∷ taken_among segments) (taken_among segments))) is
