@@ -1,6 +1,7 @@
 -- A row of the picture that is drawn entry by entry.
-use Rattle.std.proofs.Common.{◌≡◌, ◌∙◌, refl, sym, ap, subst, ℕ, ◌+◌, ◌-◌, ◌*◌, ◌/◌, ◌^◌, ◌<◌, Bool, true, false, cond, eqb, All, List, [], ◌∷◌, length, get_or, Option, Some, None, arith}
+use Rattle.std.proofs.Common.{◌≡◌, ◌∙◌, refl, sym, ap, subst, ℕ, ◌+◌, ◌-◌, ◌*◌, ◌/◌, ◌^◌, ◌<◌, Bool, true, false, cond, eqb, All, List, [], ◌∷◌, length, map, get_or, Option, Some, None, arith}
 use Rattle.std.specs.Prelude.{slice_range, unwrap_or}
+use Rattle.std.specs.List.{range_with_len}
 use Rattle.std.specs.Option.{option_or}
 use Rattle.std.proofs.lemmas.List.{ext_get_or, get_or-map, length-map}
 use Rattle.std.proofs.lemmas.List.Edits.{get_or-between}
@@ -164,11 +165,14 @@ way_ends composition store inks place left row is way memory has window size =
 -- ---- a whole memory
 
 -- each region that is kept has its slot, with its sides and depth
-pub regions_placed : (memory : Memory) → IsWhole memory → All (λ (kept : KeptRegion). HasRegion kept.head kept.slot memory.store) memory.composition.regions
-regions_placed memory whole = λ k d within.
+pub placed_in_order : (regions : List KeptRegion) (store : Regions) → map (λ (kept : KeptRegion). kept.slot) regions ≡ range_with_len 0 (length store.regions)
+    → All (λ (kept : KeptRegion). HasSides kept.head (region_at store kept.slot)) regions → All (λ (kept : KeptRegion). HasRegion kept.head kept.slot store) regions
+placed_in_order regions store slots sides = λ k d within.
     let slot_of : KeptRegion → ℕ = λ kept. kept.slot in
-    let regions = memory.composition.regions in
-    let count : length regions ≡ length memory.store.regions = sym (length-map regions slot_of) ∙ ap length whole.slots ∙ length-range_with_len 0 (length memory.store.regions) in
+    let count : length regions ≡ length store.regions = sym (length-map regions slot_of) ∙ ap length slots ∙ length-range_with_len 0 (length store.regions) in
     let slot : (get_or regions k d).slot ≡ k =
-    sym (get_or-map slot_of regions k d 0 within) ∙ ap (λ (slots : List ℕ). get_or slots k 0) whole.slots ∙ get_or-range_with_len 0 (length memory.store.regions) k 0 (omega (arith, count)) ∙ omega arith in
-    record { placed = omega (arith, slot, count); sides = whole.sides k d within }
+    sym (get_or-map slot_of regions k d 0 within) ∙ ap (λ (all : List ℕ). get_or all k 0) slots ∙ get_or-range_with_len 0 (length store.regions) k 0 (omega (arith, count)) ∙ omega arith in
+    record { placed = omega (arith, slot, count); sides = sides k d within }
+
+pub regions_placed : (memory : Memory) → IsWhole memory → All (λ (kept : KeptRegion). HasRegion kept.head kept.slot memory.store) memory.composition.regions
+regions_placed memory whole = placed_in_order memory.composition.regions memory.store whole.slots whole.sides

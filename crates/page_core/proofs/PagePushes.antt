@@ -18,7 +18,7 @@ use Rattle.page_core.specs.declared.node.Node.{Node}
 use Rattle.page_core.specs.declared.node.Node.TheVariants as node
 use Rattle.page_core.specs.declared.node.RegionNode.{RegionNode}
 
-take_one : {X : Type 0} (xs : List X) (i : ℕ) (x : X) → slice_get xs i ≡ Some x → take (i + 1) xs ≡ take i xs ++ x ∷ []
+pub take_one : {X : Type 0} (xs : List X) (i : ℕ) (x : X) → slice_get xs i ≡ Some x → take (i + 1) xs ≡ take i xs ++ x ∷ []
 take_one [] i x is = absurd (cc)
 take_one (y ∷ ys) zero x is = ap (λ z. z ∷ []) (let same : y ≡ x = cc in same)
 take_one (y ∷ ys) (suc i) x is = ap (λ n. take n (y ∷ ys)) (let same : suc i + 1 ≡ suc (i + 1) = omega arith in same) ∙ ap (λ zs. y ∷ zs) (take_one ys i x is)

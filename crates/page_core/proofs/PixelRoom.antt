@@ -81,12 +81,12 @@ sum_apart f g id (x ∷ ids) same apart =
 
 -- ---- one more region
 
-named_same : (content : Content) (region : Region) → region_of content ≡ Some region → region_named region.head.region content ≡ Some region
+pub named_same : (content : Content) (region : Region) → region_of content ≡ Some region → region_named region.head.region content ≡ Some region
 named_same content region is =
     ap (where_passes (λ other. other.head.region == region.head.region)) is
     ∙ ap (λ b. cond b (Some region) None) (eq-eqb region.head.region region.head.region refl)
 
-named_other : (content : Content) (region : Region) (id : ℕ) → region_of content ≡ Some region → (id ≡ region.head.region → ⊥) → region_named id content ≡ None
+pub named_other : (content : Content) (region : Region) (id : ℕ) → region_of content ≡ Some region → (id ≡ region.head.region → ⊥) → region_named id content ≡ None
 named_other content region id is other =
     ap (where_passes (λ one. one.head.region == id)) is
     ∙ ap (λ b. cond b (Some region) None) (ne_eqb region.head.region id (λ e. other (sym e)))
@@ -100,14 +100,14 @@ of_segments segments = record { segments = segments }
 abbrev pub bytes_by : List Content → ℕ → ℕ
 bytes_by segments id = bytes_of_region (last_region id segments)
 
-ids_with : (content : Content) (region : Region) (segments : List Content) → region_of content ≡ Some region
+pub ids_with : (content : Content) (region : Region) (segments : List Content) → region_of content ≡ Some region
     → region_ids (with_segment content segments) ≡ cond (is_some (last_region region.head.region segments)) (region_ids (of_segments segments)) (region.head.region ∷ region_ids (of_segments segments))
 unfolding region_ids
 ids_with content region segments is =
     ap (λ (found : Option Region). different is_same (map region_id (cons_option found (filter_map region_of segments)))) is
     ∙ ap (λ b. cond b (different is_same (map region_id (filter_map region_of segments))) (region.head.region ∷ different is_same (map region_id (filter_map region_of segments)))) (id_among region.head.region segments)
 
-apart_ids : (id : ℕ) (segments : List Content) → last_region id segments ≡ None → list_any (is_same id) (region_ids (of_segments segments)) ≡ false
+pub apart_ids : (id : ℕ) (segments : List Content) → last_region id segments ≡ None → list_any (is_same id) (region_ids (of_segments segments)) ≡ false
 unfolding region_ids
 apart_ids id segments none = id_among_different id (map region_id (filter_map region_of segments)) ∙ id_among id segments ∙ ap is_some none
 
@@ -148,7 +148,7 @@ used_with_other content segments is =
     λ i. ap (λ (found : Option Region). bytes_of_region (option_or (where_passes (λ one. one.head.region == i) found) (last_region i segments))) is in
     ap (sum_by (bytes_by (content ∷ segments))) ids ∙ (λ j. sum_by (λ i. same i j) (region_ids (of_segments segments)))
 
-taken_or_held : (content : Content) (earlier : List Content) (taken : Bool) → is_taken earlier content.value ≡ taken → pixels_used (taken_of (content ∷ earlier)) ≡ pixels_used (cond taken (with_segment content (taken_among earlier)) (taken_of earlier))
+pub taken_or_held : (content : Content) (earlier : List Content) (taken : Bool) → is_taken earlier content.value ≡ taken → pixels_used (taken_of (content ∷ earlier)) ≡ pixels_used (cond taken (with_segment content (taken_among earlier)) (taken_of earlier))
 unfolding taken_among
 taken_or_held content earlier true is = ap (λ b. pixels_used (of_segments (cond b (content ∷ taken_among earlier) (taken_among earlier)))) is
 taken_or_held content earlier false is = ap (λ b. pixels_used (of_segments (cond b (content ∷ taken_among earlier) (taken_among earlier)))) is
@@ -182,7 +182,7 @@ used_before_regions older set =
 
 -- ---- rooms
 
-same_bytes : (a b : RegionHead) → has_same_shape a b ≡ true → pixel_bytes a ≡ pixel_bytes b
+pub same_bytes : (a b : RegionHead) → has_same_shape a b ≡ true → pixel_bytes a ≡ pixel_bytes b
 same_bytes a b is =
     let first = both (a.width == b.width) ((a.height == b.height) && (depths.bits_of a.depth == depths.bits_of b.depth)) is in
     let second = both (a.height == b.height) (depths.bits_of a.depth == depths.bits_of b.depth) first.1 in
@@ -214,7 +214,7 @@ room_is profile older earlier content region composition left has is before free
     ∙ ap (λ n. cond (is_none (taken_region region.head.region (taken_of earlier)) && nat_lt n need) (Some (PixelFull need n)) None) free
     ∙ ap (λ (v : SegmentValue). option_and_then (region_too_large profile (taken_of earlier)) (region_in v)) is
 
-shape_kept : (region last : Region) → changed_from region (Some last) ≡ None → has_same_shape region.head last.head ≡ true
+pub shape_kept : (region last : Region) → changed_from region (Some last) ≡ None → has_same_shape region.head last.head ≡ true
 shape_kept region last none = by (has_same_shape region.head last.head) none
   where
     by : (same : Bool) → cond same None (Some (RegionChanged region.head.region)) ≡ None → same ≡ true
@@ -262,7 +262,7 @@ pub record IsRoomed (profile : Profile) (older set : List Content) (left : ℕ) 
   pub free : left ≡ profile.pixels - pixels_used (taken_of (tested.mid ++ before_regions older set))
   pub unchanged : first_in region_changed (tested.mid ++ before_regions older set) (filter is_region tested.left) ≡ None
 
-neither : {X : Type 0} (a b : Option X) → option_or a b ≡ None → (a ≡ None) × (b ≡ None)
+pub neither : {X : Type 0} (a b : Option X) → option_or a b ≡ None → (a ≡ None) × (b ≡ None)
 neither None b is = (refl, is)
 neither (Some x) b is = absurd (cc)
 

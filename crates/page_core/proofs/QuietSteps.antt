@@ -20,7 +20,7 @@ use Rattle.page_core.specs.Composition.{KeptListing}
 use Rattle.page_core.specs.RegionTests.{before_regions}
 
 -- a segment that is neither the region nor the object of a listing leaves it as it is painted
-listing_behind : (content : Content) (segments : List Content) (id : ℕ) (listing : Listing) → region_named id content ≡ None → object_named listing.object content ≡ None
+pub listing_behind : (content : Content) (segments : List Content) (id : ℕ) (listing : Listing) → region_named id content ≡ None → object_named listing.object content ≡ None
     → kept_listing (record { segments = content ∷ segments }) id listing ≡ kept_listing (record { segments = segments }) id listing
 listing_behind content segments id listing no_region no_object =
     let since : Content → Bool = λ segment. is_none (region_named id segment) in

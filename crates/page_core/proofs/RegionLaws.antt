@@ -19,7 +19,7 @@ use Rattle.page_core.proofs.Versions.{version_of_taken, given_by}
 
 -- ---- what is as before the set
 
-either_false : (a b : Bool) → (a || b) ≡ false → (a ≡ false) × (b ≡ false)
+pub either_false : (a b : Bool) → (a || b) ≡ false → (a ≡ false) × (b ≡ false)
 either_false false b is = (refl, is)
 either_false true b is = absurd (cc)
 

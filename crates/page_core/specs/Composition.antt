@@ -1,6 +1,7 @@
 -- The composition memory of a receiver (EN 300 743, clause 5.2): the page, the regions and CLUTs of the epoch, and what is set in
 -- these. Each entry, region, listing, CLUT and set table entry takes one node.
-use Rattle.std.specs.Prelude.{ℕ, ◌+◌, ◌-◌, ◌==◌, List, [], length, drop, find, sum_by, Option}
+use Rattle.std.specs.Prelude.{◌≡◌, ℕ, ◌+◌, ◌-◌, ◌==◌, false, List, [], ◌∷◌, length, drop, find, sum_by, Option}
+use Rattle.std.specs.List.{list_any}
 use Rattle.stream_syntax.specs.declared.page.PageEntry.{PageEntry}
 use Rattle.stream_syntax.specs.declared.region.Listing.{Listing}
 use Rattle.stream_syntax.specs.declared.region.RegionHead.{RegionHead}
@@ -42,6 +43,11 @@ region_in composition id = find (λ (kept : KeptRegion). kept.head.region == id)
 
 abbrev pub clut_in : Composition → ℕ → Option KeptClut
 clut_in composition id = find (λ (kept : KeptClut). kept.clut == id) composition.cluts
+
+-- no two regions that are kept have one id
+abbrev pub AreIdsApart : List KeptRegion → Type 0
+AreIdsApart [] = Unit {0}
+AreIdsApart (kept ∷ regions) = (list_any (λ (other : KeptRegion). other.head.region == kept.head.region) regions ≡ false) × AreIdsApart regions
 
 -- how many nodes are taken
 abbrev pub taken_nodes : Composition → ℕ

@@ -1,5 +1,5 @@
 -- What an object does in all regions.
-use Rattle.std.specs.Prelude.{◌≡◌, ℕ, ◌==◌, ◌<◌, Bool, false, if◌then◌else◌, List, [], ◌∷◌, ◌++◌, length, map, Contains, Some, None}
+use Rattle.std.specs.Prelude.{◌≡◌, ℕ, ◌<◌, Bool, false, if◌then◌else◌, List, [], ◌∷◌, ◌++◌, length, map, Contains, Some, None}
 use Rattle.std.specs.List.{list_any}
 use Rattle.sub_base.specs.Lists.{last_given}
 use Rattle.stream_syntax.specs.Segments.{Object}
@@ -8,6 +8,7 @@ use Rattle.comp_pool.specs.declared.node.NodeId.{NodeId}
 use Rattle.decoder_model.specs.Readings.{Content}
 use Rattle.pixel_store.specs.Regions.{Regions, KeepsOthers}
 use Rattle.page_core.specs.Composition.{Composition, KeptRegion}
+pub use Rattle.page_core.specs.Composition.{AreIdsApart}
 use Rattle.page_core.specs.Listings.{code_by_kept, code_by_pair, painted_listing, painted_node}
 use Rattle.page_core.specs.Lists.{IsRewritten, with_changed}
 use Rattle.page_core.specs.Nodes.{is_region_of, region_node, listings_list}
@@ -110,11 +111,6 @@ pub record KeepsRoom (old new : Regions) : Type 0 where
   pub count : length new.regions ≡ length old.regions
   pub size : new.size ≡ old.size
   pub free : new.free ≡ old.free
-
--- no two regions that are kept have one id
-abbrev pub AreIdsApart : List KeptRegion → Type 0
-AreIdsApart [] = Unit {0}
-AreIdsApart (kept ∷ regions) = (list_any (λ (other : KeptRegion). other.head.region == kept.head.region) regions ≡ false) × AreIdsApart regions
 
 -- the object writes to some regions that are kept, one after another
 abbrev pub AreKeptWritten : Painter → Content → List KeptRegion → Regions → Regions → Type 0

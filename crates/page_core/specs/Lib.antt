@@ -27,3 +27,4 @@ pub mod SetSteps
 pub mod ClutSteps
 pub mod RegionSteps
 pub mod Losses
+pub mod PoolChanges

@@ -26,7 +26,7 @@ use Rattle.decoder_model.specs.Taken.{Taken, segments_of, taken_of, taken_region
 use Rattle.decoder_model.specs.Verdict.{known_epoch}
 use Rattle.pixel_store.specs.Regions.{Regions, region_at, code_of, no_regions}
 use Rattle.pixel_store.specs.Regions.{Region as StoredRegion}
-use Rattle.page_core.specs.Composition.{Composition, KeptListing, KeptRegion, KeptClut, region_in, clut_in, taken_nodes, no_composition}
+use Rattle.page_core.specs.Composition.{AreIdsApart, Composition, KeptListing, KeptRegion, KeptClut, region_in, clut_in, taken_nodes, no_composition}
 
 -- ---- what is kept
 
@@ -104,7 +104,8 @@ pub record AreInks (set : List TableEntry) (inks : List Colour) : Type 0 where
   pub defaults : AreDefaultsBeside set inks
 
 -- what holds of the memory of every receiver: its nodes and bytes are those of the profile; the regions have the slots of the
--- store in order, each with its sides, and ids of CLUTs that are bytes; and its colours are the default ones where nothing is set
+-- store in order, each with its sides, and ids that are bytes, no two of them the same; and its colours are the default ones where
+-- nothing is set
 pub record IsWhole (memory : Memory) : Type 0 where
   pub nodes : memory.composition.size ≡ memory.profile.nodes
   pub counted : memory.composition.free + taken_nodes memory.composition ≡ memory.composition.size
@@ -113,6 +114,8 @@ pub record IsWhole (memory : Memory) : Type 0 where
   pub sides : All (λ (kept : KeptRegion). HasSides kept.head (region_at memory.store kept.slot)) memory.composition.regions
   pub cluts : All (λ (kept : KeptRegion). kept.head.clut < 256) memory.composition.regions
   pub inks : AreInks memory.composition.set_entries memory.inks
+  pub ids : All (λ (kept : KeptRegion). kept.head.region < 256) memory.composition.regions
+  pub apart : AreIdsApart memory.composition.regions
 
 -- the profile, page id and anchor stay
 pub record IsSameReceiver (old new : Memory) : Type 0 where

@@ -12,6 +12,7 @@ mod listings;
 mod lookup;
 mod objects;
 mod page;
+mod regions;
 mod walk;
 
 use crate::lists::pop_front;

@@ -5,6 +5,7 @@ ghost use Rattle.decoder_model.specs.Readings.{Reading, IsReading};
 ghost use Rattle.decoder_model.specs.Received.{BeginsWith};
 ghost use Rattle.segments.specs.Contents.{contents};
 ghost use Rattle.page_core.specs.Handed.{HasFieldSizes, IsCutOff, Matches};
+ghost use Rattle.page_core.specs.RegionSteps.{IsRightValue};
 
 use segments::{Segment, SegmentFault, read_frame, read_segment};
 
@@ -37,6 +38,7 @@ pub(crate) fn cut_front(bytes: &[u8]) -> Option<Front<'_>>
 pub(crate) fn read_one(bytes: &[u8]) -> Result<Segment<'_>, SegmentFault>
     ensures matches { (reading : Reading) → IsReading bytes.now reading → Matches result reading }
     ensures fields { IfOk result (λ segment. HasFieldSizes (contents segment)) }
+    ensures right { IfOk result (λ segment. IsRightValue (contents segment)) }
 {
     match read_segment(bytes) {
         Ok((segment, _whole)) => Ok(segment),

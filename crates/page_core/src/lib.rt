@@ -16,6 +16,7 @@ mod memory;
 mod node;
 mod painting;
 mod painting_objects;
+mod region_taking;
 mod region_tests;
 mod rows;
 mod seen;

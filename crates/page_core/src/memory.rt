@@ -21,6 +21,7 @@ ghost use Rattle.page_core.specs.declared.epoch.Start.TheVariants.{Waits};
 ghost use Rattle.page_core.specs.Memory.{Stands, IsForgotten, IsSameReceiver, Forgets};
 
 mod objects;
+mod regions;
 mod scene;
 mod sets;
 mod stubs;

@@ -46,7 +46,7 @@ fn change_fault(composition: &CompositionMemory, region: &RegionSeg<'_>) -> Opti
     }
 }
 
-fn has_same_shape(known: &RegionHead, region: &RegionSeg<'_>) -> bool
+pub(crate) fn has_same_shape(known: &RegionHead, region: &RegionSeg<'_>) -> bool
     ensures { result ≡ same_shape (region_value region.now).head known.now }
 {
     region.width == known.width && region.height == known.height && region.depth == known.depth

@@ -6,6 +6,7 @@ ghost use Rattle.stream_syntax.specs.Segments.{IsPassedOver, of_clut, of_object,
 ghost use Rattle.decoder_model.specs.Readings.{Content};
 ghost use Rattle.segments.specs.Contents.{clut_value, contents, object_value, region_value};
 ghost use Rattle.page_core.specs.Handed.{AreContents, HasFieldSizes};
+ghost use Rattle.page_core.specs.RegionSteps.{IsRightHead, IsRightValue};
 ghost use Rattle.page_core.specs.Walks.{IsNextOf, is_clut, is_content_of, is_object, is_region};
 
 use crate::front::{cut_front, read_one};
@@ -27,6 +28,7 @@ fn next_of(bytes: &[u8], kind: u8) -> Option<Next<'_, Segment<'_>>>
         (λ next. IsNextOf (is_content_of kind) set (contents next.segment) next.rest.now) }
     ensures shorter { IfSome result (λ next. length next.rest.now < length bytes.now) }
     ensures fields { IfSome result (λ next. HasFieldSizes (contents next.segment)) }
+    ensures right { IfSome result (λ next. IsRightValue (contents next.segment)) }
 {
     let mut rest = bytes;
     while let Some(front) = cut_front(rest) {
@@ -49,6 +51,7 @@ pub(crate) fn next_region(bytes: &[u8]) -> Option<Next<'_, RegionSeg<'_>>>
     ensures next { (set : List Content) → AreContents set bytes.now → MatchOption result (filter is_region set ≡ [])
         (λ next. IsNextOf is_region set (of_region (region_value next.segment)) next.rest.now) }
     ensures shorter { IfSome result (λ next. length next.rest.now < length bytes.now) }
+    ensures right { IfSome result (λ next. IsRightHead (region_value next.segment).head) }
 {
     let next = next_of(bytes, REGION_COMPOSITION)?;
     match next.segment {
