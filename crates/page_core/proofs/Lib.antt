@@ -66,3 +66,4 @@ pub mod RegionReady
 pub mod RegionNeeds
 pub mod RegionsBegin
 pub mod RegionsHeld
+pub mod PaintedTimes

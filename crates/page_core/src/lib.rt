@@ -15,6 +15,7 @@ mod lists;
 mod memory;
 mod node;
 mod painting;
+mod painted_time;
 mod painting_objects;
 mod region_taking;
 mod region_tests;
@@ -26,6 +27,7 @@ mod walking;
 
 pub use decoder_model::{SetEnd, SetFault};
 pub use memory::{Core, Scene};
+pub use painted_time::painting;
 
 #[cfg(test)]
 mod core_tests;
