@@ -16,6 +16,7 @@ pub mod Orders
 pub mod PagePushes
 pub mod Pasts
 pub mod PixelRoom
+pub mod ProfileNodes
 pub mod Popping
 pub mod QuietSteps
 pub mod RegionLaws
@@ -23,6 +24,8 @@ pub mod RegionNodes
 pub mod Scanning
 pub mod EntryWalks
 pub mod Finds
+pub mod MarkLaws
+pub mod MarkTables
 pub mod NextContents
 pub mod SetLaws
 pub mod ShownScenes

@@ -23,3 +23,5 @@ pub mod Everywhere
 pub mod Scenes
 pub mod PageEntries
 pub mod Accepted
+pub mod Marks
+pub mod ClutSteps

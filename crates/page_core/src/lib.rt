@@ -12,6 +12,7 @@ mod inks;
 mod judging;
 mod laws;
 mod lists;
+mod marks;
 mod memory;
 mod node;
 mod painting;
