@@ -8,9 +8,11 @@ pub mod DrawnEntries
 pub mod SceneRows
 pub mod PackedLines
 pub mod Defining
+pub mod DifferentItems
 pub mod EpochLaws
 pub mod Fronts
 pub mod ColourNodes
+pub mod ClutNodes
 pub mod InkTables
 pub mod Orders
 pub mod PagePushes

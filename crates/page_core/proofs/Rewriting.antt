@@ -27,7 +27,7 @@ module _ {T : Type 0} where
       ∙ untouched node item (list_of old k) (λ p there same.
       other (sym (one_list old l k node one listed (subst (λ (m : NodeId). IsInList old k m) same (in_list_from_item old k p.0 p.1 there)))))
 
-  keeps_set : (old new : PoolOf T) (l : ℕ) (node : NodeId) (item : T) → new ≡ replaced node item old → NoneTwice old → IsInList old l node → node_count new ≡ node_count old → KeepsBeside l old new
+  pub keeps_set : (old new : PoolOf T) (l : ℕ) (node : NodeId) (item : T) → new ≡ replaced node item old → NoneTwice old → IsInList old l node → node_count new ≡ node_count old → KeepsBeside l old new
   keeps_set old new l node item is one listed count =
       record { lists = list_count_after_set old new node item is; others = λ k other. beside_set old new l k node item is one listed other; count = count }
 

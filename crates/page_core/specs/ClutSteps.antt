@@ -115,7 +115,7 @@ placed_by (content ∷ earlier) = with_segment (clut_of content) (placed_by earl
 
 -- these table entries are set, each once, and have these colours
 pub record AreSetBy (placed : List Placed) (set : List TableEntry) (inks : List Colour) : Type 0 where
-  pub inks : (id : ℕ) (depth : Depth) (number : ℕ) → id < 256 → number < code_count depth →
+  pub colours : (id : ℕ) (depth : Depth) (number : ℕ) → id < 256 → number < code_count depth →
       ink_in inks id depth number ≡ placed_colour placed (record { clut = id; depth = depth; entry = number })
   pub members : (entry : TableEntry) → list_any (is_same_entry entry) set ≡ list_any (is_same_entry entry) (map entry_of placed)
   pub count : length set ≡ length (different is_same_entry (map entry_of placed))
