@@ -3,6 +3,7 @@ pub mod BlockCodes
 pub mod BlockDepths
 pub mod RegionHeads
 pub mod ColouredBytes
+pub mod ColourSteps
 pub mod DrawnRows
 pub mod DrawnEntries
 pub mod SceneRows
@@ -18,6 +19,7 @@ pub mod Orders
 pub mod PagePushes
 pub mod Pasts
 pub mod PixelRoom
+pub mod PlacedLaws
 pub mod ProfileNodes
 pub mod Popping
 pub mod QuietSteps

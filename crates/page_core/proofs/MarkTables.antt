@@ -48,7 +48,7 @@ same_entry a b is =
 
 -- ---- one entry is marked
 
-same_by_place : (asked entry : TableEntry) → IsInTable asked → IsInTable entry → ink_place entry.clut entry.depth entry.entry ≡ ink_place asked.clut asked.depth asked.entry → asked ≡ entry
+pub same_by_place : (asked entry : TableEntry) → IsInTable asked → IsInTable entry → ink_place entry.clut entry.depth entry.entry ≡ ink_place asked.clut asked.depth asked.entry → asked ≡ entry
 same_by_place asked entry in_asked in_entry is =
     let same = same_place asked.clut entry.clut asked.depth entry.depth asked.entry entry.entry in_asked.1 in_entry.1 (sym is) in
     λ i. record { clut = same.0 i; depth = same.1 i; entry = same.2 i }

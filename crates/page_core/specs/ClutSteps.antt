@@ -14,14 +14,16 @@ use Rattle.decoder_model.specs.Contents.{clut_of}
 use Rattle.decoder_model.specs.Ink.{is_in_table}
 use Rattle.decoder_model.specs.Nodes.{TableEntry, is_same_entry, clut_ids, table_entries}
 use Rattle.decoder_model.specs.Readings.{Content}
-use Rattle.decoder_model.specs.Taken.{Taken, taken_of}
+use Rattle.decoder_model.specs.Taken.{taken_of, clut_version, last_clut}
 use Rattle.comp_pool.specs.Pool.{PoolOf, list_of}
 use Rattle.comp_pool.specs.declared.node.NodeId.{NodeId}
 use Rattle.page_core.specs.Composition.{Composition, KeptClut, clut_in}
 use Rattle.page_core.specs.Lists.{KeepsBeside}
-use Rattle.page_core.specs.Memory.{Memory, ink_in}
+use Rattle.page_core.specs.Marks.{AreMarked}
+use Rattle.page_core.specs.Memory.{AreInks, Memory, ink_in}
 use Rattle.page_core.specs.Nodes.{clut_node}
 use Rattle.page_core.specs.Walks.{is_clut}
+use Rattle.page_core.specs.declared.marks.Mark.{Mark}
 use Rattle.page_core.specs.declared.node.Node.{Node}
 
 -- ---- the composition memory
@@ -120,13 +122,65 @@ pub record AreSetBy (placed : List Placed) (set : List TableEntry) (inks : List 
   pub members : (entry : TableEntry) → list_any (is_same_entry entry) set ≡ list_any (is_same_entry entry) (map entry_of placed)
   pub count : length set ≡ length (different is_same_entry (map entry_of placed))
 
+-- ---- steps
+
+-- one more is placed
+abbrev pub with_place : TableEntry → Colour → List Placed → List Placed
+with_place entry colour placed = record { entry = entry; colour = colour } ∷ placed
+
+-- a table entry is set: it is one that was, or takes a node, where one is free
+abbrev pub with_set : TableEntry → Composition → Composition
+with_set entry composition =
+    if list_any (is_same_entry entry) composition.set_entries then composition else
+    if composition.free == 0 then composition else
+    with_colour entry composition
+
+-- how many nodes the entries need that were placed
+abbrev pub entries_placed : List Placed → ℕ
+entries_placed placed = length (different is_same_entry (map entry_of placed))
+
+-- colours and marks go with the entries that are set
+pub record AreColoured (composition : Composition) (inks : List Colour) (marks : List Mark) : Type 0 where
+  pub coloured : AreInks composition.set_entries inks
+  pub marked : AreMarked composition.set_entries [] marks
+
+-- all but the entries that are set stays, and these take their nodes of the free ones
+pub record IsKeptBut (old new : Composition) : Type 0 where
+  pub size : new.size ≡ old.size
+  pub entries : new.entries ≡ old.entries
+  pub regions : new.regions ≡ old.regions
+  pub cluts : new.cluts ≡ old.cluts
+  pub total : new.free + length new.set_entries ≡ old.free + length old.set_entries
+
+-- all but CLUTs and entries that are set stays, and these take their nodes of the free ones
+pub record IsKeptBeside (old new : Composition) : Type 0 where
+  pub size : new.size ≡ old.size
+  pub entries : new.entries ≡ old.entries
+  pub regions : new.regions ≡ old.regions
+  pub total : new.free + length new.cluts + length new.set_entries ≡ old.free + length old.cluts + length old.set_entries
+
+-- whatever was placed, with room for more those are placed too
+abbrev pub SetsMore : (List Placed → List Placed) → Composition → List Colour → Composition → List Colour → Type 0
+SetsMore more old old_inks new new_inks = (placed : List Placed) → AreSetBy placed old.set_entries old_inks
+    → entries_placed (more placed) ≤ old.free + length old.set_entries → AreSetBy (more placed) new.set_entries new_inks
+
+-- a memory has the CLUTs and colours of these segments of an epoch, the latest first
+pub record HasColours (segments : List Content) (composition : Composition) (inks : List Colour) : Type 0 where
+  pub clut_ids : map (λ (kept : KeptClut). kept.clut) composition.cluts ≡ reverse (clut_ids (taken_of segments))
+  pub versions : (id : ℕ) →
+      option_map (λ (kept : KeptClut). kept.version) (clut_in composition id) ≡ clut_version (last_clut id (taken_of segments).segments)
+  pub set : AreSetBy (placed_by (taken_of segments).segments) composition.set_entries inks
+
+-- its nodes for CLUTs and entries, with those that are free, are as many as these segments need
+abbrev pub HasRoomFor : List Content → Composition → Type 0
+HasRoomFor segments composition =
+    length (clut_ids (taken_of segments)) + length (table_entries (taken_of segments)) ≤ composition.free + length composition.cluts + length composition.set_entries
+
 -- ---- a set
 
 -- as many nodes are free, with those that CLUTs and table entries have, as these need after the CLUT segments of a set
 abbrev pub HasRoomForCluts : List Content → List Content → Memory → Type 0
-HasRoomForCluts older set memory =
-    length (clut_ids (taken_of (reverse (filter is_clut set) ++ older))) + length (table_entries (taken_of (reverse (filter is_clut set) ++ older)))
-    ≤ memory.composition.free + length memory.composition.cluts + length memory.composition.set_entries
+HasRoomForCluts older set memory = HasRoomFor (reverse (filter is_clut set) ++ older) memory.composition
 
 -- all but CLUTs and colours stays
 pub record KeepsButColours (old new : Memory) : Type 0 where

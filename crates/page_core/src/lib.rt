@@ -3,6 +3,7 @@
 //! made. Contracts see a core as a plain record, and say what this has to do with all that the core was handed.
 #![tactic(auto)]
 
+mod cluts;
 mod colours;
 mod composition;
 mod epoch;
