@@ -159,7 +159,7 @@ set_by_colour place (Some name) old new before view (room, is) = (subst (λ (c :
 abbrev clut_item : ℕ → ℕ → Node
 clut_item id version = node.Clut (record { clut = id; version = version })
 
-abbrev is_of_id : ℕ → KeptClut → Bool
+abbrev pub is_of_id : ℕ → KeptClut → Bool
 is_of_id id kept = kept.clut == id
 
 first_named : (id : ℕ) (pool : PoolOf Node) (found : Option (NodeId × Node)) → find (is_clut_of id) (list_of pool 2) ≡ found → clut_in (composition_of pool) id ≡ option_and_then item_clut found

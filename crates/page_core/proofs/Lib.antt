@@ -13,6 +13,7 @@ pub mod DifferentItems
 pub mod EpochLaws
 pub mod Fronts
 pub mod ColourNodes
+pub mod ClutLaws
 pub mod ClutNodes
 pub mod InkTables
 pub mod Orders

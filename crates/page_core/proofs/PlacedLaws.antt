@@ -137,7 +137,7 @@ module _ (asked : TableEntry) where
   hit_in clut entry depth = cond (is_in_table depth entry && nat_lt entry.entry (code_count depth)) (is_same_entry asked (record { clut = clut; depth = depth; entry = entry.entry })) false
 
   named_in_depth : (clut : ℕ) (entry : ClutEntry) (depth : Depth) (placed : List Placed) → named (in_depth clut entry depth placed) ≡ (hit_in clut entry depth || named placed)
-  unfolding named, hit_in
+  unfolding named hit_in
   named_in_depth clut entry depth placed = by (is_in_table depth entry && nat_lt entry.entry (code_count depth))
     where
       one : Placed

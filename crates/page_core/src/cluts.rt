@@ -7,6 +7,7 @@ ghost use Rattle.stream_syntax.specs.Segments.{of_clut};
 ghost use Rattle.decoder_model.specs.Ink.{is_in_table};
 ghost use Rattle.decoder_model.specs.Nodes.{is_same_entry};
 ghost use Rattle.decoder_model.specs.Readings.{Content};
+ghost use Rattle.decoder_model.specs.Taken.{has_new_version};
 ghost use Rattle.segments.specs.Contents.{clut_value};
 ghost use Rattle.page_core.specs.ClutSteps.{AreColoured, HasColours, HasRoomFor, IsKeptBeside, IsKeptBut, SetsMore, in_depth, in_depths, with_entries_of, with_place, with_set};
 ghost use Rattle.page_core.specs.Marks.{AreMarked};
@@ -34,11 +35,20 @@ pub(crate) fn take_clut(
         → HasColours earlier composition.old inks.old → HasRoomFor (content ∷ earlier) composition.old
         → HasColours (content ∷ earlier) composition.new inks.new }
 {
-    if composition.clut_version(clut.clut) == Some(clut.version) {
-        return;
+    if is_new_version(clut.version, composition.clut_version(clut.clut)) {
+        composition.set_clut(clut.clut, clut.version);
+        set_entries(composition, inks, marks, clut);
     }
-    composition.set_clut(clut.clut, clut.version);
-    set_entries(composition, inks, marks, clut);
+}
+
+/// Whether no version is known, or another one.
+pub(crate) fn is_new_version(version: u8, known: Option<u8>) -> bool
+    ensures { result ≡ has_new_version version known }
+{
+    match known {
+        None => true,
+        Some(known) => known != version,
+    }
 }
 
 // Sets the entries of a CLUT segment, one after another.
