@@ -15,6 +15,7 @@ pub mod Fronts
 pub mod ColourNodes
 pub mod ClutLaws
 pub mod ClutNodes
+pub mod ClutSegments
 pub mod InkTables
 pub mod Orders
 pub mod PagePushes

@@ -20,7 +20,7 @@ use Rattle.page_core.specs.Composition.{KeptListing}
 use Rattle.page_core.specs.RegionTests.{before_regions}
 
 -- a segment that is neither the region nor the object of a listing leaves it as it is painted
-listing_behind : (content : Content) (segments : List Content) (id : ℕ) (listing : Listing) → region_named id content ≡ None → object_named listing.object content ≡ None
+pub listing_behind : (content : Content) (segments : List Content) (id : ℕ) (listing : Listing) → region_named id content ≡ None → object_named listing.object content ≡ None
     → kept_listing (record { segments = content ∷ segments }) id listing ≡ kept_listing (record { segments = segments }) id listing
 listing_behind content segments id listing no_region no_object =
     let since : Content → Bool = λ segment. is_none (region_named id segment) in
@@ -30,7 +30,7 @@ listing_behind content segments id listing no_region no_object =
     ∙ ap (λ (o : Option Object). let kept : KeptListing = record { listing = listing; painted = object_version (option_or o (first_given (object_named listing.object) (take_while since segments))) } in kept) no_object
 
 -- the same listings, by another list of segments
-listings_by : (taken other : Taken) (id : ℕ) (found : Option Region) → ((listing : Listing) → kept_listing other id listing ≡ kept_listing taken id listing)
+pub listings_by : (taken other : Taken) (id : ℕ) (found : Option Region) → ((listing : Listing) → kept_listing other id listing ≡ kept_listing taken id listing)
     → option_map (λ (region : Region). map (kept_listing taken id) region.listings) found ≡ option_map (λ (region : Region). map (kept_listing other id) region.listings) found
 listings_by taken other id found same = λ i. option_map (λ (region : Region). map (λ listing. sym (same listing) i) region.listings) found
 

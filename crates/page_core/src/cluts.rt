@@ -1,6 +1,6 @@
 //! The CLUT segments of a set (EN 300 743, clause 7.2.4).
 
-ghost use Rattle.std.specs.Prelude.{◌≡◌, ◌&&◌, ◌∷◌, [], ◌<◌, List, false, nat_lt};
+ghost use Rattle.std.specs.Prelude.{◌≡◌, ◌&&◌, ◌∷◌, ◌++◌, [], ◌<◌, List, false, filter, nat_lt, reverse};
 ghost use Rattle.std.specs.List.{list_any};
 ghost use Rattle.sub_base.specs.Depth.{code_count};
 ghost use Rattle.stream_syntax.specs.Segments.{of_clut};
@@ -10,19 +10,43 @@ ghost use Rattle.decoder_model.specs.Readings.{Content};
 ghost use Rattle.decoder_model.specs.Taken.{has_new_version};
 ghost use Rattle.segments.specs.Contents.{clut_value};
 ghost use Rattle.page_core.specs.ClutSteps.{AreColoured, HasColours, HasRoomFor, IsKeptBeside, IsKeptBut, SetsMore, in_depth, in_depths, with_entries_of, with_place, with_set};
+ghost use Rattle.page_core.specs.Handed.{AreContents};
 ghost use Rattle.page_core.specs.Marks.{AreMarked};
 ghost use Rattle.page_core.specs.Nodes.{place_kept};
+ghost use Rattle.page_core.specs.Walks.{is_clut};
 
 use crate::composition::CompositionMemory;
 use crate::inks::Inks;
 use crate::marks::{Mark, Marks};
 use crate::node::TablePlace;
+use crate::walking::next_clut;
 use segments::ClutSeg;
 use stream_syntax::ClutEntry;
 use sub_base::{Colour, Depth};
 
-/// Takes a CLUT segment, unless its version is the one that is known.
-pub(crate) fn take_clut(
+/// Takes the CLUT segments of a set, one after another.
+pub(crate) fn take_cluts(
+    composition: &mut CompositionMemory,
+    inks: &mut Inks,
+    marks: &mut Marks,
+    bytes: &[u8],
+)
+    requires { AreColoured composition.old inks.old marks.old }
+    ensures coloured { AreColoured composition.new inks.new marks.new }
+    ensures keeps { IsKeptBeside composition.old composition.new }
+    ensures taken { (older set : List Content) → HasColours older composition.old inks.old → AreContents set bytes.now
+        → HasRoomFor (reverse (filter is_clut set) ++ older) composition.old
+        → HasColours (reverse (filter is_clut set) ++ older) composition.new inks.new }
+{
+    let mut rest = bytes;
+    while let Some(next) = next_clut(rest) {
+        take_clut(composition, inks, marks, &next.segment);
+        rest = next.rest;
+    }
+}
+
+// Takes a CLUT segment, unless its version is the one that is known.
+fn take_clut(
     composition: &mut CompositionMemory,
     inks: &mut Inks,
     marks: &mut Marks,

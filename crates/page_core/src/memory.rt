@@ -19,6 +19,7 @@ ghost use Rattle.page_core.specs.Accepted.{IsBefore, IsBegun, IsEarly, IsTakenEa
 ghost use Rattle.page_core.specs.Epochs.{IsStart};
 ghost use Rattle.page_core.specs.Memory.{Stands, IsForgotten, IsSameReceiver, Forgets};
 
+mod cluts;
 mod scene;
 
 use crate::composition::CompositionMemory;
