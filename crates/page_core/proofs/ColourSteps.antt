@@ -206,7 +206,7 @@ module _ (place : TablePlace) (colour : Colour) (old new : Composition) (inks : 
 -- ---- more of them
 
 -- more entries need no fewer nodes
-more_in_depth : (clut : ℕ) (entry : ClutEntry) (depth : Depth) (placed : List Placed) (asked : TableEntry) → list_any (is_same_entry asked) (map entry_of placed) ≡ true → list_any (is_same_entry asked) (map entry_of (in_depth clut entry depth placed)) ≡ true
+pub more_in_depth : (clut : ℕ) (entry : ClutEntry) (depth : Depth) (placed : List Placed) (asked : TableEntry) → list_any (is_same_entry asked) (map entry_of placed) ≡ true → list_any (is_same_entry asked) (map entry_of (in_depth clut entry depth placed)) ≡ true
 more_in_depth clut entry depth placed asked there = by (is_in_table depth entry && nat_lt entry.entry (code_count depth))
   where
     one : Placed
@@ -216,7 +216,7 @@ more_in_depth clut entry depth placed asked there = by (is_in_table depth entry 
     by true = right_true (is_same_entry asked one.entry) (list_any (is_same_entry asked) (map entry_of placed)) there
     by false = there
 
-more_in_depths : (clut : ℕ) (entry : ClutEntry) (placed : List Placed) (asked : TableEntry) → list_any (is_same_entry asked) (map entry_of placed) ≡ true → list_any (is_same_entry asked) (map entry_of (in_depths clut entry placed)) ≡ true
+pub more_in_depths : (clut : ℕ) (entry : ClutEntry) (placed : List Placed) (asked : TableEntry) → list_any (is_same_entry asked) (map entry_of placed) ≡ true → list_any (is_same_entry asked) (map entry_of (in_depths clut entry placed)) ≡ true
 more_in_depths clut entry placed asked there =
     more_in_depth clut entry Eight (in_depth clut entry Four (in_depth clut entry Two placed)) asked
     (more_in_depth clut entry Four (in_depth clut entry Two placed) asked (more_in_depth clut entry Two placed asked there))

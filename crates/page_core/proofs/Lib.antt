@@ -8,6 +8,7 @@ pub mod DrawnRows
 pub mod DrawnEntries
 pub mod SceneRows
 pub mod PackedLines
+pub mod CountedMarks
 pub mod Defining
 pub mod DifferentItems
 pub mod EpochLaws
@@ -32,6 +33,7 @@ pub mod EntryWalks
 pub mod Finds
 pub mod MarkLaws
 pub mod MarkTables
+pub mod ListLengths
 pub mod NextContents
 pub mod SetLaws
 pub mod ShownScenes

@@ -25,3 +25,4 @@ pub mod PageEntries
 pub mod Accepted
 pub mod Marks
 pub mod ClutSteps
+pub mod Counting

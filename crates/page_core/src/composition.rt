@@ -9,6 +9,7 @@ ghost use Rattle.page_core.specs.Known.{IsRegionIn};
 
 mod cluts;
 mod everywhere;
+mod lengths;
 mod listings;
 mod lookup;
 mod objects;

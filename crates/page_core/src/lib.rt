@@ -6,6 +6,7 @@
 mod cluts;
 mod colours;
 mod composition;
+mod counting;
 mod epoch;
 mod forget;
 mod front;
