@@ -225,7 +225,7 @@ record HasTaken (taken : List Content) (composition : Composition) (inks : List 
   versions : (id : ℕ) → option_map version_of (clut_in composition id) ≡ clut_version (last_clut id taken)
   set : AreSetBy (placed_by taken) composition.set_entries inks
 
-version_by : (clut : Clut) (asked : ℕ) (rest : Option Clut) → cond (clut.clut == asked) (Some clut.version) (clut_version rest) ≡ clut_version (option_or (cond (clut.clut == asked) (Some clut) None) rest)
+pub version_by : (clut : Clut) (asked : ℕ) (rest : Option Clut) → cond (clut.clut == asked) (Some clut.version) (clut_version rest) ≡ clut_version (option_or (cond (clut.clut == asked) (Some clut) None) rest)
 version_by clut asked rest = by (clut.clut == asked)
   where
     by : (hit : Bool) → cond hit (Some clut.version) (clut_version rest) ≡ clut_version (option_or (cond hit (Some clut) None) rest)

@@ -1,6 +1,7 @@
 pub mod Written
 pub mod BlockCodes
 pub mod BlockDepths
+pub mod RegionCounts
 pub mod RegionHeads
 pub mod ColouredBytes
 pub mod ColourSteps
@@ -14,6 +15,7 @@ pub mod DifferentItems
 pub mod EpochLaws
 pub mod Fronts
 pub mod ColourNodes
+pub mod ClutCounts
 pub mod ClutLaws
 pub mod ClutNodes
 pub mod ClutSegments
@@ -28,13 +30,17 @@ pub mod Popping
 pub mod QuietSteps
 pub mod RegionLaws
 pub mod RegionNodes
+pub mod RegionWalks
 pub mod Scanning
 pub mod EntryWalks
 pub mod Finds
 pub mod MarkLaws
 pub mod MarkTables
+pub mod KeptCounts
 pub mod ListLengths
+pub mod NodeCounts
 pub mod NextContents
+pub mod SetBounds
 pub mod SetLaws
 pub mod ShownScenes
 pub mod Standings

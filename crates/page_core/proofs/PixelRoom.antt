@@ -81,12 +81,12 @@ sum_apart f g id (x ∷ ids) same apart =
 
 -- ---- one more region
 
-named_same : (content : Content) (region : Region) → region_of content ≡ Some region → region_named region.head.region content ≡ Some region
+pub named_same : (content : Content) (region : Region) → region_of content ≡ Some region → region_named region.head.region content ≡ Some region
 named_same content region is =
     ap (where_passes (λ other. other.head.region == region.head.region)) is
     ∙ ap (λ b. cond b (Some region) None) (eq-eqb region.head.region region.head.region refl)
 
-named_other : (content : Content) (region : Region) (id : ℕ) → region_of content ≡ Some region → (id ≡ region.head.region → ⊥) → region_named id content ≡ None
+pub named_other : (content : Content) (region : Region) (id : ℕ) → region_of content ≡ Some region → (id ≡ region.head.region → ⊥) → region_named id content ≡ None
 named_other content region id is other =
     ap (where_passes (λ one. one.head.region == id)) is
     ∙ ap (λ b. cond b (Some region) None) (ne_eqb region.head.region id (λ e. other (sym e)))
@@ -100,14 +100,14 @@ of_segments segments = record { segments = segments }
 abbrev pub bytes_by : List Content → ℕ → ℕ
 bytes_by segments id = bytes_of_region (last_region id segments)
 
-ids_with : (content : Content) (region : Region) (segments : List Content) → region_of content ≡ Some region
+pub ids_with : (content : Content) (region : Region) (segments : List Content) → region_of content ≡ Some region
     → region_ids (with_segment content segments) ≡ cond (is_some (last_region region.head.region segments)) (region_ids (of_segments segments)) (region.head.region ∷ region_ids (of_segments segments))
 unfolding region_ids
 ids_with content region segments is =
     ap (λ (found : Option Region). different is_same (map region_id (cons_option found (filter_map region_of segments)))) is
     ∙ ap (λ b. cond b (different is_same (map region_id (filter_map region_of segments))) (region.head.region ∷ different is_same (map region_id (filter_map region_of segments)))) (id_among region.head.region segments)
 
-apart_ids : (id : ℕ) (segments : List Content) → last_region id segments ≡ None → list_any (is_same id) (region_ids (of_segments segments)) ≡ false
+pub apart_ids : (id : ℕ) (segments : List Content) → last_region id segments ≡ None → list_any (is_same id) (region_ids (of_segments segments)) ≡ false
 unfolding region_ids
 apart_ids id segments none = id_among_different id (map region_id (filter_map region_of segments)) ∙ id_among id segments ∙ ap is_some none
 

@@ -1,16 +1,22 @@
 //! How many nodes the composition memory needs for the regions and CLUTs of a set (EN 300 743, clause 5.2), before anything is
 //! changed.
 
-ghost use Rattle.std.specs.Prelude.{◌≡◌, ◌+◌, ◌<◌, ◌^◌, ◌==◌, ℕ, None, Some, if◌then◌else◌, length, map, min, option_map, slice_index_or};
+ghost use Rattle.std.specs.Prelude.{◌≡◌, ◌+◌, ◌<◌, ◌^◌, ◌==◌, ◌∷◌, ◌++◌, [], ℕ, List, None, Some, filter, reverse, if◌then◌else◌, length, map, min, option_map, slice_index_or};
 ghost use Rattle.std.specs.Option.{option_or};
+ghost use Rattle.stream_syntax.specs.Segments.{of_clut};
+ghost use Rattle.decoder_model.specs.Readings.{Content};
+ghost use Rattle.decoder_model.specs.Taken.{taken_among};
 ghost use Rattle.segments.specs.Contents.{clut_value, region_value};
 ghost use Rattle.page_core.specs.Composition.{KeptClut, clut_in, region_in};
-ghost use Rattle.page_core.specs.Counting.{CountsMore, added_by, gone_by, new_or_none};
+ghost use Rattle.page_core.specs.Counting.{AreCounted, AreKept, CountsMore, HasRegionNeed, HasVersions, IsClutCounted, added_by, clut_need, gone_by, new_or_none, region_need};
 ghost use Rattle.sub_base.specs.Depth.{code_count};
 ghost use Rattle.sub_base.specs.declared.colour.Colour.{Colour as ColourOf};
-ghost use Rattle.page_core.specs.ClutSteps.{in_depth, in_depths, with_entries_of, with_place};
+ghost use Rattle.page_core.specs.ClutSteps.{in_depth, in_depths, placed_by, with_entries_of, with_place};
 ghost use Rattle.page_core.specs.Marks.{uncounted};
 ghost use Rattle.page_core.specs.Nodes.{place_kept};
+ghost use Rattle.page_core.specs.RegionTests.{AreApart};
+ghost use Rattle.page_core.specs.Walks.{is_clut, is_region};
+ghost use Rattle.page_core.specs.Handed.{AreContents};
 
 use crate::cluts::{is_in_depth, is_new_version};
 use crate::composition::CompositionMemory;
@@ -31,6 +37,9 @@ pub(crate) struct RegionNodes {
 /// The nodes that the regions of a set add and take away.
 pub(crate) fn region_nodes(composition: &CompositionMemory, bytes: &[u8]) -> RegionNodes
     requires { composition.now.size < 2 ^ 31 }
+    ensures { (older set : List Content) → AreKept older composition.now → AreContents set bytes.now
+        → AreApart [] (filter is_region set) → region_need (taken_among older) < 2 ^ 32
+        → HasRegionNeed older set result.added result.gone }
 {
     let mut nodes = RegionNodes { added: 0, gone: 0 };
     let mut rest = bytes;
@@ -87,6 +96,9 @@ pub(crate) fn clut_nodes(
     bytes: &[u8],
 ) -> u64
     ensures marks { map uncounted marks.new ≡ map uncounted marks.old }
+    ensures counted { (base set : List Content) → HasVersions base composition.now [] → AreCounted (placed_by (taken_among base)) composition.now.set_entries marks.old
+        → AreContents set bytes.now → clut_need (taken_among (reverse (filter is_clut set) ++ base)) < 2 ^ 63
+        → clut_need (taken_among (reverse (filter is_clut set) ++ base)) ≡ clut_need (taken_among base) + result }
 {
     let mut versions = no_versions();
     let mut nodes = 0u64;
@@ -112,13 +124,19 @@ fn count_clut(
     clut: &ClutSeg<'_>,
 ) -> u64
     ensures marks { map uncounted marks.new ≡ map uncounted marks.old }
+    ensures counted { (earlier : List Content) (content : Content) → of_clut (clut_value clut.now) ≡ content.value
+        → HasVersions earlier composition.now versions.old
+        → AreCounted (placed_by (taken_among earlier)) composition.now.set_entries marks.old
+        → clut_need (taken_among (content ∷ earlier)) < 2 ^ 63
+        → IsClutCounted earlier content composition.now versions.new marks.new result }
 {
     let known = last_version(composition, versions, clut.clut);
-    if !is_new_version(clut.version, known) {
-        return 0;
+    if is_new_version(clut.version, known) {
+        set_version(versions, clut.clut, clut.version);
+        new_or_none(known).saturating_add(count_entries(marks, clut))
+    } else {
+        0
     }
-    set_version(versions, clut.clut, clut.version);
-    new_or_none(known).saturating_add(count_entries(marks, clut))
 }
 
 // The last version of a CLUT: that of the set, and else the one that is kept.

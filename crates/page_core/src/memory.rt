@@ -20,6 +20,7 @@ ghost use Rattle.page_core.specs.Epochs.{IsStart};
 ghost use Rattle.page_core.specs.Memory.{Stands, IsForgotten, IsSameReceiver, Forgets};
 
 mod cluts;
+mod counting;
 mod scene;
 
 use crate::composition::CompositionMemory;
