@@ -1,5 +1,5 @@
 -- The counts of what a memory keeps are those of the epoch.
-use Rattle.std.proofs.Common.{◌≡◌, ◌∙◌, ℕ, suc, ◌+◌, ◌==◌, ◌≤◌, ◌<◌, ◌||◌, Bool, true, false, cond, List, [], ◌∷◌, find, length, map, reverse, Option, Some, None, option_map, refl, sym, ap, subst, arith}
+use Rattle.std.proofs.Common.{◌≡◌, ◌∙◌, ℕ, suc, ◌+◌, ◌-◌, ◌==◌, ◌≤◌, ◌<◌, ◌||◌, Bool, true, false, cond, List, [], ◌∷◌, find, length, map, reverse, Option, Some, None, option_map, refl, sym, ap, subst, arith}
 use Rattle.std.specs.Prelude.{filter_map, sum_by}
 use Rattle.std.specs.List.{list_any}
 use Rattle.std.proofs.lemmas.Bool.{eq-eqb, eqb-true, ne_eqb}
@@ -15,7 +15,7 @@ use Rattle.decoder_model.specs.Readings.{Content}
 use Rattle.decoder_model.specs.Taken.{last_region, taken_among, taken_of, taken_region}
 use Rattle.page_core.specs.Composition.{KeptClut, KeptListing, KeptRegion, region_in}
 use Rattle.page_core.specs.Counting.{AreKept, IsKeptOf, clut_need, kept_need, of_taken, region_need}
-use Rattle.page_core.specs.Memory.{Holds, Memory, head_of, kept_listing}
+use Rattle.page_core.specs.Memory.{Holds, IsWhole, Memory, head_of, kept_listing}
 use Rattle.page_core.proofs.ClutSegments.{colours_of_holds}
 use Rattle.page_core.proofs.Defining.{any_reversed}
 use Rattle.page_core.proofs.DifferentItems.{among_different, as_many_different, different_within}
@@ -113,3 +113,8 @@ cluts_counted segments memory holds =
     let ids = clut_ids (taken_of segments) in
     let count : length memory.composition.cluts ≡ length ids = sym (length-map memory.composition.cluts (λ (kept : KeptClut). kept.clut)) ∙ ap length holds.clut_ids ∙ length-reverse ids in
     omega (arith, count, holds.set_count)
+
+-- as many nodes are taken, but for those of the entries of the page, as are neither free nor theirs
+pub kept_counted : (inside value : Memory) (free entries : ℕ) → inside ≡ value → IsWhole inside → free ≡ inside.composition.free → entries ≡ length inside.composition.entries → inside.profile.nodes - free - entries ≡ kept_need value.composition
+kept_counted inside value free entries view whole free_is entries_is =
+    omega (arith, whole.nodes, whole.counted, free_is, entries_is) ∙ ap (λ (memory : Memory). kept_need memory.composition) view

@@ -9,6 +9,7 @@ pub mod DrawnRows
 pub mod DrawnEntries
 pub mod SceneRows
 pub mod PackedLines
+pub mod CoreCounts
 pub mod CountedMarks
 pub mod Defining
 pub mod DifferentItems

@@ -1,6 +1,6 @@
 //! The fault of a set that needs more nodes than there are.
 
-ghost use Rattle.std.specs.Prelude.{◌≡◌, ◌∷◌, ◌<◌, ◌^◌, List, Some};
+ghost use Rattle.std.specs.Prelude.{◌≡◌, ◌∷◌, ◌<◌, ◌^◌, List, Some, min};
 ghost use Rattle.decoder_model.specs.Contents.{page_in_set};
 ghost use Rattle.decoder_model.specs.Faults.{composition_fault};
 ghost use Rattle.decoder_model.specs.Nodes.{nodes_of};
@@ -28,7 +28,9 @@ impl Core {
         if need <= u64::from(self.profile.nodes) {
             return None;
         }
-        Some(SetFault::CompositionFull { size: need as u32 })
+        Some(SetFault::CompositionFull {
+            size: narrowed(need),
+        })
     }
 
     // How many nodes the epoch needs with a set: those that are taken but for the entries of the page, and what the set changes.
@@ -56,4 +58,11 @@ impl Core {
     {
         self.profile.nodes - self.composition.free() - self.composition.entry_count()
     }
+}
+
+// The number, and the greatest one of 32 bits where it is greater.
+fn narrowed(number: u64) -> u32
+    ensures { result ≡ min number 4294967295 }
+{
+    number.min(u64::from(u32::MAX)) as u32
 }
