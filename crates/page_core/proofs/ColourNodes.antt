@@ -26,7 +26,7 @@ popped_as kind view l item None old new all is popped =
     absurd (of_kind (kind item) first (sym is))
 
 -- the regions of a pool, where the lists of regions and of listings stay
-same_regions : (old new : PoolOf Node) → list_of new 1 ≡ list_of old 1 → ((id : ℕ) → list_of new (listings_list id) ≡ list_of old (listings_list id))
+pub same_regions : (old new : PoolOf Node) → list_of new 1 ≡ list_of old 1 → ((id : ℕ) → list_of new (listings_list id) ≡ list_of old (listings_list id))
     → map (region_kept new) (kept_in region_node (list_of new 1)) ≡ map (region_kept old) (kept_in region_node (list_of old 1))
 same_regions old new regions listings =
     let same : (region : RegionNode) → region_kept new region ≡ region_kept old region =

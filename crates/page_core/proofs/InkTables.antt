@@ -66,7 +66,7 @@ filled_by_one xs i k x d f inside is before low =
 -- ---- one entry less
 
 -- the index of an entry tells which one it is
-same_place : (clut clut' : ℕ) (depth depth' : Depth) (number number' : ℕ) → number < code_count depth → number' < code_count depth' → ink_place clut depth number ≡ ink_place clut' depth' number'
+pub same_place : (clut clut' : ℕ) (depth depth' : Depth) (number number' : ℕ) → number < code_count depth → number' < code_count depth' → ink_place clut depth number ≡ ink_place clut' depth' number'
     → (clut ≡ clut') × (depth ≡ depth') × (number ≡ number')
 same_place clut clut' Two Two number number' low low' is = (omega arith, refl, omega arith)
 same_place clut clut' Two Four number number' low low' is = absurd (omega arith)
@@ -78,7 +78,7 @@ same_place clut clut' Eight Two number number' low low' is = absurd (omega arith
 same_place clut clut' Eight Four number number' low low' is = absurd (omega arith)
 same_place clut clut' Eight Eight number number' low low' is = (omega arith, refl, omega arith)
 
-same_depth : (a b : Depth) → (depths.bits_of a == depths.bits_of b) ≡ true → a ≡ b
+pub same_depth : (a b : Depth) → (depths.bits_of a == depths.bits_of b) ≡ true → a ≡ b
 same_depth Two Two is = refl
 same_depth Two Four is = absurd (cc)
 same_depth Two Eight is = absurd (cc)

@@ -30,7 +30,7 @@ listing_behind content segments id listing no_region no_object =
     ∙ ap (λ (o : Option Object). let kept : KeptListing = record { listing = listing; painted = object_version (option_or o (first_given (object_named listing.object) (take_while since segments))) } in kept) no_object
 
 -- the same listings, by another list of segments
-listings_by : (taken other : Taken) (id : ℕ) (found : Option Region) → ((listing : Listing) → kept_listing other id listing ≡ kept_listing taken id listing)
+pub listings_by : (taken other : Taken) (id : ℕ) (found : Option Region) → ((listing : Listing) → kept_listing other id listing ≡ kept_listing taken id listing)
     → option_map (λ (region : Region). map (kept_listing taken id) region.listings) found ≡ option_map (λ (region : Region). map (kept_listing other id) region.listings) found
 listings_by taken other id found same = λ i. option_map (λ (region : Region). map (λ listing. sym (same listing) i) region.listings) found
 

@@ -13,7 +13,7 @@ use Rattle.page_core.specs.Nodes.{region_node, region_kept, kept_in, composition
 use Rattle.page_core.specs.declared.node.Node.{Node}
 use Rattle.page_core.specs.declared.node.RegionNode.{RegionNode}
 
-abbrev item_region : NodeId × Node → Option RegionNode
+abbrev pub item_region : NodeId × Node → Option RegionNode
 item_region pair = region_node pair.1
 
 -- a search by id among regions is one among nodes

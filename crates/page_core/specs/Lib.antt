@@ -28,3 +28,5 @@ pub mod ClutSteps
 pub mod RegionSteps
 pub mod Losses
 pub mod PoolChanges
+pub mod Marks
+pub mod Counting

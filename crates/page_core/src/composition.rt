@@ -7,7 +7,9 @@ ghost use Rattle.page_core.specs.Nodes.{AreKind, IsRegionOf, colour_in, place_ke
 ghost use Rattle.comp_pool.specs.Pool.{IsInList, NoneTwice, list_of};
 ghost use Rattle.page_core.specs.Known.{IsRegionIn};
 
+mod cluts;
 mod everywhere;
+mod lengths;
 mod listings;
 mod lookup;
 mod objects;

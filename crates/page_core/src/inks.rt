@@ -13,6 +13,9 @@ use sub_base::{CLEAR, Colour, Depth, NoMemory, default_colour};
 /// How many entries the three tables of a CLUT have together.
 const CLUT_SIZE: usize = 276;
 
+/// How many entries the tables of all CLUTs have.
+pub(crate) const INKS: usize = 256 * CLUT_SIZE;
+
 /// The colours of all CLUTs. Contracts see them as a list, the three tables of a CLUT one after another.
 #[derive(Drop)]
 pub(crate) struct Inks {
@@ -36,7 +39,7 @@ impl Inks {
     pub fn make(alloc: Global) -> Result<Inks, NoMemory>
         ensures { IfOk result (AreInks []) }
     {
-        let mut colours = clear_colours(alloc, 256 * CLUT_SIZE)?;
+        let mut colours = clear_colours(alloc, INKS)?;
         fill_defaults(&mut colours);
         Ok(Inks { colours })
     }
@@ -107,7 +110,8 @@ fn first_of_table(depth: Depth) -> usize
     }
 }
 
-fn ink_place(clut: u8, depth: Depth, entry: u8) -> usize
+/// The index of an entry of a CLUT among those of all CLUTs.
+pub(crate) fn ink_place(clut: u8, depth: Depth, entry: u8) -> usize
     ensures place { result ≡ place_of clut depth entry }
     ensures inside { result < ink_count }
 {

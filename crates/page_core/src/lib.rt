@@ -3,8 +3,10 @@
 //! made. Contracts see a core as a plain record, and say what this has to do with all that the core was handed.
 #![tactic(auto)]
 
+mod cluts;
 mod colours;
 mod composition;
+mod counting;
 mod epoch;
 mod forget;
 mod front;
@@ -12,6 +14,7 @@ mod inks;
 mod judging;
 mod laws;
 mod lists;
+mod marks;
 mod memory;
 mod node;
 mod painting;

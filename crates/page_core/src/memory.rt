@@ -22,15 +22,17 @@ ghost use Rattle.page_core.specs.Memory.{Stands, IsForgotten, IsSameReceiver, Fo
 
 mod objects;
 mod regions;
+mod cluts;
+mod counting;
 mod scene;
 mod sets;
-mod stubs;
 
 use crate::composition::CompositionMemory;
 use crate::epoch::Start;
 use crate::forget::reset_colours;
 use crate::inks::Inks;
 use crate::judging::fault_before_nodes;
+use crate::marks::Marks;
 use crate::taking::{Accepted, accept};
 use crate::times::lifted_behind;
 use decoder_model::{SetEnd, SetFault};
@@ -54,6 +56,8 @@ pub struct Core {
     display: DisplaySeg,
     composition: CompositionMemory,
     inks: Inks,
+    // At the table entries that are set.
+    marks: Marks,
     store: Store,
 }
 
@@ -65,14 +69,15 @@ impl Model for Core {
 
     ghost view = { λ c. memory_of c.profile c.page c.anchor c.last c.known c.time_out c.display c.composition c.inks c.store };
 
-    ghost invariant = { λ c. IsCore (memory_of c.profile c.page c.anchor c.last c.known c.time_out c.display c.composition c.inks c.store) };
+    ghost invariant = { λ c. IsCore (memory_of c.profile c.page c.anchor c.last c.known c.time_out c.display c.composition c.inks c.store) c.marks };
 }
 
 impl Core {
     /// A core of a profile for the sets of a page that was handed nothing. Lifted times begin at the anchor. All memory is
     /// taken here.
     pub fn make(alloc: Global, profile: &Profile, page: u16, anchor: u64) -> Result<Core, NoMemory>
-        requires { anchor < 2 ^ 34 }
+        requires anchor { anchor < 2 ^ 34 }
+        requires nodes { profile.now.nodes < 2 ^ 31 }
         ensures stands { IfOk result (Stands []) }
         ensures profile { IfOk result (λ core. core.profile ≡ profile.now) }
         ensures page { IfOk result (λ core. core.page ≡ page) }
@@ -88,6 +93,7 @@ impl Core {
             display: usual_display(),
             composition: CompositionMemory::make(alloc, profile.nodes)?,
             inks: Inks::make(alloc)?,
+            marks: Marks::make(alloc)?,
             store: Store::make(alloc, profile.pixels)?,
         })
     }
@@ -249,7 +255,7 @@ impl Core {
     fn forget(&mut self)
         ensures { Forgets self.old self.new }
     {
-        reset_colours(&mut self.composition, &mut self.inks);
+        reset_colours(&mut self.composition, &mut self.inks, &mut self.marks);
         self.composition.reset();
         self.store.reset();
         self.display = usual_display();

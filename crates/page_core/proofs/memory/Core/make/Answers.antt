@@ -10,5 +10,5 @@ returns-clause-stands c =
       display = c.usual_display.ensures;
       composition = c.in_ok-make.ensures;
       inks = c.in_ok-make-2.ensures.defaults;
-      store = c.in_ok-make-3.ensures.empty;
+      store = c.in_ok-make-4.ensures.empty;
     })
