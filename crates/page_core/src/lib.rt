@@ -30,7 +30,7 @@ mod walking;
 
 pub use decoder_model::{SetEnd, SetFault};
 pub use memory::{Core, Scene};
-pub use painted_time::painting;
+pub use painted_time::painting_time;
 
 #[cfg(test)]
 mod core_tests;
