@@ -1,6 +1,6 @@
 -- The nodes that a set needs in a core.
-use Rattle.std.proofs.Common.{◌≡◌, ◌∙◌, ℕ, ◌+◌, ◌-◌, ◌*◌, ◌≤◌, ◌<◌, ◌^◌, List, [], ◌∷◌, ◌++◌, filter, length, reverse, Some, refl, sym, ap, subst, arith}
-use Rattle.std.specs.Prelude.{min, sum_by}
+use Rattle.std.proofs.Common.{◌≡◌, ℕ, ◌+◌, ◌-◌, ◌*◌, ◌≤◌, ◌<◌, ◌^◌, List, [], ◌∷◌, ◌++◌, filter, length, reverse, Some, sym, subst, arith}
+use Rattle.std.specs.Prelude.{min}
 use Rattle.stream_syntax.specs.Segments.{Page}
 use Rattle.decoder_model.specs.Contents.{page_in_set}
 use Rattle.decoder_model.specs.Nodes.{nodes_of}
@@ -8,7 +8,6 @@ use Rattle.decoder_model.specs.Readings.{Content}
 use Rattle.decoder_model.specs.Taken.{segments_of, taken_among, taken_of}
 use Rattle.page_core.specs.Accepted.{IsBefore}
 use Rattle.page_core.specs.ClutSteps.{placed_by}
-use Rattle.page_core.specs.Composition.{KeptRegion}
 use Rattle.page_core.specs.Counting.{AreCounted, AreKept, HasRegionNeed, HasVersions, clut_need, kept_need, region_need}
 use Rattle.page_core.specs.Handed.{AreContents}
 use Rattle.page_core.specs.Inks.{ink_count}
@@ -20,7 +19,7 @@ use Rattle.page_core.specs.Walks.{is_clut, is_region}
 use Rattle.page_core.specs.declared.marks.Mark.{Mark}
 use Rattle.page_core.proofs.ClutSegments.{colours_of_holds}
 use Rattle.page_core.proofs.KeptCounts.{are_kept, cluts_counted, regions_counted}
-use Rattle.page_core.proofs.NodeCounts.{before_cluts, before_cluts_is, counted_behind, few_in_page, need_before_cluts, need_within, no_clut_before, nodes_with, versions_behind}
+use Rattle.page_core.proofs.SetCounts.{before_cluts, before_cluts_is, counted_behind, few_in_page, need_before_cluts, need_within, no_clut_before, nodes_with, versions_behind}
 use Rattle.page_core.proofs.Orders.{moved}
 use Rattle.page_core.proofs.SetBounds.{AreSmall, small_contents, small_filtered}
 
