@@ -1,21 +1,19 @@
 -- The CLUT segments of a set, counted one after another.
-use Rattle.std.proofs.Common.{◌≡◌, ◌∙◌, ℕ, suc, ◌+◌, ◌==◌, ◌≤◌, ◌<◌, ◌^◌, Bool, true, false, cond, List, [], ◌∷◌, ◌++◌, filter, length, map, reverse, Option, Some, None, option_map, refl, sym, ap, subst, arith}
+use Rattle.std.proofs.Common.{◌≡◌, ◌∙◌, ℕ, ◌+◌, ◌==◌, ◌<◌, ◌^◌, Bool, true, false, cond, List, [], ◌∷◌, ◌++◌, filter, length, reverse, Option, Some, None, option_map, refl, sym, ap, subst, arith}
 use Rattle.std.specs.Prelude.{min, slice_index_or}
 use Rattle.std.specs.Option.{is_some, option_or}
-use Rattle.std.proofs.lemmas.Bool.{eqb-true}
-use Rattle.stream_syntax.specs.Segments.{SegmentValue, of_clut, Clut}
-use Rattle.decoder_model.specs.Contents.{clut_in as value_clut, clut_named, clut_of, where_passes}
+use Rattle.stream_syntax.specs.Segments.{of_clut, Clut}
+use Rattle.decoder_model.specs.Contents.{clut_in as value_clut, clut_of, where_passes}
 use Rattle.decoder_model.specs.Nodes.{clut_ids, table_entries}
 use Rattle.decoder_model.specs.Readings.{Content}
-use Rattle.decoder_model.specs.Taken.{clut_version, has_new_version, is_taken, last_clut, taken_among, taken_of}
+use Rattle.decoder_model.specs.Taken.{clut_version, is_taken, last_clut, taken_among}
 use Rattle.page_core.specs.ClutSteps.{Placed, placed_by, with_entries_of, with_segment, entries_placed}
-use Rattle.page_core.specs.Composition.{Composition, KeptClut, clut_in}
+use Rattle.page_core.specs.Composition.{Composition, clut_in}
 use Rattle.page_core.specs.Counting.{AreCounted, CountsMore, HasVersions, IsClutCounted, clut_need, new_or_none, of_taken}
 use Rattle.page_core.specs.Handed.{AreContents}
-use Rattle.page_core.specs.Marks.{uncounted}
 use Rattle.page_core.specs.Walks.{IsNextOf, is_clut}
 use Rattle.page_core.specs.declared.marks.Mark.{Mark}
-use Rattle.page_core.proofs.ClutLaws.{clut_ids_with, clut_taken_by, taken_more, taken_same, version_by}
+use Rattle.page_core.proofs.ClutLaws.{clut_ids_with, taken_more, taken_same, version_by}
 use Rattle.page_core.proofs.ClutNodes.{version_of}
 use Rattle.page_core.proofs.ClutSegments.{need_grows}
 use Rattle.page_core.proofs.Orders.{moved}

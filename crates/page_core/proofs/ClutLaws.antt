@@ -6,7 +6,7 @@ use Rattle.std.specs.Option.{is_some, option_or}
 use Rattle.std.proofs.lemmas.Bool.{cases_eq, eq-eqb, eqb-true, ne_eqb}
 use Rattle.std.proofs.lemmas.List.{length-map, length-reverse, map-append, reverse-append}
 use Rattle.std.proofs.lemmas.List.Folds.{find-append}
-use Rattle.sub_base.specs.Lists.{different, first_given}
+use Rattle.sub_base.specs.Lists.{different}
 use Rattle.stream_syntax.specs.Segments.{SegmentValue, of_page, of_region, of_clut, of_object, of_display, end_of_set, passed_over, Clut}
 use Rattle.decoder_model.specs.Contents.{clut_in as value_clut, clut_named, clut_of, where_passes}
 use Rattle.decoder_model.specs.Nodes.{clut_id, clut_ids, is_same, table_entries}

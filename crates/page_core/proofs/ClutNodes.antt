@@ -1,6 +1,6 @@
 -- CLUTs and table entries that are set, in a pool.
-use Rattle.std.proofs.Common.{◌≡◌, ◌≢◌, ◌∙◌, inl, inr, Result, Ok, Err, ℕ, ◌+◌, ◌-◌, ◌==◌, ◌<◌, Bool, true, false, cond, List, [], ◌∷◌, ◌++◌, find, length, map, Contains, Option, Some, None, option_map, refl, sym, ap, subst, arith}
-use Rattle.std.specs.Prelude.{◌↔◌, IsErr, IfSome, MatchOption, option_and_then, slice_get, slice_index_or}
+use Rattle.std.proofs.Common.{◌≡◌, ◌∙◌, inl, inr, Result, Ok, Err, ℕ, ◌-◌, ◌==◌, ◌<◌, Bool, true, false, cond, List, [], ◌∷◌, ◌++◌, find, length, map, Contains, Option, Some, None, option_map, refl, sym, ap, subst, arith}
+use Rattle.std.specs.Prelude.{◌↔◌, IsErr, IfSome, MatchOption, option_and_then, slice_index_or}
 use Rattle.std.specs.List.{cons_option}
 use Rattle.std.specs.Option.{is_some, option_or, option_map_or}
 use Rattle.std.proofs.lemmas.Bool.{cases_eq, eq-eqb, eqb-true, ne_eqb}
@@ -16,8 +16,7 @@ use Rattle.comp_pool.proofs.PairLaws.{AtOne, off_before, off_after, pair_node, r
 use Rattle.page_core.specs.ClutSteps.{IsPushed, IsVersionOf, with_clut, with_cluts, with_colour, with_version}
 use Rattle.page_core.specs.Composition.{Composition, KeptClut, clut_in}
 use Rattle.page_core.specs.Lists.{KeepsBeside}
-use Rattle.page_core.specs.Nodes.{AreKind, IsIndexed, IsSorted, clut_kept, clut_node, colour_in, composition_of, entry_in, is_clut_of, is_region_of, kept_in, listing_in, listings_list, node_of, place_kept, region_kept, region_node}
-use Rattle.page_core.specs.declared.node.ClutNode.{ClutNode}
+use Rattle.page_core.specs.Nodes.{AreKind, IsIndexed, IsSorted, clut_node, colour_in, composition_of, entry_in, is_clut_of, is_region_of, kept_in, listing_in, listings_list, node_of, place_kept, region_node}
 use Rattle.page_core.specs.declared.node.Node.{Node}
 use Rattle.page_core.specs.declared.node.Node.TheVariants as node
 use Rattle.page_core.specs.declared.node.TablePlace.{TablePlace}
@@ -269,8 +268,7 @@ clut_some id item (Some kept) is hit = (kept, is, hit)
 clut_some id item None is hit = absurd (cc)
 
 module _ (id version : ℕ) (name : NodeId) (old new : PoolOf Node) (one : NoneTwice old) (is : new ≡ replaced name (clut_item id version) old) (count : node_count new ≡ node_count old)
-  (found : NodeId × Node) (at : find (is_clut_of id) (list_of old 2) ≡ Some found) (named : found.0 ≡ name) where
-
+    (found : NodeId × Node) (at : find (is_clut_of id) (list_of old 2) ≡ Some found) (named : found.0 ≡ name) where
   split : IsFoundAt (is_clut_of id) (list_of old 2) found
   split = found_at (is_clut_of id) (list_of old 2) found at
 

@@ -1,10 +1,10 @@
 -- The CLUT segments of a set, one after another.
-use Rattle.std.proofs.Common.{◌≡◌, ◌∙◌, ℕ, suc, ◌+◌, ◌≤◌, ◌<◌, ◌==◌, Bool, true, false, cond, List, [], ◌∷◌, ◌++◌, append_assoc, filter, find, length, map, reverse, Option, Some, None, option_map, refl, sym, ap, subst, arith}
+use Rattle.std.proofs.Common.{◌≡◌, ◌∙◌, ℕ, ◌+◌, ◌≤◌, ◌<◌, ◌==◌, Bool, true, false, cond, List, [], ◌∷◌, ◌++◌, append_assoc, filter, find, length, map, reverse, Option, Some, None, option_map, refl, sym, ap, subst, arith}
 use Rattle.std.specs.Prelude.{filter_map, flat_map}
 use Rattle.std.specs.List.{cons_option}
 use Rattle.std.specs.Option.{is_some, option_or}
 use Rattle.std.proofs.lemmas.List.{reverse-append}
-use Rattle.sub_base.specs.Lists.{different, first_given}
+use Rattle.sub_base.specs.Lists.{different}
 use Rattle.sub_base.specs.declared.colour.Colour.{Colour}
 use Rattle.stream_syntax.specs.PixelBlocks.{Part}
 use Rattle.stream_syntax.specs.Segments.{SegmentValue, of_page, of_region, of_clut, of_object, of_display, end_of_set, passed_over, Clut, Region}
@@ -13,10 +13,10 @@ use Rattle.decoder_model.specs.Faults.{display_or_default}
 use Rattle.decoder_model.specs.Nodes.{clut_id, clut_ids, entries_of_clut, is_same, is_same_entry, region_ids, table_entries}
 use Rattle.decoder_model.specs.Pixels.{pixel_of}
 use Rattle.decoder_model.specs.Readings.{Content}
-use Rattle.decoder_model.specs.Taken.{clut_version, is_taken, last_clut, last_display, last_region, taken_among, taken_of, taken_region}
+use Rattle.decoder_model.specs.Taken.{is_taken, last_clut, last_display, last_region, taken_among}
 use Rattle.pixel_store.specs.Regions.{Regions, code_of, region_at}
 use Rattle.page_core.specs.ClutSteps.{HasColours, HasRoomFor, HasRoomForCluts, IsKeptBeside}
-use Rattle.page_core.specs.Composition.{Composition, KeptClut, KeptRegion, clut_in, region_in}
+use Rattle.page_core.specs.Composition.{Composition, KeptRegion, region_in}
 use Rattle.page_core.specs.Handed.{AreContents}
 use Rattle.page_core.specs.Memory.{Memory, Holds, code_in, head_of, kept_listing}
 use Rattle.page_core.specs.Walks.{IsNextOf, is_clut}

@@ -1,9 +1,9 @@
 -- Table entries that are set one after another.
-use Rattle.std.proofs.Common.{◌≡◌, ◌∙◌, ℕ, suc, ◌+◌, ◌-◌, ◌*◌, ◌==◌, ◌≤◌, ◌<◌, ◌||◌, ◌&&◌, Bool, true, false, cond, List, [], ◌∷◌, ◌++◌, length, map, Option, Some, None, refl, sym, ap, subst, inl, inr, arith, length-append}
+use Rattle.std.proofs.Common.{◌≡◌, ◌∙◌, ℕ, suc, ◌+◌, ◌-◌, ◌==◌, ◌≤◌, ◌<◌, ◌||◌, ◌&&◌, Bool, true, false, cond, List, [], ◌∷◌, ◌++◌, length, map, Option, Some, None, refl, sym, ap, subst, inl, inr, arith, length-append}
 use Rattle.std.specs.Prelude.{slice_set, slice_index_or, nat_lt, unwrap_or}
 use Rattle.std.specs.List.{list_any}
 use Rattle.std.specs.Option.{option_or}
-use Rattle.std.proofs.lemmas.Bool.{cases_eq, eq-eqb, eqb-true, ne_eqb}
+use Rattle.std.proofs.lemmas.Bool.{cases_eq, eq-eqb, eqb-true}
 use Rattle.std.proofs.lemmas.Grind.{get_or-set_at}
 use Rattle.std.proofs.lemmas.List.Folds.{list_any-append}
 use Rattle.std.proofs.lemmas.List.{get_or-set_other, length-set}
@@ -17,14 +17,14 @@ use Rattle.sub_base.specs.declared.depth.Depth.TheVariants.{Two, Four, Eight}
 use Rattle.stream_syntax.specs.declared.clut.ClutEntry.{ClutEntry}
 use Rattle.decoder_model.specs.Ink.{is_in_table}
 use Rattle.decoder_model.specs.Nodes.{TableEntry, is_same_entry}
-use Rattle.page_core.specs.ClutSteps.{AreColoured, AreSetBy, IsKeptBut, Placed, SetsMore, colour_at, entries_placed, entry_of, in_depth, in_depths, placed_colour, with_colour, with_entries_of, with_place, with_set}
+use Rattle.page_core.specs.ClutSteps.{AreColoured, AreSetBy, IsKeptBut, Placed, SetsMore, colour_at, entries_placed, entry_of, in_depth, in_depths, with_colour, with_entries_of, with_place, with_set}
 use Rattle.page_core.specs.Composition.{Composition}
 use Rattle.page_core.specs.Inks.{ink_count}
 use Rattle.page_core.specs.Marks.{AreMarked}
 use Rattle.page_core.specs.Memory.{AreInks, IsInTable, ink_place}
 use Rattle.page_core.specs.Nodes.{place_kept}
 use Rattle.page_core.specs.declared.marks.Mark.{Mark}
-use Rattle.page_core.specs.declared.marks.Mark.TheVariants.{Unset, Counted, Set}
+use Rattle.page_core.specs.declared.marks.Mark.TheVariants.{Set}
 use Rattle.page_core.specs.declared.node.TablePlace.{TablePlace}
 use Rattle.page_core.proofs.DifferentItems.{no_more_different, right_true}
 use Rattle.page_core.proofs.InkTables.{place_of_same}

@@ -1,6 +1,6 @@
 -- The nodes that a set needs in a core.
-use Rattle.std.proofs.Common.{◌≡◌, ◌∙◌, ℕ, ◌+◌, ◌-◌, ◌*◌, ◌≤◌, ◌<◌, ◌^◌, List, [], ◌∷◌, ◌++◌, filter, length, reverse, Some, refl, sym, ap, subst, arith}
-use Rattle.std.specs.Prelude.{min, sum_by}
+use Rattle.std.proofs.Common.{◌≡◌, ℕ, ◌+◌, ◌-◌, ◌*◌, ◌≤◌, ◌<◌, ◌^◌, List, [], ◌∷◌, ◌++◌, filter, length, reverse, Some, sym, subst, arith}
+use Rattle.std.specs.Prelude.{min}
 use Rattle.stream_syntax.specs.Segments.{Page}
 use Rattle.decoder_model.specs.Contents.{page_in_set}
 use Rattle.decoder_model.specs.Nodes.{nodes_of}
@@ -8,7 +8,6 @@ use Rattle.decoder_model.specs.Readings.{Content}
 use Rattle.decoder_model.specs.Taken.{segments_of, taken_among, taken_of}
 use Rattle.page_core.specs.Accepted.{IsBefore}
 use Rattle.page_core.specs.ClutSteps.{placed_by}
-use Rattle.page_core.specs.Composition.{KeptRegion}
 use Rattle.page_core.specs.Counting.{AreCounted, AreKept, HasRegionNeed, HasVersions, clut_need, kept_need, region_need}
 use Rattle.page_core.specs.Handed.{AreContents}
 use Rattle.page_core.specs.Inks.{ink_count}

@@ -1,5 +1,5 @@
 -- Table entries that are counted one after another.
-use Rattle.std.proofs.Common.{◌≡◌, ◌∙◌, ℕ, suc, ◌+◌, ◌≤◌, ◌<◌, ◌^◌, ◌||◌, ◌&&◌, Bool, true, false, cond, List, [], ◌∷◌, length, map, refl, sym, ap, subst, arith}
+use Rattle.std.proofs.Common.{◌≡◌, ◌∙◌, ℕ, ◌+◌, ◌≤◌, ◌<◌, ◌^◌, ◌||◌, ◌&&◌, Bool, true, false, cond, List, [], ◌∷◌, length, map, refl, sym, ap, subst, arith}
 use Rattle.std.specs.Prelude.{min, nat_lt, slice_set, slice_index_or}
 use Rattle.std.specs.List.{list_any}
 use Rattle.std.proofs.Math.Seq.{map-set_same}
@@ -16,8 +16,8 @@ use Rattle.page_core.specs.Counting.{AreCounted, CountsMore}
 use Rattle.page_core.specs.Marks.{AreMarked, mark_for, uncounted}
 use Rattle.page_core.specs.Memory.{IsInTable, ink_place}
 use Rattle.page_core.specs.declared.marks.Mark.{Mark}
-use Rattle.page_core.specs.declared.marks.Mark.TheVariants.{Unset, Counted, Set}
-use Rattle.page_core.proofs.ColourSteps.{more_in_depth, more_in_depths, more_in_entries, no_more_placed, placed_as}
+use Rattle.page_core.specs.declared.marks.Mark.TheVariants.{Unset, Counted}
+use Rattle.page_core.proofs.ColourSteps.{more_in_depth, more_in_entries, no_more_placed, placed_as}
 use Rattle.page_core.proofs.DifferentItems.{right_true}
 use Rattle.page_core.proofs.MarkTables.{count_marked, of_asked, same_entry}
 

@@ -1,26 +1,23 @@
 -- The counts of what a memory keeps are those of the epoch.
-use Rattle.std.proofs.Common.{◌≡◌, ◌∙◌, ℕ, suc, ◌+◌, ◌-◌, ◌==◌, ◌≤◌, ◌<◌, ◌||◌, Bool, true, false, cond, List, [], ◌∷◌, find, length, map, reverse, Option, Some, None, option_map, refl, sym, ap, subst, arith}
+use Rattle.std.proofs.Common.{◌≡◌, ◌∙◌, ℕ, suc, ◌+◌, ◌-◌, ◌==◌, ◌≤◌, Bool, true, false, cond, List, [], ◌∷◌, find, length, map, reverse, Option, Some, None, option_map, refl, sym, ap, subst, arith}
 use Rattle.std.specs.Prelude.{filter_map, sum_by}
 use Rattle.std.specs.List.{list_any}
-use Rattle.std.proofs.lemmas.Bool.{eq-eqb, eqb-true, ne_eqb}
+use Rattle.std.proofs.lemmas.Bool.{eq-eqb, ne_eqb}
 use Rattle.std.proofs.lemmas.List.{length-map, length-reverse, reverse-append}
 use Rattle.std.proofs.lemmas.List.Sums.{sum_by-append, sum_by-cons}
 use Rattle.sub_base.specs.Lists.{different}
 use Rattle.stream_syntax.specs.Segments.{Region}
 use Rattle.stream_syntax.specs.declared.region.Listing.{Listing}
-use Rattle.stream_syntax.specs.declared.region.RegionHead.{RegionHead}
 use Rattle.decoder_model.specs.Contents.{region_of}
 use Rattle.decoder_model.specs.Nodes.{clut_ids, is_same, listing_count, listings_held, region_id, region_ids}
 use Rattle.decoder_model.specs.Readings.{Content}
 use Rattle.decoder_model.specs.Taken.{last_region, taken_among, taken_of, taken_region}
 use Rattle.page_core.specs.Composition.{KeptClut, KeptListing, KeptRegion, region_in}
-use Rattle.page_core.specs.Counting.{AreKept, IsKeptOf, clut_need, kept_need, of_taken, region_need}
-use Rattle.page_core.specs.Memory.{Holds, IsWhole, Memory, head_of, kept_listing}
-use Rattle.page_core.proofs.ClutSegments.{colours_of_holds}
+use Rattle.page_core.specs.Counting.{AreKept, clut_need, kept_need, of_taken, region_need}
+use Rattle.page_core.specs.Memory.{Holds, IsWhole, Memory, kept_listing}
 use Rattle.page_core.proofs.Defining.{any_reversed}
 use Rattle.page_core.proofs.DifferentItems.{among_different, as_many_different, different_within}
 use Rattle.page_core.proofs.PixelRoom.{sum_apart}
-use Rattle.page_core.proofs.PlacedLaws.{placed_count}
 use Rattle.page_core.proofs.SetBounds.{equal_numbers, same_number}
 
 -- ---- regions

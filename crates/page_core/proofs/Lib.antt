@@ -39,9 +39,9 @@ pub mod MarkLaws
 pub mod MarkTables
 pub mod KeptCounts
 pub mod ListLengths
-pub mod NodeCounts
 pub mod NextContents
 pub mod SetBounds
+pub mod SetCounts
 pub mod SetLaws
 pub mod ShownScenes
 pub mod Standings
@@ -84,4 +84,5 @@ pub mod RegionNeeds
 pub mod RegionsBegin
 pub mod RegionsHeld
 pub mod PaintedTimes
-pub mod SetCounts
+
+pub mod NodeCounts

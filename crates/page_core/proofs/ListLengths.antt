@@ -1,5 +1,5 @@
 -- How many nodes the lists of a pool have.
-use Rattle.std.proofs.Common.{◌≡◌, ◌∙◌, ℕ, zero, suc, ◌+◌, ◌==◌, ◌≤◌, ◌<◌, ◌^◌, Bool, true, List, [], ◌∷◌, find, length, map, Option, Some, None, option_map, refl, sym, ap, subst, arith}
+use Rattle.std.proofs.Common.{◌≡◌, ◌∙◌, ℕ, zero, suc, ◌==◌, ◌≤◌, ◌<◌, ◌^◌, true, List, [], ◌∷◌, find, length, Option, Some, None, option_map, refl, sym, ap, subst, arith}
 use Rattle.std.specs.Prelude.{option_and_then, sum_by, slice_index_or}
 use Rattle.std.specs.List.{cons_option}
 use Rattle.std.specs.Option.{is_some}
@@ -9,7 +9,7 @@ use Rattle.std.proofs.lemmas.List.Sums.{sum_by-cons}
 use Rattle.comp_pool.specs.declared.node.NodeId.{NodeId}
 use Rattle.comp_pool.specs.Pool.{PoolOf, list_of, node_count}
 use Rattle.page_core.specs.Composition.{Composition, KeptRegion, region_in}
-use Rattle.page_core.specs.Nodes.{AreKind, IsSorted, composition_of, entry_in, is_region_of, kept_in, listing_in, listings_list, region_kept, region_node}
+use Rattle.page_core.specs.Nodes.{AreKind, IsSorted, composition_of, entry_in, is_region_of, kept_in, listing_in, listings_list, region_kept}
 use Rattle.page_core.specs.declared.node.Node.{Node}
 use Rattle.page_core.specs.declared.node.RegionNode.{RegionNode}
 use Rattle.page_core.proofs.RegionNodes.{found_there, item_region, region_lookup}

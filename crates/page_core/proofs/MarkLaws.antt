@@ -1,17 +1,16 @@
 -- Marks by their stamps.
-use Rattle.std.proofs.Common.{◌≡◌, ◌∙◌, ℕ, ◌+◌, ◌*◌, ◌==◌, ◌≤◌, ◌<◌, ◌⊎◌, Bool, true, false, cond, List, [], length, get_or, map, replicate, refl, sym, ap, subst, inl, inr, arith}
-use Rattle.std.specs.Prelude.{slice_set, slice_index_or, All}
-use Rattle.std.specs.List.{list_any}
-use Rattle.std.proofs.lemmas.Bool.{cases_eq, eq-eqb, ne_eqb}
-use Rattle.std.proofs.lemmas.List.{get_or-map, get_or-replicate, get_or-set_same, get_or-set_other, length-map, length-replicate, length-set, map-set, ext_get_or}
-use Rattle.std.proofs.lemmas.List.Elements.{All-replicate, All-set, All-get_or, All-from_get_or}
+use Rattle.std.proofs.Common.{◌≡◌, ◌∙◌, ℕ, ◌+◌, ◌==◌, ◌<◌, ◌⊎◌, Bool, true, false, cond, List, [], length, get_or, map, replicate, refl, sym, ap, subst, inl, inr, arith}
+use Rattle.std.specs.Prelude.{slice_set, All}
+use Rattle.std.proofs.lemmas.Bool.{eq-eqb, ne_eqb}
+use Rattle.std.proofs.lemmas.List.{get_or-map, get_or-replicate, length-map, length-replicate, map-set, ext_get_or}
+use Rattle.std.proofs.lemmas.List.Elements.{All-replicate, All-get_or}
 use Rattle.sub_base.specs.Depth.{code_count}
 use Rattle.sub_base.specs.declared.depth.Depth.{Depth}
 use Rattle.page_core.specs.Inks.{ink_count}
 use Rattle.page_core.specs.Marks.{AreMarked, AreStamps, AreSwept, IsStamp, all_set, mark_by, uncounted}
-use Rattle.page_core.specs.Memory.{ink_place, first_of_table, colours_of_clut}
+use Rattle.page_core.specs.Memory.{ink_place}
 use Rattle.page_core.specs.declared.marks.Mark.{Mark}
-use Rattle.page_core.specs.declared.marks.Mark.TheVariants.{Unset, Counted, Set}
+use Rattle.page_core.specs.declared.marks.Mark.TheVariants.{Unset}
 use Rattle.page_core.proofs.InkTables.{in_clut}
 
 -- the index of an entry is one of all
@@ -33,16 +32,16 @@ first_stamps count stamps size are = record {
 
 pub none_marked : (count current : ℕ) (stamps : List ℕ) → count ≡ ink_count → current ≡ 1 → stamps ≡ replicate count 0 → AreMarked [] [] (map (mark_by current) stamps)
 none_marked count current stamps size now are =
-  let sized : length stamps ≡ count = ap length are ∙ length-replicate {A = ℕ} count 0 in record {
-  different = tt;
-  count = length-map stamps (mark_by current) ∙ sized ∙ size;
-  each = λ clut depth number byte low.
-      let inside : ink_place clut depth number < count = omega (arith, place_inside clut depth number byte low, size) in
-      let within : ink_place clut depth number < length stamps = omega (arith, inside, sized) in
-      get_or-map (mark_by current) stamps (ink_place clut depth number) 0 Unset within
-      ∙ ap (mark_by current) (ap (λ (xs : List ℕ). get_or xs (ink_place clut depth number) 0) are ∙ get_or-replicate count (ink_place clut depth number) 0 0 inside)
-      ∙ ap (λ n. mark_by n 0) now;
-}
+    let sized : length stamps ≡ count = ap length are ∙ length-replicate {A = ℕ} count 0 in record {
+      different = tt;
+      count = length-map stamps (mark_by current) ∙ sized ∙ size;
+      each = λ clut depth number byte low.
+          let inside : ink_place clut depth number < count = omega (arith, place_inside clut depth number byte low, size) in
+          let within : ink_place clut depth number < length stamps = omega (arith, inside, sized) in
+          get_or-map (mark_by current) stamps (ink_place clut depth number) 0 Unset within
+          ∙ ap (mark_by current) (ap (λ (xs : List ℕ). get_or xs (ink_place clut depth number) 0) are ∙ get_or-replicate count (ink_place clut depth number) 0 0 inside)
+          ∙ ap (λ n. mark_by n 0) now;
+    }
 
 -- ---- one is marked
 
@@ -76,18 +75,6 @@ counted_on current next stamps old view are is high =
     ∙ ap uncounted (sym (get_or-map (mark_by current) stamps i 0 Unset inside) ∙ ap (λ (ms : List Mark). get_or ms i Unset) view)
     ∙ sym (get_or-map uncounted old i Unset Unset there))
 
-pub still_stamps : (current next : ℕ) (stamps : List ℕ) → AreStamps current stamps → next ≡ current + 1 → next < all_set → AreStamps next stamps
-still_stamps current next stamps are is high = record {
-  count = are.count;
-  low = omega arith;
-  high = high;
-  each = All-from_get_or (IsStamp next) stamps 0 (λ i inside. up (get_or stamps i 0) (All-get_or (IsStamp current) stamps i 0 inside are.each));
-}
-  where
-    up : (stamp : ℕ) → IsStamp current stamp → IsStamp next stamp
-    up stamp (inl low) = inl (omega arith)
-    up stamp (inr set) = inr set
-
 -- and where the count is at its end, by a walk over all of them
 swept_stamp : (current stamp : ℕ) → (stamp == all_set) ≡ true ⊎ (stamp == all_set) ≡ false → mark_by 1 (cond (stamp == all_set) all_set 0) ≡ uncounted (mark_by current stamp)
 swept_stamp current stamp (inl set) = rw set refl
@@ -113,15 +100,3 @@ swept current stamps new old view are size =
     ∙ swept_stamp current (get_or stamps i 0) (either (get_or stamps i 0 == all_set))
     ∙ ap uncounted (sym (get_or-map (mark_by current) stamps i 0 Unset inside) ∙ ap (λ (ms : List Mark). get_or ms i Unset) view)
     ∙ sym (get_or-map uncounted old i Unset Unset there))
-
-pub swept_stamps : (current : ℕ) (stamps new : List ℕ) → AreStamps current stamps → AreSwept stamps new → length new ≡ length stamps → AreStamps 1 new
-swept_stamps current stamps new are all size = record {
-  count = size ∙ are.count;
-  low = omega arith;
-  high = omega arith;
-  each = All-from_get_or (IsStamp 1) new 0 (λ i inside. subst (IsStamp 1) (sym (all i (omega (arith, inside, size)))) (by (get_or stamps i 0 == all_set)));
-}
-  where
-    by : (b : Bool) → IsStamp 1 (cond b all_set 0)
-    by true = inr refl
-    by false = inl (omega arith)

@@ -18,7 +18,8 @@ use Rattle.decoder_model.specs.Taken.{taken_among, taken_of}
 use Rattle.decoder_model.specs.declared.set_fault.SetFault.{SetFault}
 use Rattle.decoder_model.specs.declared.set_fault.SetFault.TheVariants.{Segment}
 use Rattle.pixel_store.specs.Regions.{Regions, region_at, code_of}
-use Rattle.page_core.specs.Composition.{Composition, KeptListing, KeptRegion, KeptClut, region_in, clut_in, taken_nodes}
+use Rattle.page_core.proofs.RegionIds.{apart_by_ids}
+use Rattle.page_core.specs.Composition.{AreIdsApart, Composition, KeptListing, KeptRegion, KeptClut, region_in, clut_in, taken_nodes}
 use Rattle.page_core.specs.Everywhere.{AreKeptWritten, KeepsRoom, painted_kept, with_all_painted}
 use Rattle.page_core.specs.Listings.{IsPainter, painted_listing}
 use Rattle.page_core.specs.Memory.{Memory, AreInks, IsWhole, HasSides, Holds, ink_in}
@@ -99,6 +100,12 @@ module _ (painter : Painter) (old new : Memory) (is : IsPaintedBy painter old ne
         subst (λ (c : Composition). All (λ (kept : KeptRegion). kept.head.clut < 256) c.regions) (sym is.composition)
         (All-map (λ (kept : KeptRegion). kept.head.clut < 256) (painted_kept painter) old.composition.regions (λ k d within. whole.cluts k d within));
     inks = subst (λ (c : Composition). AreInks c.set_entries new.inks) (sym is.composition) (subst (AreInks old.composition.set_entries) (sym is.inks) whole.inks);
+    ids =
+        subst (λ (c : Composition). All (λ (kept : KeptRegion). kept.head.region < 256) c.regions) (sym is.composition)
+        (All-map (λ (kept : KeptRegion). kept.head.region < 256) (painted_kept painter) old.composition.regions (λ k d within. whole.ids k d within));
+    apart =
+        subst (λ (c : Composition). AreIdsApart c.regions) (sym is.composition)
+        (apart_by_ids old.composition.regions (map (painted_kept painter) old.composition.regions) (sym (ids_kept painter old.composition.regions)) whole.apart);
   }
 
   -- what a memory holds behind an object

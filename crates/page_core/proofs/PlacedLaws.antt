@@ -1,27 +1,25 @@
 -- What taken CLUT segments place in the tables is what the definitions say.
-use Rattle.std.proofs.Common.{◌≡◌, ◌∙◌, ℕ, ◌+◌, ◌==◌, ◌≤◌, ◌<◌, ◌||◌, ◌&&◌, Bool, true, false, cond, List, [], ◌∷◌, ◌++◌, length, map, Option, Some, None, refl, sym, ap, arith}
+use Rattle.std.proofs.Common.{◌≡◌, ◌∙◌, ℕ, ◌==◌, ◌<◌, ◌||◌, ◌&&◌, Bool, true, false, cond, List, [], ◌∷◌, length, map, Option, Some, None, refl, sym, ap, arith}
 use Rattle.std.specs.Prelude.{filter_map, flat_map, nat_lt, option_and_then, unwrap_or}
 use Rattle.std.specs.List.{list_any, cons_option}
 use Rattle.std.specs.Option.{option_or}
-use Rattle.std.proofs.lemmas.Bool.{eq-eqb, eqb-true}
+use Rattle.std.proofs.lemmas.Bool.{eq-eqb}
 use Rattle.std.proofs.lemmas.Bool.Decides.{nat_tests}
 use Rattle.std.proofs.lemmas.List.Folds.{list_any-append}
 use Rattle.sub_base.specs.Colour.{default_of}
 use Rattle.sub_base.specs.Depth as depths
 use Rattle.sub_base.specs.Depth.{code_count}
-use Rattle.sub_base.specs.Lists.{different, first_given, last_given}
+use Rattle.sub_base.specs.Lists.{first_given, last_given}
 use Rattle.sub_base.specs.declared.colour.Colour.{Colour}
 use Rattle.sub_base.specs.declared.depth.Depth.{Depth}
 use Rattle.sub_base.specs.declared.depth.Depth.TheVariants.{Two, Four, Eight}
 use Rattle.stream_syntax.specs.Segments.{Clut}
 use Rattle.stream_syntax.specs.declared.clut.ClutEntry.{ClutEntry}
-use Rattle.decoder_model.specs.Contents.{clut_named, clut_of, where_passes}
+use Rattle.decoder_model.specs.Contents.{clut_of, where_passes}
 use Rattle.decoder_model.specs.Ink.{colour_by_clut, colour_by_entry, colour_by_segment, ink_of, is_in_table}
 use Rattle.decoder_model.specs.Nodes.{TableEntry, entries_of_clut, in_table, in_tables, is_same_entry, table_entries}
 use Rattle.decoder_model.specs.Readings.{Content}
-use Rattle.decoder_model.specs.Taken.{Taken}
-use Rattle.page_core.specs.ClutSteps.{AreSetBy, Placed, colour_at, entries_placed, entry_of, in_depth, in_depths, placed_by, placed_colour, with_entries_of, with_segment}
-use Rattle.page_core.specs.Memory.{ink_in}
+use Rattle.page_core.specs.ClutSteps.{Placed, colour_at, entries_placed, entry_of, in_depth, in_depths, placed_by, placed_colour, with_entries_of, with_segment}
 use Rattle.page_core.proofs.DifferentItems.{among_different, as_many_different}
 use Rattle.page_core.proofs.MarkTables.{same_entry, same_itself}
 use Rattle.page_core.proofs.PixelRoom.{turned}

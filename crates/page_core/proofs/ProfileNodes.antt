@@ -1,5 +1,5 @@
 -- The nodes of the profiles.
-use Rattle.std.proofs.Common.{◌≡◌, ◌<◌, ◌^◌, ap, subst, sym, ℕ, arith}
+use Rattle.std.proofs.Common.{◌≡◌, ◌<◌, ◌^◌, subst, sym, arith}
 use Rattle.sub_base.specs.Profile.{profile_of}
 use Rattle.sub_base.specs.declared.profile.Profile.{Profile}
 use Rattle.sub_base.specs.declared.profile.ProfileName.{ProfileName}

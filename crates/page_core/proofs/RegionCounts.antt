@@ -1,32 +1,25 @@
 -- The nodes of the regions of an epoch, with one more segment.
-use Rattle.std.proofs.Common.{◌≡◌, ◌∙◌, ℕ, suc, ◌+◌, ◌-◌, ◌*◌, ◌==◌, ◌≤◌, ◌<◌, ◌^◌, ◌||◌, Bool, true, false, cond, not, List, [], ◌∷◌, ◌++◌, append_assoc, filter, find, length, map, reverse, Option, Some, None, option_map, refl, sym, ap, subst, arith, inl, inr, length-append}
-use Rattle.std.specs.Prelude.{filter_map, min, sum_by}
+use Rattle.std.proofs.Common.{◌≡◌, ◌∙◌, ℕ, ◌+◌, ◌==◌, ◌||◌, Bool, true, false, cond, not, List, [], ◌∷◌, ◌++◌, length, map, Option, Some, None, option_map, refl, sym, ap, arith}
+use Rattle.std.specs.Prelude.{filter_map, sum_by}
 use Rattle.std.specs.List.{list_any, cons_option}
 use Rattle.std.specs.Option.{is_some, option_or}
-use Rattle.std.proofs.lemmas.Bool.{cases_eq, eq-eqb, eqb-true, ne_eqb}
-use Rattle.std.proofs.lemmas.List.{length-map, length-reverse, reverse-append}
-use Rattle.std.proofs.lemmas.List.Sums.{sum_by-cons, sum_by-append}
+use Rattle.std.proofs.lemmas.Bool.{eq-eqb, eqb-true}
+use Rattle.std.proofs.lemmas.List.Sums.{sum_by-cons}
 use Rattle.sub_base.specs.Lists.{different}
-use Rattle.stream_syntax.specs.Segments.{SegmentValue, of_region, Region}
-use Rattle.stream_syntax.specs.declared.region.Listing.{Listing}
+use Rattle.stream_syntax.specs.Segments.{of_region, Region}
 use Rattle.stream_syntax.specs.declared.region.RegionHead.{RegionHead}
-use Rattle.decoder_model.specs.Contents.{region_in as value_region, region_named, region_of, where_passes}
+use Rattle.decoder_model.specs.Contents.{region_in as value_region, region_of, where_passes}
 use Rattle.decoder_model.specs.Nodes.{is_same, listing_count, listings_held, region_id, region_ids}
 use Rattle.decoder_model.specs.Readings.{Content}
-use Rattle.decoder_model.specs.Taken.{Taken, is_taken, last_region, taken_among, taken_of, taken_region}
-use Rattle.page_core.specs.Composition.{Composition, KeptListing, KeptRegion, region_in}
+use Rattle.decoder_model.specs.Taken.{is_taken, last_region, taken_among, taken_of, taken_region}
+use Rattle.page_core.specs.Composition.{KeptRegion}
 use Rattle.page_core.specs.Counting.{IsKeptOf, added_by, gone_by, of_taken, region_need}
-use Rattle.page_core.specs.Handed.{AreContents}
-use Rattle.page_core.specs.Memory.{Memory, Holds, head_of, kept_listing}
-use Rattle.page_core.specs.RegionTests.{AreApart, IsAsBefore, before_regions, is_new}
-use Rattle.page_core.specs.Seen.{defines}
-use Rattle.page_core.specs.Walks.{IsNextOf, is_region}
+use Rattle.page_core.specs.Memory.{head_of}
+use Rattle.page_core.specs.RegionTests.{IsAsBefore, is_new}
+use Rattle.page_core.specs.Walks.{is_region}
 use Rattle.page_core.proofs.ClutLaws.{taken_more, taken_same}
-use Rattle.page_core.proofs.Defining.{any_reversed}
-use Rattle.page_core.proofs.DifferentItems.{among_different, as_many_different, different_within}
-use Rattle.page_core.proofs.PixelRoom.{apart_ids, ids_with, id_among, id_among_different, named_other, named_same, sum_apart, turned}
-use Rattle.page_core.proofs.RegionLaws.{as_before, taken_by_head}
-use Rattle.page_core.proofs.SetBounds.{AreSmall, equal_numbers, few_numbers, same_number, small_contents, small_filtered}
+use Rattle.page_core.proofs.PixelRoom.{apart_ids, ids_with, id_among, id_among_different, named_other, named_same, sum_apart}
+use Rattle.page_core.proofs.RegionLaws.{taken_by_head}
 
 abbrev pub held_by : List Content → ℕ → ℕ
 held_by taken id = listing_count (last_region id taken)

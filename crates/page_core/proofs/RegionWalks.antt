@@ -5,7 +5,7 @@ use Rattle.std.specs.List.{list_any, cons_option}
 use Rattle.std.specs.Option.{is_some}
 use Rattle.sub_base.specs.Lists.{different}
 use Rattle.stream_syntax.specs.Segments.{SegmentValue, of_page, of_region, of_clut, of_object, of_display, end_of_set, passed_over, Region}
-use Rattle.decoder_model.specs.Contents.{display_of, page_of, region_in as value_region, region_named, region_of, where_passes}
+use Rattle.decoder_model.specs.Contents.{display_of, page_of, region_in as value_region, region_of, where_passes}
 use Rattle.decoder_model.specs.Nodes.{is_same, region_id}
 use Rattle.decoder_model.specs.Readings.{Content}
 use Rattle.decoder_model.specs.Taken.{taken_among}

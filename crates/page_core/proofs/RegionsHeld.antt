@@ -14,7 +14,9 @@ use Rattle.decoder_model.specs.Readings.{Content}
 use Rattle.decoder_model.specs.Taken.{clut_version, is_taken, last_clut, taken_among, taken_of}
 use Rattle.page_core.specs.Composition.{Composition, KeptClut}
 use Rattle.page_core.specs.Cores.{IsCore}
-use Rattle.page_core.specs.Memory.{AreInks, Holds, IsWhole, Memory, ink_in}
+use Rattle.page_core.specs.Marks.{AreMarked}
+use Rattle.page_core.specs.declared.marks.Mark.{Mark}
+use Rattle.page_core.specs.Memory.{IsDisplayOf, AreInks, Holds, IsWhole, Memory, ink_in}
 use Rattle.page_core.specs.RegionSteps.{AreStored, AwaitRegions, KeepsBesideRegions, KeepsButRegions}
 use Rattle.page_core.proofs.Orders.{moved}
 use Rattle.page_core.proofs.PixelRoom.{of_segments}
@@ -96,8 +98,8 @@ held_behind older regions old new holds are keeps await =
     }
 
 -- a core stays one
-pub core_behind : (old new : Memory) → IsCore old → KeepsButRegions old new → AreStored new.composition new.store → new.store.size ≡ old.store.size → IsCore new
-core_behind old new core keeps stored size = record {
+pub core_behind : (old new : Memory) (marks : List Mark) → IsCore old marks → KeepsButRegions old new → AreStored new.composition new.store → new.store.size ≡ old.store.size → IsCore new marks
+core_behind old new marks core keeps stored size = record {
   whole = record {
     nodes = keeps.size ∙ core.whole.nodes ∙ ap (λ (p : Profile). p.nodes) (sym keeps.profile);
     counted = stored.counted;
@@ -111,6 +113,9 @@ core_behind old new core keeps stored size = record {
   };
   anchored = subst (λ n. n < 2 ^ 34) (sym keeps.anchor) core.anchored;
   timed = subst (λ (last : Option ℕ). IfSome last (λ time. time < 2 ^ 62)) (sym keeps.last) core.timed;
+  marked = subst (λ (set : List TableEntry). AreMarked set [] marks) (sym keeps.set_entries) core.marked;
+  few = subst (λ (p : Profile). p.nodes < 2 ^ 31) (sym keeps.profile) core.few;
+  display = subst (λ (p : Profile). IsDisplayOf p new.display) (sym keeps.profile) (subst (IsDisplayOf old.profile) (sym keeps.display) core.display);
 }
 
 pub stored_whole : (memory : Memory) → IsWhole memory → AreStored memory.composition memory.store

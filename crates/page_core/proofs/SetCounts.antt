@@ -1,6 +1,6 @@
 -- The nodes that an epoch needs with one more set.
-use Rattle.std.proofs.Common.{◌≡◌, ◌∙◌, ℕ, suc, ◌+◌, ◌-◌, ◌*◌, ◌==◌, ◌≤◌, ◌<◌, ◌^◌, ◌||◌, ◌&&◌, Bool, true, false, cond, List, [], ◌∷◌, ◌++◌, append_assoc, filter, length, map, reverse, Option, Some, None, option_map, refl, sym, ap, subst, arith}
-use Rattle.std.specs.Prelude.{filter_map, flat_map, min, nat_lt}
+use Rattle.std.proofs.Common.{◌≡◌, ◌∙◌, ℕ, ◌+◌, ◌==◌, ◌≤◌, ◌<◌, ◌||◌, ◌&&◌, Bool, true, false, cond, List, [], ◌∷◌, ◌++◌, append_assoc, filter, length, map, reverse, Option, Some, None, option_map, refl, sym, ap, subst, arith}
+use Rattle.std.specs.Prelude.{filter_map, flat_map, nat_lt}
 use Rattle.std.specs.List.{list_any, cons_option}
 use Rattle.std.specs.Option.{is_some, option_or}
 use Rattle.std.proofs.lemmas.Bool.Decides.{nat_tests}
@@ -8,24 +8,22 @@ use Rattle.std.proofs.lemmas.List.{map-append, reverse-append}
 use Rattle.std.proofs.lemmas.List.Elements.{filter_map-append}
 use Rattle.std.proofs.lemmas.List.Folds.{list_any-append}
 use Rattle.sub_base.specs.Depth.{code_count}
-use Rattle.sub_base.specs.Lists.{different, first_given}
+use Rattle.sub_base.specs.Lists.{different}
 use Rattle.sub_base.specs.declared.colour.Colour.{Colour}
 use Rattle.sub_base.specs.declared.depth.Depth.{Depth}
 use Rattle.sub_base.specs.declared.depth.Depth.TheVariants.{Two, Four, Eight}
 use Rattle.stream_syntax.specs.Segments.{SegmentValue, of_page, of_region, of_clut, of_object, of_display, end_of_set, passed_over, Clut, Page}
 use Rattle.stream_syntax.specs.declared.clut.ClutEntry.{ClutEntry}
-use Rattle.decoder_model.specs.Contents.{clut_in as value_clut, clut_named, clut_of, display_in, display_of, in_order, object_in, page_in, page_in_set, page_of, region_in as value_region, region_of, where_passes}
+use Rattle.decoder_model.specs.Contents.{clut_in as value_clut, clut_of, display_in, display_of, in_order, object_in, page_in, page_in_set, page_of, region_in as value_region, where_passes}
 use Rattle.decoder_model.specs.Ink.{is_in_table}
 use Rattle.decoder_model.specs.Nodes.{TableEntry, clut_id, clut_ids, entries_of_clut, in_table, in_tables, is_same, is_same_entry, nodes_of, region_ids, listings_held, table_entries}
 use Rattle.decoder_model.specs.Readings.{Content}
 use Rattle.decoder_model.specs.Taken.{clut_version, is_taken, last_clut, segments_of, taken_among, taken_of}
 use Rattle.page_core.specs.ClutSteps.{HasColours, entry_of, placed_by, with_segment}
-use Rattle.page_core.specs.Composition.{Composition, KeptClut, clut_in}
-use Rattle.page_core.specs.Counting.{AreCounted, HasRegionNeed, HasVersions, clut_need, of_taken, region_need}
-use Rattle.page_core.specs.Handed.{AreContents}
+use Rattle.page_core.specs.Composition.{Composition, clut_in}
+use Rattle.page_core.specs.Counting.{AreCounted, HasVersions, clut_need, region_need}
 use Rattle.page_core.specs.Inks.{ink_count}
 use Rattle.page_core.specs.Marks.{AreMarked, mark_for}
-use Rattle.page_core.specs.Memory.{IsInTable}
 use Rattle.page_core.specs.RegionTests.{before_regions}
 use Rattle.page_core.specs.Walks.{is_clut, is_object, is_region}
 use Rattle.page_core.specs.declared.marks.Mark.{Mark}

@@ -11,6 +11,7 @@ use sub_base::{Profile, ProfileName};
 
 /// Lifted times go on where presentation times go round, and are kept by refused sets alone: a loss changes none.
 #[test]
+#[tactic(auto, using(crate::proofs::ProfileNodes::few_nodes))]
 fn lifted_times(rt: HostRuntime) -> Result<(), Fail> {
     let sd = Profile::of(ProfileName::Sd);
     let long = SetFault::SetTooLong { size: 24_577 };
@@ -48,6 +49,7 @@ fn lifted_times(rt: HostRuntime) -> Result<(), Fail> {
 
 /// All memory is free before the first set, after a loss and after a broken set.
 #[test]
+#[tactic(auto, using(crate::proofs::ProfileNodes::few_nodes))]
 fn free_memory(rt: HostRuntime) -> Result<(), Fail> {
     let rows = [
         (ProfileName::Sd, 512, 81_920),
@@ -181,6 +183,81 @@ fn sets_in_a_new_epoch(rt: HostRuntime) -> Result<(), Fail> {
             }
         }
     }
+    Ok(())
+}
+
+// Region 1 with two listings. CLUT 7 of version 2 with entry 1 in the tables of 2 and 4 bits, twice, and with entry 5 in those two; of
+// version 3 with entry 1 in all tables; and CLUT 8.
+const LISTING: &[u8] = &[
+    15, 17, 0, 1, 0, 22, 1, 8, 0, 2, 0, 1, 36, 0, 0, 0, 0, 5, 0, 0, 0, 0, 0, 6, 0, 0, 0, 0,
+];
+
+const CLUT: &[u8] = &[
+    15, 18, 0, 1, 0, 14, 7, 47, 1, 193, 81, 240, 90, 192, 1, 193, 0, 240, 90, 192,
+];
+
+const FIVE: &[u8] = &[15, 18, 0, 1, 0, 8, 7, 47, 5, 193, 81, 240, 90, 192];
+
+const NEXT: &[u8] = &[15, 18, 0, 1, 0, 8, 7, 63, 1, 225, 81, 240, 90, 192];
+
+const OTHER: &[u8] = &[15, 18, 0, 1, 0, 8, 8, 47, 1, 193, 81, 240, 90, 192];
+
+/// The nodes that a set needs in an epoch that has nothing before it: a core without nodes tells them.
+#[test]
+fn nodes_of_sets(rt: HostRuntime) -> Result<(), Fail> {
+    let full = |size| Some(SetFault::CompositionFull { size });
+    let rows: [(&[&[u8]], Option<SetFault>); 10] = [
+        (&[NO_ENTRY, OBJECT, END], None),
+        (&[PAGE, REGION], full(2)),
+        (&[NO_ENTRY, LISTING], full(3)),
+        (&[PAGE, LISTING], full(4)),
+        (&[NO_ENTRY, CLUT], full(3)),
+        (&[NO_ENTRY, FIVE], full(2)),
+        (&[CLUT, NO_ENTRY, FIVE], full(3)),
+        (&[CLUT, NEXT, NO_ENTRY], full(4)),
+        (&[CLUT, OTHER, NO_ENTRY], full(6)),
+        (&[FIVE, NEXT, CLUT, NO_ENTRY], full(5)),
+    ];
+    let none = Profile {
+        nodes: 0,
+        ..Profile::of(ProfileName::Sd)
+    };
+    let mut core = Core::make(rt.alloc(), &none, 1, 0)?;
+    for (parts, fault) in rows {
+        let mut bytes = [0; 64];
+        let bytes = joined(&mut bytes, parts);
+        if let Ok(found) = scan(bytes) {
+            if let Some(page) = found.page {
+                assert_eq!(rt; core.nodes_fault(&page, bytes), fault);
+                // What was counted is not known any more.
+                assert_eq!(rt; core.nodes_fault(&page, bytes), fault);
+            }
+        }
+    }
+    Ok(())
+}
+
+/// The nodes that CLUT segments leave free: one whose version is known takes none.
+#[test]
+#[tactic(auto, using(crate::proofs::ProfileNodes::few_nodes))]
+fn nodes_of_cluts(rt: HostRuntime) -> Result<(), Fail> {
+    let rows: [(&[&[u8]], u32); 5] = [
+        (&[CLUT], 509),
+        (&[FIVE], 509),
+        (&[NEXT, CLUT], 508),
+        (&[FIVE], 508),
+        (&[OTHER, NEXT, FIVE], 504),
+    ];
+    let mut core = Core::make(rt.alloc(), &Profile::of(ProfileName::Sd), 1, 0)?;
+    for (parts, free) in rows {
+        let mut bytes = [0; 64];
+        core.take_cluts(joined(&mut bytes, parts));
+        assert_eq!(rt; core.free_nodes(), free);
+    }
+    core.lose();
+    assert_eq!(rt; core.free_nodes(), 512);
+    core.take_cluts(CLUT);
+    assert_eq!(rt; core.free_nodes(), 509);
     Ok(())
 }
 

@@ -62,7 +62,9 @@ fn with_region(
 {
     RegionNodes {
         added: nodes.added.saturating_add(added_nodes(composition, region)),
-        gone: nodes.gone.saturating_add(u64::from(gone_nodes(composition, region))),
+        gone: nodes
+            .gone
+            .saturating_add(u64::from(gone_nodes(composition, region))),
     }
 }
 
@@ -90,11 +92,7 @@ fn gone_nodes(composition: &CompositionMemory, region: &RegionSeg<'_>) -> u32
 }
 
 /// The nodes that the CLUTs of a set and the entries that they set are more. The entries are marked as counted.
-pub(crate) fn clut_nodes(
-    composition: &CompositionMemory,
-    marks: &mut Marks,
-    bytes: &[u8],
-) -> u64
+pub(crate) fn clut_nodes(composition: &CompositionMemory, marks: &mut Marks, bytes: &[u8]) -> u64
     ensures marks { map uncounted marks.new ≡ map uncounted marks.old }
     ensures counted { (base set : List Content) → HasVersions base composition.now [] → AreCounted (placed_by (taken_among base)) composition.now.set_entries marks.old
         → AreContents set bytes.now → clut_need (taken_among (reverse (filter is_clut set) ++ base)) < 2 ^ 63

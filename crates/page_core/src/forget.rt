@@ -10,11 +10,7 @@ use crate::marks::{Mark, Marks};
 use sub_base::default_colour;
 
 /// Gives the table entries that are set their default colours again, and none is set.
-pub(crate) fn reset_colours(
-    composition: &mut CompositionMemory,
-    inks: &mut Inks,
-    marks: &mut Marks,
-)
+pub(crate) fn reset_colours(composition: &mut CompositionMemory, inks: &mut Inks, marks: &mut Marks)
     requires inks { AreInks composition.old.set_entries inks.old }
     requires marks { AreMarked composition.old.set_entries [] marks.old }
     ensures inks { AreInks [] inks.new }

@@ -1,6 +1,6 @@
 -- One more entry of the segment is set.
 use Rattle.segments.specs.Contents.{clut_value, items_left}
-use Rattle.page_core.proofs.ColourSteps.{setting_ends, setting_goes_on}
+use Rattle.page_core.proofs.ColourSteps.{setting_goes_on}
 use Rattle.page_core.proofs.cluts.set_entries.Goals as goal
 
 pub loop-entry-preserved : goal.loop-entry-preserved

@@ -8,7 +8,7 @@ abbrev pub invariant-loop-next : goal.invariant-loop-next
 invariant-loop-next l = record {
   coloured : AreColoured l.composition l.inks l.marks;
   keeps : IsKeptBeside l.fn.composition l.composition;
-  taking : IsTakingAny l.fn.composition l.fn.inks l.fn.bytes l.composition l.inks l.rest
+  taking : IsTakingAny l.fn.composition l.fn.inks l.fn.bytes l.composition l.inks l.rest;
 }
 
 abbrev pub decreases-loop-next : goal.decreases-loop-next

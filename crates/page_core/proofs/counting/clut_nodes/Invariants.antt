@@ -7,7 +7,7 @@ use Rattle.page_core.proofs.counting.clut_nodes.Given as goal
 abbrev pub invariant-loop-next : goal.invariant-loop-next
 invariant-loop-next l = record {
   marks : map uncounted l.marks ≡ map uncounted l.fn.marks;
-  counting : IsCountingAny l.composition l.fn.marks l.fn.bytes l.rest l.versions l.marks l.nodes
+  counting : IsCountingAny l.composition l.fn.marks l.fn.bytes l.rest l.versions l.marks l.nodes;
 }
 
 abbrev pub decreases-loop-next : goal.decreases-loop-next

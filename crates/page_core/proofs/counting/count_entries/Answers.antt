@@ -1,7 +1,6 @@
 -- One more entry of the segment is counted.
-use Rattle.std.proofs.Common.{refl}
 use Rattle.segments.specs.Contents.{clut_value, items_left}
-use Rattle.page_core.proofs.CountedMarks.{counting_begins, counting_ends, counting_goes_on}
+use Rattle.page_core.proofs.CountedMarks.{counting_goes_on}
 use Rattle.page_core.proofs.counting.count_entries.Goals as goal
 
 pub loop-entry-preserved : goal.loop-entry-preserved

@@ -1,6 +1,6 @@
 -- Counted marks are taken off.
 use Rattle.std.proofs.Common.{refl}
-use Rattle.page_core.proofs.MarkLaws.{counted_on, still_stamps, swept, swept_stamps}
+use Rattle.page_core.proofs.MarkLaws.{counted_on, swept}
 use Rattle.page_core.proofs.marks.Marks.forget_counted.Goals as goal
 
 pub returns-then-self-lt-SET : goal.returns-then-self-lt-SET

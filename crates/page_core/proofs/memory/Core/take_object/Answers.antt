@@ -1,5 +1,7 @@
 -- An object is painted, or has a fault.
-use Rattle.std.proofs.Common.{Some, None, refl, subst, sym}
+use Rattle.std.proofs.Common.{[], Some, None, refl, subst, sym}
+use Rattle.page_core.specs.Composition.{Composition}
+use Rattle.page_core.specs.Marks.{AreMarked}
 use Rattle.stream_syntax.specs.Segments.{SegmentValue}
 use Rattle.decoder_model.specs.Readings.{AreFields}
 use Rattle.segments.specs.Contents.{object_value}
@@ -34,6 +36,8 @@ invariant_of-self c = record {
       c.self.invariant.whole;
   anchored = c.self.invariant.anchored;
   timed = c.self.invariant.timed;
+  marked = subst (λ (composition : Composition). AreMarked composition.set_entries [] c.self.inside.marks) (sym c.paint_everywhere.ensures.composition) c.self.invariant.marked;
+  few = c.self.invariant.few;
   display = c.self.invariant.display;
 }
 

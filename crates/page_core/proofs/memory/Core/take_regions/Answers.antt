@@ -12,7 +12,7 @@ pub take_all-requires : goal.take_all-requires
 take_all-requires c = c.clear_renewed.ensures.stored c.self.inside.store (stored_whole _ c.self.invariant.whole)
 
 pub invariant_of-self : goal.invariant_of-self
-invariant_of-self c = core_behind _ _ c.self.invariant (keeps_regions _ _ refl refl refl refl refl refl refl c.clear_renewed.ensures.beside c.take_all.ensures.beside refl) c.take_all.ensures.stored c.take_all.ensures.size
+invariant_of-self c = core_behind _ _ _ c.self.invariant (keeps_regions _ _ refl refl refl refl refl refl refl c.clear_renewed.ensures.beside c.take_all.ensures.beside refl) c.take_all.ensures.stored c.take_all.ensures.size
 
 pub returns-clause-holds : goal.returns-clause-holds
 returns-clause-holds c older set holds are apart right =
