@@ -3,6 +3,7 @@ use Rattle.std.proofs.Common.{◌≡◌, ◌∙◌, ℕ, ◌+◌, ◌-◌, ◌*�
 use Rattle.std.specs.Prelude.{filter_map, sum_by}
 use Rattle.std.specs.List.{cons_option}
 use Rattle.std.specs.Option.{is_some}
+use Rattle.std.proofs.lemmas.List.Sums.{sum_by-cons}
 use Rattle.stream_syntax.specs.Segments.{Region, of_region}
 use Rattle.decoder_model.specs.Contents.{region_in, region_of}
 use Rattle.decoder_model.specs.Painting.{region_painting, set_painting}
@@ -45,6 +46,7 @@ one_painted set left ticks more region rest sum more_is next = record {
       let here : set_painting left ≡ region_painting region + set_painting next.more =
       painted_of left ∙ ap (λ (contents : List Content). sum_by region_painting (filter_map region_of contents)) next.split
       ∙ ap (λ (o : Option Region). sum_by region_painting (cons_option o (filter_map region_of (filter is_region next.more)))) (sym (ap region_in next.same))
+      ∙ sum_by-cons region_painting region (filter_map region_of (filter is_region next.more))
       ∙ ap (λ (n : ℕ). region_painting region + n) (sym (painted_of next.more)) in
       omega (arith, sum, here, more_is);
 }
