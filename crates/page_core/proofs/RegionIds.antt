@@ -37,6 +37,28 @@ apart_by_ids (x ∷ xs) (y ∷ ys) same apart =
       apart_by_ids xs ys rest apart.1,
     )
 
+-- ---- regions that are changed, and keep their ids
+
+module _ (change : KeptRegion → KeptRegion) (same_id : (kept : KeptRegion) → (change kept).head.region ≡ kept.head.region) where
+  pub ids_mapped : (regions : List KeptRegion) → map (λ (kept : KeptRegion). kept.head.region) (map change regions) ≡ map (λ (kept : KeptRegion). kept.head.region) regions
+  ids_mapped [] = refl
+  ids_mapped (kept ∷ regions) = λ i. same_id kept i ∷ ids_mapped regions i
+
+  pub apart_mapped : (regions : List KeptRegion) → AreIdsApart regions → AreIdsApart (map change regions)
+  apart_mapped regions apart = apart_by_ids regions (map change regions) (sym (ids_mapped regions)) apart
+
+  pub found_mapped : (id : ℕ) (regions : List KeptRegion)
+      → find (λ (kept : KeptRegion). kept.head.region == id) (map change regions) ≡ option_map change (find (λ (kept : KeptRegion). kept.head.region == id) regions)
+  found_mapped id [] = refl
+  found_mapped id (kept ∷ regions) =
+      (λ i. cond (same_id kept i == id) (Some (change kept)) (found_mapped id regions i)) ∙ by (kept.head.region == id)
+    where
+      by : (hit : Bool) → cond hit (Some (change kept)) (option_map change (find (has_id id) regions)) ≡ option_map change (cond hit (Some kept) (find (has_id id) regions))
+      by true = refl
+      by false = refl
+
+-- ---- what is found
+
 -- where none is found, none has the id
 pub none_has : (id : ℕ) (regions : List KeptRegion) → find (has_id id) regions ≡ None → list_any (has_id id) regions ≡ false
 none_has id [] none = refl
@@ -105,28 +127,20 @@ none_changed id change (kept ∷ regions) none =
     λ i. cond (parts.0 i) (change kept) kept ∷ none_changed id change regions parts.1 i
 
 module _ (id : ℕ) (change : KeptRegion → KeptRegion) (same_id : (kept : KeptRegion) → kept.head.region ≡ id → (change kept).head.region ≡ id) where
-  id_kept : (kept : KeptRegion) → (changed_at id change kept).head.region ≡ kept.head.region
+  pub id_kept : (kept : KeptRegion) → (changed_at id change kept).head.region ≡ kept.head.region
   id_kept kept = by (kept.head.region == id) refl
     where
       by : (hit : Bool) → (kept.head.region == id) ≡ hit → (cond hit (change kept) kept).head.region ≡ kept.head.region
       by true is = let same = eqb-true kept.head.region id is in same_id kept same ∙ sym same
       by false is = refl
 
-  -- the ids stay
+  -- the ids stay, and what is found is changed
   pub ids_kept : (regions : List KeptRegion) → map (λ (kept : KeptRegion). kept.head.region) (map (changed_at id change) regions) ≡ map (λ (kept : KeptRegion). kept.head.region) regions
-  ids_kept [] = refl
-  ids_kept (kept ∷ regions) = λ i. id_kept kept i ∷ ids_kept regions i
+  ids_kept regions = ids_mapped (changed_at id change) id_kept regions
 
-  -- what is found is changed
   pub found_changed : (n : ℕ) (regions : List KeptRegion)
       → find (λ (kept : KeptRegion). kept.head.region == n) (map (changed_at id change) regions) ≡ option_map (changed_at id change) (find (λ (kept : KeptRegion). kept.head.region == n) regions)
-  found_changed n [] = refl
-  found_changed n (kept ∷ regions) =
-      (λ i. cond (id_kept kept i == n) (Some (changed_at id change kept)) (found_changed n regions i)) ∙ by (kept.head.region == n)
-    where
-      by : (hit : Bool) → cond hit (Some (changed_at id change kept)) (option_map (changed_at id change) (find (has_id n) regions)) ≡ option_map (changed_at id change) (cond hit (Some kept) (find (has_id n) regions))
-      by true = refl
-      by false = refl
+  found_changed n regions = found_mapped (changed_at id change) id_kept n regions
 
 -- a region of another id is not changed, and one of that id is
 pub changed_other : (id n : ℕ) (change : KeptRegion → KeptRegion) (kept : KeptRegion) → kept.head.region ≡ n → (n == id) ≡ false → changed_at id change kept ≡ kept

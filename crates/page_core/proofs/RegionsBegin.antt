@@ -17,7 +17,7 @@ use Rattle.page_core.specs.Memory.{Holds, IsWhole, Memory, head_of, kept_listing
 use Rattle.page_core.specs.RegionSteps.{AreBare, AreReady, AreRegionsRight, AreStored, AwaitRegions, KeepsBesideRegions, awaited, bare_by, bare_where, is_renewed, listings_kept}
 use Rattle.page_core.specs.RegionTests.{AreApart}
 use Rattle.page_core.specs.Walks.{is_region}
-use Rattle.page_core.proofs.RegionIds.{has_id, id_of, listings_at}
+use Rattle.page_core.proofs.RegionIds.{found_mapped, has_id, ids_mapped, id_of, listings_at}
 use Rattle.page_core.proofs.RegionNeeds.{are_regions, count_awaited, count_by, counts, nodes_with}
 
 -- ---- regions without their listings
@@ -36,23 +36,12 @@ bare_slot set kept = by (is_renewed set kept.head)
     by true = refl
     by false = refl
 
-found_bare : (set : List Content) (id : ℕ) (regions : List KeptRegion)
-    → find (λ (kept : KeptRegion). kept.head.region == id) (map (bare_by set) regions) ≡ option_map (bare_by set) (find (λ (kept : KeptRegion). kept.head.region == id) regions)
-found_bare set id [] = refl
-found_bare set id (kept ∷ regions) =
-    (λ i. cond ((bare_head set kept i).region == id) (Some (bare_by set kept)) (found_bare set id regions i)) ∙ by (kept.head.region == id)
-  where
-    by : (hit : Bool) → cond hit (Some (bare_by set kept)) (option_map (bare_by set) (find (has_id id) regions)) ≡ option_map (bare_by set) (cond hit (Some kept) (find (has_id id) regions))
-    by true = refl
-    by false = refl
-
-ids_bare : (set : List Content) (regions : List KeptRegion) → map (λ (kept : KeptRegion). kept.head.region) (map (bare_by set) regions) ≡ map (λ (kept : KeptRegion). kept.head.region) regions
-ids_bare set [] = refl
-ids_bare set (kept ∷ regions) = λ i. (bare_head set kept i).region ∷ ids_bare set regions i
+bare_id : (set : List Content) (kept : KeptRegion) → (bare_by set kept).head.region ≡ kept.head.region
+bare_id set kept = ap (λ (head : RegionHead). head.region) (bare_head set kept)
 
 module _ (older set : List Content) (memory : Memory) (composition : Composition) (holds : Holds older memory) (bared : AreBare set memory.composition composition) where
   found_is : (id : ℕ) → region_in composition id ≡ option_map (bare_by set) (region_in memory.composition id)
-  found_is id = ap (find (λ (kept : KeptRegion). kept.head.region == id)) bared ∙ found_bare set id memory.composition.regions
+  found_is id = ap (find (λ (kept : KeptRegion). kept.head.region == id)) bared ∙ found_mapped (bare_by set) (bare_id set) id memory.composition.regions
 
   heads_are : (id : ℕ) → option_map (λ (kept : KeptRegion). kept.head) (region_in composition id) ≡ option_map head_of (taken_region id (taken_of older))
   heads_are id = ap (option_map (λ (kept : KeptRegion). kept.head)) (found_is id) ∙ by (region_in memory.composition id) ∙ holds.heads id
@@ -84,7 +73,7 @@ module _ (older set : List Content) (memory : Memory) (composition : Composition
 
   pub await_begins : AwaitRegions (taken_of older) set composition memory.store
   await_begins = record {
-    region_ids = ap (map (λ (kept : KeptRegion). kept.head.region)) bared ∙ ids_bare set memory.composition.regions ∙ holds.region_ids;
+    region_ids = ap (map (λ (kept : KeptRegion). kept.head.region)) bared ∙ ids_mapped (bare_by set) (bare_id set) memory.composition.regions ∙ holds.region_ids;
     heads = heads_are;
     listings = listings_are;
     pixels = λ id x y kept found narrow low. by id x y kept (region_in memory.composition id) refl (sym (found_is id) ∙ found) narrow low;

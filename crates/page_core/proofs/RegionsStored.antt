@@ -22,7 +22,7 @@ use Rattle.page_core.specs.Painted.{HasRegion}
 use Rattle.page_core.specs.RegionSteps.{AreStored, IsRightHead, changed_at, fresh, headed, listing_more, with_head, with_listings, with_region, with_regions}
 use Rattle.page_core.proofs.DrawnEntries.{placed_in_order}
 use Rattle.page_core.proofs.Finds.{found_all}
-use Rattle.page_core.proofs.RegionIds.{all_with, apart_by_ids, apart_with, changed_here, fewer, found_changed, found_has, id_of, ids_kept, none_has, sum_with}
+use Rattle.page_core.proofs.RegionIds.{all_with, apart_mapped, apart_with, changed_here, fewer, found_changed, found_has, id_of, id_kept, none_has, sum_with}
 
 -- ---- one region changed
 
@@ -52,7 +52,7 @@ module _ (composition : Composition) (store : Regions) (stored : AreStored compo
     sides = all_with id change kept (λ (kept : KeptRegion). HasSides kept.head (region_at store kept.slot)) composition.regions found stored.apart sides stored.sides;
     cluts = all_with id change kept (λ (kept : KeptRegion). kept.head.clut < 256) composition.regions found stored.apart clut stored.cluts;
     ids = all_with id change kept (λ (kept : KeptRegion). kept.head.region < 256) composition.regions found stored.apart low stored.ids;
-    apart = apart_by_ids composition.regions (map (changed_at id change) composition.regions) (sym (ids_kept id change same_id composition.regions)) stored.apart;
+    apart = apart_mapped (changed_at id change) (id_kept id change same_id) composition.regions stored.apart;
   }
 
 -- ---- what is written to one region

@@ -17,7 +17,7 @@ use Rattle.page_core.specs.RegionTests.{head_in, is_new}
 use Rattle.page_core.specs.Walks.{IsNextOf, is_region}
 use Rattle.page_core.proofs.RegionLaws.{either_false}
 use Rattle.page_core.proofs.Finds.{found_all}
-use Rattle.page_core.proofs.RegionIds.{apart_by_ids, changed_here, changed_other, found_has, has_id, ids_kept}
+use Rattle.page_core.proofs.RegionIds.{apart_mapped, changed_here, changed_other, found_has, has_id, id_kept}
 use Rattle.page_core.proofs.RegionsStored.{stored_with}
 
 -- whether a region segment takes the place of a head
@@ -75,7 +75,7 @@ apart_cleared head old new is apart = subst (λ (c : Composition). AreIdsApart c
   where
     by : (renewed : Bool) → AreIdsApart (cleared_where renewed head.region old).regions
     by false = apart
-    by true = apart_by_ids old.regions (map (changed_at head.region bare) old.regions) (sym (ids_kept head.region bare (λ kept same. same) old.regions)) apart
+    by true = apart_mapped (changed_at head.region bare) (id_kept head.region bare (λ kept same. same)) old.regions apart
 
 pub beside_cleared : (head : RegionHead) (before old new : Composition) → new ≡ cleared_where (takes_place head (head_in old head.region)) head.region old → KeepsBesideRegions before old → KeepsBesideRegions before new
 beside_cleared head before old new is beside = subst (KeepsBesideRegions before) (sym is) (by (takes_place head (head_in old head.region)))
