@@ -1,7 +1,7 @@
-//! A benchmark: the page memory takes display sets of a text picture, as many as the one word says, each with a later time and
-//! new versions; first alone, and then with all rows of the display made behind each set. It tells on standard error how many
-//! sets a second that was, and how many pixels a second the blocks of these pictures are read as runs that nobody paints.
-//! Standard output has the counts, which are the same in each run.
+//! A benchmark: display sets of a text picture, as many as the one word says, each with a later time and new versions. They are
+//! read, which tests their segments and keeps nothing; then a page memory takes them; and then one takes them and makes all
+//! rows of the display behind each. It tells on standard error how many sets a second that was. Standard output has the
+//! counts, which are the same in each run.
 #![tactic(auto)]
 
 // The pictures, and the display sets that show them.
@@ -16,13 +16,13 @@ ghost use Rattle.std.specs.Prelude.{◌≤◌};
 use anyhow::{Context, Result};
 use letters::picture;
 use page_core::Core;
-use sets::append_set;
+use segments::State;
+use sets::{PAGE, append_set};
 use std::alloc::Global;
 use std::env;
 use std::time::Instant;
-use segments::State;
 use sub_base::{CLEAR, Colour, Depth, Profile, ProfileName};
-use taking::{sum_of_rows, take_and_draw, take_sets};
+use taking::{read_sets, sum_of_rows, take_and_draw, take_sets};
 
 /// The greatest width of a display here.
 const COLUMNS: usize = 1_920;
@@ -60,29 +60,68 @@ fn measure(
     requires high { 1 ≤ height }
 {
     let sets = display_sets(rt.alloc(), width, height, depth)?;
-    let sets = sets.as_slice();
-    let bytes = size_of(sets);
-    let mut row = [CLEAR; COLUMNS];
+    println!(rt; "{depth:?}, {width} by {height}:")?;
+    eprintln!(rt; "{depth:?}, {width} by {height}:")?;
+    read(rt, sets.as_slice(), times)?;
+    take_alone(rt, profile, sets.as_slice(), times)?;
+    take_with_rows(rt, profile, sets.as_slice(), times)
+}
 
-    let mut core = Core::make(rt.alloc(), &Profile::of(profile), sets::PAGE, 0)?;
+/// Reads sets, which nobody takes.
+fn read(rt: &HostRuntime, sets: &[Vec<u8>], times: u32) -> Result<()> {
     let start = Instant::now(rt)?;
-    let taken = take_sets(&mut core, sets, times);
-    let alone = rate(taken, start.elapsed(rt)?.as_micros());
-
-    let mut core = Core::make(rt.alloc(), &Profile::of(profile), sets::PAGE, 0)?;
-    let start = Instant::now(rt)?;
-    let drawn = take_and_draw(&mut core, sets, times, &mut row);
-    let with_rows = rate(drawn, start.elapsed(rt)?.as_micros());
-
-    let sum = sum_of_rows(&mut core, sets, times, &mut row).context("a set is not shown")?;
+    let segments = read_sets(sets, times);
+    let rate = rate(times, start.elapsed(rt)?.as_micros());
     println!(rt;
-        "{depth:?}, {width} by {height}: {bytes} bytes in {} sets, {taken} and {drawn} shown, rows {sum}",
-        sets.len()
+        "{} sets of {} bytes, {segments} segments",
+        sets.len(),
+        size_of(sets)
     )?;
-    eprintln!(rt;
-        "{depth:?}, {width} by {height}: {alone} sets a second alone, {with_rows} with all rows"
-    )?;
+    eprintln!(rt; "{rate} sets a second read")?;
     Ok(())
+}
+
+/// Takes sets and shows nothing.
+fn take_alone(rt: &HostRuntime, profile: ProfileName, sets: &[Vec<u8>], times: u32) -> Result<()> {
+    let mut core = empty_core(rt.alloc(), profile)?;
+    let start = Instant::now(rt)?;
+    let shown = take_sets(&mut core, sets, times);
+    let rate = rate(shown, start.elapsed(rt)?.as_micros());
+    println!(rt; "{shown} shown")?;
+    eprintln!(rt; "{rate} sets a second taken")?;
+    Ok(())
+}
+
+/// Takes sets, and makes all rows of the display behind each.
+fn take_with_rows(
+    rt: &HostRuntime,
+    profile: ProfileName,
+    sets: &[Vec<u8>],
+    times: u32,
+) -> Result<()> {
+    let mut core = empty_core(rt.alloc(), profile)?;
+    let mut row = clear_row(rt.alloc(), COLUMNS)?;
+    let start = Instant::now(rt)?;
+    let shown = take_and_draw(&mut core, sets, times, row.as_mut_slice());
+    let rate = rate(shown, start.elapsed(rt)?.as_micros());
+    let sum = sum_of_rows(&mut core, sets, times, row.as_mut_slice()).context(
+        "a set is not shown",
+    )?;
+    println!(rt; "{shown} shown, rows that give {sum}")?;
+    eprintln!(rt; "{rate} sets a second taken and drawn")?;
+    Ok(())
+}
+
+/// A core that was handed nothing.
+#[tactic(auto, using(page_core::proofs::ProfileNodes::few_nodes))]
+fn empty_core(alloc: Global, profile: ProfileName) -> Result<Core> {
+    let profile = Profile::of(profile);
+    Ok(Core::make(alloc, &profile, PAGE, 0)?)
+}
+
+/// A row of so many places.
+fn clear_row(alloc: Global, columns: usize) -> Result<Vec<Colour>> {
+    Ok(vec![in alloc; CLEAR; columns]?)
 }
 
 /// A set that is a mode change, and behind it one of each version, which come again and again.

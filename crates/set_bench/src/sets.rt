@@ -148,7 +148,10 @@ fn append_object(picture: &Indexed, version: u8, out: &mut Vec<u8>) -> Result<()
 {
     let mut blocks = Vec::new(*out.allocator());
     let lengths = write_fields(picture, picture.depth(), &mut blocks)?;
-    let (top, bottom) = blocks.as_slice().split_at_checked(lengths.top as usize).context("a block is cut")?;
+    let (top, bottom) = blocks
+        .as_slice()
+        .split_at_checked(lengths.top as usize)
+        .context("a block is cut")?;
     append_blocks(top, bottom, version, out)
 }
 

@@ -1,7 +1,28 @@
 //! Taking sets one after another, and the rows of what is shown.
 
 use page_core::{Core, Scene, SetEnd};
+use segments::read_segment;
 use sub_base::Colour;
+
+/// Reads the segments of so many sets, and says how many there were.
+pub fn read_sets(sets: &[Vec<u8>], times: u32) -> u64 {
+    let mut segments = 0u64;
+    for pts in 0..times {
+        segments = segments.wrapping_add(segments_in(set_at(sets, pts)));
+    }
+    segments
+}
+
+/// How many segments there are.
+fn segments_in(bytes: &[u8]) -> u64 {
+    let mut segments = 0u64;
+    let mut rest = bytes;
+    while let Ok((_segment, size)) = read_segment(rest) {
+        segments = segments.wrapping_add(1);
+        rest = &rest[size..];
+    }
+    segments
+}
 
 /// Takes so many sets, a tick apart, and says how many were shown.
 pub fn take_sets(core: &mut Core, sets: &[Vec<u8>], times: u32) -> u32 {
@@ -18,12 +39,7 @@ pub fn take_sets(core: &mut Core, sets: &[Vec<u8>], times: u32) -> u32 {
 }
 
 /// Takes so many sets, a tick apart, makes all rows of the display behind each, and says how many were shown.
-pub fn take_and_draw(
-    core: &mut Core,
-    sets: &[Vec<u8>],
-    times: u32,
-    row: &mut [Colour],
-) -> u32 {
+pub fn take_and_draw(core: &mut Core, sets: &[Vec<u8>], times: u32, row: &mut [Colour]) -> u32 {
     let mut shown = 0u32;
     for pts in 0..times {
         if matches!(
@@ -59,12 +75,7 @@ fn draw(scene: &Scene<'_>, row: &mut [Colour]) {
 }
 
 /// Takes one more set; a number that the rows behind it give, or none where it is not shown.
-pub fn sum_of_rows(
-    core: &mut Core,
-    sets: &[Vec<u8>],
-    pts: u32,
-    row: &mut [Colour],
-) -> Option<u64> {
+pub fn sum_of_rows(core: &mut Core, sets: &[Vec<u8>], pts: u32, row: &mut [Colour]) -> Option<u64> {
     match core.take_set(u64::from(pts), set_at(sets, pts)) {
         SetEnd::Shown => Some(check_sum(&core.scene(), row)),
         _ => None,
