@@ -42,7 +42,7 @@ pub mod EverywhereWrites
 pub mod EverywhereKept
 pub mod EverywhereCodes
 pub mod KeptIds
-pub mod NodeCounts
+pub mod HeldNodes
 pub mod OtherSegments
 pub mod ObjectMemory
 pub mod SetOrder

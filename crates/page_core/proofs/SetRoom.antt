@@ -14,7 +14,7 @@ use Rattle.decoder_model.specs.declared.set_fault.SetFault.TheVariants.{Composit
 use Rattle.page_core.specs.Composition.{KeptRegion}
 use Rattle.page_core.specs.Memory.{Memory, IsWhole, Holds}
 use Rattle.page_core.specs.Walks.{is_region}
-use Rattle.page_core.proofs.NodeCounts.{nodes_counted, regions_counted, listings_counted, cluts_counted}
+use Rattle.page_core.proofs.HeldNodes.{nodes_counted, regions_counted, listings_counted, cluts_counted}
 use Rattle.page_core.proofs.OtherSegments.{HaveSameRegions, HaveSameCluts, regions_behind, same_listings, more_cluts}
 
 -- without a fault the nodes suffice
