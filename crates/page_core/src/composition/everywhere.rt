@@ -42,11 +42,16 @@ impl CompositionMemory {
         ensures composition { self.new ≡ with_all_painted (painter_of object.now) self.old }
         ensures regions { All (λ (kept : KeptRegion). HasRegion kept.head kept.slot store.new) self.old.regions }
         ensures room { KeepsRoom store.old store.new }
-        ensures fault { (content : Content) → AreFields (of_object (object_value object.now)) content.top content.bottom → AreIdsApart self.old.regions
+        ensures fault { (content : Content)
+            → AreFields (of_object (object_value object.now)) content.top content.bottom
+            → AreIdsApart self.old.regions
             → option_map SetFault.Segment result ≡ option_map (λ found. found.1) (least_of (fault_in_kept (painter_of object.now) content (object_value object.now)) self.old.regions) }
-        ensures byte { (content : Content) → AreFields (of_object (object_value object.now)) content.top content.bottom → AreIdsApart self.old.regions
+        ensures byte { (content : Content)
+            → AreFields (of_object (object_value object.now)) content.top content.bottom
+            → AreIdsApart self.old.regions
             → IfSome (least_of (fault_in_kept (painter_of object.now) content (object_value object.now)) self.old.regions) (λ found. found.0 < 256) }
-        ensures written { (content : Content) → AreFields (of_object (object_value object.now)) content.top content.bottom
+        ensures written { (content : Content)
+            → AreFields (of_object (object_value object.now)) content.top content.bottom
             → least_of (fault_in_kept (painter_of object.now) content (object_value object.now)) self.old.regions ≡ None → AreIdsApart self.old.regions
             → AreKeptWritten (painter_of object.now) content self.old.regions store.old store.new }
     {
@@ -68,9 +73,11 @@ fn paint_regions(
     ensures nodes { IsEverywhere painter pool.old pool.new }
     ensures regions { HaveRegions pool.old store.new }
     ensures room { KeepsRoom store.old store.new }
-    ensures fault { (content : Content) → AreFields (of_object (object_value object.now)) content.top content.bottom → AreApart pool.old
+    ensures fault { (content : Content)
+        → AreFields (of_object (object_value object.now)) content.top content.bottom → AreApart pool.old
         → option_map told result ≡ least_of (fault_in_pair pool.old painter content (object_value object.now)) (list_of pool.old 1) }
-    ensures written { (content : Content) → AreFields (of_object (object_value object.now)) content.top content.bottom
+    ensures written { (content : Content)
+        → AreFields (of_object (object_value object.now)) content.top content.bottom
         → HasNoFaults painter content (object_value object.now) pool.old → AreApart pool.old
         → AreWritten painter content pool.old (kept_in region_node (list_of pool.old 1)) store.old store.new }
 {
@@ -98,9 +105,11 @@ fn paint_at(
     requires bottom { length object.now.bottom.now ≤ 65535 }
     ensures nodes { IsPaintedAt painter node pool.old pool.new }
     ensures others { KeepsAt node store.old store.new }
-    ensures fault { (content : Content) → AreFields (of_object (object_value object.now)) content.top content.bottom
+    ensures fault { (content : Content)
+        → AreFields (of_object (object_value object.now)) content.top content.bottom
         → option_map told result ≡ fault_in_node pool.old painter content (object_value object.now) node }
-    ensures written { (content : Content) → AreFields (of_object (object_value object.now)) content.top content.bottom
+    ensures written { (content : Content)
+        → AreFields (of_object (object_value object.now)) content.top content.bottom
         → IsWrittenAt painter content (object_value object.now) pool.old node store.old store.new }
 {
     match node {
@@ -123,9 +132,11 @@ fn paint_in(
     requires bottom { length object.now.bottom.now ≤ 65535 }
     ensures nodes { IsRewritten (listings_list region.now.head.region) (painted_node painter) pool.old pool.new }
     ensures others { KeepsOthers region.now.slot store.old store.new }
-    ensures fault { (content : Content) → AreFields (of_object (object_value object.now)) content.top content.bottom
+    ensures fault { (content : Content)
+        → AreFields (of_object (object_value object.now)) content.top content.bottom
         → option_map told result ≡ fault_in_region_node pool.old painter content (object_value object.now) region.now }
-    ensures written { (content : Content) → AreFields (of_object (object_value object.now)) content.top content.bottom
+    ensures written { (content : Content)
+        → AreFields (of_object (object_value object.now)) content.top content.bottom
         → HasNoFault painter content (object_value object.now) pool.old region.now
         → IsWrittenIn painter content pool.old region.now store.old store.new }
 {

@@ -22,7 +22,8 @@ impl Core {
     pub(crate) fn take_objects(&mut self, bytes: &[u8]) -> Option<SetFault>
         ensures fault { (older set : List Content) → Holds older self.old → AreContents set bytes.now
             → result ≡ first_in object_too_deep older (filter is_object set) }
-        ensures taken { (older set : List Content) → Holds older self.old → AreContents set bytes.now → result ≡ None
+        ensures taken { (older set : List Content) → Holds older self.old → AreContents set bytes.now
+            → result ≡ None
             → Holds (reverse (filter is_object set) ++ older) self.new }
         ensures rest { KeepsButObjects self.old self.new }
     {
@@ -39,10 +40,13 @@ impl Core {
     /// Paints an object through all listings that it paints, or answers its fault; what it has painted then is of no use.
     fn take_object(&mut self, object: &ObjectSeg<'_>) -> Option<SetFault>
         requires fields { HasFieldSizes (of_object (object_value object.now)) }
-        ensures fault { (older : List Content) (content : Content) → Holds older self.old → of_object (object_value object.now) ≡ content.value
+        ensures fault { (older : List Content) (content : Content) → Holds older self.old
+            → of_object (object_value object.now) ≡ content.value
             → AreFields content.value content.top content.bottom → result ≡ object_too_deep older content }
-        ensures taken { (older : List Content) (content : Content) → Holds older self.old → of_object (object_value object.now) ≡ content.value
-            → AreFields content.value content.top content.bottom → result ≡ None → Holds (content ∷ older) self.new }
+        ensures taken { (older : List Content) (content : Content) → Holds older self.old
+            → of_object (object_value object.now) ≡ content.value
+            → AreFields content.value content.top content.bottom → result ≡ None
+            → Holds (content ∷ older) self.new }
         ensures rest { KeepsButObjects self.old self.new }
     {
         in_segment(self.composition.paint_everywhere(object, &mut self.store))
