@@ -50,3 +50,4 @@ pub mod ObjectWalks
 pub mod DisplaySteps
 pub mod SetRoom
 pub mod SetVerdicts
+pub mod SetsTaken

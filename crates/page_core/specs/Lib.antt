@@ -24,4 +24,6 @@ pub mod Scenes
 pub mod PageEntries
 pub mod Accepted
 pub mod SetSteps
+pub mod ClutSteps
+pub mod RegionSteps
 pub mod Losses

@@ -32,3 +32,5 @@ mod core_tests;
 mod painting_tests;
 #[cfg(test)]
 mod rows_tests;
+#[cfg(test)]
+mod set_tests;

@@ -22,6 +22,8 @@ ghost use Rattle.page_core.specs.Memory.{Stands, IsForgotten, IsSameReceiver, Fo
 
 mod objects;
 mod scene;
+mod sets;
+mod stubs;
 
 use crate::composition::CompositionMemory;
 use crate::epoch::Start;
