@@ -1,6 +1,7 @@
 -- What a set that is ready asks of a receiver.
 use Rattle.std.proofs.Common.{◌≡◌, ◌∙◌, ℕ, List, [], ◌∷◌, Option, Some, None, refl, sym, ap, subst}
-use Rattle.std.specs.Prelude.{Ok, unwrap_or}
+use Rattle.std.specs.Prelude.{Ok, Err, unwrap_or}
+use Rattle.display_sets.specs.Filling.{AreBytes}
 use Rattle.sub_base.specs.declared.load.SetLoad.{SetLoad}
 use Rattle.sub_base.specs.declared.profile.Profile.{Profile}
 use Rattle.stream_syntax.specs.Segments.{Page}
@@ -54,3 +55,36 @@ verdict_says profile anchor past time size readings end is =
 -- what none of whose segments is refused has contents
 pub contents_are : (readings : List Reading) (bytes : List ℕ) → segment_fault readings ≡ None → AreRead readings bytes → AreContents (contents_in readings) bytes
 contents_are readings bytes none are = (sound readings bytes none are).contents
+
+-- ---- a set that is ready
+
+-- one that is whole
+pub ready_whole : (set : ReadySet) (bytes : List ℕ) (delivery : Delivery (List ℕ)) (one : Delivery Reading) → set.content ≡ Ok bytes → IsReady delivery set → IsDeliveryRead delivery one
+    → (readings : List Reading) × AreRead readings bytes × (one ≡ whole set.time set.size readings)
+ready_whole set bytes lost one content ready read = absurd ready
+ready_whole set bytes (whole time size segments) one content (time_is, size_is, own, own_is, are) (readings, reads, is) = (
+  readings,
+  bytes_read segments readings bytes (subst (AreBytes segments) (let e = sym own_is ∙ content in let same : own ≡ bytes = cc in same) are) reads,
+  is ∙ ap (λ (n : ℕ). whole n size readings) (sym time_is) ∙ ap (λ (n : ℕ). whole set.time n readings) (sym size_is),
+)
+ready_whole set bytes (refused time size fault) one content (time_is, size_is, is) read = absurd (let e = sym content ∙ is in cc)
+
+-- and one that is refused
+pub ready_refused : (set : ReadySet) (fault : SetFault) (delivery : Delivery (List ℕ)) (one : Delivery Reading) → set.content ≡ Err fault → IsReady delivery set → IsDeliveryRead delivery one
+    → one ≡ refused set.time set.size fault
+ready_refused set fault lost one content ready read = absurd ready
+ready_refused set fault (whole time size segments) one content (time_is, size_is, own, own_is, are) read = absurd (let e = sym content ∙ own_is in cc)
+ready_refused set fault (refused time size other) one content (time_is, size_is, is) read =
+    let same : other ≡ fault = (let e = sym is ∙ content in cc) in
+    read ∙ ap (λ (n : ℕ). refused n size other) (sym time_is) ∙ ap (λ (n : ℕ). refused set.time n other) (sym size_is) ∙ ap (λ (f : SetFault). refused set.time set.size f) same
+
+-- what it asks
+pub whole_load : (profile : Profile) (anchor : ℕ) (past : List (Delivery Reading)) (time size painted : ℕ) (readings : List Reading) (end : SetEnd) (lifted : Option ℕ)
+    → lifted ≡ lifted_time anchor past (whole time size readings) → Some end ≡ verdict_of profile anchor past (whole time size readings) → painted ≡ painting_by readings (Some end)
+    → Some (record { pts = unwrap_or lifted time; size = size; painted = painted }) ≡ set_load profile anchor past (whole time size readings)
+whole_load profile anchor past time size painted readings end lifted lifted_is end_is painted_is =
+    λ i. Some (record { pts = unwrap_or (lifted_is i) time; size = size; painted = (painted_is ∙ ap (painting_by readings) end_is) i })
+
+pub refused_load : (profile : Profile) (anchor : ℕ) (past : List (Delivery Reading)) (time size : ℕ) (fault : SetFault) (lifted : Option ℕ) → lifted ≡ lifted_time {S = Reading} anchor past (refused time size fault)
+    → Some (record { pts = unwrap_or lifted time; size = size; painted = 0 }) ≡ set_load profile anchor past (refused time size fault)
+refused_load profile anchor past time size fault lifted lifted_is = λ i. Some (record { pts = unwrap_or (lifted_is i) time; size = size; painted = 0 })

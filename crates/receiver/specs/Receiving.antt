@@ -9,7 +9,7 @@ use Rattle.ts_packets.specs.Demuxing.{Demuxing}
 use Rattle.decoder_model.specs.Arrivals.{Arrival, arrivals_of, packets_taken}
 use Rattle.decoder_model.specs.PacketArrivals.{PacketArrival}
 use Rattle.decoder_model.specs.Readings.{Reading, AreDeliveriesRead}
-use Rattle.decoder_model.specs.Sets.{Delivery, lost}
+use Rattle.decoder_model.specs.Sets.{Delivery, lost, sets_of}
 use Rattle.display_sets.specs.Gathered.{Gathered, ReadySet}
 use Rattle.page_core.specs.Memory.{IsSameReceiver}
 use Rattle.display_sets.specs.Standing as sets
@@ -65,3 +65,8 @@ pub record IsSame (old new : Receiving) : Type 0 where
 -- the time of a set that is ready, as read
 abbrev pub set_time : ReadySet → ℕ
 set_time set = set.time
+
+-- a receiver that was fed these packets, of which these sets and losses were taken, has this set or loss next, and then the rest
+pub record IsNext (ended : Bool) (fed : List (List ℕ)) (given : List (Delivery (List ℕ))) (next : Delivery (List ℕ)) (rest : List (Delivery (List ℕ))) (receiving : Receiving) : Type 0 where
+  pub stands : Stands ended fed given receiving
+  pub all : sets_of receiving.showing.core.profile.coded receiving.demux.pid receiving.showing.core.page ended fed ≡ given ++ next ∷ rest

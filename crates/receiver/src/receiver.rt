@@ -5,6 +5,7 @@ ghost use Rattle.std.specs.Prelude.{◌≡◌};
 use crate::arrival::Arrival;
 use crate::feeding::feed;
 use crate::screen::Screen;
+use crate::taking::take;
 use crate::view::View;
 use display_sets::Gathering;
 use page_core::{Core, SetEnd};
@@ -41,10 +42,12 @@ impl Model for Receiver {
 }
 
 impl Receiver {
-    ghost use Rattle.std.specs.Prelude.{◌≡◌, ◌<◌, ◌≤◌, ◌^◌, ℕ, Bool, true, false, List, [], ◌∷◌, ◌++◌, reverse, option_and_then, option_map, IfErr, IfOk, IfSome, MatchResult, None, OnOk, Some};
+    ghost use Rattle.std.specs.Prelude.{◌≡◌, ◌<◌, ◌≤◌, ◌^◌, ℕ, Bool, true, false, List, [], ◌∷◌, ◌++◌, reverse, option_and_then, option_map, IfErr, IfOk, IfSome, IsSome, MatchResult, None, OnOk, Some};
     ghost use Rattle.stream_syntax.specs.TransportPackets.{packet_fault};
     ghost use Rattle.stream_syntax.specs.Units.{event_at};
     ghost use Rattle.decoder_model.specs.Kept.{last_time, lifted_behind};
+    ghost use Rattle.decoder_model.specs.Painting.{set_load};
+    ghost use Rattle.decoder_model.specs.Verdict.{verdict_of};
     ghost use Rattle.decoder_model.specs.PacketArrivals.{packet_arrival};
     ghost use Rattle.decoder_model.specs.Readings.{AreDeliveriesRead, IsDeliveryRead, Reading};
     ghost use Rattle.decoder_model.specs.Sets.{Delivery, sets_of};
@@ -52,7 +55,7 @@ impl Receiver {
     ghost use Rattle.display_sets.specs.Gathered.{first_ready, ready_sets, sets_behind};
     ghost use Rattle.receiver.specs.Arrived.{arrival_value};
     ghost use Rattle.receiver.specs.Lent.{view_lent};
-    ghost use Rattle.receiver.specs.Receiving.{AreLosses, IsSame, Stands, set_time};
+    ghost use Rattle.receiver.specs.Receiving.{AreLosses, IsNext, IsSame, Stands, set_time};
 
     /// A receiver of a profile that was fed nothing. Lifted times begin at the anchor. All memory is taken here.
     pub fn make(
@@ -63,6 +66,7 @@ impl Receiver {
         anchor: u64,
     ) -> Result<Receiver, NoMemory>
         requires coded { profile.now.coded < 2 ^ 32 }
+        requires nodes { profile.now.nodes < 2 ^ 31 }
         requires anchor { anchor < 2 ^ 34 }
         ensures stands { IfOk result (Stands false [] []) }
         ensures pid { IfOk result (λ receiver. receiver.demux.pid ≡ pid) }
@@ -134,6 +138,42 @@ impl Receiver {
     {
         let ready = self.sets.ready()?;
         self.screen.core().lift(ready.time)
+    }
+
+    /// Takes the set that is ready: the page memory has it, its picture is drawn in so many bands, 1 to 64, and the picture that was
+    /// the last one is the current one. A set that is not kept changes no picture.
+    pub fn take<R: Threads + Sync, G: BandGate + Sync>(
+        &mut self,
+        rt: &R,
+        bands: u32,
+        gate: &G,
+    ) -> SetEnd
+        requires ready { IsSome (first_ready (ready_sets self.old.sets)) }
+        requires some { 1 ≤ bands }
+        requires few { bands ≤ 64 }
+        ensures stands { (ended : Bool) (fed : List (List ℕ)) (given rest : List (Delivery (List ℕ))) (delivery : Delivery (List ℕ))
+            → IsNext ended fed given delivery rest self.old → Stands ended fed (given ++ delivery ∷ []) self.new }
+        ensures answer { (ended : Bool) (fed : List (List ℕ)) (given rest : List (Delivery (List ℕ))) (delivery : Delivery (List ℕ))
+            (past : List (Delivery Reading)) (one : Delivery Reading)
+            → IsNext ended fed given delivery rest self.old → AreDeliveriesRead (reverse given) past → IsDeliveryRead delivery one
+            → Some result ≡ verdict_of self.old.showing.core.profile self.old.showing.core.anchor past one }
+        ensures load { (ended : Bool) (fed : List (List ℕ)) (given rest : List (Delivery (List ℕ))) (delivery : Delivery (List ℕ))
+            (past : List (Delivery Reading)) (one : Delivery Reading)
+            → IsNext ended fed given delivery rest self.old → AreDeliveriesRead (reverse given) past → IsDeliveryRead delivery one
+            → Some self.new.load ≡ set_load self.old.showing.core.profile self.old.showing.core.anchor past one }
+        ensures left { ready_sets self.new.sets ≡ sets_behind (ready_sets self.old.sets) }
+        ensures arrival { self.new.arrival ≡ self.old.arrival }
+        ensures same { IsSame self.old self.new }
+    {
+        match self.sets.ready() {
+            None => SetEnd::Waiting, // There is one.
+            Some(ready) => {
+                let taken = take(ready, &mut self.screen, rt, bands, gate);
+                self.load = taken.load;
+                self.sets.give();
+                taken.end
+            }
+        }
     }
 
     /// The lifted time of the current picture, from which on it is known what is shown; 0 before two sets were kept.

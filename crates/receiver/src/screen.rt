@@ -46,7 +46,8 @@ impl Screen {
         page: u16,
         anchor: u64,
     ) -> Result<Screen, NoMemory>
-        requires { anchor < 2 ^ 34 }
+        requires nodes { profile.now.nodes < 2 ^ 31 }
+        requires anchor { anchor < 2 ^ 34 }
         ensures stands { IfOk result (Stands []) }
         ensures profile { IfOk result (λ screen. screen.core.profile ≡ profile.now) }
         ensures page { IfOk result (λ screen. screen.core.page ≡ page) }
