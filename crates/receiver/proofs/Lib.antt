@@ -4,3 +4,4 @@ pub mod Arrivals
 pub mod Gatherings
 pub mod Feeds
 pub mod Loads
+pub mod Takes

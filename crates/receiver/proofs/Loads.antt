@@ -62,7 +62,7 @@ contents_are readings bytes none are = (sound readings bytes none are).contents
 pub ready_whole : (set : ReadySet) (bytes : List ℕ) (delivery : Delivery (List ℕ)) (one : Delivery Reading) → set.content ≡ Ok bytes → IsReady delivery set → IsDeliveryRead delivery one
     → (readings : List Reading) × AreRead readings bytes × (one ≡ whole set.time set.size readings)
 ready_whole set bytes lost one content ready read = absurd ready
-ready_whole set bytes (whole time size segments) one content (time_is, size_is, own, own_is, are) (readings, reads, is) = (
+ready_whole set bytes (whole time size segments) one content (time_is, size_is, (own, own_is, are)) (readings, reads, is) = (
   readings,
   bytes_read segments readings bytes (subst (AreBytes segments) (let e = sym own_is ∙ content in let same : own ≡ bytes = cc in same) are) reads,
   is ∙ ap (λ (n : ℕ). whole n size readings) (sym time_is) ∙ ap (λ (n : ℕ). whole set.time n readings) (sym size_is),
@@ -73,7 +73,7 @@ ready_whole set bytes (refused time size fault) one content (time_is, size_is, i
 pub ready_refused : (set : ReadySet) (fault : SetFault) (delivery : Delivery (List ℕ)) (one : Delivery Reading) → set.content ≡ Err fault → IsReady delivery set → IsDeliveryRead delivery one
     → one ≡ refused set.time set.size fault
 ready_refused set fault lost one content ready read = absurd ready
-ready_refused set fault (whole time size segments) one content (time_is, size_is, own, own_is, are) read = absurd (let e = sym content ∙ own_is in cc)
+ready_refused set fault (whole time size segments) one content (time_is, size_is, (own, own_is, are)) read = absurd (let e = sym content ∙ own_is in cc)
 ready_refused set fault (refused time size other) one content (time_is, size_is, is) read =
     let same : other ≡ fault = (let e = sym is ∙ content in cc) in
     read ∙ ap (λ (n : ℕ). refused n size other) (sym time_is) ∙ ap (λ (n : ℕ). refused set.time n other) (sym size_is) ∙ ap (λ (f : SetFault). refused set.time set.size f) same
