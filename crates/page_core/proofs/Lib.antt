@@ -85,3 +85,4 @@ pub mod RegionNeeds
 pub mod RegionsBegin
 pub mod RegionsHeld
 pub mod PaintedTimes
+pub mod KnownObjects

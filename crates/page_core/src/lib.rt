@@ -12,6 +12,7 @@ mod forget;
 mod front;
 mod inks;
 mod judging;
+mod known_objects;
 mod laws;
 mod lists;
 mod marks;
