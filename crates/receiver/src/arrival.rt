@@ -30,9 +30,9 @@ impl Outcome {
     /// What the packet brought to a coded data buffer of that size.
     pub(crate) fn arrival(self, coded: u64, packet: &[u8; 188]) -> Arrival
         ensures { arrival_value result ≡ record {
-            bytes = bytes_by self.event packet.now;
-            before = end_parts self.end;
-            dropped = too_long_by coded self.event packet.now || end_drops self.end;
+          bytes = bytes_by self.event packet.now;
+          before = end_parts self.end;
+          dropped = too_long_by coded self.event packet.now || end_drops self.end;
         } }
     {
         Arrival {
@@ -66,7 +66,8 @@ fn is_too_long(size: u64, event: Event, packet: &[u8; 188]) -> bool
 {
     match event {
         Event::TooLong { .. } => true,
-        Event::Gap { .. } | Event::Short { .. } => starts(packet) && needs_more(size, payload(packet)),
+        Event::Gap { .. } | Event::Short { .. } => starts(packet)
+            && needs_more(size, payload(packet)),
         Event::Followed
         | Event::Other
         | Event::NoPayload

@@ -43,7 +43,7 @@ pub(crate) fn feed(
     ensures gathers { OnOk result ((before : List (List ℕ)) (arrivals : List Arrival) (given : List (Delivery (List ℕ)))
         → packets.Stands demux.old before → Gathers arrivals false given sets.old screen.old
         → (losses : List (Delivery (List ℕ))) × AreLosses losses
-            × Gathers (arrivals ++ arrivals_at demux.old.size demux.old.pid sets.old.page before packet.now) false (given ++ losses) sets.new screen.new) }
+        × Gathers (arrivals ++ arrivals_at demux.old.size demux.old.pid sets.old.page before packet.now) false (given ++ losses) sets.new screen.new) }
     ensures end { IfOk result (λ outcome. (before : List (List ℕ)) (arrivals : List Arrival) (given : List (Delivery (List ℕ)))
         → packets.Stands demux.old before → Gathers arrivals false given sets.old screen.old
         → IsEndBehind sets.old.coded demux.old.size demux.old.pid sets.old.page before packet.now arrivals outcome.end) }

@@ -134,7 +134,7 @@ impl Receiver {
         ensures lifted { (fed : List (List ℕ)) (ended : Bool) (given : List (Delivery (List ℕ))) (past : List (Delivery Reading))
             → Stands ended fed given self.now → AreDeliveriesRead (reverse given) past
             → result ≡ option_and_then (lifted_behind self.now.showing.core.anchor (last_time self.now.showing.core.anchor past))
-                (option_map set_time (first_ready (ready_sets self.now.sets))) }
+            (option_map set_time (first_ready (ready_sets self.now.sets))) }
     {
         let ready = self.sets.ready()?;
         self.screen.core().lift(ready.time)

@@ -55,7 +55,7 @@ pub(crate) fn take_ended(
     requires short { ForSome unit (λ bytes. length bytes.now ≤ longest_unit) }
     ensures gathers { (arrivals : List Arrival) (given : List (Delivery (List ℕ))) (place : ℕ) → Gathers arrivals false given sets.old screen.old
         → (losses : List (Delivery (List ℕ))) × AreLosses losses
-            × Gathers (arrivals ++ units_at sets.old.page place (option_copied unit.entry)) false (given ++ losses) sets.new screen.new }
+        × Gathers (arrivals ++ units_at sets.old.page place (option_copied unit.entry)) false (given ++ losses) sets.new screen.new }
     ensures end { (arrivals : List Arrival) (given : List (Delivery (List ℕ))) (place : ℕ) → Gathers arrivals false given sets.old screen.old
         → IsEndOf sets.old.coded sets.old.page place (last_run (reverse arrivals)) (option_copied unit.entry) result }
     ensures page { sets.new.page ≡ sets.old.page }
@@ -74,7 +74,7 @@ fn take_unit(unit: &[u8], sets: &mut Gathering, screen: &mut Screen) -> UnitEnd
     requires short { length unit.now ≤ longest_unit }
     ensures gathers { (arrivals : List Arrival) (given : List (Delivery (List ℕ))) (place : ℕ) → Gathers arrivals false given sets.old screen.old
         → (losses : List (Delivery (List ℕ))) × AreLosses losses
-            × Gathers (arrivals ++ arrival_of_unit sets.old.page place unit.now ∷ []) false (given ++ losses) sets.new screen.new }
+        × Gathers (arrivals ++ arrival_of_unit sets.old.page place unit.now ∷ []) false (given ++ losses) sets.new screen.new }
     ensures end { (arrivals : List Arrival) (given : List (Delivery (List ℕ))) (place : ℕ) → Gathers arrivals false given sets.old screen.old
         → IsUnitEnd sets.old.coded (last_run (reverse arrivals)) (arrival_of_unit sets.old.page place unit.now) result }
     ensures page { sets.new.page ≡ sets.old.page }
