@@ -10,6 +10,7 @@ use Rattle.display_sets.specs.declared.filling.Filled.{Filled}
 use Rattle.display_sets.specs.declared.hand.Hand.{Hand}
 use Rattle.display_sets.specs.declared.hand.Head.{Head}
 
+-- a gathering as a plain value
 pub record Gathered : Type 0 where
   pub page : ℕ
   -- how many bytes the segments of a set may have
@@ -27,13 +28,16 @@ pub record ReadySet : Type 0 where
   pub size : ℕ
   pub content : Result (List ℕ) SetFault
 
+-- the bytes of a set, or its fault where it has one
 abbrev pub content_of : List ℕ → Option SetFault → Result (List ℕ) SetFault
 content_of bytes None = Ok bytes
 content_of bytes (Some fault) = Err fault
 
+-- the set with that head and those bytes
 abbrev pub ready_set : List ℕ → Head → ReadySet
 ready_set bytes head = record { time = head.time; size = head.size; content = content_of bytes head.fault }
 
+-- that set, where there is a head
 abbrev pub ready_in : Option Head → List ℕ → List ReadySet
 ready_in None bytes = []
 ready_in (Some head) bytes = ready_set bytes head ∷ []
@@ -42,6 +46,7 @@ ready_in (Some head) bytes = ready_set bytes head ∷ []
 abbrev pub ready_sets : Gathered → List ReadySet
 ready_sets gathered = ready_in gathered.parted gathered.parted_bytes ++ ready_in (ready_head gathered.hand) gathered.bytes
 
+-- the first of them
 abbrev pub first_ready : List ReadySet → Option ReadySet
 first_ready [] = None
 first_ready (one ∷ sets) = Some one

@@ -5,6 +5,7 @@ use Rattle.decoder_model.specs.declared.set_fault.SetFault.{SetFault}
 use Rattle.display_sets.specs.Gathered.{ReadySet}
 use Rattle.display_sets.specs.declared.ready.Ready.{Ready}
 
+-- the bytes that are lent, or the fault
 abbrev pub lent_content : Result (Bor (List ℕ)) SetFault → Result (List ℕ) SetFault
 lent_content (Ok bytes) = Ok bytes.now
 lent_content (Err fault) = Err fault

@@ -45,6 +45,7 @@ IsReady lost set = ⊥
 IsReady (whole time size segments) set = (set.time ≡ time) × (set.size ≡ size) × ((bytes : List ℕ) × (set.content ≡ Ok bytes) × AreBytes segments bytes)
 IsReady (refused time size fault) set = (set.time ≡ time) × (set.size ≡ size) × (set.content ≡ Err fault)
 
+-- the sets in a receiver's memory are those deliveries, one after another
 abbrev pub AreReady : List (Delivery (List ℕ)) → List ReadySet → Type 0
 AreReady [] [] = Unit {0}
 AreReady [] (set ∷ sets) = ⊥
@@ -68,24 +69,28 @@ IsFirst sets given (Some set) = (delivery : Delivery (List ℕ)) × (rest : List
 
 -- ---- what became of a unit
 
+-- it was passed over
 abbrev pub is_aside : UnitEnd → Bool
 is_aside end.Aside = true
 is_aside end.Dropped = false
 is_aside end.Taken = false
 is_aside end.Parted = false
 
+-- it was dropped, as what is passed over is too
 abbrev pub drops : UnitEnd → Bool
 drops end.Aside = true
 drops end.Dropped = true
 drops end.Taken = false
 drops end.Parted = false
 
+-- it made the set in hand ready before it
 abbrev pub parts : UnitEnd → Bool
 parts end.Aside = false
 parts end.Dropped = false
 parts end.Taken = false
 parts end.Parted = true
 
+-- an arrival that is passed over
 abbrev pub is_aside_arrival : Arrival → Bool
 is_aside_arrival loss = false
 is_aside_arrival refused_unit = false

@@ -47,7 +47,7 @@ const CUT: [u8; 9] = [0x0F, 0x80, 0x00, 0x02, 0x00, 0x00, 0x0F, 0x10, 0x00];
 /// A unit: its time, its size and its segments; what becomes of it, and the sets that are ready then.
 #[derive(Clone, Copy)]
 struct Row<'a> {
-    time: u64,
+    time: u32,
     size: u32,
     field: &'a [u8],
     end: UnitEnd,
@@ -55,7 +55,7 @@ struct Row<'a> {
 }
 
 fn taken_as<'a>(
-    time: u64,
+    time: u32,
     size: u32,
     field: &'a [u8],
     end: UnitEnd,
@@ -108,11 +108,12 @@ fn goes(gathering: &mut Gathering, row: &Row<'_>) -> bool
     requires { ready_sets gathering.old ≡ [] }
     ensures { result ≡ true → ready_sets gathering.new ≡ [] }
 {
-    gathering.take_unit(row.time, row.size, row.field) == row.end && gives(gathering, row.sets)
+    gathering.take_unit(u64::from(row.time), row.size, row.field) == row.end
+        && gives(gathering, row.sets)
 }
 
 /// The time of the first unit that does not go as its row says.
-fn first_wrong(gathering: &mut Gathering, rows: &[Row<'_>]) -> Option<u64>
+fn first_wrong(gathering: &mut Gathering, rows: &[Row<'_>]) -> Option<u32>
     requires { ready_sets gathering.old ≡ [] }
 {
     for row in rows {

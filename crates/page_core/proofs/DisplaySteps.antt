@@ -1,5 +1,5 @@
 -- The display in force with the display of a set.
-use Rattle.std.proofs.Common.{◌≡◌, ◌∙◌, refl, sym, ap, ℕ, ◌≤◌, ◌||◌, Bool, true, false, cond, ltb, List, [], ◌∷◌, ◌++◌, filter, reverse, Option, Some, None, arith}
+use Rattle.std.proofs.Common.{◌≡◌, ◌∙◌, refl, ap, ℕ, ◌≤◌, ◌||◌, Bool, true, false, cond, ltb, List, [], ◌∷◌, ◌++◌, filter, reverse, Option, Some, None, arith}
 use Rattle.std.specs.Prelude.{filter_map, option_and_then, unwrap_or}
 use Rattle.std.specs.List.{cons_option}
 use Rattle.std.specs.Option.{option_or, is_some}
@@ -7,7 +7,7 @@ use Rattle.std.proofs.lemmas.Bool.Decides.{nat_tests}
 use Rattle.sub_base.specs.Lists.{first_given}
 use Rattle.sub_base.specs.declared.profile.Profile.{Profile}
 use Rattle.stream_syntax.specs.Segments.{SegmentValue, of_page, of_region, of_clut, of_object, of_display, end_of_set, passed_over, Display}
-use Rattle.decoder_model.specs.Contents.{page_in, display_in, page_of, display_of, display_in_set}
+use Rattle.decoder_model.specs.Contents.{page_in, display_in, display_of, display_in_set}
 use Rattle.decoder_model.specs.Faults.{display_fault, display_in_force, display_or_default}
 use Rattle.decoder_model.specs.Readings.{Content}
 use Rattle.decoder_model.specs.declared.set_fault.SetFault.TheVariants.{DisplayTooLarge}

@@ -1,11 +1,10 @@
 -- The segment at the front of framed segments.
-use Rattle.std.proofs.Common.{◌≡◌, ℕ, ◌<◌, ◌≤◌, List, ◌++◌, length, take, drop, None, Ok, Err, sym, ap, subst, ◌∙◌, arith, length-append}
+use Rattle.std.proofs.Common.{◌≡◌, ℕ, ◌≤◌, List, ◌++◌, length, take, drop, None, Ok, Err, sym, ap, subst, ◌∙◌, arith, length-append}
 use Rattle.std.proofs.Math.Seq.{take-append_seam, drop-append_seam, take-length}
 use Rattle.std.proofs.Math.ListN.{get_or-append}
 use Rattle.std.proofs.lemmas.Bool.Decides.{nat_tests}
 use Rattle.stream_syntax.specs.SegmentTests.{frame_tests, IsSegmentFault}
-use Rattle.stream_syntax.specs.Fields.{Field, FitsFields}
-use Rattle.stream_syntax.specs.Segments.{SegmentValue, of_page, of_region, of_clut, of_object, of_display, end_of_set, passed_over, IsSegment, object_fields, segment_fields}
+use Rattle.stream_syntax.specs.Segments.{SegmentValue, IsSegment}
 use Rattle.stream_syntax.specs.Tests.{byte_at, first_fault}
 use Rattle.stream_syntax.specs.declared.segment_fault.SegmentFault.{SegmentFault}
 use Rattle.stream_syntax.specs.DataField.{segment_size}
@@ -13,7 +12,7 @@ use Rattle.decoder_model.specs.Readings.{Reading, read, faulty, IsReading}
 use Rattle.segments.specs.Contents.{contents}
 use Rattle.segments.specs.declared.reading.Segment.{Segment}
 use Rattle.decoder_model.specs.Received.{IsFramed, BeginsWith}
-use Rattle.page_core.specs.Handed.{HasFieldSizes, Matches}
+use Rattle.page_core.specs.Handed.{Matches}
 
 -- framed bytes have a head
 pub framed_length : (bytes : List ℕ) → IsFramed bytes → 6 ≤ length bytes
@@ -67,19 +66,3 @@ taken_front bytes rest reading size begins is_size =
 -- and they are framed there
 pub framed_front : (bytes rest : List ℕ) (reading : Reading) → BeginsWith bytes reading rest → first_fault (frame_tests bytes) ≡ None
 framed_front bytes rest reading begins = ap (λ (all : List ℕ). first_fault (frame_tests all)) begins.joined ∙ framed_at_front begins.segment rest begins.is_framed
-
--- the lengths of an object's blocks are numbers of 16 bits
-pub field_sizes : (bytes : List ℕ) (value : SegmentValue) → IsSegment bytes value → HasFieldSizes value
-field_sizes bytes (of_page value) is = tt
-field_sizes bytes (of_region value) is = tt
-field_sizes bytes (of_clut value) is = tt
-field_sizes bytes (of_object value) is =
-    let body : List Field = object_fields is.is_body.1 value in
-    let fits : FitsFields (segment_fields is.kind is.page body) = subst (λ (fields : List Field). FitsFields (segment_fields is.kind is.page fields)) is.is_body.2 is.fits in
-    let from_top = fits.1.1.1.1.1.1.1.1.1 in
-    let top : length value.top < 65536 = from_top.0 in
-    let bottom : length value.bottom < 65536 = from_top.1.0 in
-    (omega (arith, top), omega (arith, bottom))
-field_sizes bytes (of_display value) is = tt
-field_sizes bytes end_of_set is = tt
-field_sizes bytes passed_over is = tt

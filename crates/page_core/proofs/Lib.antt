@@ -60,6 +60,7 @@ pub mod EverywhereWrites
 pub mod EverywhereKept
 pub mod EverywhereCodes
 pub mod KeptIds
+pub mod HeldNodes
 pub mod OtherSegments
 pub mod ObjectMemory
 pub mod SetOrder
@@ -84,5 +85,4 @@ pub mod RegionNeeds
 pub mod RegionsBegin
 pub mod RegionsHeld
 pub mod PaintedTimes
-
-pub mod NodeCounts
+pub mod KnownObjects

@@ -1,7 +1,10 @@
 -- The next content of a kind in a set.
 use Rattle.std.proofs.Common.{◌≡◌, ◌∙◌, ℕ, ◌<◌, ◌==◌, Bool, true, false, cond, List, [], ◌∷◌, filter, length, refl, sym, ap, subst, arith}
 use Rattle.std.proofs.lemmas.Bool.{eqb-true}
-use Rattle.stream_syntax.specs.Segments.{SegmentValue, of_page, of_region, of_clut, of_object, of_display, end_of_set, passed_over, IsKindOf, IsPassedOver}
+use Rattle.stream_syntax.specs.Segments.{SegmentValue, of_page, of_region, of_clut, of_object, of_display, end_of_set, passed_over, IsKindOf, IsPassedOver, IsSegment, Object}
+use Rattle.std.specs.Option.{is_some}
+use Rattle.stream_syntax.specs.declared.wire.TheConstants.{OBJECT_DATA}
+use Rattle.decoder_model.specs.Contents.{object_in}
 use Rattle.stream_syntax.specs.Tests.{byte_at}
 use Rattle.decoder_model.specs.Readings.{Content, Reading, read, IsReading}
 use Rattle.decoder_model.specs.Received.{BeginsWith}
@@ -9,7 +12,7 @@ use Rattle.segments.specs.Contents.{contents}
 use Rattle.segments.specs.declared.reading.Segment.{Segment}
 use Rattle.segments.proofs.Readings.{kind_of_segment}
 use Rattle.page_core.specs.Handed.{AreContents, IsCutOff}
-use Rattle.page_core.specs.Walks.{is_of, is_content_of, IsNextOf, IsLeftOf}
+use Rattle.page_core.specs.Walks.{is_of, is_content_of, is_object, IsNextFront, IsNextOf, IsLeftOf}
 use Rattle.page_core.specs.declared.front.Front.{Front as Cut}
 
 -- the segment type of a segment tells whether its value is of that type
@@ -62,16 +65,58 @@ passed kind set front other f = record {
 }
 
 -- one of the type is the next
-pub found : (kind : ℕ) (set : List Content) (front : Cut) (segment : Segment) → (front.kind == kind) ≡ true → (f : Front kind set front) → contents segment ≡ f.content.value
-    → IsNextOf (is_content_of kind) set (contents segment) front.rest.now
-found kind set front segment hit f same = record {
+pub found : (kind : ℕ) (set : List Content) (front : Cut) → (front.kind == kind) ≡ true → Front kind set front → IsNextFront kind set front
+found kind set front hit f = record {
   content = f.content;
-  same = same;
+  is_content = f.is_reading;
   hit = sym f.type_is ∙ hit;
   more = f.more;
   are = f.are;
   split = f.same ∙ ap (λ b. cond b (f.content ∷ filter (is_content_of kind) f.more) (filter (is_content_of kind) f.more)) (sym f.type_is ∙ hit);
 }
+
+pub next_is : (kind : ℕ) (set : List Content) (front : Cut) (segment : Segment) (n : IsNextFront kind set front) → contents segment ≡ n.content.value → IsNextOf (is_content_of kind) set (contents segment) front.rest.now
+next_is kind set front segment n same = record { content = n.content; same = same; hit = n.hit; more = n.more; are = n.are; split = n.split }
+
+-- one of an object has it
+object_by_kind : (value : SegmentValue) → is_of OBJECT_DATA value ≡ true → (object : Object) × (value ≡ of_object object)
+object_by_kind (of_page value) hit = absurd (cc)
+object_by_kind (of_region value) hit = absurd (cc)
+object_by_kind (of_clut value) hit = absurd (cc)
+object_by_kind (of_object value) hit = (value, refl)
+object_by_kind (of_display value) hit = absurd (cc)
+object_by_kind end_of_set hit = absurd (cc)
+object_by_kind passed_over hit = absurd (cc)
+
+is_object_value : (value : SegmentValue) → is_of OBJECT_DATA value ≡ is_some (object_in value)
+is_object_value (of_page value) = refl
+is_object_value (of_region value) = refl
+is_object_value (of_clut value) = refl
+is_object_value (of_object value) = refl
+is_object_value (of_display value) = refl
+is_object_value end_of_set = refl
+is_object_value passed_over = refl
+
+objects_of : (set : List Content) → filter (is_content_of OBJECT_DATA) set ≡ filter is_object set
+objects_of set = λ i. filter (λ content. is_object_value content.value i) set
+
+pub object_is_segment : (set : List Content) (front : Cut) (n : IsNextFront OBJECT_DATA set front) → (object : Object) × IsSegment front.segment.now (of_object object) × (n.content.value ≡ of_object object)
+object_is_segment set front n =
+    let object = object_by_kind n.content.value n.hit in
+    (object.0, subst (IsSegment front.segment.now) object.1 n.is_content.segment, object.1)
+
+pub next_object_is : (set : List Content) (front : Cut) (object : Object) (n : IsNextFront OBJECT_DATA set front) → of_object object ≡ n.content.value → IsNextOf is_object set (of_object object) front.rest.now
+next_object_is set front object n same = record {
+  content = n.content;
+  same = same;
+  hit = sym (is_object_value n.content.value) ∙ n.hit;
+  more = n.more;
+  are = n.are;
+  split = sym (objects_of set) ∙ n.split ∙ ap (λ (rest : List Content). n.content ∷ rest) (objects_of n.more);
+}
+
+pub no_object_left : (set : List Content) → filter (is_content_of OBJECT_DATA) set ≡ [] → filter is_object set ≡ []
+no_object_left set none = sym (objects_of set) ∙ none
 
 -- where nothing is at the front, none is left
 none_by : (kind : ℕ) (set : List Content) (bytes : List ℕ) (left : List Content) → ((reading : Reading) (behind : List ℕ) → BeginsWith bytes reading behind → ⊥) → AreContents left bytes

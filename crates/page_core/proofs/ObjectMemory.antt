@@ -1,12 +1,12 @@
 -- A page memory with one more object segment.
-use Rattle.std.proofs.Common.{◌≡◌, ◌∙◌, refl, sym, ap, subst, ℕ, zero, suc, ◌+◌, ◌<◌, List, [], ◌∷◌, length, map, find, All, Contains, Option, Some, None, option_map, arith}
+use Rattle.std.proofs.Common.{◌≡◌, ◌∙◌, refl, sym, ap, subst, ℕ, zero, suc, ◌+◌, ◌<◌, List, [], ◌∷◌, length, map, All, Contains, Option, Some, None, option_map, arith}
 use Rattle.std.specs.Prelude.{IfSome, option_and_then, sum_by}
 use Rattle.std.specs.List.{list_any, range_with_len}
 use Rattle.std.proofs.lemmas.List.{length-map}
 use Rattle.std.proofs.lemmas.List.Elements.{All-map, All-contains_itself}
 use Rattle.std.proofs.lemmas.List.Sums.{sum_by-cons}
 use Rattle.stream_syntax.specs.PixelBlocks.{Part}
-use Rattle.stream_syntax.specs.Segments.{SegmentValue, Object, Region, of_object}
+use Rattle.stream_syntax.specs.Segments.{SegmentValue, Object, of_object}
 use Rattle.stream_syntax.specs.declared.segment_fault.SegmentFault.{SegmentFault}
 use Rattle.decoder_model.specs.Contents.{object_in}
 use Rattle.decoder_model.specs.Faults.{object_too_deep, fault_in_regions}
@@ -17,9 +17,9 @@ use Rattle.decoder_model.specs.Readings.{Content}
 use Rattle.decoder_model.specs.Taken.{taken_among, taken_of}
 use Rattle.decoder_model.specs.declared.set_fault.SetFault.{SetFault}
 use Rattle.decoder_model.specs.declared.set_fault.SetFault.TheVariants.{Segment}
-use Rattle.pixel_store.specs.Regions.{Regions, region_at, code_of}
+use Rattle.pixel_store.specs.Regions.{region_at, code_of}
 use Rattle.page_core.proofs.RegionIds.{apart_by_ids}
-use Rattle.page_core.specs.Composition.{AreIdsApart, Composition, KeptListing, KeptRegion, KeptClut, region_in, clut_in, taken_nodes}
+use Rattle.page_core.specs.Composition.{AreIdsApart, Composition, KeptRegion, KeptClut, region_in, clut_in, taken_nodes}
 use Rattle.page_core.specs.Everywhere.{AreKeptWritten, KeepsRoom, painted_kept, with_all_painted}
 use Rattle.page_core.specs.Listings.{IsPainter, painted_listing}
 use Rattle.page_core.specs.Memory.{Memory, AreInks, IsWhole, HasSides, Holds, ink_in}

@@ -1,12 +1,12 @@
 -- What segments of other kinds leave of the regions and CLUTs of an epoch, and that further segments take none away.
-use Rattle.std.proofs.Common.{◌≡◌, ◌∙◌, refl, sym, ap, ℕ, suc, ◌+◌, ◌≤◌, ◌==◌, ◌||◌, Bool, true, false, cond, List, [], ◌∷◌, ◌++◌, length, map, Option, Some, None, arith}
+use Rattle.std.proofs.Common.{◌≡◌, ◌∙◌, refl, ap, ℕ, ◌≤◌, ◌==◌, ◌||◌, Bool, true, false, cond, List, [], ◌∷◌, ◌++◌, length, map, Option, Some, None, arith}
 use Rattle.std.specs.Prelude.{filter_map, flat_map, sum_by}
 use Rattle.std.specs.List.{list_any, cons_option}
 use Rattle.std.specs.Option.{option_or, is_some}
 use Rattle.sub_base.specs.Lists.{different}
 use Rattle.stream_syntax.specs.Segments.{Region, Clut}
-use Rattle.decoder_model.specs.Contents.{region_of, region_named, clut_of, where_passes}
-use Rattle.decoder_model.specs.Nodes.{is_same, region_id, region_ids, clut_id, clut_ids, is_same_entry, entries_of_clut, table_entries, TableEntry, bytes_of_region, pixels_used, listing_count, listings_held}
+use Rattle.decoder_model.specs.Contents.{region_of, clut_of, where_passes}
+use Rattle.decoder_model.specs.Nodes.{is_same, region_id, region_ids, clut_id, clut_ids, is_same_entry, entries_of_clut, table_entries, bytes_of_region, pixels_used, listing_count, listings_held}
 use Rattle.decoder_model.specs.Readings.{Content}
 use Rattle.decoder_model.specs.Taken.{Taken, is_taken, last_region, taken_among, taken_of, taken_region}
 use Rattle.page_core.specs.Walks.{is_region, is_clut}

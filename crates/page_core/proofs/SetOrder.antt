@@ -1,10 +1,10 @@
 -- The segments of a set in the order in which they are handled, kind by kind.
-use Rattle.std.proofs.Common.{◌≡◌, ◌∙◌, refl, sym, ap, Bool, true, false, List, [], ◌∷◌, ◌++◌, filter, reverse, Option, None, append_assoc}
+use Rattle.std.proofs.Common.{◌≡◌, ◌∙◌, refl, ap, Bool, true, false, List, ◌∷◌, ◌++◌, filter, reverse, Option, None, append_assoc}
 use Rattle.std.specs.List.{list_any}
 use Rattle.std.specs.Option.{option_or, is_some}
 use Rattle.std.proofs.lemmas.List.{reverse-append}
-use Rattle.stream_syntax.specs.Segments.{SegmentValue, of_page, of_region, of_clut, of_object, of_display, end_of_set, passed_over, Object}
-use Rattle.decoder_model.specs.Contents.{page_in, region_in, clut_in, object_in, display_in, page_of, region_of, clut_of, object_of, display_of, in_order}
+use Rattle.stream_syntax.specs.Segments.{SegmentValue, of_page, of_region, of_clut, of_object, of_display, end_of_set, passed_over}
+use Rattle.decoder_model.specs.Contents.{page_in, region_in, clut_in, object_in, display_in}
 use Rattle.decoder_model.specs.Faults.{first_fault_by, object_too_deep, fault_in_regions}
 use Rattle.std.specs.Prelude.{option_and_then}
 use Rattle.decoder_model.specs.Readings.{Content}
@@ -13,7 +13,7 @@ use Rattle.decoder_model.specs.declared.set_fault.SetFault.{SetFault}
 use Rattle.page_core.specs.RegionTests.{first_in, IsQuiet, before_regions}
 use Rattle.page_core.specs.SetSteps.{before_cluts, before_objects}
 use Rattle.page_core.specs.Walks as walks
-use Rattle.page_core.proofs.Defining.{any_reversed, any_of_none, no_region_in_page, no_region_in_clut, no_region_in_object, no_region_in_display}
+use Rattle.page_core.proofs.Defining.{any_reversed, any_of_none, no_region_in_clut, no_region_in_object}
 use Rattle.page_core.proofs.Orders.{is_display, is_page, is_region, is_clut, is_object, first_in-append, nothing_in}
 use Rattle.page_core.proofs.TestsInOrder.{segments_with}
 

@@ -1,5 +1,5 @@
 -- There are nodes for what a set brings, where the epoch with it needs no more than there are.
-use Rattle.std.proofs.Common.{◌≡◌, ◌∙◌, refl, sym, ap, ℕ, ◌+◌, ◌-◌, ◌≤◌, Bool, true, false, cond, ltb, List, [], ◌++◌, length, Option, Some, None, arith}
+use Rattle.std.proofs.Common.{◌≡◌, ◌∙◌, refl, sym, ap, ℕ, ◌+◌, ◌-◌, ◌≤◌, Bool, true, false, cond, ltb, List, [], ◌++◌, length, Some, None, arith}
 use Rattle.std.specs.Prelude.{sum_by}
 use Rattle.std.specs.List.{list_any}
 use Rattle.std.proofs.lemmas.Bool.Decides.{nat_tests}
@@ -11,10 +11,10 @@ use Rattle.decoder_model.specs.Nodes.{region_ids, clut_ids, table_entries, listi
 use Rattle.decoder_model.specs.Readings.{Content}
 use Rattle.decoder_model.specs.Taken.{Taken, taken_of}
 use Rattle.decoder_model.specs.declared.set_fault.SetFault.TheVariants.{CompositionFull}
-use Rattle.page_core.specs.Composition.{KeptRegion, taken_nodes}
+use Rattle.page_core.specs.Composition.{KeptRegion}
 use Rattle.page_core.specs.Memory.{Memory, IsWhole, Holds}
 use Rattle.page_core.specs.Walks.{is_region}
-use Rattle.page_core.proofs.NodeCounts.{nodes_counted, regions_counted, listings_counted, cluts_counted}
+use Rattle.page_core.proofs.HeldNodes.{nodes_counted, regions_counted, listings_counted, cluts_counted}
 use Rattle.page_core.proofs.OtherSegments.{HaveSameRegions, HaveSameCluts, regions_behind, same_listings, more_cluts}
 
 -- without a fault the nodes suffice

@@ -1,21 +1,19 @@
 -- The verdict on a set of an epoch, and what stands with it.
-use Rattle.std.proofs.Common.{◌≡◌, ◌∙◌, refl, sym, ap, subst, ℕ, ◌-◌, Bool, true, List, [], ◌∷◌, Option, Some, None, unwrap_or}
+use Rattle.std.proofs.Common.{◌≡◌, ◌∙◌, refl, sym, ap, subst, ℕ, ◌-◌, List, [], ◌∷◌, Option, Some, None, unwrap_or}
 use Rattle.std.specs.Prelude.{option_and_then}
 use Rattle.std.specs.Option.{option_or, is_some}
-use Rattle.sub_base.specs.Lists.{first_given}
 use Rattle.sub_base.specs.declared.profile.Profile.{Profile}
 use Rattle.stream_syntax.specs.Segments.{Page}
 use Rattle.decoder_model.specs.Contents.{display_in_set, page_in_set}
 use Rattle.decoder_model.specs.Faults.{contents_in, display_fault, page_fault, first_fault_by, region_changed, pixels_full, composition_fault, object_too_deep, epoch_fault}
-use Rattle.decoder_model.specs.Free.{free_nodes_after, free_pixels_after, nodes_held, nodes_with_page, pixels_held}
+use Rattle.decoder_model.specs.Free.{nodes_held, nodes_with_page, pixels_held}
 use Rattle.decoder_model.specs.Kept.{lifted_behind, last_time, epoch_of}
-use Rattle.decoder_model.specs.Nodes.{nodes_of, pixels_used}
 use Rattle.decoder_model.specs.Readings.{Content, Reading}
 use Rattle.decoder_model.specs.Sets.{Delivery, whole}
 use Rattle.decoder_model.specs.Taken.{segments_of, taken_of}
 use Rattle.decoder_model.specs.Verdict.{shown_unless, verdict_in_epoch, verdict_on_kept, if_kept, sets_with, sets_since, known_epoch}
 use Rattle.decoder_model.specs.declared.set_end.SetEnd.{SetEnd}
-use Rattle.decoder_model.specs.declared.set_end.SetEnd.TheVariants.{Shown, Broken}
+use Rattle.decoder_model.specs.declared.set_end.SetEnd.TheVariants.{Shown}
 use Rattle.decoder_model.specs.declared.set_fault.SetFault.{SetFault}
 use Rattle.page_core.specs.Accepted.{IsBefore, IsBegun}
 use Rattle.page_core.specs.Judging.{fault_before_nodes}

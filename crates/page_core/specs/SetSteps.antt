@@ -1,5 +1,5 @@
 -- What the segments of a set change in the page memory, step by step, in the order in which they are handled (EN 300 743, clause 5.1).
-use Rattle.std.specs.Prelude.{◌≡◌, ◌-◌, ℕ, true, List, ◌∷◌, ◌++◌, filter, reverse}
+use Rattle.std.specs.Prelude.{◌≡◌, ◌-◌, true, List, ◌∷◌, ◌++◌, filter, reverse}
 use Rattle.stream_syntax.specs.Segments.{Page}
 use Rattle.decoder_model.specs.Nodes.{nodes_of, pixels_used}
 use Rattle.decoder_model.specs.Readings.{Content}
@@ -7,7 +7,7 @@ use Rattle.decoder_model.specs.Taken.{segments_of, taken_of}
 use Rattle.page_core.specs.Composition.{Composition}
 use Rattle.page_core.specs.Memory.{Memory, Holds}
 use Rattle.page_core.specs.RegionTests.{before_regions}
-use Rattle.page_core.specs.Walks.{is_region, is_clut, is_object}
+use Rattle.page_core.specs.Walks.{is_region, is_clut}
 
 -- the segments of an epoch, and those of a set before its CLUTs, the latest first; and those before its objects
 abbrev pub before_cluts : List Content → List Content → List Content

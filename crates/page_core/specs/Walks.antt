@@ -4,8 +4,9 @@ use Rattle.std.specs.Option.{is_some}
 use Rattle.stream_syntax.specs.Segments.{SegmentValue, of_page, of_region, of_clut, of_object, of_display, end_of_set, passed_over}
 use Rattle.stream_syntax.specs.declared.wire.TheConstants.{CLUT_DEFINITION, DISPLAY_DEFINITION, END_OF_DISPLAY_SET, OBJECT_DATA, PAGE_COMPOSITION, REGION_COMPOSITION}
 use Rattle.decoder_model.specs.Contents.{region_of, clut_of, object_of}
-use Rattle.decoder_model.specs.Readings.{Content}
+use Rattle.decoder_model.specs.Readings.{Content, IsContent}
 use Rattle.page_core.specs.Handed.{AreContents}
+use Rattle.page_core.specs.declared.front.Front.{Front}
 
 -- a value is of that segment type
 abbrev pub is_of : ℕ → SegmentValue → Bool
@@ -28,6 +29,15 @@ is_clut content = is_some (clut_of content)
 
 abbrev pub is_object : Content → Bool
 is_object content = is_some (object_of content)
+
+-- the contents of a type in a set are that of a segment that was cut off, and then those of what the bytes behind it are
+pub record IsNextFront (kind : ℕ) (set : List Content) (front : Front) : Type 0 where
+  pub content : Content
+  pub is_content : IsContent front.segment.now content
+  pub hit : is_content_of kind content ≡ true
+  pub more : List Content
+  pub are : AreContents more front.rest.now
+  pub split : filter (is_content_of kind) set ≡ content ∷ filter (is_content_of kind) more
 
 -- the wanted contents of a set are one with that value, and then those of what the bytes are
 pub record IsNextOf (wanted : Content → Bool) (set : List Content) (value : SegmentValue) (rest : List ℕ) : Type 0 where

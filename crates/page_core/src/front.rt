@@ -4,7 +4,7 @@ ghost use Rattle.std.specs.Prelude.{◌≡◌, ◌<◌, IfOk, IfSome, IsSomeAnd,
 ghost use Rattle.decoder_model.specs.Readings.{Reading, IsReading};
 ghost use Rattle.decoder_model.specs.Received.{BeginsWith};
 ghost use Rattle.segments.specs.Contents.{contents};
-ghost use Rattle.page_core.specs.Handed.{HasFieldSizes, IsCutOff, Matches};
+ghost use Rattle.page_core.specs.Handed.{IsCutOff, Matches};
 ghost use Rattle.page_core.specs.RegionSteps.{IsRightValue};
 
 use segments::{Segment, SegmentFault, read_frame, read_segment};
@@ -37,7 +37,6 @@ pub(crate) fn cut_front(bytes: &[u8]) -> Option<Front<'_>>
 /// Reads bytes that are one segment and no more.
 pub(crate) fn read_one(bytes: &[u8]) -> Result<Segment<'_>, SegmentFault>
     ensures matches { (reading : Reading) → IsReading bytes.now reading → Matches result reading }
-    ensures fields { IfOk result (λ segment. HasFieldSizes (contents segment)) }
     ensures right { IfOk result (λ segment. IsRightValue (contents segment)) }
 {
     match read_segment(bytes) {

@@ -36,7 +36,8 @@ pub(crate) fn fault_before_nodes(
         → HasHeads (segments_of before) composition.now
         → IsFound set found.now → IsSound set bytes.now
         → result ≡ first_of_tests profile.now before set (page_value page.now) }
-    ensures display { result ≡ None → option_and_then (fault_of_display profile.now) (option_map display_value found.now.display) ≡ None }
+    ensures display { result ≡ None
+        → option_and_then (fault_of_display profile.now) (option_map display_value found.now.display) ≡ None }
 {
     if let Some(fault) = display_fault(profile, found.display) {
         return Some(fault);

@@ -21,10 +21,12 @@ pub fn display_and_page()
 /// Behind a loss or a broken set, until a kept set comes that is not of state normal, no epoch is known, and all nodes and all
 /// bytes of pixels are free; and each kept set of state normal waits or is broken.
 pub fn behind_a_loss()
-    ensures free { (past : List (Delivery Reading)) (memory : Memory) → IsBehindLoss memory.profile memory.anchor past → Stands past memory
+    ensures free { (past : List (Delivery Reading)) (memory : Memory)
+        → IsBehindLoss memory.profile memory.anchor past → Stands past memory
         → IsAllFree memory }
     ensures waits { (past : List (Delivery Reading)) (memory : Memory) (pts size time : ℕ) (readings : List Reading)
-        → IsBehindLoss memory.profile memory.anchor past → lifted_time memory.anchor past (whole pts size readings) ≡ Some time
+        → IsBehindLoss memory.profile memory.anchor past
+        → lifted_time memory.anchor past (whole pts size readings) ≡ Some time
         → IsNormal (contents_in readings)
         → (verdict : SetEnd) × (verdict_of memory.profile memory.anchor past (whole pts size readings) ≡ Some verdict) × IsWaitingOrBroken verdict }
 {}

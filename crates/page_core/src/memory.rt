@@ -20,10 +20,10 @@ ghost use Rattle.page_core.specs.Epochs.{IsStart};
 ghost use Rattle.page_core.specs.declared.epoch.Start.TheVariants.{Waits};
 ghost use Rattle.page_core.specs.Memory.{Stands, IsForgotten, IsSameReceiver, Forgets};
 
-mod objects;
-mod regions;
 mod cluts;
 mod counting;
+mod objects;
+mod regions;
 mod scene;
 mod sets;
 

@@ -4,7 +4,6 @@ ghost use Rattle.std.specs.Prelude.{◌≡◌, None, ◌+◌, ◌<◌, ◌≤◌
 ghost use Rattle.stream_syntax.specs.PixelBlocks.{Part, AreParts};
 ghost use Rattle.stream_syntax.specs.Segments.{Object, of_object};
 ghost use Rattle.sub_base.specs.declared.depth.Depth.TheVariants.{Eight};
-ghost use Rattle.decoder_model.specs.Faults.{depth_fault};
 ghost use Rattle.decoder_model.specs.Readings.{Content, AreFields};
 ghost use Rattle.page_core.specs.Painted.{HasRegion, IsWritten, HaveCodes, AreChecked, IsCheckedBlock, code_by_fields, field_runs};
 
@@ -81,22 +80,8 @@ pub(crate) fn check_fields<'a>(
     }
 }
 
-/// The blocks of an object's two fields for regions of a depth; blocks without runs where one of them is refused there.
-pub(crate) fn fields_for<'a>(top: &'a [u8], bottom: &'a [u8], depth: Depth) -> Fields<'a>
-    requires top { length top.now ≤ 65535 }
-    requires bottom { length bottom.now ≤ 65535 }
-    ensures depth { result.depth ≡ depth }
-    ensures runs { (content : Content) (object : Object) → top.now ≡ object.top → bottom.now ≡ object.bottom → AreFields (of_object object) content.top content.bottom
-        → depth_fault depth content object ≡ None → result ≡ field_runs depth content.top content.bottom }
-{
-    match check_fields(top, bottom, depth) {
-        Ok(fields) => fields,
-        Err(_) => empty_fields(depth),
-    }
-}
-
 /// Blocks without runs.
-fn empty_fields<'a>(depth: Depth) -> Fields<'a>
+pub(crate) fn empty_fields<'a>(depth: Depth) -> Fields<'a>
     ensures { result.depth ≡ depth }
 {
     match check_field(&[], depth) {

@@ -264,12 +264,19 @@ fn verdicts(rt: HostRuntime) -> Result<(), Fail> {
         ),
         (
             90_011,
-            &[PAGE, REGION, OBJECT, FOUR_BIT_OBJECT],
+            &[PAGE, REGION, FOUR_BIT_OBJECT],
             in_segment(13, too_deep),
             512,
             81_920,
         ),
-        (90_012, &[PAGE, FILLED, END], SetEnd::Shown, 509, 81_919),
+        // The second object has the version of the first, and paints nothing.
+        (
+            90_012,
+            &[PAGE, FILLED, OBJECT, FOUR_BIT_OBJECT],
+            SetEnd::Shown,
+            509,
+            81_919,
+        ),
         (90_013, &[PAGE, FOUR_BITS, END], SetEnd::Shown, 509, 81_919),
         (90_014, &[PAGE, EIGHT_BITS, END], SetEnd::Shown, 509, 81_918),
     ];

@@ -7,9 +7,10 @@ ghost use Rattle.decoder_model.specs.Readings.{Content};
 ghost use Rattle.segments.specs.Contents.{clut_value, contents, object_value, region_value};
 ghost use Rattle.page_core.specs.Handed.{AreContents, HasFieldSizes};
 ghost use Rattle.page_core.specs.RegionSteps.{IsRightHead, IsRightValue};
-ghost use Rattle.page_core.specs.Walks.{IsNextOf, is_clut, is_content_of, is_object, is_region};
+ghost use Rattle.page_core.specs.Walks.{IsNextFront, IsNextOf, is_clut, is_content_of, is_object, is_region};
 
-use crate::front::{cut_front, read_one};
+use crate::front::{Front, cut_front, read_one};
+use crate::known_objects::known_object;
 use segments::{ClutSeg, ObjectSeg, RegionSeg, Segment};
 use stream_syntax::{CLUT_DEFINITION, OBJECT_DATA, REGION_COMPOSITION};
 
@@ -20,6 +21,23 @@ pub(crate) struct Next<'a, S> {
     pub rest: &'a [u8],
 }
 
+/// The bytes from the first segment of a type on; none where there is none.
+fn next_front(bytes: &[u8], kind: u8) -> Option<Front<'_>>
+    requires { IsPassedOver kind → ⊥ }
+    ensures next { (set : List Content) → AreContents set bytes.now
+        → MatchOption result (filter (is_content_of kind) set ≡ []) (IsNextFront kind set) }
+    ensures shorter { IfSome result (λ front. length front.rest.now < length bytes.now) }
+{
+    let mut rest = bytes;
+    while let Some(front) = cut_front(rest) {
+        if front.kind == kind {
+            return Some(front);
+        }
+        rest = front.rest;
+    }
+    None
+}
+
 /// The first segment of a type in the bytes; none where there is none.
 fn next_of(bytes: &[u8], kind: u8) -> Option<Next<'_, Segment<'_>>>
     requires { IsPassedOver kind → ⊥ }
@@ -27,23 +45,16 @@ fn next_of(bytes: &[u8], kind: u8) -> Option<Next<'_, Segment<'_>>>
         → MatchOption result (filter (is_content_of kind) set ≡ [])
         (λ next. IsNextOf (is_content_of kind) set (contents next.segment) next.rest.now) }
     ensures shorter { IfSome result (λ next. length next.rest.now < length bytes.now) }
-    ensures fields { IfSome result (λ next. HasFieldSizes (contents next.segment)) }
     ensures right { IfSome result (λ next. IsRightValue (contents next.segment)) }
 {
-    let mut rest = bytes;
-    while let Some(front) = cut_front(rest) {
-        if front.kind == kind {
-            return match read_one(front.segment) {
-                Ok(segment) => Some(Next {
-                    segment,
-                    rest: front.rest,
-                }),
-                Err(_) => None,
-            };
-        }
-        rest = front.rest;
+    let front = next_front(bytes, kind)?;
+    match read_one(front.segment) {
+        Ok(segment) => Some(Next {
+            segment,
+            rest: front.rest,
+        }),
+        Err(_) => None,
     }
-    None
 }
 
 /// The first region segment in the bytes; none where there is none.
@@ -79,19 +90,19 @@ pub(crate) fn next_clut(bytes: &[u8]) -> Option<Next<'_, ClutSeg<'_>>>
     }
 }
 
-/// The first object segment in the bytes; none where there is none.
+/// The first object segment in the bytes, whose blocks are not walked again; none where there is none.
 pub(crate) fn next_object(bytes: &[u8]) -> Option<Next<'_, ObjectSeg<'_>>>
     ensures next { (set : List Content) → AreContents set bytes.now → MatchOption result (filter is_object set ≡ [])
         (λ next. IsNextOf is_object set (of_object (object_value next.segment)) next.rest.now) }
     ensures shorter { IfSome result (λ next. length next.rest.now < length bytes.now) }
     ensures fields { IfSome result (λ next. HasFieldSizes (of_object (object_value next.segment))) }
 {
-    let next = next_of(bytes, OBJECT_DATA)?;
-    match next.segment {
-        Segment::Object(segment) => Some(Next {
+    let front = next_front(bytes, OBJECT_DATA)?;
+    match known_object(front.segment) {
+        Some(segment) => Some(Next {
             segment,
-            rest: next.rest,
+            rest: front.rest,
         }),
-        _ => None,
+        None => None,
     }
 }

@@ -1,11 +1,9 @@
 //! An object painted in all regions (EN 300 743, clause 7.2.5).
 
-ghost use Rattle.std.specs.Prelude.{◌≡◌, ◌≤◌, All, None, length};
-ghost use Rattle.std.specs.List.{list_any};
-ghost use Rattle.sub_base.specs.Lists.{last_given};
+ghost use Rattle.std.specs.Prelude.{◌≡◌, ◌<◌, ◌≤◌, All, IfSome, None, length, option_map};
 ghost use Rattle.comp_pool.specs.Pool.{list_of};
-ghost use Rattle.decoder_model.specs.Faults.{depth_fault};
 ghost use Rattle.decoder_model.specs.Readings.{Content, AreFields};
+ghost use Rattle.decoder_model.specs.declared.set_fault.SetFault.{SetFault};
 ghost use Rattle.pixel_store.specs.Regions.{KeepsOthers};
 ghost use Rattle.segments.specs.Contents.{object_value};
 ghost use Rattle.stream_syntax.specs.Segments.{of_object};
@@ -14,41 +12,60 @@ ghost use Rattle.page_core.specs.Everywhere.{AreApart, AreIdsApart, AreKeptWritt
 ghost use Rattle.page_core.specs.Listings.{code_by_pair, painted_node, painter_of};
 ghost use Rattle.page_core.specs.Lists.{IsRewritten};
 ghost use Rattle.page_core.specs.Nodes.{kept_in, list_count, listings_list, region_node};
-ghost use Rattle.page_core.specs.ObjectFaults.{fault_in_kept, least_of};
-ghost use Rattle.page_core.specs.Painted.{HasRegion, IsWritten, field_runs};
+ghost use Rattle.page_core.specs.ObjectFaults.{fault_in_kept, fault_in_node, fault_in_pair, fault_in_region_node, least_of, told};
+ghost use Rattle.page_core.specs.Painted.{HasRegion};
 
 use crate::composition::CompositionMemory;
 use crate::composition::listings::{Painter, listings_of, paint_list};
-use crate::composition::objects::painter;
+use crate::composition::objects::{RegionFault, fault_of, is_painting, lesser, painter};
 use crate::node::{Node, RegionNode};
-use crate::painting_objects::fields_for;
+use crate::painting_objects::{check_fields, empty_fields};
 use comp_pool::Pool;
 use pixel_store::Store;
 use segments::ObjectSeg;
+use stream_syntax::SegmentFault;
 
 /// The list of the regions.
 const REGIONS: u32 = 1;
 
 impl CompositionMemory {
-    /// Paints the object through all listings that it paints, region by region, and keeps its version for them. It writes nothing to a
-    /// region in which it is refused.
-    pub(crate) fn paint_everywhere(&mut self, object: &ObjectSeg<'_>, store: &mut Store)
+    /// Paints the object through all listings that it paints, region by region, and keeps its version for them. Answers its fault in the
+    /// region of the least id in which it has one; it writes nothing there.
+    pub(crate) fn paint_everywhere(
+        &mut self,
+        object: &ObjectSeg<'_>,
+        store: &mut Store,
+    ) -> Option<SegmentFault>
         requires regions { All (λ (kept : KeptRegion). HasRegion kept.head kept.slot store.old) self.old.regions }
         requires top { length object.now.top.now ≤ 65535 }
         requires bottom { length object.now.bottom.now ≤ 65535 }
         ensures composition { self.new ≡ with_all_painted (painter_of object.now) self.old }
         ensures regions { All (λ (kept : KeptRegion). HasRegion kept.head kept.slot store.new) self.old.regions }
         ensures room { KeepsRoom store.old store.new }
-        ensures written { (content : Content) → AreFields (of_object (object_value object.now)) content.top content.bottom
+        ensures fault { (content : Content)
+            → AreFields (of_object (object_value object.now)) content.top content.bottom
+            → AreIdsApart self.old.regions
+            → option_map SetFault.Segment result ≡ option_map (λ found. found.1) (least_of (fault_in_kept (painter_of object.now) content (object_value object.now)) self.old.regions) }
+        ensures byte { (content : Content)
+            → AreFields (of_object (object_value object.now)) content.top content.bottom
+            → AreIdsApart self.old.regions
+            → IfSome (least_of (fault_in_kept (painter_of object.now) content (object_value object.now)) self.old.regions) (λ found. found.0 < 256) }
+        ensures written { (content : Content)
+            → AreFields (of_object (object_value object.now)) content.top content.bottom
             → least_of (fault_in_kept (painter_of object.now) content (object_value object.now)) self.old.regions ≡ None → AreIdsApart self.old.regions
             → AreKeptWritten (painter_of object.now) content self.old.regions store.old store.new }
     {
-        paint_regions(&mut self.pool, painter(object), object, store);
+        fault_of(paint_regions(&mut self.pool, painter(object), object, store))
     }
 }
 
-/// Paints the object in all regions, one after another.
-fn paint_regions(pool: &mut Pool<Node>, painter: Painter, object: &ObjectSeg<'_>, store: &mut Store)
+/// Paints the object in all regions, one after another, and answers its fault in the region of the least id in which it has one.
+fn paint_regions(
+    pool: &mut Pool<Node>,
+    painter: Painter,
+    object: &ObjectSeg<'_>,
+    store: &mut Store,
+) -> Option<RegionFault>
     requires lists { length pool.old.lists ≡ list_count }
     requires regions { HaveRegions pool.old store.old }
     requires top { length object.now.top.now ≤ 65535 }
@@ -56,65 +73,96 @@ fn paint_regions(pool: &mut Pool<Node>, painter: Painter, object: &ObjectSeg<'_>
     ensures nodes { IsEverywhere painter pool.old pool.new }
     ensures regions { HaveRegions pool.old store.new }
     ensures room { KeepsRoom store.old store.new }
-    ensures written { (content : Content) → AreFields (of_object (object_value object.now)) content.top content.bottom
+    ensures fault { (content : Content)
+        → AreFields (of_object (object_value object.now)) content.top content.bottom → AreApart pool.old
+        → option_map told result ≡ least_of (fault_in_pair pool.old painter content (object_value object.now)) (list_of pool.old 1) }
+    ensures written { (content : Content)
+        → AreFields (of_object (object_value object.now)) content.top content.bottom
         → HasNoFaults painter content (object_value object.now) pool.old → AreApart pool.old
         → AreWritten painter content pool.old (kept_in region_node (list_of pool.old 1)) store.old store.new }
 {
+    let mut least = None;
     let mut place = pool.first(REGIONS);
     while let Some(node) = place {
         place = pool.next(node);
         let item = pool.item(node);
-        paint_at(pool, painter, object, item, store);
+        least = lesser(least, paint_at(pool, painter, object, item, store));
     }
+    least
 }
 
-/// Paints the object in the region that a node has.
+/// Paints the object in the region that a node has, or answers its fault there.
 fn paint_at(
     pool: &mut Pool<Node>,
     painter: Painter,
     object: &ObjectSeg<'_>,
     node: Node,
     store: &mut Store,
-)
+) -> Option<RegionFault>
     requires lists { length pool.old.lists ≡ list_count }
     requires region { HasRegionAt node store.old }
     requires top { length object.now.top.now ≤ 65535 }
     requires bottom { length object.now.bottom.now ≤ 65535 }
     ensures nodes { IsPaintedAt painter node pool.old pool.new }
     ensures others { KeepsAt node store.old store.new }
-    ensures written { (content : Content) → AreFields (of_object (object_value object.now)) content.top content.bottom
+    ensures fault { (content : Content)
+        → AreFields (of_object (object_value object.now)) content.top content.bottom
+        → option_map told result ≡ fault_in_node pool.old painter content (object_value object.now) node }
+    ensures written { (content : Content)
+        → AreFields (of_object (object_value object.now)) content.top content.bottom
         → IsWrittenAt painter content (object_value object.now) pool.old node store.old store.new }
 {
-    if let Node::Region(region) = node {
-        paint_in(pool, painter, object, &region, store);
+    match node {
+        Node::Region(region) => paint_in(pool, painter, object, &region, store),
+        _ => None,
     }
 }
 
-/// Paints the object through the listings of a region that it paints. It writes nothing where it is refused there.
+/// Paints the object through the listings of a region that it paints, or answers its fault there. Where it has one it writes nothing.
 fn paint_in(
     pool: &mut Pool<Node>,
     painter: Painter,
     object: &ObjectSeg<'_>,
     region: &RegionNode,
     store: &mut Store,
-)
+) -> Option<RegionFault>
     requires lists { length pool.old.lists ≡ list_count }
     requires region { HasRegion region.now.head region.now.slot store.old }
     requires top { length object.now.top.now ≤ 65535 }
     requires bottom { length object.now.bottom.now ≤ 65535 }
     ensures nodes { IsRewritten (listings_list region.now.head.region) (painted_node painter) pool.old pool.new }
     ensures others { KeepsOthers region.now.slot store.old store.new }
-    ensures written { (content : Content) → AreFields (of_object (object_value object.now)) content.top content.bottom → HasNoFault painter content (object_value object.now) pool.old region.now
+    ensures fault { (content : Content)
+        → AreFields (of_object (object_value object.now)) content.top content.bottom
+        → option_map told result ≡ fault_in_region_node pool.old painter content (object_value object.now) region.now }
+    ensures written { (content : Content)
+        → AreFields (of_object (object_value object.now)) content.top content.bottom
+        → HasNoFault painter content (object_value object.now) pool.old region.now
         → IsWrittenIn painter content pool.old region.now store.old store.new }
 {
     let head = region.head;
-    let fields = fields_for(object.top, object.bottom, head.depth);
-    paint_list(
-        pool,
-        listings_of(head.region),
-        painter,
-        &fields,
-        region,
-        store,
-    );
+    let list = listings_of(head.region);
+    if !is_painting(pool, list, painter) {
+        return None;
+    }
+    match check_fields(object.top, object.bottom, head.depth) {
+        Ok(fields) => {
+            paint_list(pool, list, painter, &fields, region, store);
+            None
+        }
+        Err(fault) => {
+            paint_list(
+                pool,
+                list,
+                painter,
+                &empty_fields(head.depth),
+                region,
+                store,
+            );
+            Some(RegionFault {
+                region: head.region,
+                fault,
+            })
+        }
+    }
 }

@@ -33,9 +33,11 @@ impl Core {
     /// given up and the core waits; a set that is not later than one that was kept changes nothing.
     pub fn take_set(&mut self, pts: u64, bytes: &[u8]) -> SetEnd
         requires { pts < 2 ^ 33 }
-        ensures stands { (past : List (Delivery Reading)) (size : ℕ) (readings : List Reading) → Stands past self.old → AreRead readings bytes.now
+        ensures stands { (past : List (Delivery Reading)) (size : ℕ) (readings : List Reading)
+            → Stands past self.old → AreRead readings bytes.now
             → Stands (whole pts size readings ∷ past) self.new }
-        ensures answer { (past : List (Delivery Reading)) (size : ℕ) (readings : List Reading) → Stands past self.old → AreRead readings bytes.now
+        ensures answer { (past : List (Delivery Reading)) (size : ℕ) (readings : List Reading)
+            → Stands past self.old → AreRead readings bytes.now
             → Some result ≡ verdict_of self.old.profile self.old.anchor past (whole pts size readings) }
         ensures known { result ≡ Shown → self.new.known ≡ true }
         ensures unchanged { (time : ℕ) → result ≡ NotLater time → self.new ≡ self.old }
@@ -51,11 +53,15 @@ impl Core {
     // A set that is kept at that lifted time.
     fn take_kept(&mut self, time: u64, bytes: &[u8]) -> SetEnd
         requires { time < 2 ^ 62 }
-        ensures stands { (past : List (Delivery Reading)) (pts size : ℕ) (readings : List Reading) → Stands past self.old
-            → lifted_time self.old.anchor past (whole pts size readings) ≡ Some time → AreRead readings bytes.now
+        ensures stands { (past : List (Delivery Reading)) (pts size : ℕ) (readings : List Reading)
+            → Stands past self.old
+            → lifted_time self.old.anchor past (whole pts size readings) ≡ Some time
+            → AreRead readings bytes.now
             → Stands (whole pts size readings ∷ past) self.new }
-        ensures answer { (past : List (Delivery Reading)) (pts size : ℕ) (readings : List Reading) → Stands past self.old
-            → lifted_time self.old.anchor past (whole pts size readings) ≡ Some time → AreRead readings bytes.now
+        ensures answer { (past : List (Delivery Reading)) (pts size : ℕ) (readings : List Reading)
+            → Stands past self.old
+            → lifted_time self.old.anchor past (whole pts size readings) ≡ Some time
+            → AreRead readings bytes.now
             → result ≡ verdict_on_kept self.old.profile (sets_since self.old.profile self.old.anchor past) readings }
         ensures kept { (last : ℕ) → result ≡ NotLater last → ⊥ }
         ensures known { result ≡ Shown → self.new.known ≡ true }
@@ -76,10 +82,12 @@ impl Core {
 
     // A set of an epoch is tested and taken. With a fault, what is left of it is of no use.
     fn take_in_epoch(&mut self, accepted: &Accepted<'_>, bytes: &[u8]) -> Option<SetFault>
-        ensures fault { (set : List Content) (before : List (List Content)) → IsBefore before self.old → IsFound set accepted.now.found → IsSound set bytes.now
+        ensures fault { (set : List Content) (before : List (List Content)) → IsBefore before self.old
+            → IsFound set accepted.now.found → IsSound set bytes.now
             → page_in_set set ≡ Some (page_value accepted.now.page)
             → result ≡ epoch_fault self.old.profile before set (page_value accepted.now.page) }
-        ensures taken { (set : List Content) (before : List (List Content)) → IsBefore before self.old → IsFound set accepted.now.found → IsSound set bytes.now
+        ensures taken { (set : List Content) (before : List (List Content)) → IsBefore before self.old
+            → IsFound set accepted.now.found → IsSound set bytes.now
             → page_in_set set ≡ Some (page_value accepted.now.page) → result ≡ None
             → HasEpoch set before (page_value accepted.now.page) self.new }
         ensures known { result ≡ None → self.new.known ≡ true }
@@ -104,8 +112,10 @@ impl Core {
     // The display that a set defines is in force; where it defines none, the one from before it stays.
     fn take_display(&mut self, display: Option<DisplaySeg>)
         requires fits { option_and_then (fault_of_display self.old.profile) (option_map display_value display) ≡ None }
-        ensures holds { (older set : List Content) → Holds older self.old → display_in_set set ≡ option_map display_value display
-            → ((one : Display) → display_in_set set ≡ Some one → HasOneDisplay set one) → Holds (before_regions older set) self.new }
+        ensures holds { (older set : List Content) → Holds older self.old
+            → display_in_set set ≡ option_map display_value display
+            → ((one : Display) → display_in_set set ≡ Some one → HasOneDisplay set one)
+            → Holds (before_regions older set) self.new }
         ensures rest { self.new ≡ showing self.new.display self.old }
     {
         if let Some(display) = display {
@@ -124,7 +134,8 @@ impl Core {
     // The page of a set stands.
     fn take_page(&mut self, page: &PageSeg<'_>)
         ensures holds { (segments : List Content) → Holds segments self.old → Holds segments self.new }
-        ensures entries { (segments : List Content) → Holds segments self.old → self.old.composition.entries ≡ []
+        ensures entries { (segments : List Content) → Holds segments self.old
+            → self.old.composition.entries ≡ []
             → nodes_of (taken_of segments) (page_value page.now) ≤ self.old.profile.nodes
             → self.new.composition.entries ≡ (page_value page.now).entries }
         ensures free { (segments : List Content) → Holds segments self.old → self.old.composition.entries ≡ []

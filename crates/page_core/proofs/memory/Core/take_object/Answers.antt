@@ -1,5 +1,5 @@
 -- An object is painted, or has a fault.
-use Rattle.std.proofs.Common.{[], Some, None, refl, subst, sym}
+use Rattle.std.proofs.Common.{[], ◌∙◌, refl, subst, sym}
 use Rattle.page_core.specs.Composition.{Composition}
 use Rattle.page_core.specs.Marks.{AreMarked}
 use Rattle.stream_syntax.specs.Segments.{SegmentValue}
@@ -10,14 +10,6 @@ use Rattle.page_core.specs.Memory.{Holds}
 use Rattle.page_core.proofs.KeptIds.{ids_apart}
 use Rattle.page_core.proofs.ObjectMemory.{regions_there, still_whole, painted_holds, fault_is, no_fault_is}
 use Rattle.page_core.proofs.memory.Core.take_object.Goals as goal
-
-pub returns-in-Some-clause-fault : goal.returns-in-Some-clause-fault
-returns-in-Some-clause-fault c older content holds is fields =
-    let object = object_value c.args.object.now in
-    let read = subst (λ (v : SegmentValue). AreFields v content.top content.bottom) (sym is) fields in
-    let painter = painter_of c.args.object.now in
-    fault_is older _ (subst (Holds older) (sym c.self.view_is) holds) painter object content (record { object = refl; version = refl; see_through = refl }) is
-    (c.in-Some.ensures.byte content read) (Some c.in-Some.fault) (c.in-Some.ensures.fault content read)
 
 pub paint_everywhere-requires-clause-regions : goal.paint_everywhere-requires-clause-regions
 paint_everywhere-requires-clause-regions c = regions_there _ c.self.invariant.whole
@@ -45,16 +37,21 @@ pub returns-clause-fault : goal.returns-clause-fault
 returns-clause-fault c older content holds is fields =
     let object = object_value c.args.object.now in
     let read = subst (λ (v : SegmentValue). AreFields v content.top content.bottom) (sym is) fields in
-    fault_is older _ (subst (Holds older) (sym c.self.view_is) holds) (painter_of c.args.object.now) object content (record { object = refl; version = refl; see_through = refl }) is
-    (c.in_default.ensures.byte content read) None (c.in_default.ensures.fault content read)
+    let before = subst (Holds older) (sym c.self.view_is) holds in
+    let apart = ids_apart older _ before in
+    c.in_segment.ensures
+    ∙ fault_is older _ before (painter_of c.args.object.now) object content (record { object = refl; version = refl; see_through = refl }) is (c.paint_everywhere.ensures.byte content read apart)
+    c.paint_everywhere.result (c.paint_everywhere.ensures.fault content read apart)
 
 pub returns-clause-taken : goal.returns-clause-taken
 returns-clause-taken c older content holds is fields none =
     let object = object_value c.args.object.now in
     let read = subst (λ (v : SegmentValue). AreFields v content.top content.bottom) (sym is) fields in
     let before = subst (Holds older) (sym c.self.view_is) holds in
+    let apart = ids_apart older _ before in
     let by_painter : IsPainter (painter_of c.args.object.now) object = record { object = refl; version = refl; see_through = refl } in
-    let no_fault = no_fault_is older _ before (painter_of c.args.object.now) object content by_painter is (c.in_default.ensures.byte content read) (c.in_default.ensures.fault content read) in
+    let no_fault = no_fault_is older _ before (painter_of c.args.object.now) object content by_painter is (c.paint_everywhere.ensures.byte content read apart)
+    (sym none ∙ c.in_segment.ensures ∙ c.paint_everywhere.ensures.fault content read apart) in
     painted_holds (painter_of c.args.object.now) _ _ object content older
     (record {
       profile = refl;
@@ -65,4 +62,4 @@ returns-clause-taken c older content holds is fields none =
       regions = c.paint_everywhere.ensures.regions;
     })
     c.self.invariant.whole by_painter is
-    (c.paint_everywhere.ensures.written content read no_fault (ids_apart older _ before)) before
+    (c.paint_everywhere.ensures.written content read no_fault apart) before

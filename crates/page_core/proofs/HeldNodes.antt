@@ -1,14 +1,13 @@
 -- How many nodes the page memory of some segments takes.
-use Rattle.std.proofs.Common.{◌≡◌, ◌∙◌, refl, sym, ap, ℕ, zero, suc, ◌+◌, ◌==◌, List, [], ◌∷◌, ◌++◌, length, map, reverse, Contains, Option, Some, None, option_map, arith}
+use Rattle.std.proofs.Common.{◌≡◌, ◌∙◌, refl, sym, ap, ℕ, zero, suc, ◌+◌, List, [], ◌∷◌, length, map, reverse, Contains, Option, Some, None, option_map, arith}
 use Rattle.std.specs.Prelude.{sum_by}
 use Rattle.std.proofs.lemmas.List.{length-map, length-reverse, reverse-append}
 use Rattle.std.proofs.lemmas.List.Sums.{sum_by-cons, sum_by-append}
 use Rattle.stream_syntax.specs.Segments.{Region}
-use Rattle.stream_syntax.specs.declared.region.Listing.{Listing}
 use Rattle.decoder_model.specs.Nodes.{region_ids, clut_ids, table_entries, listing_count, listings_held}
 use Rattle.decoder_model.specs.Readings.{Content}
-use Rattle.decoder_model.specs.Taken.{Taken, taken_of, taken_region}
-use Rattle.page_core.specs.Composition.{KeptListing, KeptRegion, KeptClut, region_in, taken_nodes}
+use Rattle.decoder_model.specs.Taken.{taken_of, taken_region}
+use Rattle.page_core.specs.Composition.{KeptListing, KeptRegion, KeptClut, taken_nodes}
 use Rattle.page_core.specs.Memory.{Memory, Holds, kept_listing}
 use Rattle.page_core.proofs.KeptIds.{id_of_kept, ids_apart, found_by_id}
 

@@ -1,0 +1,7 @@
+pub mod Planes
+pub mod Turns
+pub mod Arrivals
+pub mod Gatherings
+pub mod Feeds
+pub mod Loads
+pub mod Takes

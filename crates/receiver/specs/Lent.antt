@@ -1,0 +1,9 @@
+-- What is lent of a receiver.
+use Rattle.decoder_model.specs.Shown as shown
+use Rattle.receiver.specs.declared.view.View.{View}
+use Rattle.receiver.specs.declared.view.View.TheVariants as lent
+
+-- the view that is lent
+abbrev pub view_lent : View → shown.View
+view_lent lent.Clear = shown.nothing
+view_lent (lent.Plane wide high places) = shown.plane (record { width = wide; height = high; colours = places.now })

@@ -1,0 +1,55 @@
+-- What a receiver's pictures show, and what that has to do with all sets and losses that it was handed, the latest first.
+use Rattle.std.specs.Prelude.{◌≡◌, ℕ, ◌*◌, ◌≤◌, max, nat_le, List, Option, Some, None, unwrap_or, if◌then◌else◌}
+use Rattle.sub_base.specs.declared.profile.Profile.{Profile}
+use Rattle.decoder_model.specs.Readings.{Reading}
+use Rattle.decoder_model.specs.Sets.{Delivery}
+use Rattle.decoder_model.specs.Shown.{Plane, View, nothing, plane, is_over_at, view_at}
+use Rattle.page_core.specs.Memory as cores
+use Rattle.page_core.specs.Memory.{Memory}
+use Rattle.page_core.specs.Rows.{picture_in}
+
+-- ---- what is kept
+
+-- a picture from a lifted time on, and when it is timed out; none where the video is seen everywhere
+pub record Slot : Type 0 where
+  pub time : ℕ
+  pub until : Option ℕ
+  pub plane : Option Plane
+
+-- the page memory, the picture of the last kept set, and that of the one before it
+pub record Showing : Type 0 where
+  pub core : Memory
+  pub pending : Slot
+  pub current : Slot
+
+-- how many places a plane for each picture of a profile has
+abbrev pub places_of : Profile → ℕ
+places_of profile = max (profile.width * profile.height) 414720
+
+-- the picture of a page memory
+abbrev pub plane_in : Memory → Plane
+plane_in memory = record { width = memory.display.width; height = memory.display.height; colours = picture_in memory }
+
+-- ---- what is shown
+
+abbrev pub view_until : Option ℕ → ℕ → Option Plane → View
+view_until until tick None = nothing
+view_until until tick (Some picture) = if is_over_at tick until then nothing else plane picture
+
+-- what is shown of a picture at a tick from its time on
+abbrev pub view_in : Slot → ℕ → View
+view_in slot tick = view_until slot.until tick slot.plane
+
+-- what is shown at a tick from the current picture's time on
+abbrev pub shown_at : Showing → ℕ → View
+shown_at showing tick = if nat_le showing.pending.time tick then view_in showing.pending tick else view_in showing.current tick
+
+-- ---- what it has to do with all that was handed
+
+-- the pictures are those after this past, the latest first
+pub record Stands (past : List (Delivery Reading)) (showing : Showing) : Type 0 where
+  pub core : cores.Stands past showing.core
+  pub order : showing.current.time ≤ showing.pending.time
+  -- the pending picture is that of the last kept set
+  pub latest : showing.pending.time ≡ unwrap_or showing.core.last 0
+  pub shows : (tick : ℕ) → showing.current.time ≤ tick → shown_at showing tick ≡ view_at showing.core.profile showing.core.anchor tick past

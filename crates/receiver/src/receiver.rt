@@ -1,0 +1,217 @@
+//! The receiver.
+
+ghost use Rattle.std.specs.Prelude.{◌≡◌};
+
+use crate::arrival::Arrival;
+use crate::feeding::feed;
+use crate::screen::Screen;
+use crate::taking::take;
+use crate::view::View;
+use display_sets::Gathering;
+use page_core::{Core, SetEnd};
+use std::alloc::Global;
+use std::marker::Model;
+use std::thread::Threads;
+use stream_syntax::{Event, PacketFault};
+use sub_base::{BandGate, NoMemory, Profile, SetLoad};
+use ts_packets::Demux;
+
+/// A receiver of the subtitles of one page, out of the transport packets of one PID. Sets that are whole are ready until they
+/// are taken; each is drawn as it is taken, and two pictures are kept: that of the last set, and that of the set before it.
+#[derive(Drop)]
+pub struct Receiver {
+    /// The bytes of the coded data buffer.
+    coded: u64,
+    demux: Demux,
+    sets: Gathering,
+    screen: Screen,
+    arrival: Arrival,
+    load: SetLoad,
+}
+
+impl Model for Receiver {
+    ghost use Rattle.std.specs.Prelude.{◌≡◌};
+    ghost use Rattle.receiver.specs.Arrived.{arrival_value};
+    ghost use Rattle.receiver.specs.Receiving.{IsReceiver, Receiving};
+
+    ghost Value = { Receiving };
+
+    ghost view = { λ r. record { demux = r.demux; sets = r.sets; showing = r.screen; arrival = arrival_value r.arrival; load = r.load } };
+
+    ghost invariant = { λ r. IsReceiver (record { demux = r.demux; sets = r.sets; showing = r.screen; arrival = arrival_value r.arrival; load = r.load }) × (r.coded ≡ r.screen.core.profile.coded) };
+}
+
+impl Receiver {
+    ghost use Rattle.std.specs.Prelude.{◌≡◌, ◌<◌, ◌≤◌, ◌^◌, ℕ, Bool, true, false, List, [], ◌∷◌, ◌++◌, reverse, option_and_then, option_map, IfErr, IfOk, IfSome, IsSome, MatchResult, None, OnOk, Some};
+    ghost use Rattle.stream_syntax.specs.TransportPackets.{packet_fault};
+    ghost use Rattle.stream_syntax.specs.Units.{event_at};
+    ghost use Rattle.decoder_model.specs.Kept.{last_time, lifted_behind};
+    ghost use Rattle.decoder_model.specs.Painting.{set_load};
+    ghost use Rattle.decoder_model.specs.Verdict.{verdict_of};
+    ghost use Rattle.decoder_model.specs.PacketArrivals.{packet_arrival};
+    ghost use Rattle.decoder_model.specs.Readings.{AreDeliveriesRead, IsDeliveryRead, Reading};
+    ghost use Rattle.decoder_model.specs.Sets.{Delivery, sets_of};
+    ghost use Rattle.decoder_model.specs.Shown.{view_at};
+    ghost use Rattle.display_sets.specs.Gathered.{first_ready, ready_sets, sets_behind};
+    ghost use Rattle.receiver.specs.Arrived.{arrival_value};
+    ghost use Rattle.receiver.specs.Lent.{view_lent};
+    ghost use Rattle.receiver.specs.Receiving.{AreLosses, IsNext, IsSame, Stands, set_time};
+
+    /// A receiver of a profile that was fed nothing. Lifted times begin at the anchor. All memory is taken here.
+    pub fn make(
+        alloc: Global,
+        profile: &Profile,
+        pid: u16,
+        page: u16,
+        anchor: u64,
+    ) -> Result<Receiver, NoMemory>
+        requires coded { profile.now.coded < 2 ^ 32 }
+        requires nodes { profile.now.nodes < 2 ^ 31 }
+        requires anchor { anchor < 2 ^ 34 }
+        ensures stands { IfOk result (Stands false [] []) }
+        ensures pid { IfOk result (λ receiver. receiver.demux.pid ≡ pid) }
+        ensures profile { IfOk result (λ receiver. receiver.showing.core.profile ≡ profile.now) }
+        ensures page { IfOk result (λ receiver. receiver.showing.core.page ≡ page) }
+        ensures anchor { IfOk result (λ receiver. receiver.showing.core.anchor ≡ anchor) }
+    {
+        Ok(Receiver {
+            coded: profile.coded,
+            demux: Demux::make(alloc, pid, profile.coded)?,
+            sets: Gathering::make(alloc, page, profile.coded as u32)?,
+            screen: Screen::make(alloc, profile, page, anchor)?,
+            arrival: Arrival {
+                bytes: 0,
+                before: false,
+                dropped: false,
+            },
+            load: SetLoad {
+                pts: 0,
+                size: 0,
+                painted: 0,
+            },
+        })
+    }
+
+    /// Takes the next packet, where no set is ready: what became of it. A packet that cannot be taken leaves the receiver as it
+    /// was.
+    pub fn feed(&mut self, packet: &[u8; 188]) -> Result<Event, PacketFault>
+        requires none { ready_sets self.old.sets ≡ [] }
+        ensures fault { MatchResult result (λ _. packet_fault self.old.demux.pid packet.now ≡ None)
+            (λ fault. packet_fault self.old.demux.pid packet.now ≡ Some fault) }
+        ensures unchanged { IfErr result (λ _. self.new ≡ self.old) }
+        ensures stands { OnOk result ((fed : List (List ℕ)) (given : List (Delivery (List ℕ))) → Stands false fed given self.old
+            → (losses : List (Delivery (List ℕ))) × AreLosses losses × Stands false (fed ++ packet.now ∷ []) (given ++ losses) self.new) }
+        ensures event { IfOk result (λ event. (fed : List (List ℕ)) (given : List (Delivery (List ℕ))) → Stands false fed given self.old
+            → event ≡ event_at self.old.demux.pid self.old.showing.core.profile.coded fed packet.now) }
+        ensures arrival { OnOk result ((fed : List (List ℕ)) (given : List (Delivery (List ℕ))) → Stands false fed given self.old
+            → self.new.arrival ≡ packet_arrival self.old.showing.core.profile.coded self.old.demux.pid self.old.showing.core.page fed packet.now) }
+        ensures same { IsSame self.old self.new }
+    {
+        let outcome = feed(&mut self.demux, &mut self.sets, &mut self.screen, packet)?;
+        self.arrival = outcome.arrival(self.coded, packet);
+        Ok(outcome.event)
+    }
+
+    /// The stream has ended: a set in hand without its end is ready as it stands.
+    pub fn finish(&mut self)
+        requires none { ready_sets self.old.sets ≡ [] }
+        ensures stands { (fed : List (List ℕ)) (given : List (Delivery (List ℕ))) → Stands false fed given self.old → Stands true fed given self.new }
+        ensures same { IsSame self.old self.new }
+    {
+        self.sets.finish();
+    }
+
+    /// The presentation time, as read, of the set that is ready and was not taken.
+    pub fn ready(&self) -> Option<u64>
+        ensures time { result ≡ option_map set_time (first_ready (ready_sets self.now.sets)) }
+    {
+        let ready = self.sets.ready()?;
+        Some(ready.time)
+    }
+
+    /// The lifted time of the set that is ready. `None` exactly where none is ready, or where it would not be kept.
+    pub fn ready_at(&self) -> Option<u64>
+        ensures lifted { (fed : List (List ℕ)) (ended : Bool) (given : List (Delivery (List ℕ))) (past : List (Delivery Reading))
+            → Stands ended fed given self.now → AreDeliveriesRead (reverse given) past
+            → result ≡ option_and_then (lifted_behind self.now.showing.core.anchor (last_time self.now.showing.core.anchor past))
+            (option_map set_time (first_ready (ready_sets self.now.sets))) }
+    {
+        let ready = self.sets.ready()?;
+        self.screen.core().lift(ready.time)
+    }
+
+    /// Takes the set that is ready: the page memory has it, its picture is drawn in so many bands, 1 to 64, and the picture that was
+    /// the last one is the current one. A set that is not kept changes no picture.
+    pub fn take<R: Threads + Sync, G: BandGate + Sync>(
+        &mut self,
+        rt: &R,
+        bands: u32,
+        gate: &G,
+    ) -> SetEnd
+        requires ready { IsSome (first_ready (ready_sets self.old.sets)) }
+        requires some { 1 ≤ bands }
+        requires few { bands ≤ 64 }
+        ensures stands { (ended : Bool) (fed : List (List ℕ)) (given rest : List (Delivery (List ℕ))) (delivery : Delivery (List ℕ))
+            → IsNext ended fed given delivery rest self.old → Stands ended fed (given ++ delivery ∷ []) self.new }
+        ensures answer { (ended : Bool) (fed : List (List ℕ)) (given rest : List (Delivery (List ℕ))) (delivery : Delivery (List ℕ))
+            (past : List (Delivery Reading)) (one : Delivery Reading)
+            → IsNext ended fed given delivery rest self.old → AreDeliveriesRead (reverse given) past → IsDeliveryRead delivery one
+            → Some result ≡ verdict_of self.old.showing.core.profile self.old.showing.core.anchor past one }
+        ensures load { (ended : Bool) (fed : List (List ℕ)) (given rest : List (Delivery (List ℕ))) (delivery : Delivery (List ℕ))
+            (past : List (Delivery Reading)) (one : Delivery Reading)
+            → IsNext ended fed given delivery rest self.old → AreDeliveriesRead (reverse given) past → IsDeliveryRead delivery one
+            → Some self.new.load ≡ set_load self.old.showing.core.profile self.old.showing.core.anchor past one }
+        ensures left { ready_sets self.new.sets ≡ sets_behind (ready_sets self.old.sets) }
+        ensures arrival { self.new.arrival ≡ self.old.arrival }
+        ensures same { IsSame self.old self.new }
+    {
+        match self.sets.ready() {
+            None => SetEnd::Waiting, // There is one.
+            Some(ready) => {
+                let taken = take(ready, &mut self.screen, rt, bands, gate);
+                self.load = taken.load;
+                self.sets.give();
+                taken.end
+            }
+        }
+    }
+
+    /// The lifted time of the current picture, from which on it is known what is shown; 0 before two sets were kept.
+    pub fn from(&self) -> u64
+        ensures { result ≡ self.now.showing.current.time }
+    {
+        self.screen.from()
+    }
+
+    /// Lends what is shown at a tick, of those of the sets that were taken.
+    pub fn picture(&self, tick: u64) -> View<'_>
+        requires { self.now.showing.current.time ≤ tick }
+        ensures taken { (fed : List (List ℕ)) (ended : Bool) (given : List (Delivery (List ℕ))) (past : List (Delivery Reading))
+            → Stands ended fed given self.now → AreDeliveriesRead (reverse given) past
+            → view_lent result ≡ view_at self.now.showing.core.profile self.now.showing.core.anchor tick past }
+    {
+        self.screen.picture(tick)
+    }
+
+    /// What the last set that was taken asked: its lifted time, or its time as read where it was not kept, its size and the time
+    /// that its painting takes.
+    pub fn load(&self) -> SetLoad
+        ensures { result ≡ self.now.load }
+    {
+        self.load
+    }
+
+    /// What the last packet brought to the coded data buffer.
+    pub fn arrival(&self) -> Arrival
+        ensures { arrival_value result ≡ self.now.arrival }
+    {
+        self.arrival
+    }
+
+    /// The page memory.
+    pub fn core(&self) -> &Core
+        ensures { result.now ≡ self.now.showing.core }
+    {
+        self.screen.core()
+    }
+}
