@@ -25,22 +25,26 @@ const LINE: u32 = 40;
 #[derive(Clone, Copy)]
 struct Text {
     /// The number of the picture.
-    number: u32,
+    number: u8,
     /// The columns of the picture.
     width: u16,
     /// The rows above the first line.
     above: u32,
 }
 
-/// A picture of text. Those with an odd number have text in their lower half alone.
+/// A picture of text. One in four has text in its upper half too.
 pub fn picture(alloc: Global, number: u8, width: u16, height: u16, depth: Depth) -> Result<Indexed>
     requires wide { 1 ≤ width }
     requires high { 1 ≤ height }
 {
     let text = Text {
-        number: u32::from(number),
+        number,
         width,
-        above: u32::from(height) / 2 * (u32::from(number) % 2),
+        above: if number % 4 == 0 {
+            0
+        } else {
+            u32::from(height) / 2
+        },
     };
     let mut codes = Vec::new(alloc);
     for y in 0..u32::from(height) {
@@ -109,17 +113,17 @@ fn ink_at(text: Text, x: u32, y: u32) -> u32
     u32::from(row) >> (BOX - 1 - x / SCALE % BOX) & 1
 }
 
-/// How many letters a line has: from half of what has room to all but one.
+/// How many letters a line has: from two fifths of what has room to two thirds.
 fn letters_in(text: Text, line: u32) -> u32
     ensures { result ≤ 4000 }
 {
     let room = u32::from(text.width) / (BOX * SCALE);
-    room / 2 + (text.number % 16 * 5 + line % 16 * 3) * room / 256
+    room * 2 / 5 + (u32::from(text.number) * 5 % 8 + line % 4) * room / 40
 }
 
 /// The letter at a place of a line.
 fn letter_at(text: Text, line: u32, place: u32) -> u8 {
-    let start = text.number % 16 * 13 + line % 16 * 29;
+    let start = u32::from(text.number) * 13 + line % 16 * 29;
     let letter = (start as usize + place as usize) % WORDS.len();
     *WORDS.get(letter).unwrap_or(&b' ')
 }
