@@ -1,7 +1,7 @@
 //! A benchmark: display sets of a text picture, as many as the one word says, each with a later time and new versions. They are
-//! read, which tests their segments and keeps nothing; then a page memory takes them; and then one takes them and makes all
-//! rows of the display behind each. It tells on standard error how many sets a second that was. Standard output has the
-//! counts, which are the same in each run.
+//! read, which tests their segments and keeps nothing; their runs are read, which nobody paints; a page memory takes them; and
+//! one takes them and makes all rows of the display behind each. It tells on standard error how many sets a second that was.
+//! Standard output has the counts, which are the same in each run.
 #![tactic(auto)]
 
 // The pictures, and the display sets that show them.
@@ -22,7 +22,7 @@ use std::alloc::Global;
 use std::env;
 use std::time::Instant;
 use sub_base::{CLEAR, Colour, Depth, Profile, ProfileName};
-use taking::{read_sets, sum_of_rows, take_and_draw, take_sets};
+use taking::{read_runs, read_sets, sum_of_rows, take_and_draw, take_sets};
 
 /// The greatest width of a display here.
 const COLUMNS: usize = 1_920;
@@ -63,6 +63,7 @@ fn measure(
     println!(rt; "{depth:?}, {width} by {height}:")?;
     eprintln!(rt; "{depth:?}, {width} by {height}:")?;
     read(rt, sets.as_slice(), times)?;
+    read_with_runs(rt, sets.as_slice(), times)?;
     take_alone(rt, profile, sets.as_slice(), times)?;
     take_with_rows(rt, profile, sets.as_slice(), times)
 }
@@ -78,6 +79,16 @@ fn read(rt: &HostRuntime, sets: &[Vec<u8>], times: u32) -> Result<()> {
         size_of(sets)
     )?;
     eprintln!(rt; "{rate} sets a second read")?;
+    Ok(())
+}
+
+/// Reads sets and their runs, which nobody paints.
+fn read_with_runs(rt: &HostRuntime, sets: &[Vec<u8>], times: u32) -> Result<()> {
+    let start = Instant::now(rt)?;
+    let pixels = read_runs(sets, times);
+    let rate = rate(times, start.elapsed(rt)?.as_micros());
+    println!(rt; "{pixels} pixels")?;
+    eprintln!(rt; "{rate} sets a second read with their runs")?;
     Ok(())
 }
 

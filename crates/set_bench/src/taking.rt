@@ -1,8 +1,9 @@
 //! Taking sets one after another, and the rows of what is shown.
 
 use page_core::{Core, Scene, SetEnd};
-use segments::read_segment;
-use sub_base::Colour;
+use pixel_codes::check_block;
+use segments::{Segment, read_segment};
+use sub_base::{Colour, Depth};
 
 /// Reads the segments of so many sets, and says how many there were.
 pub fn read_sets(sets: &[Vec<u8>], times: u32) -> u64 {
@@ -22,6 +23,46 @@ fn segments_in(bytes: &[u8]) -> u64 {
         rest = &rest[size..];
     }
     segments
+}
+
+/// Reads the segments of so many sets, and the runs of their objects, which nobody paints, and says how many pixels these have.
+pub fn read_runs(sets: &[Vec<u8>], times: u32) -> u64 {
+    let mut pixels = 0u64;
+    for pts in 0..times {
+        pixels = pixels.wrapping_add(pixels_in(set_at(sets, pts)));
+    }
+    pixels
+}
+
+/// How many pixels the runs of the objects among some segments have.
+fn pixels_in(bytes: &[u8]) -> u64 {
+    let mut pixels = 0u64;
+    let mut rest = bytes;
+    while let Ok((segment, size)) = read_segment(rest) {
+        if let Segment::Object(object) = segment {
+            pixels = pixels
+                .wrapping_add(pixels_of(object.top))
+                .wrapping_add(pixels_of(object.bottom));
+        }
+        rest = &rest[size..];
+    }
+    pixels
+}
+
+/// How many pixels the runs of a block have.
+fn pixels_of(bytes: &[u8]) -> u64 {
+    if bytes.len() > 65_535 {
+        return 0;
+    }
+    let Ok(block) = check_block(bytes, Depth::Eight) else {
+        return 0;
+    };
+    let mut runs = block.runs();
+    let mut pixels = 0u64;
+    while let Some(run) = runs.next_run() {
+        pixels = pixels.wrapping_add(u64::from(run.length));
+    }
+    pixels
 }
 
 /// Takes so many sets, a tick apart, and says how many were shown.
