@@ -45,7 +45,8 @@ where
 
     // Where a script was compiled, a receiver that enters the packets anywhere, with any anchor that suits the sets of which
     // packets come, shows nothing before its entry set, and from then on the authored picture at every tick; one that
-    // loses packets shows it at every good tick; and page memory holds the script.
+    // loses packets shows it at every good tick; and page memory holds the script. Wherever it enters, the coded data buffer
+    // holds what comes, and every set is decoded by its time.
     ensures shown { IsShownBy (command_of_words words.now)
         (seen (A.supplied first.old) (B.supplied second.old) (K.received out.old))
         (seen (A.supplied first.new) (B.supplied second.new) (K.received out.new))

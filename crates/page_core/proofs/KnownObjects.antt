@@ -2,7 +2,7 @@
 use Rattle.std.proofs.Common.{◌≡◌, ◌∙◌, ℕ, List, length, None, sym, ap, subst, arith}
 use Rattle.std.proofs.Math.Seq.{take-length}
 use Rattle.stream_syntax.specs.SegmentTests.{frame_tests, object_tests, body_of}
-use Rattle.stream_syntax.specs.Segments.{Object, SegmentValue, of_object, IsSegment}
+use Rattle.stream_syntax.specs.Segments.{Object, of_object, IsSegment}
 use Rattle.stream_syntax.specs.Tests.{byte_at, first_fault}
 use Rattle.segments.specs.Reading.{object_in, value_in}
 use Rattle.segments.proofs.Bodies.{object_kind}

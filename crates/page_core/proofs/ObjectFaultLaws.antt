@@ -1,6 +1,6 @@
 -- The fault of an object in the regions of a page memory is that in the regions of the taken segments.
-use Rattle.std.proofs.Common.{◌≡◌, ◌∙◌, refl, sym, ap, ℕ, suc, ◌<◌, ◌≤◌, Bool, true, false, not, ◌&&◌, ◌||◌, cond, eqb, List, [], ◌∷◌, length, map, Contains, Option, Some, None, option_map, arith}
-use Rattle.std.specs.Prelude.{IfSome}
+use Rattle.std.proofs.Common.{◌≡◌, ◌∙◌, refl, sym, ap, ℕ, suc, ◌<◌, ◌≤◌, Bool, true, false, not, ◌&&◌, ◌||◌, cond, eqb, List, [], ◌∷◌, length, map, All, Contains, Option, Some, None, option_map, arith}
+use Rattle.std.proofs.lemmas.List.Elements.{All-contains}
 use Rattle.std.specs.List.{list_any, range_with_len}
 use Rattle.std.proofs.lemmas.Bool.{eqb-true}
 use Rattle.std.proofs.lemmas.Bool.Decides.{nat_tests}
@@ -142,14 +142,14 @@ module _ (segments : List Content) (memory : Memory) (holds : Holds segments mem
       )
 
   -- the fault in the region of the least id is the first one over all ids
-  below_count : (count : ℕ) → IfSome (least_of (fault_in_kept painter content object) memory.composition.regions) (λ found. found.0 < count)
+  below_count : (count : ℕ) → All (λ (kept : KeptRegion). kept.head.region < count) memory.composition.regions
       → option_map (λ (found : ℕ × SetFault). found.1) (least_of (fault_in_kept painter content object) memory.composition.regions)
       ≡ first_given (fault_in_region (taken_of segments) content object) (range_with_len 0 count)
-  below_count count low = by (least_of (fault_in_kept painter content object) memory.composition.regions) low (least_is (fault_in_kept painter content object) memory.composition.regions)
+  below_count count low = by (least_of (fault_in_kept painter content object) memory.composition.regions) (least_is (fault_in_kept painter content object) memory.composition.regions)
     where
-      by : (found : Option (ℕ × SetFault)) → IfSome found (λ found. found.0 < count) → IsLeastOf (fault_in_kept painter content object) memory.composition.regions found
+      by : (found : Option (ℕ × SetFault)) → IsLeastOf (fault_in_kept painter content object) memory.composition.regions found
           → option_map (λ (found : ℕ × SetFault). found.1) found ≡ first_given (fault_in_region (taken_of segments) content object) (range_with_len 0 count)
-      by None below all = sym (none_at (fault_in_region (taken_of segments) content object) 0 count (λ id. nothing id (fault_in_region (taken_of segments) content object id) refl))
+      by None all = sym (none_at (fault_in_region (taken_of segments) content object) 0 count (λ id. nothing id (fault_in_region (taken_of segments) content object id) refl))
         where
           nothing : (id : ℕ) (fault : Option SetFault) → fault_in_region (taken_of segments) content object id ≡ fault → fault_in_region (taken_of segments) content object id ≡ None
           nothing id None e = e
@@ -158,8 +158,8 @@ module _ (segments : List Content) (memory : Memory) (holds : Holds segments mem
               let no_one = all kept.0 kept.1 in
               let one = kept.2 in
               absurd (cc)
-      by (Some found) below least =
-          sym (first_at (fault_in_region (taken_of segments) content object) 0 count found.0 found.1 (omega arith) (omega (arith, below)) earlier here.1)
+      by (Some found) least =
+          sym (first_at (fault_in_region (taken_of segments) content object) 0 count found.0 found.1 (omega arith) (omega (arith, here.0, All-contains (λ (kept : KeptRegion). kept.head.region < count) memory.composition.regions least.item low least.there)) earlier here.1)
         where
           at : (fault : Option SetFault) → fault_in_region (taken_of segments) content object least.item.head.region ≡ fault
               → (found.0 ≡ least.item.head.region) × (fault_in_region (taken_of segments) content object found.0 ≡ Some found.1)
@@ -185,7 +185,7 @@ module _ (segments : List Content) (memory : Memory) (holds : Holds segments mem
           earlier : (id : ℕ) → id < found.0 → fault_in_region (taken_of segments) content object id ≡ None
           earlier id before = none_yet id before (fault_in_region (taken_of segments) content object id) refl
 
-  pub object_fault_is : IfSome (least_of (fault_in_kept painter content object) memory.composition.regions) (λ found. found.0 < 256)
+  pub object_fault_is : All (λ (kept : KeptRegion). kept.head.region < 256) memory.composition.regions
       → option_map (λ (found : ℕ × SetFault). found.1) (least_of (fault_in_kept painter content object) memory.composition.regions) ≡ fault_in_regions (taken_of segments) content object
   unfolding all_region_ids
-  object_fault_is byte = below_count 256 byte
+  object_fault_is bytes = below_count 256 bytes

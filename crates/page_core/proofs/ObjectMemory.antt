@@ -1,6 +1,6 @@
 -- A page memory with one more object segment.
 use Rattle.std.proofs.Common.{◌≡◌, ◌∙◌, refl, sym, ap, subst, ℕ, zero, suc, ◌+◌, ◌<◌, List, [], ◌∷◌, length, map, All, Contains, Option, Some, None, option_map, arith}
-use Rattle.std.specs.Prelude.{IfSome, option_and_then, sum_by}
+use Rattle.std.specs.Prelude.{option_and_then, sum_by}
 use Rattle.std.specs.List.{list_any, range_with_len}
 use Rattle.std.proofs.lemmas.List.{length-map}
 use Rattle.std.proofs.lemmas.List.Elements.{All-map, All-contains_itself}
@@ -157,12 +157,12 @@ none_mapped f None is = refl
 none_mapped f (Some x) is = absurd (cc)
 
 module _ (older : List Content) (memory : Memory) (holds : Holds older memory) (painter : Painter) (object : Object) (content : Content) (by_painter : IsPainter painter object) (is : of_object object ≡ content.value)
-    (byte : IfSome (least_of (fault_in_kept painter content object) memory.composition.regions) (λ found. found.0 < 256)) where
+    (bytes : All (λ (kept : KeptRegion). kept.head.region < 256) memory.composition.regions) where
   -- the fault in the regions that are kept is that of the definitions
   pub fault_is : (answer : Option SegmentFault) → option_map Segment answer ≡ option_map (λ (found : ℕ × SetFault). found.1) (least_of (fault_in_kept painter content object) memory.composition.regions)
       → option_map Segment answer ≡ object_too_deep older content
   fault_is answer found =
-      found ∙ object_fault_is older memory holds content object painter by_painter byte ∙ ap (λ (v : SegmentValue). option_and_then (fault_in_regions (taken_of older) content) (object_in v)) is
+      found ∙ object_fault_is older memory holds content object painter by_painter bytes ∙ ap (λ (v : SegmentValue). option_and_then (fault_in_regions (taken_of older) content) (object_in v)) is
 
   pub no_fault_is : None ≡ option_map (λ (found : ℕ × SetFault). found.1) (least_of (fault_in_kept painter content object) memory.composition.regions)
       → least_of (fault_in_kept painter content object) memory.composition.regions ≡ None

@@ -1,6 +1,5 @@
 -- The fault of an object in the regions of a composition, and in those of the taken segments.
 use Rattle.std.proofs.Common.{◌≡◌, ◌∙◌, refl, sym, ap, subst, inl, inr, ℕ, zero, suc, ◌+◌, ◌<◌, ◌≤◌, ◌⊎◌, Bool, true, false, ◌||◌, cond, ltb, List, [], ◌∷◌, map, Contains, Option, Some, None, option_map, arith}
-use Rattle.std.specs.Prelude.{IfSome}
 use Rattle.std.specs.List.{list_any, cons_option, range_with_len}
 use Rattle.std.specs.Option.{option_or}
 use Rattle.std.proofs.lemmas.Bool.{cases_lt}
@@ -152,15 +151,3 @@ fault_answered pool value painter other content object found answer view same is
     by : (found : Option RegionFault) → option_map fault.Segment (option_map (λ (found : RegionFault). found.fault) found) ≡ option_map (λ (found : ℕ × SetFault). found.1) (option_map told found)
     by None = refl
     by (Some one) = refl
-
--- and its id is a byte, as that of the answer is
-pub byte_answered : (pool : PoolOf Node) (value : Composition) (painter other : Painter) (content : Content) (object : Object) (found : Option RegionFault) → composition_of pool ≡ value → painter ≡ other
-    → option_map told found ≡ least_of (fault_in_pair pool painter content object) (list_of pool 1) → IfSome found (λ found. found.region < 256)
-    → IfSome (least_of (fault_in_kept other content object) value.regions) (λ found. found.0 < 256)
-byte_answered pool value painter other content object found view same is low =
-    subst (λ (o : Option (ℕ × SetFault)). IfSome o (λ found. found.0 < 256))
-    (is ∙ fault_of_nodes pool painter content object (list_of pool 1) ∙ (λ i. least_of (fault_in_kept (same i) content object) (view i).regions)) (by found low)
-  where
-    by : (found : Option RegionFault) → IfSome found (λ found. found.region < 256) → IfSome (option_map told found) (λ found. found.0 < 256)
-    by None low = tt
-    by (Some one) low = low

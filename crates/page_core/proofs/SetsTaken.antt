@@ -1,15 +1,15 @@
 -- A set of an epoch up to its objects, step by step.
-use Rattle.std.proofs.Common.{◌≡◌, ◌∙◌, refl, sym, ap, subst, ℕ, ◌-◌, ◌≤◌, List, [], ◌∷◌, ◌++◌, filter, reverse, None}
+use Rattle.std.proofs.Common.{◌≡◌, ◌∙◌, sym, ap, subst, ℕ, ◌-◌, ◌≤◌, List, [], ◌∷◌, ◌++◌, filter, reverse, None}
 use Rattle.sub_base.specs.declared.profile.Profile.{Profile}
 use Rattle.stream_syntax.specs.Segments.{Page}
 use Rattle.decoder_model.specs.Faults.{composition_fault, pixels_full}
 use Rattle.decoder_model.specs.Nodes.{nodes_of, pixels_used}
 use Rattle.decoder_model.specs.Readings.{Content}
-use Rattle.decoder_model.specs.Taken.{Taken, segments_of, taken_of}
+use Rattle.decoder_model.specs.Taken.{segments_of, taken_of}
 use Rattle.pixel_store.specs.Regions.{Regions}
 use Rattle.page_core.specs.Accepted.{IsBefore}
 use Rattle.page_core.specs.ClutSteps.{HasRoomForCluts, KeepsButColours}
-use Rattle.page_core.specs.Composition.{Composition, with_entries}
+use Rattle.page_core.specs.Composition.{with_entries}
 use Rattle.page_core.specs.Handed.{AreContents}
 use Rattle.page_core.specs.Judging.{fault_before_nodes}
 use Rattle.page_core.specs.Memory.{Memory, IsWhole, Holds, showing}
@@ -18,7 +18,7 @@ use Rattle.page_core.specs.RegionTests.{AreApart, before_regions, first_in}
 use Rattle.page_core.specs.SetSteps.{before_cluts, before_objects, with_composition, KeepsButPage}
 use Rattle.page_core.specs.Sound.{IsSound}
 use Rattle.page_core.specs.Walks.{is_region, is_clut, is_object}
-use Rattle.page_core.proofs.OtherSegments.{HaveSameRegions, regions_behind, cluts_behind, same_pixels}
+use Rattle.page_core.proofs.OtherSegments.{regions_behind, cluts_behind, same_pixels}
 use Rattle.page_core.proofs.PixelRoom.{room_in_order, used_before_regions}
 use Rattle.page_core.proofs.RegionLaws.{changed_in_order}
 use Rattle.page_core.proofs.SetOrder.{no_regions_in_cluts, no_regions_in_objects, no_cluts_in_objects, set_in_order}

@@ -5,3 +5,4 @@ pub mod Gatherings
 pub mod Feeds
 pub mod Loads
 pub mod Takes
+pub mod Views

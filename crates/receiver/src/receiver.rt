@@ -45,13 +45,14 @@ impl Receiver {
     ghost use Rattle.std.specs.Prelude.{◌≡◌, ◌<◌, ◌≤◌, ◌^◌, ℕ, Bool, true, false, List, [], ◌∷◌, ◌++◌, reverse, option_and_then, option_map, IfErr, IfOk, IfSome, IsSome, MatchResult, None, OnOk, Some};
     ghost use Rattle.stream_syntax.specs.TransportPackets.{packet_fault};
     ghost use Rattle.stream_syntax.specs.Units.{event_at};
-    ghost use Rattle.decoder_model.specs.Kept.{last_time, lifted_behind};
+    ghost use Rattle.decoder_model.specs.Kept.{last_time, lifted_behind, lifted_time};
     ghost use Rattle.decoder_model.specs.Painting.{set_load};
     ghost use Rattle.decoder_model.specs.Verdict.{verdict_of};
     ghost use Rattle.decoder_model.specs.PacketArrivals.{packet_arrival};
     ghost use Rattle.decoder_model.specs.Readings.{AreDeliveriesRead, IsDeliveryRead, Reading};
     ghost use Rattle.decoder_model.specs.Sets.{Delivery, sets_of};
-    ghost use Rattle.decoder_model.specs.Shown.{view_at};
+    ghost use Rattle.decoder_model.specs.Shown.{IsShown, view_at};
+    ghost use Rattle.decoder_model.specs.Shown.{View as Shows};
     ghost use Rattle.display_sets.specs.Gathered.{first_ready, ready_sets, sets_behind};
     ghost use Rattle.receiver.specs.Arrived.{arrival_value};
     ghost use Rattle.receiver.specs.Lent.{view_lent};
@@ -124,6 +125,7 @@ impl Receiver {
     /// The presentation time, as read, of the set that is ready and was not taken.
     pub fn ready(&self) -> Option<u64>
         ensures time { result ≡ option_map set_time (first_ready (ready_sets self.now.sets)) }
+        ensures none { result ≡ None → ready_sets self.now.sets ≡ [] }
     {
         let ready = self.sets.ready()?;
         Some(ready.time)
@@ -183,12 +185,23 @@ impl Receiver {
         self.screen.from()
     }
 
-    /// Lends what is shown at a tick, of those of the sets that were taken.
+    /// Lends what is shown at a tick: of all packets where no set is ready, and else up to the lifted time of the set that is.
     pub fn picture(&self, tick: u64) -> View<'_>
         requires { self.now.showing.current.time ≤ tick }
         ensures taken { (fed : List (List ℕ)) (ended : Bool) (given : List (Delivery (List ℕ))) (past : List (Delivery Reading))
             → Stands ended fed given self.now → AreDeliveriesRead (reverse given) past
             → view_lent result ≡ view_at self.now.showing.core.profile self.now.showing.core.anchor tick past }
+        ensures shown { (fed : List (List ℕ)) (ended : Bool) (given : List (Delivery (List ℕ))) (shown : Shows)
+            → Stands ended fed given self.now → ready_sets self.now.sets ≡ []
+            → IsShown self.now.showing.core.profile self.now.demux.pid self.now.showing.core.page self.now.showing.core.anchor ended fed tick shown
+            → view_lent result ≡ shown }
+        ensures ahead { (fed : List (List ℕ)) (ended : Bool) (given rest : List (Delivery (List ℕ))) (next : Delivery (List ℕ)) (lifted : ℕ) (shown : Shows)
+            → IsNext ended fed given next rest self.now
+            → ((past : List (Delivery Reading)) (one : Delivery Reading) → AreDeliveriesRead (reverse given) past → IsDeliveryRead next one
+            → lifted_time self.now.showing.core.anchor past one ≡ Some lifted)
+            → tick < lifted
+            → IsShown self.now.showing.core.profile self.now.demux.pid self.now.showing.core.page self.now.showing.core.anchor ended fed tick shown
+            → view_lent result ≡ shown }
     {
         self.screen.picture(tick)
     }

@@ -1,6 +1,6 @@
 //! An object painted in all regions (EN 300 743, clause 7.2.5).
 
-ghost use Rattle.std.specs.Prelude.{◌≡◌, ◌<◌, ◌≤◌, All, IfSome, None, length, option_map};
+ghost use Rattle.std.specs.Prelude.{◌≡◌, ◌≤◌, All, None, length, option_map};
 ghost use Rattle.comp_pool.specs.Pool.{list_of};
 ghost use Rattle.decoder_model.specs.Readings.{Content, AreFields};
 ghost use Rattle.decoder_model.specs.declared.set_fault.SetFault.{SetFault};
@@ -46,10 +46,6 @@ impl CompositionMemory {
             → AreFields (of_object (object_value object.now)) content.top content.bottom
             → AreIdsApart self.old.regions
             → option_map SetFault.Segment result ≡ option_map (λ found. found.1) (least_of (fault_in_kept (painter_of object.now) content (object_value object.now)) self.old.regions) }
-        ensures byte { (content : Content)
-            → AreFields (of_object (object_value object.now)) content.top content.bottom
-            → AreIdsApart self.old.regions
-            → IfSome (least_of (fault_in_kept (painter_of object.now) content (object_value object.now)) self.old.regions) (λ found. found.0 < 256) }
         ensures written { (content : Content)
             → AreFields (of_object (object_value object.now)) content.top content.bottom
             → least_of (fault_in_kept (painter_of object.now) content (object_value object.now)) self.old.regions ≡ None → AreIdsApart self.old.regions

@@ -1,6 +1,6 @@
 //! The regions in which an object paints, and its fault in them (EN 300 743, clause 7.2.5).
 
-ghost use Rattle.std.specs.Prelude.{◌≡◌, ◌<◌, IfSome, length, option_map};
+ghost use Rattle.std.specs.Prelude.{◌≡◌, ◌<◌, length, option_map};
 ghost use Rattle.std.specs.List.{list_any};
 ghost use Rattle.comp_pool.specs.Pool.{list_of};
 ghost use Rattle.page_core.specs.Listings.{painter_of};
@@ -20,24 +20,14 @@ pub(crate) struct RegionFault {
     pub(crate) fault: SegmentFault,
 }
 
-/// The fault alone, without the id, which is a byte.
+/// The fault alone.
 pub(crate) fn fault_of(found: Option<RegionFault>) -> Option<SegmentFault>
-    ensures fault { result ≡ option_map (λ found. found.fault) found }
-    ensures byte { IfSome found (λ found. found.region < 256) }
+    ensures { result ≡ option_map (λ found. found.fault) found }
 {
     match found {
         None => None,
-        Some(RegionFault { region, fault }) => Some(fault_at(region, fault)),
+        Some(found) => Some(found.fault),
     }
-}
-
-/// The fault in the region of an id; that the id is a byte is what contracts want of it.
-fn fault_at(region: u8, fault: SegmentFault) -> SegmentFault
-    ensures fault { result ≡ fault }
-    ensures byte { region < 256 }
-{
-    let _ = region;
-    fault
 }
 
 /// By what an object is painted.

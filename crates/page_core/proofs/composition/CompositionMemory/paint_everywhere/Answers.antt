@@ -5,7 +5,7 @@ use Rattle.page_core.specs.Everywhere.{AreKeptWritten, with_all_painted}
 use Rattle.page_core.specs.Listings.{painter_of}
 use Rattle.page_core.specs.ObjectFaults.{fault_in_kept, least_of}
 use Rattle.page_core.specs.declared.composition.listings.Painter.{Painter}
-use Rattle.page_core.proofs.ObjectRegions.{fault_answered, byte_answered}
+use Rattle.page_core.proofs.ObjectRegions.{fault_answered}
 use Rattle.page_core.proofs.composition.CompositionMemory.paint_everywhere.Goals as goal
 
 pub paint_regions-requires-clause-regions : goal.paint_regions-requires-clause-regions
@@ -34,9 +34,4 @@ returns-clause-written c = λ content fields none apart.
 pub returns-clause-fault : goal.returns-clause-fault
 returns-clause-fault c content fields apart =
     fault_answered c.self.inside.pool c.args.self.now c.painter.result (painter_of c.args.object.now) content (object_value c.args.object.now) c.paint_regions.result c.fault_of.result c.self.view_is c.painter.ensures
-    (c.paint_regions.ensures.fault content fields (are_apart c.self.inside.pool c.args.self.now c.self.view_is apart)) c.fault_of.ensures.fault
-
-pub returns-clause-byte : goal.returns-clause-byte
-returns-clause-byte c content fields apart =
-    byte_answered c.self.inside.pool c.args.self.now c.painter.result (painter_of c.args.object.now) content (object_value c.args.object.now) c.paint_regions.result c.self.view_is c.painter.ensures
-    (c.paint_regions.ensures.fault content fields (are_apart c.self.inside.pool c.args.self.now c.self.view_is apart)) c.fault_of.ensures.byte
+    (c.paint_regions.ensures.fault content fields (are_apart c.self.inside.pool c.args.self.now c.self.view_is apart)) c.fault_of.ensures

@@ -1,5 +1,5 @@
 -- A set of an epoch: the first fault, or the epoch with it.
-use Rattle.std.proofs.Common.{◌≡◌, ◌∙◌, ◌-◌, ◌∷◌, List, Some, None, refl, sym, ap, subst}
+use Rattle.std.proofs.Common.{◌≡◌, ◌∙◌, ◌-◌, ◌∷◌, List, None, sym, ap, subst}
 use Rattle.sub_base.specs.declared.profile.Profile.{Profile}
 use Rattle.decoder_model.specs.Faults.{composition_fault}
 use Rattle.decoder_model.specs.Nodes.{nodes_of, pixels_used}

@@ -1,12 +1,11 @@
 -- A kept set: it is known early what becomes of it, or it is one of an epoch.
-use Rattle.std.proofs.Common.{◌≡◌, ◌∙◌, ◌∷◌, Some, None, refl, sym, ap, subst}
+use Rattle.std.proofs.Common.{◌∙◌, Some, None, refl, sym, ap, subst}
 use Rattle.sub_base.specs.declared.profile.Profile.{Profile}
 use Rattle.decoder_model.specs.Faults.{contents_in, epoch_fault}
 use Rattle.decoder_model.specs.Verdict.{sets_since}
 use Rattle.decoder_model.specs.declared.set_end.SetEnd.TheVariants.{Broken}
 use Rattle.segments.specs.Contents.{page_value}
 use Rattle.page_core.specs.Accepted.{IsEarly}
-use Rattle.page_core.specs.Memory.{IsSameReceiver}
 use Rattle.page_core.proofs.Pasts.{ended_stands}
 use Rattle.page_core.proofs.SetVerdicts.{in_epoch, verdict_is, shown_stands, same_twice}
 use Rattle.page_core.proofs.memory.Core.take_kept.Goals as goal

@@ -1,5 +1,5 @@
 -- What stands after a set, kept or not.
-use Rattle.std.proofs.Common.{refl, sym}
+use Rattle.std.proofs.Common.{sym}
 use Rattle.decoder_model.specs.Verdict.{sets_since, verdict_on_kept}
 use Rattle.page_core.proofs.Pasts.{whole_late, late_answer, kept_answer}
 use Rattle.page_core.proofs.memory.Core.take_set.Goals as goal
