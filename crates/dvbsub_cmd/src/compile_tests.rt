@@ -176,6 +176,67 @@ fn authored_pictures(rt: HostRuntime) -> Result<(), Fail> {
     Ok(())
 }
 
+/// A font of the letter H, two by two pixels.
+const SMALL_FONT: &str =
+    "STARTFONT 2.1\nFONTBOUNDINGBOX 2 2 0 0\nSTARTCHAR H\nENCODING 72\nDWIDTH 2 0\nBBX 2 2 0 0\nBITMAP\n80\nC0\nENDCHAR\nENDFONT\n";
+
+/// Two epochs of texts.
+const TEXTS: &str =
+    "origin,0\ndisplay,4,2\nrefresh,5\nepoch,90000\nregion,0,0,0,4,2,8,0\ncue,90000,180000,0,0,0,2,3,HH\nepoch,270000\nregion,0,0,0,4,2,8,0\ncue,270000,360000,0,0,0,3,2,HH\n";
+
+/// The letters of both epochs, in their ink on their background.
+#[test]
+fn authored_texts(rt: HostRuntime) -> Result<(), Fail> {
+    let line = "expect script.csv font.bdf out.txt 90000 180000 270000";
+    let shown = run(&rt, rt.alloc(), line, TEXTS, SMALL_FONT)?;
+    assert_eq!(rt; shown.status, Status::Done { cut: 0 });
+    assert_eq!(rt;
+        shown.out.written(),
+        b"picture 90000 4 2\n1*912236C0 1*D29210C0 1*912236C0 1*D29210C0\n4*912236C0\npicture 180000 clear\npicture 270000 4 2\n1*D29210C0 1*912236C0 1*D29210C0 1*912236C0\n4*D29210C0\n".as_slice()
+    );
+    Ok(())
+}
+
+/// A script of two epochs with pictures, a colour and refreshes, and, where there is a font, a text.
+fn mixed_script(alloc: Global, has_font: bool) -> Result<String, Fail> {
+    let mut script = String::from_str(
+        alloc,
+        "origin,450000\ndisplay,720,576\nrefresh,5\nepoch,900000\nregion,0,0,480,720,80,4,3\nregion,1,0,100,8,2,8,0\npicture,a,8,4,2,0102020203030303\nplace,900000,1800000,1,0,0,solid,a\n",
+    )?;
+    if has_font {
+        script.push_str("cue,900000,1350000,0,180,16,7,0,HH\n")?;
+    }
+    script.push_str("colour,900000,3,4,7,81,90,240,0\nepoch,2700000\nregion,0,0,100,8,2,8,0\nplace,2700000,3150000,0,0,0,solid,a\n")?;
+    Ok(script)
+}
+
+/// In each profile, with a font and without one: five sets, each of which begins at the first slot from five seconds before its
+/// time on. The second is the end of the text, and where there is no font a refresh; in the pause before the second epoch none is
+/// sent.
+#[test]
+fn mixed_scripts_in_each_profile(rt: HostRuntime) -> Result<(), Fail> {
+    let alloc = rt.alloc();
+    let cases = [
+        ("sd", [0, 639, 1_277, 2_554, 3_192]),
+        ("hd", [0, 1_250, 2_500, 5_000, 6_250]),
+        ("large", [0, 5_000, 10_000, 20_000, 25_000]),
+    ];
+    for (profile, slots) in cases {
+        for (font, text) in [("none", ""), ("font.bdf", LETTER_FONT)] {
+            let line = format!(in alloc; "compile {profile} 256 1 script.csv {font} out.ts")?;
+            let script = mixed_script(alloc, font != "none")?;
+            let done = run(&rt, alloc, &line, &script, text)?;
+            assert_eq!(rt; done.status, Status::Done { cut: 0 });
+            assert_eq!(rt; done.notes.written(), b"done\n".as_slice());
+            assert_eq!(rt;
+                unit_starts(alloc, done.out.written())?.as_slice(),
+                slots.as_slice()
+            );
+        }
+    }
+    Ok(())
+}
+
 /// A script that sets every entry of two CLUTs at its epoch's start.
 fn script_of_colours(alloc: Global) -> Result<String, Fail> {
     let mut script = String::from_str(
