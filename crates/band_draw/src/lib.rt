@@ -4,6 +4,3 @@
 mod drawing;
 
 pub use drawing::draw;
-
-#[cfg(test)]
-mod tests;
