@@ -4,3 +4,6 @@
 mod drawing;
 
 pub use drawing::draw;
+
+#[cfg(test)]
+mod tests;

@@ -13,6 +13,3 @@ mod view;
 pub use arrival::Arrival;
 pub use receiver::Receiver;
 pub use view::View;
-
-#[cfg(test)]
-mod tests;
