@@ -206,7 +206,9 @@ fn mixed_script(alloc: Global, has_font: bool) -> Result<String, Fail> {
     if has_font {
         script.push_str("cue,900000,1350000,0,180,16,7,0,HH\n")?;
     }
-    script.push_str("colour,900000,3,4,7,81,90,240,0\nepoch,2700000\nregion,0,0,100,8,2,8,0\nplace,2700000,3150000,0,0,0,solid,a\n")?;
+    script.push_str(
+        "colour,900000,3,4,7,81,90,240,0\nepoch,2700000\nregion,0,0,100,8,2,8,0\nplace,2700000,3150000,0,0,0,solid,a\n",
+    )?;
     Ok(script)
 }
 
