@@ -1,11 +1,11 @@
 -- What a gathering of display sets keeps, and what it then does.
-use Rattle.std.specs.Prelude.{◌≡◌, ℕ, ◌*◌, ◌^◌, ◌<◌, ◌≤◌, List, [], ◌∷◌, ◌++◌, length, Option, Some, None, Result, Ok, Err}
+use Rattle.std.specs.Prelude.{◌≡◌, ℕ, ◌+◌, ◌*◌, ◌^◌, ◌<◌, ◌≤◌, List, [], ◌∷◌, ◌++◌, length, Option, Some, None, Result, Ok, Err}
 use Rattle.std.specs.Option.{ForSome}
 use Rattle.stream_syntax.specs.DataField.{Frame}
 use Rattle.decoder_model.specs.declared.set_fault.SetFault.{SetFault}
 use Rattle.display_sets.specs.Counted.{counted_in}
 use Rattle.display_sets.specs.Filling.{AreOpen, Fills}
-use Rattle.display_sets.specs.Hands.{hand_time, hand_with, ready_head, open_size}
+use Rattle.display_sets.specs.Hands.{hand_time, hand_with, ready_head, ready_size, open_size}
 use Rattle.display_sets.specs.declared.filling.Filled.{Filled}
 use Rattle.display_sets.specs.declared.hand.Hand.{Hand}
 use Rattle.display_sets.specs.declared.hand.Head.{Head}
@@ -56,12 +56,18 @@ abbrev pub sets_behind : List ReadySet → List ReadySet
 sets_behind [] = []
 sets_behind (one ∷ sets) = sets
 
+-- a set has less than 2^32 bytes of units for each byte of the memory, and for the unit with which it ends
+abbrev pub IsSmall : ℕ → ℕ → Type 0
+IsSmall coded size = size < (coded + 1) * 4294967296
+
 -- the bytes fit the memory; each byte of an open set stands for less than 2^32 bytes of units, so that their size fits 64 bits
 pub record IsSound (gathered : Gathered) : Type 0 where
   pub few : gathered.coded < 2 ^ 32
   pub within : length gathered.bytes ≤ gathered.coded
   pub parted_within : length gathered.parted_bytes ≤ gathered.coded
   pub small : open_size gathered.hand ≤ length gathered.bytes * 4294967296
+  pub ready_small : IsSmall gathered.coded (ready_size gathered.hand)
+  pub parted_small : ForSome gathered.parted (λ head. IsSmall gathered.coded head.size)
   -- times have 33 bits
   pub timely : hand_time gathered.hand < 2 ^ 33
   pub parted_timely : ForSome gathered.parted (λ head. head.time < 2 ^ 33)

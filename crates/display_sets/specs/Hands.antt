@@ -53,6 +53,13 @@ open_size (hand.Open time size) = size
 open_size (hand.Ready head) = 0
 open_size (hand.Given time) = 0
 
+-- how many bytes the units of a set in hand that is ready have, and 0 where none is
+abbrev pub ready_size : Hand → ℕ
+ready_size hand.Empty = 0
+ready_size (hand.Open time size) = 0
+ready_size (hand.Ready head) = head.size
+ready_size (hand.Given time) = 0
+
 -- the time of the run in hand, and 0 where there is none
 abbrev pub hand_time : Hand → ℕ
 hand_time hand.Empty = 0
@@ -66,3 +73,10 @@ parted_time meeting.Begins = 0
 parted_time (meeting.Joins size) = 0
 parted_time (meeting.Parts head) = head.time
 parted_time meeting.Behind = 0
+
+-- the size of the set that a unit makes ready, and 0 where it makes none
+abbrev pub parted_size : Meeting → ℕ
+parted_size meeting.Begins = 0
+parted_size (meeting.Joins size) = 0
+parted_size (meeting.Parts head) = head.size
+parted_size meeting.Behind = 0

@@ -42,7 +42,7 @@ impl Gathering {
     ghost use Rattle.decoder_model.specs.PacketArrivals.{last_run};
     ghost use Rattle.decoder_model.specs.Sets.{Delivery, lost, runs_of, sets_in};
     ghost use Rattle.display_sets.specs.Counted.{counted_in, is_any};
-    ghost use Rattle.display_sets.specs.Gathered.{TakesUp, first_ready, ready_sets, sets_behind};
+    ghost use Rattle.display_sets.specs.Gathered.{IsSmall, TakesUp, first_ready, ready_sets, sets_behind};
     ghost use Rattle.display_sets.specs.Lent.{lent};
     ghost use Rattle.display_sets.specs.Standing.{IsFirst, IsUnitEnd, Stands};
     ghost use Rattle.display_sets.specs.declared.hand.Hand.TheVariants as hand_is;
@@ -131,6 +131,7 @@ impl Gathering {
     pub fn ready(&self) -> Option<Ready<'_>>
         ensures first { option_map lent result ≡ first_ready (ready_sets self.now) }
         ensures timely { ForSome result (λ ready. ready.time < 2 ^ 33) }
+        ensures small { ForSome result (λ ready. IsSmall self.now.coded ready.size) }
         ensures within { ForSome result (λ ready. IfOk ready.segments (λ bytes. length bytes.now < 2 ^ 32)) }
         ensures delivery { (arrivals : List Arrival) (ended : Bool) (given : List (Delivery (List ℕ)))
             → Stands arrivals ended given self.now
@@ -163,7 +164,8 @@ impl Gathering {
 
     /// Makes the open set in hand, which has this head, the set that is ready first.
     fn part(&mut self, head: Head)
-        requires { head.time < 2 ^ 33 }
+        requires time { head.time < 2 ^ 33 }
+        requires size { head.size ≤ length self.old.bytes * 4294967296 }
         ensures { self.new ≡ record self.old { hand = hand_is.Empty; bytes = self.old.parted_bytes; parted = Some head; parted_bytes = self.old.bytes } }
     {
         mem::swap(&mut self.bytes, &mut self.parted_bytes);

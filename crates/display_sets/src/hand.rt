@@ -1,8 +1,8 @@
 //! The set of the run in hand: the last units of one presentation time with no loss between them.
 
-ghost use Rattle.std.specs.Prelude.{◌≡◌, ◌≤◌};
+ghost use Rattle.std.specs.Prelude.{◌≡◌, ◌+◌, ◌≤◌};
 ghost use Rattle.std.specs.Option.{ForSome};
-ghost use Rattle.display_sets.specs.Hands.{closed_hand, given_hand, hand_time, hand_with, meeting_of, parted_time, ready_head};
+ghost use Rattle.display_sets.specs.Hands.{closed_hand, given_hand, hand_time, hand_with, meeting_of, open_size, parted_size, parted_time, ready_head, ready_size};
 
 use crate::filling::Filled;
 use decoder_model::SetFault;
@@ -59,6 +59,7 @@ impl Hand {
     pub(crate) fn meet(self, time: u64) -> Meeting
         ensures meeting { result ≡ meeting_of time self }
         ensures timely { parted_time result ≤ hand_time self }
+        ensures small { parted_size result ≤ open_size self }
     {
         match self {
             Hand::Empty => Meeting::Begins,
@@ -82,6 +83,7 @@ impl Hand {
     pub(crate) fn with(time: u64, size: u64, filled: Filled) -> Hand
         ensures hand { result ≡ hand_with time size filled }
         ensures timely { hand_time result ≡ time }
+        ensures small { ready_size result ≤ size }
     {
         match filled {
             Filled::Open => Hand::Open { time, size },
@@ -93,6 +95,7 @@ impl Hand {
     pub(crate) fn ready(self) -> Option<Head>
         ensures ready { result ≡ ready_head self }
         ensures timely { ForSome result (λ head. head.time ≡ hand_time self) }
+        ensures small { ForSome result (λ head. head.size ≡ ready_size self) }
     {
         match self {
             Hand::Ready(head) => Some(head),
@@ -104,6 +107,7 @@ impl Hand {
     pub(crate) fn given(self) -> Hand
         ensures hand { result ≡ given_hand self }
         ensures timely { hand_time result ≡ hand_time self }
+        ensures small { ready_size result ≡ 0 }
     {
         match self {
             Hand::Ready(head) => Hand::Given { time: head.time },
@@ -117,6 +121,7 @@ impl Hand {
     pub(crate) fn closed(self) -> Hand
         ensures hand { result ≡ closed_hand self }
         ensures timely { hand_time result ≡ hand_time self }
+        ensures small { ready_size result ≡ open_size self + ready_size self }
     {
         match self {
             Hand::Open { time, size } => Hand::Ready(Head {
