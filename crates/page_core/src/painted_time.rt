@@ -15,7 +15,8 @@ const PIXELS_A_TICK: u64 = 64;
 /// region segments that are begun.
 pub fn painting_time(bytes: &[u8]) -> u64
     requires { length bytes.now < 2 ^ 32 }
-    ensures { (set : List Content) → AreContents set bytes.now → result ≡ set_painting set }
+    ensures time { (set : List Content) → AreContents set bytes.now → result ≡ set_painting set }
+    ensures few { result ≤ length bytes.now * 67108864 }
 {
     let mut ticks = 0;
     let mut rest = bytes;

@@ -12,7 +12,7 @@ loop-next-preserved c = (
   (let shorter = c.in-Some.ensures.shorter in let few = c.ticks_of-ticks.ensures.few in let room = c.loop-next.invariant.1 in omega (arith, shorter, few, room)),
 )
 
-pub returns : goal.returns
-returns c set are =
+pub returns-clause-time : goal.returns-clause-time
+returns-clause-time c set are =
     let so_far = c.loop-next.invariant.0 set are in
     all_painted set so_far.left c.loop-next.ticks so_far.sum (c.in_default.ensures.next so_far.left so_far.are)
