@@ -1,13 +1,14 @@
 -- What a receiver stands for once the set that is ready was taken.
-use Rattle.std.proofs.Common.{◌≡◌, ◌∙◌, ℕ, Bool, List, [], ◌∷◌, ◌++◌, reverse, Option, Some, None, option_map, refl, sym, ap, subst}
+use Rattle.std.proofs.Common.{◌≡◌, ◌∙◌, ℕ, Bool, List, [], ◌∷◌, ◌++◌, length, reverse, Option, Some, None, option_map, refl, sym, ap, subst, arith}
 use Rattle.std.specs.Prelude.{option_and_then}
+use Rattle.std.proofs.lemmas.List.{length-append}
 use Rattle.sub_base.specs.declared.profile.Profile.{Profile}
 use Rattle.ts_packets.specs.Demuxing as packets
 use Rattle.ts_packets.specs.Demuxing.{Demuxing}
 use Rattle.decoder_model.specs.Arrivals.{Arrival, arrivals_of, packets_taken}
-use Rattle.decoder_model.specs.Kept.{last_time, lifted_behind, lifted_time}
+use Rattle.decoder_model.specs.Kept.{last_time, lifted_behind, lifted_time, time_of}
 use Rattle.decoder_model.specs.Readings.{AreDeliveriesRead, IsDeliveryRead, Reading}
-use Rattle.decoder_model.specs.Sets.{Delivery, runs_of, sets_in, sets_of, whole}
+use Rattle.decoder_model.specs.Sets.{Delivery, lost, refused, runs_of, sets_in, sets_of, whole}
 use Rattle.display_sets.specs.Gathered.{Gathered, ReadySet, first_ready, ready_sets}
 use Rattle.display_sets.specs.Standing as sets
 use Rattle.display_sets.specs.Standing.{IsFirst, IsReady}
@@ -18,15 +19,57 @@ use Rattle.receiver.specs.Showing as pictures
 use Rattle.receiver.proofs.Feeds.{arrived_at}
 use Rattle.receiver.proofs.Gatherings.{more_shows}
 
--- the sets of packets, as they were gathered
+-- the sets of the packets are those that were gathered
+pub sets_gathered : (ended : Bool) (fed : List (List ℕ)) (given : List (Delivery (List ℕ))) (receiving : Receiving) → IsReceiver receiving
+    → Stands ended fed given receiving
+    → sets_of receiving.showing.core.profile.coded receiving.demux.pid receiving.showing.core.page ended fed
+    ≡ sets_in receiving.sets.coded ended (runs_of (arrived_at receiving fed))
+sets_gathered ended fed given receiving is stands =
+    let coded = receiving.showing.core.profile.coded in
+    sets_of_packets coded receiving.demux.pid receiving.showing.core.page ended fed
+    ∙ ap (λ (all : Bool). sets_in coded all (runs_of (arrived_at receiving fed))) (ended_packets ended receiving.demux.pid fed stands.taken)
+    ∙ ap (λ (n : ℕ). sets_in n ended (runs_of (arrived_at receiving fed))) (sym is.coded)
+
 pub next_gathered : (ended : Bool) (fed : List (List ℕ)) (given : List (Delivery (List ℕ))) (delivery : Delivery (List ℕ)) (rest : List (Delivery (List ℕ))) (old : Receiving) → IsReceiver old → IsNext ended fed given delivery rest old
     → sets_in old.sets.coded ended (runs_of (arrived_at old fed)) ≡ given ++ delivery ∷ rest
-next_gathered ended fed given delivery rest old is next =
-    let coded = old.showing.core.profile.coded in
-    let pid = old.demux.pid in
-    ap (λ (n : ℕ). sets_in n ended (runs_of (arrived_at old fed))) is.coded
-    ∙ ap (λ (all : Bool). sets_in coded all (runs_of (arrived_at old fed))) (sym (ended_packets ended pid fed next.stands.taken))
-    ∙ sym (sets_of_packets coded pid old.showing.core.page ended fed) ∙ next.all
+next_gathered ended fed given delivery rest old is next = sym (sets_gathered ended fed given old is next.stands) ∙ next.all
+
+-- the time of a set that is ready is that of its delivery
+ready_time : (delivery : Delivery (List ℕ)) (set : ReadySet) → IsReady delivery set → time_of delivery ≡ Some set.time
+ready_time lost set ready = absurd ready
+ready_time (whole time size segments) set (time_is, size_is, content) = ap Some (sym time_is)
+ready_time (refused time size fault) set (time_is, size_is, content) = ap Some (sym time_is)
+
+-- where a set is ready, it comes next
+pub some_ready : (ended : Bool) (fed : List (List ℕ)) (given : List (Delivery (List ℕ))) (receiving : Receiving) (set : ReadySet)
+    → IsReceiver receiving → Stands ended fed given receiving
+    → IsFirst (sets_in receiving.sets.coded ended (runs_of (arrived_at receiving fed))) given (Some set)
+    → (delivery : Delivery (List ℕ)) × (rest : List (Delivery (List ℕ)))
+    × IsNext ended fed given delivery rest receiving × (time_of delivery ≡ Some set.time)
+some_ready ended fed given receiving set is stands (delivery, rest, split, ready) = (
+  delivery,
+  rest,
+  record { stands = stands; all = sets_gathered ended fed given receiving is stands ∙ split },
+  ready_time delivery set ready,
+)
+
+-- where all were given, no set comes next
+pub none_next : {X : Type 0} (given rest : List X) (next : X) → given ≡ given ++ next ∷ rest → ⊥
+none_next given rest next is = (let same = ap length is ∙ length-append given (next ∷ rest) in omega (arith, same))
+
+-- what is read has the time that it had
+read_time : (delivery : Delivery (List ℕ)) (one : Delivery Reading) → IsDeliveryRead delivery one → time_of one ≡ time_of delivery
+read_time lost one read = ap time_of read
+read_time (whole time size segments) one (readings, are, is) = ap time_of is
+read_time (refused time size fault) one read = ap time_of read
+
+-- the lifted time of a set that comes next
+pub next_lifted : (anchor : ℕ) (past : List (Delivery Reading)) (delivery : Delivery (List ℕ)) (one : Delivery Reading) (set : ReadySet) (lifted : Option ℕ)
+    → IsReady delivery set → IsDeliveryRead delivery one → lifted ≡ lifted_time {S = Reading} anchor past (whole set.time 0 [])
+    → lifted ≡ lifted_time anchor past one
+next_lifted anchor past delivery one set lifted ready read is =
+    is ∙ ap (λ (time : Option ℕ). option_and_then (lifted_behind anchor (last_time anchor past)) time)
+    (sym (read_time delivery one read ∙ ready_time delivery set ready))
 
 -- what stands behind equal fronts is the same
 same_next : {X : Type 0} (front : List X) (a b : X) (more rest : List X) → front ++ a ∷ more ≡ front ++ b ∷ rest → a ≡ b

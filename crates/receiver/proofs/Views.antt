@@ -3,7 +3,7 @@ use Rattle.std.proofs.Common.{◌≡◌, ◌∙◌, ℕ, ◌<◌, Bool, false, L
 use Rattle.std.proofs.lemmas.List.{reverse-append}
 use Rattle.decoder_model.specs.Kept.{last_time, lifted_time}
 use Rattle.decoder_model.specs.Readings.{AreDeliveriesRead, IsDeliveryRead, Reading}
-use Rattle.decoder_model.specs.Sets.{Delivery, runs_of, sets_in, sets_of}
+use Rattle.decoder_model.specs.Sets.{Delivery, sets_of}
 use Rattle.std.specs.Option.{option_or}
 use Rattle.decoder_model.specs.Shown.{IsShown, View, view_at}
 use Rattle.sub_base.specs.declared.profile.Profile.{Profile}
@@ -11,9 +11,8 @@ use Rattle.decoder_model.proofs.Later.{IsPast, view_stays}
 use Rattle.decoder_model.proofs.Views.{view_before}
 use Rattle.display_sets.specs.Gathered.{ReadySet, ready_sets}
 use Rattle.display_sets.specs.Standing.{AreReady}
-use Rattle.display_sets.proofs.PacketLaws.{ended_packets, sets_of_packets}
 use Rattle.receiver.specs.Receiving.{IsNext, IsReceiver, Receiving, Stands}
-use Rattle.receiver.proofs.Feeds.{arrived_at}
+use Rattle.receiver.proofs.Takes.{sets_gathered}
 
 -- ---- all sets are taken
 
@@ -26,12 +25,8 @@ none_waiting (delivery ∷ waiting) (set ∷ sets) are none = absurd (cc)
 pub all_taken : (ended : Bool) (fed : List (List ℕ)) (given : List (Delivery (List ℕ))) (receiving : Receiving) → IsReceiver receiving → Stands ended fed given receiving → ready_sets receiving.sets ≡ []
     → sets_of receiving.showing.core.profile.coded receiving.demux.pid receiving.showing.core.page ended fed ≡ given
 all_taken ended fed given receiving is stands none =
-    let coded = receiving.showing.core.profile.coded in
     let sets = stands.gathers.sets in
-    sets_of_packets coded receiving.demux.pid receiving.showing.core.page ended fed
-    ∙ ap (λ (all : Bool). sets_in coded all (runs_of (arrived_at receiving fed))) (ended_packets ended receiving.demux.pid fed stands.taken)
-    ∙ ap (λ (n : ℕ). sets_in n ended (runs_of (arrived_at receiving fed))) (sym is.coded)
-    ∙ sets.sets ∙ ap (λ (waiting : List (Delivery (List ℕ))). given ++ waiting) (none_waiting sets.waiting (ready_sets receiving.sets) sets.are_ready none) ∙ append-nil given
+    sets_gathered ended fed given receiving is stands ∙ sets.sets ∙ ap (λ (waiting : List (Delivery (List ℕ))). given ++ waiting) (none_waiting sets.waiting (ready_sets receiving.sets) sets.are_ready none) ∙ append-nil given
 
 -- ---- a set is ready
 

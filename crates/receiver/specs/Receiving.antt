@@ -1,16 +1,17 @@
 -- What a receiver keeps, and what that has to do with all packets that it was fed (EN 300 743, clauses 5.1 and 6).
-use Rattle.std.specs.Prelude.{◌≡◌, ℕ, ◌+◌, Bool, List, [], ◌∷◌, ◌++◌, reverse, if◌then◌else◌}
+use Rattle.std.specs.Prelude.{◌≡◌, ℕ, ◌+◌, ◌^◌, ◌<◌, ◌≤◌, Bool, List, [], ◌∷◌, ◌++◌, reverse, if◌then◌else◌}
 use Rattle.std.specs.List.{AllByRecursion}
 use Rattle.sub_base.specs.declared.load.SetLoad.{SetLoad}
 use Rattle.stream_syntax.specs.Units.{is_loss}
 use Rattle.stream_syntax.specs.declared.transport.Event.{Event}
+use Rattle.stream_syntax.specs.declared.wire.TheConstants.{PAYLOAD_LENGTH}
 use Rattle.ts_packets.specs.Demuxing as packets
 use Rattle.ts_packets.specs.Demuxing.{Demuxing}
 use Rattle.decoder_model.specs.Arrivals.{Arrival, arrivals_of, packets_taken}
 use Rattle.decoder_model.specs.PacketArrivals.{PacketArrival}
 use Rattle.decoder_model.specs.Readings.{Reading, AreDeliveriesRead}
 use Rattle.decoder_model.specs.Sets.{Delivery, lost, sets_of}
-use Rattle.display_sets.specs.Gathered.{Gathered, ReadySet}
+use Rattle.display_sets.specs.Gathered.{Gathered, IsSmall, ReadySet}
 use Rattle.page_core.specs.Memory.{IsSameReceiver}
 use Rattle.display_sets.specs.Standing as sets
 use Rattle.receiver.specs.Showing as pictures
@@ -27,11 +28,20 @@ pub record Receiving : Type 0 where
   pub arrival : PacketArrival
   pub load : SetLoad
 
--- the parts are those of one receiver
+-- a set asks less than 2^62 ticks, and has less than 2^32 bytes of units for each byte of the coded data buffer, and for the
+-- unit with which it ends
+pub record IsLoadOf (coded : ℕ) (load : SetLoad) : Type 0 where
+  pub pts : load.pts < 2 ^ 62
+  pub painted : load.painted < 2 ^ 62
+  pub size : IsSmall coded load.size
+
+-- the parts are those of one receiver, a packet brought no more than its payload, and a set asked no more than it can
 pub record IsReceiver (receiving : Receiving) : Type 0 where
   pub size : receiving.demux.size ≡ receiving.showing.core.profile.coded
   pub coded : receiving.sets.coded ≡ receiving.showing.core.profile.coded
   pub page : receiving.sets.page ≡ receiving.showing.core.page
+  pub short : receiving.arrival.bytes ≤ PAYLOAD_LENGTH
+  pub load : IsLoadOf receiving.showing.core.profile.coded receiving.load
 
 -- ---- what it has to do with all that came
 

@@ -1,8 +1,9 @@
 //! What the coded data buffer of a receiver is told of a packet.
 
-ghost use Rattle.std.specs.Prelude.{◌≡◌, length, Some};
+ghost use Rattle.std.specs.Prelude.{◌≡◌, ◌≤◌, length, Some};
 ghost use Rattle.stream_syntax.specs.TransportPackets.{payload_of, has_start_flag};
 ghost use Rattle.stream_syntax.specs.Units.{fate_of};
+ghost use Rattle.stream_syntax.specs.declared.wire.TheConstants.{PAYLOAD_LENGTH};
 ghost use Rattle.decoder_model.specs.Arrivals.{is_over};
 ghost use Rattle.receiver.specs.Arrived.{bytes_by, too_long_by};
 
@@ -29,11 +30,12 @@ impl Outcome {
 
     /// What the packet brought to a coded data buffer of that size.
     pub(crate) fn arrival(self, coded: u64, packet: &[u8; 188]) -> Arrival
-        ensures { arrival_value result ≡ record {
+        ensures arrival { arrival_value result ≡ record {
           bytes = bytes_by self.event packet.now;
           before = end_parts self.end;
           dropped = too_long_by coded self.event packet.now || end_drops self.end;
         } }
+        ensures short { result.bytes ≤ PAYLOAD_LENGTH }
     {
         Arrival {
             bytes: bytes_taken(self.event, packet),
@@ -45,7 +47,8 @@ impl Outcome {
 
 /// How many bytes of a packet begin or continue a unit, by what became of the packet.
 fn bytes_taken(event: Event, packet: &[u8; 188]) -> u32
-    ensures { result ≡ bytes_by event packet.now }
+    ensures bytes { result ≡ bytes_by event packet.now }
+    ensures short { result ≤ PAYLOAD_LENGTH }
 {
     match event {
         Event::Followed | Event::TooLong { .. } => payload_length(packet),
@@ -86,7 +89,8 @@ fn starts(packet: &[u8; 188]) -> bool
 
 /// What stands in a packet behind its head and its adaptation field.
 fn payload(packet: &[u8; 188]) -> &[u8]
-    ensures { result.now ≡ payload_of packet.now }
+    ensures payload { result.now ≡ payload_of packet.now }
+    ensures short { length result.now ≤ PAYLOAD_LENGTH }
 {
     let start = if packet[3] / 16 % 4 == 3 {
         5 + usize::from(packet[4])
@@ -97,7 +101,8 @@ fn payload(packet: &[u8; 188]) -> &[u8]
 }
 
 fn payload_length(packet: &[u8; 188]) -> u32
-    ensures { result ≡ length (payload_of packet.now) }
+    ensures length { result ≡ length (payload_of packet.now) }
+    ensures short { result ≤ PAYLOAD_LENGTH }
 {
     payload(packet).len() as u32
 }

@@ -7,7 +7,7 @@ ghost use Rattle.decoder_model.specs.Shown.{Standing, is_over_at, standing_after
 ghost use Rattle.page_core.specs.Memory.{Stands};
 ghost use Rattle.page_core.specs.Rows.{picture_in};
 ghost use Rattle.page_core.specs.Scenes.{Shows, until_in};
-ghost use Rattle.receiver.specs.Lent.{view_lent};
+ghost use Rattle.receiver.specs.Lent.{IsWholeView, view_lent};
 ghost use Rattle.receiver.specs.Showing.{places_of, plane_in, view_in};
 ghost use Rattle.receiver.specs.Slots.{HasPlaces, IsInPlane, slot_of};
 
@@ -80,7 +80,8 @@ impl Picture {
     /// Lends what is shown at a tick from the picture's time on.
     pub(crate) fn view(&self, tick: u64) -> View<'_>
         requires { IsInPlane self.now }
-        ensures { view_lent result ≡ view_in (slot_of self.now) tick }
+        ensures view { view_lent result ≡ view_in (slot_of self.now) tick }
+        ensures whole { IsWholeView result }
     {
         if self.shown && !is_over(self.until, tick) {
             View::Plane {

@@ -16,8 +16,9 @@ use stream_syntax::{Event, PacketFault};
 use sub_base::{BandGate, NoMemory, Profile, SetLoad};
 use ts_packets::Demux;
 
-/// A receiver of the subtitles of one page, out of the transport packets of one PID. Sets that are whole are ready until they
-/// are taken; each is drawn as it is taken, and two pictures are kept: that of the last set, and that of the set before it.
+/// A receiver of the subtitles of one page, out of the transport packets of one PID. Sets that are
+/// whole are ready until they are taken; each is drawn as it is taken, and two pictures are kept:
+/// that of the last set, and that of the set before it.
 #[derive(Drop)]
 pub struct Receiver {
     /// The bytes of the coded data buffer.
@@ -36,16 +37,32 @@ impl Model for Receiver {
 
     ghost Value = { Receiving };
 
-    ghost view = { λ r. record { demux = r.demux; sets = r.sets; showing = r.screen; arrival = arrival_value r.arrival; load = r.load } };
+    ghost view = { λ r. record {
+      demux = r.demux;
+      sets = r.sets;
+      showing = r.screen;
+      arrival = arrival_value r.arrival;
+      load = r.load;
+    } };
 
-    ghost invariant = { λ r. IsReceiver (record { demux = r.demux; sets = r.sets; showing = r.screen; arrival = arrival_value r.arrival; load = r.load }) × (r.coded ≡ r.screen.core.profile.coded) };
+    ghost invariant = { λ r. IsReceiver (record {
+      demux = r.demux;
+      sets = r.sets;
+      showing = r.screen;
+      arrival = arrival_value r.arrival;
+      load = r.load;
+    }) × (r.coded ≡ r.screen.core.profile.coded) };
 }
 
 impl Receiver {
-    ghost use Rattle.std.specs.Prelude.{◌≡◌, ◌<◌, ◌≤◌, ◌^◌, ℕ, Bool, true, false, List, [], ◌∷◌, ◌++◌, reverse, option_and_then, option_map, IfErr, IfOk, IfSome, IsSome, MatchResult, None, OnOk, Some};
+    ghost use Rattle.std.specs.Prelude.{◌≡◌, ◌<◌, ◌≤◌, ◌^◌, ℕ, Bool, true, false};
+    ghost use Rattle.std.specs.Prelude.{List, [], ◌∷◌, ◌++◌, reverse};
+    ghost use Rattle.std.specs.Prelude.{None, Some, option_and_then, option_map, unwrap_or};
+    ghost use Rattle.std.specs.Prelude.{IfErr, IfOk, IfSome, IsSome, MatchResult, OnOk};
     ghost use Rattle.stream_syntax.specs.TransportPackets.{packet_fault};
     ghost use Rattle.stream_syntax.specs.Units.{event_at};
-    ghost use Rattle.decoder_model.specs.Kept.{last_time, lifted_behind, lifted_time};
+    ghost use Rattle.stream_syntax.specs.declared.wire.TheConstants.{PAYLOAD_LENGTH};
+    ghost use Rattle.decoder_model.specs.Kept.{last_time, lifted_behind, lifted_time, time_of};
     ghost use Rattle.decoder_model.specs.Painting.{set_load};
     ghost use Rattle.decoder_model.specs.Verdict.{verdict_of};
     ghost use Rattle.decoder_model.specs.PacketArrivals.{packet_arrival};
@@ -55,10 +72,11 @@ impl Receiver {
     ghost use Rattle.decoder_model.specs.Shown.{View as Shows};
     ghost use Rattle.display_sets.specs.Gathered.{first_ready, ready_sets, sets_behind};
     ghost use Rattle.receiver.specs.Arrived.{arrival_value};
-    ghost use Rattle.receiver.specs.Lent.{view_lent};
+    ghost use Rattle.receiver.specs.Lent.{IsWholeView, view_lent};
     ghost use Rattle.receiver.specs.Receiving.{AreLosses, IsNext, IsSame, Stands, set_time};
 
-    /// A receiver of a profile that was fed nothing. Lifted times begin at the anchor. All memory is taken here.
+    /// A receiver of a profile that was fed nothing. Lifted times begin at the anchor. All memory
+    /// is taken here.
     pub fn make(
         alloc: Global,
         profile: &Profile,
@@ -93,19 +111,27 @@ impl Receiver {
         })
     }
 
-    /// Takes the next packet, where no set is ready: what became of it. A packet that cannot be taken leaves the receiver as it
-    /// was.
+    /// Takes the next packet, where no set is ready: what became of it. A packet that cannot be
+    /// taken leaves the receiver as it was.
     pub fn feed(&mut self, packet: &[u8; 188]) -> Result<Event, PacketFault>
         requires none { ready_sets self.old.sets ≡ [] }
         ensures fault { MatchResult result (λ _. packet_fault self.old.demux.pid packet.now ≡ None)
             (λ fault. packet_fault self.old.demux.pid packet.now ≡ Some fault) }
         ensures unchanged { IfErr result (λ _. self.new ≡ self.old) }
-        ensures stands { OnOk result ((fed : List (List ℕ)) (given : List (Delivery (List ℕ))) → Stands false fed given self.old
-            → (losses : List (Delivery (List ℕ))) × AreLosses losses × Stands false (fed ++ packet.now ∷ []) (given ++ losses) self.new) }
-        ensures event { IfOk result (λ event. (fed : List (List ℕ)) (given : List (Delivery (List ℕ))) → Stands false fed given self.old
-            → event ≡ event_at self.old.demux.pid self.old.showing.core.profile.coded fed packet.now) }
-        ensures arrival { OnOk result ((fed : List (List ℕ)) (given : List (Delivery (List ℕ))) → Stands false fed given self.old
-            → self.new.arrival ≡ packet_arrival self.old.showing.core.profile.coded self.old.demux.pid self.old.showing.core.page fed packet.now) }
+        ensures stands { OnOk result ((fed : List (List ℕ)) (given : List (Delivery (List ℕ)))
+            → Stands false fed given self.old
+            → (losses : List (Delivery (List ℕ))) × AreLosses losses
+            × Stands false (fed ++ packet.now ∷ []) (given ++ losses) self.new) }
+        ensures event { IfOk result (λ event.
+            (fed : List (List ℕ)) (given : List (Delivery (List ℕ)))
+            → Stands false fed given self.old
+            → event ≡ event_at self.old.demux.pid self.old.showing.core.profile.coded
+            fed packet.now) }
+        ensures arrival { OnOk result ((fed : List (List ℕ)) (given : List (Delivery (List ℕ)))
+            → Stands false fed given self.old
+            → self.new.arrival ≡ packet_arrival self.old.showing.core.profile.coded
+            self.old.demux.pid self.old.showing.core.page fed packet.now) }
+        ensures load { self.new.load ≡ self.old.load }
         ensures same { IsSame self.old self.new }
     {
         let outcome = feed(&mut self.demux, &mut self.sets, &mut self.screen, packet)?;
@@ -116,7 +142,10 @@ impl Receiver {
     /// The stream has ended: a set in hand without its end is ready as it stands.
     pub fn finish(&mut self)
         requires none { ready_sets self.old.sets ≡ [] }
-        ensures stands { (fed : List (List ℕ)) (given : List (Delivery (List ℕ))) → Stands false fed given self.old → Stands true fed given self.new }
+        ensures stands { (fed : List (List ℕ)) (given : List (Delivery (List ℕ)))
+            → Stands false fed given self.old → Stands true fed given self.new }
+        ensures arrival { self.new.arrival ≡ self.old.arrival }
+        ensures load { self.new.load ≡ self.old.load }
         ensures same { IsSame self.old self.new }
     {
         self.sets.finish();
@@ -126,24 +155,43 @@ impl Receiver {
     pub fn ready(&self) -> Option<u64>
         ensures time { result ≡ option_map set_time (first_ready (ready_sets self.now.sets)) }
         ensures none { result ≡ None → ready_sets self.now.sets ≡ [] }
+        ensures all { result ≡ None
+            → (fed : List (List ℕ)) (ended : Bool) (given : List (Delivery (List ℕ)))
+            → Stands ended fed given self.now
+            → sets_of self.now.showing.core.profile.coded self.now.demux.pid
+            self.now.showing.core.page ended fed ≡ given }
+        ensures next { IfSome result (λ time.
+            (fed : List (List ℕ)) (ended : Bool) (given : List (Delivery (List ℕ)))
+            → Stands ended fed given self.now
+            → (delivery : Delivery (List ℕ)) × (rest : List (Delivery (List ℕ)))
+            × IsNext ended fed given delivery rest self.now × (time_of delivery ≡ Some time)) }
     {
         let ready = self.sets.ready()?;
         Some(ready.time)
     }
 
-    /// The lifted time of the set that is ready. `None` exactly where none is ready, or where it would not be kept.
+    /// The lifted time of the set that is ready. `None` exactly where none is ready, or where it
+    /// would not be kept.
     pub fn ready_at(&self) -> Option<u64>
-        ensures lifted { (fed : List (List ℕ)) (ended : Bool) (given : List (Delivery (List ℕ))) (past : List (Delivery Reading))
+        ensures lifted { (fed : List (List ℕ)) (ended : Bool) (given : List (Delivery (List ℕ)))
+            (past : List (Delivery Reading))
             → Stands ended fed given self.now → AreDeliveriesRead (reverse given) past
-            → result ≡ option_and_then (lifted_behind self.now.showing.core.anchor (last_time self.now.showing.core.anchor past))
+            → result ≡ option_and_then
+            (lifted_behind self.now.showing.core.anchor
+            (last_time self.now.showing.core.anchor past))
             (option_map set_time (first_ready (ready_sets self.now.sets))) }
+        ensures next { (fed : List (List ℕ)) (ended : Bool) (given rest : List (Delivery (List ℕ)))
+            (next : Delivery (List ℕ)) (past : List (Delivery Reading)) (one : Delivery Reading)
+            → IsNext ended fed given next rest self.now → AreDeliveriesRead (reverse given) past
+            → IsDeliveryRead next one → result ≡ lifted_time self.now.showing.core.anchor past one }
     {
         let ready = self.sets.ready()?;
         self.screen.core().lift(ready.time)
     }
 
-    /// Takes the set that is ready: the page memory has it, its picture is drawn in so many bands, 1 to 64, and the picture that was
-    /// the last one is the current one. A set that is not kept changes no picture.
+    /// Takes the set that is ready: the page memory has it, its picture is drawn in so many bands,
+    /// 1 to 64, and the picture that was the last one is the current one. A set that is not kept
+    /// changes no picture.
     pub fn take<R: Threads + Sync, G: BandGate + Sync>(
         &mut self,
         rt: &R,
@@ -153,16 +201,24 @@ impl Receiver {
         requires ready { IsSome (first_ready (ready_sets self.old.sets)) }
         requires some { 1 ≤ bands }
         requires few { bands ≤ 64 }
-        ensures stands { (ended : Bool) (fed : List (List ℕ)) (given rest : List (Delivery (List ℕ))) (delivery : Delivery (List ℕ))
-            → IsNext ended fed given delivery rest self.old → Stands ended fed (given ++ delivery ∷ []) self.new }
-        ensures answer { (ended : Bool) (fed : List (List ℕ)) (given rest : List (Delivery (List ℕ))) (delivery : Delivery (List ℕ))
+        ensures stands { (ended : Bool) (fed : List (List ℕ))
+            (given rest : List (Delivery (List ℕ))) (delivery : Delivery (List ℕ))
+            → IsNext ended fed given delivery rest self.old
+            → Stands ended fed (given ++ delivery ∷ []) self.new }
+        ensures answer { (ended : Bool) (fed : List (List ℕ))
+            (given rest : List (Delivery (List ℕ))) (delivery : Delivery (List ℕ))
             (past : List (Delivery Reading)) (one : Delivery Reading)
-            → IsNext ended fed given delivery rest self.old → AreDeliveriesRead (reverse given) past → IsDeliveryRead delivery one
-            → Some result ≡ verdict_of self.old.showing.core.profile self.old.showing.core.anchor past one }
-        ensures load { (ended : Bool) (fed : List (List ℕ)) (given rest : List (Delivery (List ℕ))) (delivery : Delivery (List ℕ))
+            → IsNext ended fed given delivery rest self.old → AreDeliveriesRead (reverse given) past
+            → IsDeliveryRead delivery one
+            → Some result ≡ verdict_of self.old.showing.core.profile self.old.showing.core.anchor
+            past one }
+        ensures load { (ended : Bool) (fed : List (List ℕ))
+            (given rest : List (Delivery (List ℕ))) (delivery : Delivery (List ℕ))
             (past : List (Delivery Reading)) (one : Delivery Reading)
-            → IsNext ended fed given delivery rest self.old → AreDeliveriesRead (reverse given) past → IsDeliveryRead delivery one
-            → Some self.new.load ≡ set_load self.old.showing.core.profile self.old.showing.core.anchor past one }
+            → IsNext ended fed given delivery rest self.old → AreDeliveriesRead (reverse given) past
+            → IsDeliveryRead delivery one
+            → Some self.new.load ≡ set_load self.old.showing.core.profile
+            self.old.showing.core.anchor past one }
         ensures left { ready_sets self.new.sets ≡ sets_behind (ready_sets self.old.sets) }
         ensures arrival { self.new.arrival ≡ self.old.arrival }
         ensures same { IsSame self.old self.new }
@@ -178,45 +234,63 @@ impl Receiver {
         }
     }
 
-    /// The lifted time of the current picture, from which on it is known what is shown; 0 before two sets were kept.
+    /// The lifted time of the current picture, from which on it is known what is shown; 0 before
+    /// two sets were kept.
     pub fn from(&self) -> u64
-        ensures { result ≡ self.now.showing.current.time }
+        ensures time { result ≡ self.now.showing.current.time }
+        ensures before { (fed : List (List ℕ)) (ended : Bool) (given : List (Delivery (List ℕ)))
+            (past : List (Delivery Reading))
+            → Stands ended fed given self.now → AreDeliveriesRead (reverse given) past
+            → result ≤ unwrap_or (last_time self.now.showing.core.anchor past) 0 }
     {
         self.screen.from()
     }
 
-    /// Lends what is shown at a tick: of all packets where no set is ready, and else up to the lifted time of the set that is.
+    /// Lends what is shown at a tick: of all packets where no set is ready, and else up to the
+    /// lifted time of the set that is.
     pub fn picture(&self, tick: u64) -> View<'_>
         requires { self.now.showing.current.time ≤ tick }
-        ensures taken { (fed : List (List ℕ)) (ended : Bool) (given : List (Delivery (List ℕ))) (past : List (Delivery Reading))
+        ensures taken { (fed : List (List ℕ)) (ended : Bool) (given : List (Delivery (List ℕ)))
+            (past : List (Delivery Reading))
             → Stands ended fed given self.now → AreDeliveriesRead (reverse given) past
-            → view_lent result ≡ view_at self.now.showing.core.profile self.now.showing.core.anchor tick past }
-        ensures shown { (fed : List (List ℕ)) (ended : Bool) (given : List (Delivery (List ℕ))) (shown : Shows)
+            → view_lent result ≡ view_at self.now.showing.core.profile
+            self.now.showing.core.anchor tick past }
+        ensures shown { (fed : List (List ℕ)) (ended : Bool) (given : List (Delivery (List ℕ)))
+            (shown : Shows)
             → Stands ended fed given self.now → ready_sets self.now.sets ≡ []
-            → IsShown self.now.showing.core.profile self.now.demux.pid self.now.showing.core.page self.now.showing.core.anchor ended fed tick shown
+            → IsShown self.now.showing.core.profile self.now.demux.pid self.now.showing.core.page
+            self.now.showing.core.anchor ended fed tick shown
             → view_lent result ≡ shown }
-        ensures ahead { (fed : List (List ℕ)) (ended : Bool) (given rest : List (Delivery (List ℕ))) (next : Delivery (List ℕ)) (lifted : ℕ) (shown : Shows)
+        ensures ahead { (fed : List (List ℕ)) (ended : Bool) (given rest : List (Delivery (List ℕ)))
+            (next : Delivery (List ℕ)) (lifted : ℕ) (shown : Shows)
             → IsNext ended fed given next rest self.now
-            → ((past : List (Delivery Reading)) (one : Delivery Reading) → AreDeliveriesRead (reverse given) past → IsDeliveryRead next one
+            → ((past : List (Delivery Reading)) (one : Delivery Reading)
+            → AreDeliveriesRead (reverse given) past → IsDeliveryRead next one
             → lifted_time self.now.showing.core.anchor past one ≡ Some lifted)
             → tick < lifted
-            → IsShown self.now.showing.core.profile self.now.demux.pid self.now.showing.core.page self.now.showing.core.anchor ended fed tick shown
+            → IsShown self.now.showing.core.profile self.now.demux.pid self.now.showing.core.page
+            self.now.showing.core.anchor ended fed tick shown
             → view_lent result ≡ shown }
+        ensures whole { IsWholeView result }
     {
         self.screen.picture(tick)
     }
 
-    /// What the last set that was taken asked: its lifted time, or its time as read where it was not kept, its size and the time
-    /// that its painting takes.
+    /// What the last set that was taken asked: its lifted time, or its time as read where it was
+    /// not kept, its size and the time that its painting takes.
     pub fn load(&self) -> SetLoad
-        ensures { result ≡ self.now.load }
+        ensures load { result ≡ self.now.load }
+        ensures pts { result.pts < 2 ^ 62 }
+        ensures size { self.now.showing.core.profile.coded ≤ 2 ^ 18 → result.size < 2 ^ 62 }
+        ensures painted { result.painted < 2 ^ 62 }
     {
         self.load
     }
 
     /// What the last packet brought to the coded data buffer.
     pub fn arrival(&self) -> Arrival
-        ensures { arrival_value result ≡ self.now.arrival }
+        ensures arrival { arrival_value result ≡ self.now.arrival }
+        ensures short { result.bytes ≤ PAYLOAD_LENGTH }
     {
         self.arrival
     }

@@ -7,7 +7,7 @@ ghost use Rattle.decoder_model.specs.Sets.{Delivery, lost, refused, whole};
 ghost use Rattle.decoder_model.specs.Shown.{view_at};
 ghost use Rattle.decoder_model.specs.Verdict.{verdict_of};
 ghost use Rattle.page_core.specs.Memory.{IsSameReceiver};
-ghost use Rattle.receiver.specs.Lent.{view_lent};
+ghost use Rattle.receiver.specs.Lent.{IsWholeView, view_lent};
 ghost use Rattle.receiver.specs.Showing.{Stands};
 
 use crate::picture::{Picture, turn};
@@ -123,7 +123,9 @@ impl Screen {
     /// Lends what is shown at a tick.
     pub(crate) fn picture(&self, tick: u64) -> View<'_>
         requires { self.now.current.time ≤ tick }
-        ensures { (past : List (Delivery Reading)) → Stands past self.now → view_lent result ≡ view_at self.now.core.profile self.now.core.anchor tick past }
+        ensures view { (past : List (Delivery Reading)) → Stands past self.now
+            → view_lent result ≡ view_at self.now.core.profile self.now.core.anchor tick past }
+        ensures whole { IsWholeView result }
     {
         if tick < self.pending.time {
             self.current.view(tick)

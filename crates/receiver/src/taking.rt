@@ -7,9 +7,11 @@ ghost use Rattle.decoder_model.specs.Readings.{IsDeliveryRead, Reading};
 ghost use Rattle.decoder_model.specs.Received.{AreRead};
 ghost use Rattle.decoder_model.specs.Sets.{Delivery, refused, whole};
 ghost use Rattle.decoder_model.specs.Verdict.{verdict_of};
+ghost use Rattle.display_sets.specs.Gathered.{IsSmall};
 ghost use Rattle.display_sets.specs.Lent.{lent};
 ghost use Rattle.display_sets.specs.Standing.{IsReady};
 ghost use Rattle.page_core.specs.Memory.{IsSameReceiver};
+ghost use Rattle.receiver.specs.Receiving.{IsLoadOf};
 ghost use Rattle.receiver.specs.Showing.{Stands};
 ghost use Rattle.receiver.specs.Verdicts.{IsVerdictOf};
 
@@ -36,6 +38,7 @@ pub(crate) fn take<R: Threads + Sync, G: BandGate + Sync>(
 ) -> Taken
     requires time { ready.time < 2 ^ 33 }
     requires within { IfOk ready.segments (λ bytes. length bytes.now < 2 ^ 32) }
+    requires small { IsSmall screen.old.core.profile.coded ready.size }
     requires some { 1 ≤ bands }
     requires few { bands ≤ 64 }
     ensures stands { (past : List (Delivery Reading)) (delivery : Delivery (List ℕ)) (one : Delivery Reading)
@@ -46,6 +49,7 @@ pub(crate) fn take<R: Threads + Sync, G: BandGate + Sync>(
     ensures load { (past : List (Delivery Reading)) (delivery : Delivery (List ℕ)) (one : Delivery Reading)
         → IsReady delivery (lent ready.entry) → IsDeliveryRead delivery one → Stands past screen.old
         → Some result.load ≡ set_load screen.old.core.profile screen.old.core.anchor past one }
+    ensures bounded { IsLoadOf screen.old.core.profile.coded result.load }
     ensures same { IsSameReceiver screen.old.core screen.new.core }
 {
     let pts = screen.core().lift(ready.time).unwrap_or(ready.time);
@@ -73,7 +77,9 @@ pub(crate) fn take<R: Threads + Sync, G: BandGate + Sync>(
 /// The time that a set takes to be painted, by what became of it: none where it is broken or not kept.
 fn painted(end: SetEnd, bytes: &[u8]) -> u64
     requires { length bytes.now < 2 ^ 32 }
-    ensures { (readings : List Reading) → AreRead readings bytes.now → IsVerdictOf readings end → result ≡ painting_by readings (Some end) }
+    ensures painting { (readings : List Reading) → AreRead readings bytes.now
+        → IsVerdictOf readings end → result ≡ painting_by readings (Some end) }
+    ensures few { result < 2 ^ 62 }
 {
     match end {
         SetEnd::Shown => painting_time(bytes),

@@ -30,7 +30,7 @@ returns-in-Ok-clause-load g c past delivery one ready read stands =
     let lifted = c.lift.ensures.lifted past c.args.ready.size found.0 core ∙ ap (λ (memory : Memory). lifted_time memory.anchor past (whole c.args.ready.time c.args.ready.size found.0)) c.core.ensures in
     let says = verdict_says c.args.screen.now.core.profile c.args.screen.now.core.anchor past c.args.ready.time c.args.ready.size found.0 c.take_set-end.result answer in
     ap (λ (n : ℕ). Some (record { pts = n; size = c.args.ready.size; painted = c.painted-painted.result })) c.unwrap_or-pts.ensures
-    ∙ whole_load c.args.screen.now.core.profile c.args.screen.now.core.anchor past c.args.ready.time c.args.ready.size c.painted-painted.result found.0 c.take_set-end.result c.lift.result lifted answer (c.painted-painted.ensures found.0 found.1 says)
+    ∙ whole_load c.args.screen.now.core.profile c.args.screen.now.core.anchor past c.args.ready.time c.args.ready.size c.painted-painted.result found.0 c.take_set-end.result c.lift.result lifted answer (c.painted-painted.ensures.painting found.0 found.1 says)
     ∙ ap (set_load c.args.screen.now.core.profile c.args.screen.now.core.anchor past) (sym found.2)
 
 pub returns-in-Err-clause-stands : goal.returns-in-Err-clause-stands

@@ -17,4 +17,4 @@ returns-clause-arrival c fed given stands =
     let before = subst (Stands false fed given) (sym c.self.view_is) stands in
     subst (λ (old : Receiving). arrival_value c.arrival-self-inside.result ≡ packet_arrival old.showing.core.profile.coded old.demux.pid old.showing.core.page fed c.args.packet.now) c.self.view_is
     (fed_arrival _ fed c.args.packet.now _ _ _ _ c.self.invariant.0 c.self.invariant.1 (c.in_ok-outcome.ensures.event fed before.demux)
-    (c.in_ok-outcome.ensures.end fed _ given before.demux before.gathers) c.arrival-self-inside.ensures)
+    (c.in_ok-outcome.ensures.end fed _ given before.demux before.gathers) c.arrival-self-inside.ensures.arrival)
