@@ -13,3 +13,6 @@ mod view;
 pub use arrival::Arrival;
 pub use receiver::Receiver;
 pub use view::View;
+
+#[cfg(test)]
+mod tests;

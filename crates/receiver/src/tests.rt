@@ -1,0 +1,456 @@
+ghost use Rattle.std.specs.Prelude.{◌≤◌, length};
+
+use super::*;
+use page_core::SetEnd;
+use std::alloc::Global;
+use std::test::Fail;
+use std::thread::Threads;
+use stream_syntax::{Event, PacketFault};
+use sub_base::{CLEAR, Colour, NoGate, Profile, ProfileName};
+
+/// A page without regions that begins an epoch, and no end of its set.
+const OPEN: [u8; 8] = [0x0F, 0x10, 0x00, 0x01, 0x00, 0x02, 0x0C, 0x0B];
+
+/// The end of a set.
+const END: [u8; 6] = [0x0F, 0x80, 0x00, 0x01, 0x00, 0x00];
+
+/// A page without regions of state normal, and the end of its set.
+const NORMAL: [u8; 14] = [
+    0x0F, 0x10, 0x00, 0x01, 0x00, 0x02, 0x0C, 0x13, 0x0F, 0x80, 0x00, 0x01, 0x00, 0x00,
+];
+
+/// The same for the page id 2.
+const OTHER_PAGE: [u8; 14] = [
+    0x0F, 0x10, 0x00, 0x02, 0x00, 0x02, 0x0C, 0x13, 0x0F, 0x80, 0x00, 0x02, 0x00, 0x00,
+];
+
+/// A display of four columns and two rows, filled with code 1 of 8 bits and timed out after 12
+/// seconds; an epoch begins with it.
+#[rattlefmt::skip]
+const FILLED: [u8; 47] = [
+    0x0F, 0x14, 0x00, 0x01, 0x00, 0x05, 0x07, 0x00, 0x03, 0x00, 0x01,
+    0x0F, 0x10, 0x00, 0x01, 0x00, 0x08, 0x0C, 0x0B, 0x00, 0xFF, 0x00, 0x00, 0x00, 0x00,
+    0x0F, 0x11, 0x00, 0x01, 0x00, 0x0A, 0x00, 0x0F, 0x00, 0x04, 0x00, 0x02, 0x6F, 0x00, 0x01, 0x03,
+    0x0F, 0x80, 0x00, 0x01, 0x00, 0x00,
+];
+
+/// The default colour of that code.
+const RED: Colour = Colour {
+    y: 81,
+    cr: 240,
+    cb: 90,
+    t: 192,
+};
+
+/// The bytes of a PES packet before its segments, of which there are so many bytes.
+fn head_of(pts: u32, length: u8) -> [u8; 16]
+    requires { length ≤ 160 }
+{
+    [
+        0x00,
+        0x00,
+        0x01,
+        0xBD,
+        0x00,
+        11 + length,
+        0x84,
+        0x80,
+        0x05,
+        0x21 + 2 * (pts >> 30) as u8,
+        ((pts >> 22) % 256) as u8,
+        ((pts >> 15) % 128 * 2 + 1) as u8,
+        ((pts >> 7) % 256) as u8,
+        (pts % 128 * 2 + 1) as u8,
+        0x20,
+        0x00,
+    ]
+}
+
+/// A transport packet of PID 256 with a PES packet of these segments, of 17 bytes more, at its end.
+fn packet_of(counter: u8, pts: u32, segments: &[u8]) -> [u8; 188]
+    requires { length segments.now ≤ 160 }
+{
+    let length = segments.len() as u8;
+    let begin = 171 - segments.len();
+    let mut packet = [0xFF; 188];
+    packet[..6].copy_from_slice(&[0x47, 0x41, 0x00, 0x30 + counter % 16, 166 - length, 0x00]);
+    packet[begin..begin + 16].copy_from_slice(&head_of(pts, length));
+    packet[begin + 16..187].copy_from_slice(segments);
+    packet
+}
+
+/// What is seen at a tick.
+#[derive(Clone, Copy, Debug, PartialEq, Eq)]
+enum Seen {
+    /// The receiver does not tell it any more.
+    TooEarly,
+    /// The video everywhere.
+    Clear,
+    /// A picture with this first colour.
+    Picture(Option<Colour>),
+}
+
+/// A receiver of page 1 out of PID 256, and how many packets were sent to it, be they lost or not.
+#[derive(Drop)]
+struct Trial {
+    receiver: Receiver,
+    sent: u8,
+}
+
+impl Trial {
+    fn new(alloc: Global) -> Result<Trial, Fail> {
+        Ok(Trial {
+            receiver: Receiver::make(alloc, &Profile::of(ProfileName::Sd), 256, 1, 0)?,
+            sent: 0,
+        })
+    }
+
+    /// What becomes of a packet; none where a set is ready.
+    fn feed(&mut self, packet: &[u8; 188]) -> Option<Result<Event, PacketFault>> {
+        match self.receiver.ready() {
+            Some(_) => None,
+            None => Some(self.receiver.feed(packet)),
+        }
+    }
+
+    /// The next packet, with a PES packet of these segments.
+    fn next(&mut self, pts: u32, segments: &[u8]) -> [u8; 188]
+        requires { length segments.now ≤ 160 }
+    {
+        let packet = packet_of(self.sent, pts, segments);
+        self.sent = self.sent.wrapping_add(1);
+        packet
+    }
+
+    /// Sends the next packet.
+    fn send(&mut self, pts: u32, segments: &[u8]) -> Option<Result<Event, PacketFault>>
+        requires { length segments.now ≤ 160 }
+    {
+        let packet = self.next(pts, segments);
+        self.feed(&packet)
+    }
+
+    /// The stream has ended; whether no set was ready.
+    fn finish(&mut self) -> bool {
+        match self.receiver.ready() {
+            Some(_) => false,
+            None => {
+                self.receiver.finish();
+                true
+            }
+        }
+    }
+
+    /// Takes the set that is ready; none where none is.
+    fn take<R: Threads + Sync>(&mut self, rt: &R) -> Option<SetEnd> {
+        match self.receiver.ready() {
+            None => None,
+            Some(_) => Some(self.receiver.take(rt, 2, &NoGate)),
+        }
+    }
+
+    /// Sends a filled display, and takes it.
+    fn show_filled<R: Threads + Sync>(&mut self, rt: &R, pts: u32) -> Option<SetEnd> {
+        self.send(pts, &FILLED)?.ok()?;
+        self.take(rt)
+    }
+
+    fn seen_at(&self, tick: u64) -> Seen {
+        if tick < self.receiver.from() {
+            return Seen::TooEarly;
+        }
+        match self.receiver.picture(tick) {
+            View::Clear => Seen::Clear,
+            View::Plane { colours, .. } => Seen::Picture(colours.first().copied()),
+        }
+    }
+}
+
+const FOLLOWED: Option<Result<Event, PacketFault>> = Some(Ok(Event::Followed));
+
+#[test]
+fn nothing_was_fed(rt: HostRuntime) -> Result<(), Fail> {
+    let trial = Trial::new(rt.alloc())?;
+    assert_eq!(rt; trial.receiver.ready(), None);
+    assert_eq!(rt; trial.receiver.ready_at(), None);
+    assert_eq!(rt; trial.receiver.from(), 0);
+    assert_eq!(rt; trial.seen_at(0), Seen::Clear);
+    assert_eq!(rt; trial.receiver.core().free_nodes(), 512);
+    Ok(())
+}
+
+/// A set that ends with its packet is ready at once.
+#[test]
+fn set_is_ready_with_its_end(rt: HostRuntime) -> Result<(), Fail> {
+    let mut trial = Trial::new(rt.alloc())?;
+    assert_eq!(rt; trial.send(90_000, &FILLED), FOLLOWED);
+    assert_eq!(rt; trial.receiver.ready(), Some(90_000));
+    assert_eq!(rt; trial.receiver.ready_at(), Some(90_000));
+    assert_eq!(rt; trial.send(180_000, &NORMAL), None);
+    Ok(())
+}
+
+/// What a set asks: its time, its 64 bytes, and a tick for its eight pixels.
+#[test]
+fn load_of_a_set(rt: HostRuntime) -> Result<(), Fail> {
+    let mut trial = Trial::new(rt.alloc())?;
+    assert_eq!(rt; trial.show_filled(&rt, 90_000), Some(SetEnd::Shown));
+    let load = trial.receiver.load();
+    assert_eq!(rt; (load.pts, load.size, load.painted), (90_000, 64, 1));
+    Ok(())
+}
+
+#[test]
+fn set_is_shown_from_its_time_on(rt: HostRuntime) -> Result<(), Fail> {
+    let mut trial = Trial::new(rt.alloc())?;
+    assert_eq!(rt; trial.show_filled(&rt, 90_000), Some(SetEnd::Shown));
+    assert_eq!(rt; trial.receiver.ready(), None);
+    assert_eq!(rt; trial.receiver.from(), 0);
+    assert_eq!(rt; trial.seen_at(89_999), Seen::Clear);
+    assert_eq!(rt; trial.seen_at(90_000), Seen::Picture(Some(RED)));
+    Ok(())
+}
+
+/// Up to the time of the next set the one before it is shown.
+#[test]
+fn set_is_shown_up_to_the_next_one(rt: HostRuntime) -> Result<(), Fail> {
+    let mut trial = Trial::new(rt.alloc())?;
+    assert_eq!(rt; trial.show_filled(&rt, 90_000), Some(SetEnd::Shown));
+    assert_eq!(rt; trial.send(180_000, &NORMAL), FOLLOWED);
+    assert_eq!(rt; trial.take(&rt), Some(SetEnd::Shown));
+    assert_eq!(rt; trial.receiver.from(), 90_000);
+    assert_eq!(rt; trial.seen_at(89_999), Seen::TooEarly);
+    assert_eq!(rt; trial.seen_at(179_999), Seen::Picture(Some(RED)));
+    assert_eq!(rt; trial.seen_at(180_000), Seen::Picture(Some(CLEAR)));
+    Ok(())
+}
+
+/// Twelve seconds after its time a set is timed out.
+#[test]
+fn set_is_timed_out(rt: HostRuntime) -> Result<(), Fail> {
+    let mut trial = Trial::new(rt.alloc())?;
+    assert_eq!(rt; trial.show_filled(&rt, 90_000), Some(SetEnd::Shown));
+    assert_eq!(rt; trial.seen_at(1_169_999), Seen::Picture(Some(RED)));
+    assert_eq!(rt; trial.seen_at(1_170_000), Seen::Clear);
+    Ok(())
+}
+
+/// A set without an end is ready with the first unit of another time, and the set of that one is
+/// behind it.
+#[test]
+fn set_is_ready_with_another_time(rt: HostRuntime) -> Result<(), Fail> {
+    let mut trial = Trial::new(rt.alloc())?;
+    assert_eq!(rt; trial.send(90_000, &OPEN), FOLLOWED);
+    assert_eq!(rt; trial.receiver.ready(), None);
+    assert_eq!(rt; trial.send(180_000, &FILLED), FOLLOWED);
+    assert_eq!(rt; trial.receiver.ready(), Some(90_000));
+    assert_eq!(rt; trial.take(&rt), Some(SetEnd::Shown));
+    assert_eq!(rt; trial.receiver.load().size, 25);
+    assert_eq!(rt; trial.receiver.ready(), Some(180_000));
+    Ok(())
+}
+
+/// The units of one time are one set, of 25 and 23 bytes.
+#[test]
+fn set_of_two_units(rt: HostRuntime) -> Result<(), Fail> {
+    let mut trial = Trial::new(rt.alloc())?;
+    assert_eq!(rt; trial.send(90_000, &OPEN), FOLLOWED);
+    assert_eq!(rt; trial.send(90_000, &END), FOLLOWED);
+    assert_eq!(rt; trial.take(&rt), Some(SetEnd::Shown));
+    assert_eq!(rt; trial.receiver.load().size, 48);
+    Ok(())
+}
+
+#[test]
+fn set_is_ready_with_the_end_of_the_stream(rt: HostRuntime) -> Result<(), Fail> {
+    let mut trial = Trial::new(rt.alloc())?;
+    assert_eq!(rt; trial.send(90_000, &OPEN), FOLLOWED);
+    assert!(rt; trial.finish());
+    assert_eq!(rt; trial.receiver.ready(), Some(90_000));
+    assert_eq!(rt; trial.take(&rt), Some(SetEnd::Shown));
+    assert_eq!(rt; trial.receiver.ready(), None);
+    Ok(())
+}
+
+/// A page entry and a region take a node each, and eight pixels of 8 bits eight bytes.
+#[test]
+fn what_a_set_takes_of_the_memory(rt: HostRuntime) -> Result<(), Fail> {
+    let mut trial = Trial::new(rt.alloc())?;
+    assert_eq!(rt; trial.show_filled(&rt, 90_000), Some(SetEnd::Shown));
+    assert_eq!(rt; trial.receiver.core().free_nodes(), 510);
+    assert_eq!(rt; trial.receiver.core().free_pixels(), 81_912);
+    Ok(())
+}
+
+/// Behind a lost packet the page memory is empty, no epoch is known, and a set of state normal
+/// waits.
+#[test]
+fn nothing_is_known_behind_a_lost_packet(rt: HostRuntime) -> Result<(), Fail> {
+    let mut trial = Trial::new(rt.alloc())?;
+    assert_eq!(rt; trial.show_filled(&rt, 90_000), Some(SetEnd::Shown));
+    let _ = trial.next(135_000, &NORMAL);
+    assert_eq!(rt;
+        trial.send(180_000, &NORMAL),
+        Some(Ok(Event::Gap {
+            expected: 1,
+            found: 2
+        }))
+    );
+    assert_eq!(rt; trial.receiver.core().free_nodes(), 512);
+    assert_eq!(rt; trial.receiver.core().free_pixels(), 81_920);
+    assert_eq!(rt; trial.take(&rt), Some(SetEnd::Waiting));
+    assert_eq!(rt; trial.seen_at(179_999), Seen::Picture(Some(RED)));
+    assert_eq!(rt; trial.seen_at(180_000), Seen::Clear);
+    Ok(())
+}
+
+/// A set in hand is given up with a lost packet.
+#[test]
+fn set_in_hand_is_lost(rt: HostRuntime) -> Result<(), Fail> {
+    let mut trial = Trial::new(rt.alloc())?;
+    assert_eq!(rt; trial.send(90_000, &OPEN), FOLLOWED);
+    let _ = trial.next(90_000, &END);
+    let _ = trial.send(180_000, &OPEN);
+    assert_eq!(rt; trial.receiver.ready(), None);
+    assert!(rt; !trial.receiver.arrival().before);
+    Ok(())
+}
+
+/// A packet that cannot be taken changes nothing: the set in hand goes on behind it.
+#[test]
+fn refused_packet_changes_nothing(rt: HostRuntime) -> Result<(), Fail> {
+    let mut trial = Trial::new(rt.alloc())?;
+    assert_eq!(rt; trial.send(90_000, &OPEN), FOLLOWED);
+    assert_eq!(rt; trial.feed(&[0; 188]), Some(Err(PacketFault::NoSync)));
+    assert_eq!(rt; trial.receiver.arrival().bytes, 25);
+    assert_eq!(rt; trial.send(90_000, &END), FOLLOWED);
+    assert_eq!(rt; trial.take(&rt), Some(SetEnd::Shown));
+    Ok(())
+}
+
+/// A set that is not later than the last one changes no picture.
+#[test]
+fn set_that_is_not_later(rt: HostRuntime) -> Result<(), Fail> {
+    let mut trial = Trial::new(rt.alloc())?;
+    assert_eq!(rt; trial.show_filled(&rt, 90_000), Some(SetEnd::Shown));
+    assert_eq!(rt; trial.send(45_000, &FILLED), FOLLOWED);
+    assert_eq!(rt; trial.receiver.ready(), Some(45_000));
+    assert_eq!(rt; trial.receiver.ready_at(), None);
+    assert_eq!(rt; trial.take(&rt), Some(SetEnd::NotLater { last: 90_000 }));
+    assert_eq!(rt; trial.receiver.from(), 0);
+    assert_eq!(rt; trial.seen_at(89_999), Seen::Clear);
+    Ok(())
+}
+
+/// What it asks: its time as read, its size, and no painting.
+#[test]
+fn load_of_a_set_that_is_not_later(rt: HostRuntime) -> Result<(), Fail> {
+    let mut trial = Trial::new(rt.alloc())?;
+    assert_eq!(rt; trial.show_filled(&rt, 90_000), Some(SetEnd::Shown));
+    assert_eq!(rt;
+        trial.show_filled(&rt, 45_000),
+        Some(SetEnd::NotLater { last: 90_000 })
+    );
+    let load = trial.receiver.load();
+    assert_eq!(rt; (load.pts, load.size, load.painted), (45_000, 64, 0));
+    Ok(())
+}
+
+/// A PES packet without a time is a loss.
+#[test]
+fn unit_without_a_time_is_a_loss(rt: HostRuntime) -> Result<(), Fail> {
+    let mut trial = Trial::new(rt.alloc())?;
+    assert_eq!(rt; trial.show_filled(&rt, 90_000), Some(SetEnd::Shown));
+    let mut packet = trial.next(180_000, &NORMAL);
+    packet[164] = 0x00;
+    assert_eq!(rt; trial.feed(&packet), FOLLOWED);
+    assert!(rt; trial.receiver.arrival().dropped);
+    assert_eq!(rt; trial.send(180_000, &NORMAL), FOLLOWED);
+    assert_eq!(rt; trial.take(&rt), Some(SetEnd::Waiting));
+    Ok(())
+}
+
+/// A PES packet of another stream id is passed over.
+#[test]
+fn unit_of_another_stream_is_passed_over(rt: HostRuntime) -> Result<(), Fail> {
+    let mut trial = Trial::new(rt.alloc())?;
+    assert_eq!(rt; trial.show_filled(&rt, 90_000), Some(SetEnd::Shown));
+    let mut packet = trial.next(180_000, &NORMAL);
+    packet[160] = 0xC0;
+    assert_eq!(rt; trial.feed(&packet), FOLLOWED);
+    assert!(rt; trial.receiver.arrival().dropped);
+    assert_eq!(rt; trial.receiver.ready(), None);
+    assert_eq!(rt; trial.send(180_000, &NORMAL), FOLLOWED);
+    assert_eq!(rt; trial.take(&rt), Some(SetEnd::Shown));
+    Ok(())
+}
+
+/// A unit of another page neither counts nor makes the set in hand ready.
+#[test]
+fn unit_of_another_page_does_not_count(rt: HostRuntime) -> Result<(), Fail> {
+    let mut trial = Trial::new(rt.alloc())?;
+    assert_eq!(rt; trial.send(90_000, &OPEN), FOLLOWED);
+    assert_eq!(rt; trial.send(180_000, &OTHER_PAGE), FOLLOWED);
+    assert!(rt; trial.receiver.arrival().dropped);
+    assert_eq!(rt; trial.receiver.ready(), None);
+    assert_eq!(rt; trial.send(90_000, &END), FOLLOWED);
+    assert_eq!(rt; trial.receiver.ready(), Some(90_000));
+    Ok(())
+}
+
+/// A packet with the whole of a unit brings its bytes.
+#[test]
+fn bytes_of_a_unit_arrive(rt: HostRuntime) -> Result<(), Fail> {
+    let mut trial = Trial::new(rt.alloc())?;
+    assert_eq!(rt; trial.send(90_000, &FILLED), FOLLOWED);
+    let arrival = trial.receiver.arrival();
+    assert_eq!(rt;
+        (arrival.bytes, arrival.before, arrival.dropped),
+        (64, false, false)
+    );
+    Ok(())
+}
+
+/// A packet of another PID brings none.
+#[test]
+fn no_bytes_of_another_pid_arrive(rt: HostRuntime) -> Result<(), Fail> {
+    let mut trial = Trial::new(rt.alloc())?;
+    let mut packet = trial.next(90_000, &FILLED);
+    packet[2] = 0x01;
+    assert_eq!(rt; trial.feed(&packet), Some(Ok(Event::Other)));
+    let arrival = trial.receiver.arrival();
+    assert_eq!(rt;
+        (arrival.bytes, arrival.before, arrival.dropped),
+        (0, false, false)
+    );
+    Ok(())
+}
+
+/// A unit of another time makes the set in hand ready before its bytes.
+#[test]
+fn set_stands_before_bytes_of_another_time(rt: HostRuntime) -> Result<(), Fail> {
+    let mut trial = Trial::new(rt.alloc())?;
+    assert_eq!(rt; trial.send(90_000, &OPEN), FOLLOWED);
+    assert_eq!(rt; trial.send(180_000, &FILLED), FOLLOWED);
+    let arrival = trial.receiver.arrival();
+    assert_eq!(rt;
+        (arrival.bytes, arrival.before, arrival.dropped),
+        (64, true, false)
+    );
+    Ok(())
+}
+
+/// A unit behind the end of its set is dropped.
+#[test]
+fn unit_behind_its_set_is_dropped(rt: HostRuntime) -> Result<(), Fail> {
+    let mut trial = Trial::new(rt.alloc())?;
+    assert_eq!(rt; trial.show_filled(&rt, 90_000), Some(SetEnd::Shown));
+    assert_eq!(rt; trial.send(90_000, &OPEN), FOLLOWED);
+    let arrival = trial.receiver.arrival();
+    assert_eq!(rt;
+        (arrival.bytes, arrival.before, arrival.dropped),
+        (25, false, true)
+    );
+    assert_eq!(rt; trial.receiver.ready(), None);
+    Ok(())
+}
