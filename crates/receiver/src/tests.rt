@@ -190,13 +190,16 @@ fn set_is_ready_with_its_end(rt: HostRuntime) -> Result<(), Fail> {
     Ok(())
 }
 
-/// What a set asks: its time, its 64 bytes, and a tick for its eight pixels.
+/// What a set asks: its time, its 64 bytes, and a tick for its eight pixels. In the page memory its
+/// page entry and its region take a node each, and the pixels, of 8 bits, eight bytes.
 #[test]
-fn load_of_a_set(rt: HostRuntime) -> Result<(), Fail> {
+fn what_a_set_asks(rt: HostRuntime) -> Result<(), Fail> {
     let mut trial = Trial::new(rt.alloc())?;
     assert_eq!(rt; trial.show_filled(&rt, 90_000), Some(SetEnd::Shown));
     let load = trial.receiver.load();
     assert_eq!(rt; (load.pts, load.size, load.painted), (90_000, 64, 1));
+    assert_eq!(rt; trial.receiver.core().free_nodes(), 510);
+    assert_eq!(rt; trial.receiver.core().free_pixels(), 81_912);
     Ok(())
 }
 
@@ -269,16 +272,6 @@ fn set_is_ready_with_the_end_of_the_stream(rt: HostRuntime) -> Result<(), Fail> 
     assert_eq!(rt; trial.receiver.ready(), Some(90_000));
     assert_eq!(rt; trial.take(&rt), Some(SetEnd::Shown));
     assert_eq!(rt; trial.receiver.ready(), None);
-    Ok(())
-}
-
-/// A page entry and a region take a node each, and eight pixels of 8 bits eight bytes.
-#[test]
-fn what_a_set_takes_of_the_memory(rt: HostRuntime) -> Result<(), Fail> {
-    let mut trial = Trial::new(rt.alloc())?;
-    assert_eq!(rt; trial.show_filled(&rt, 90_000), Some(SetEnd::Shown));
-    assert_eq!(rt; trial.receiver.core().free_nodes(), 510);
-    assert_eq!(rt; trial.receiver.core().free_pixels(), 81_912);
     Ok(())
 }
 
@@ -422,6 +415,27 @@ fn no_bytes_of_another_pid_arrive(rt: HostRuntime) -> Result<(), Fail> {
     assert_eq!(rt;
         (arrival.bytes, arrival.before, arrival.dropped),
         (0, false, false)
+    );
+    Ok(())
+}
+
+/// A unit that needs more bytes than there are is dropped behind those that come.
+#[test]
+fn unit_that_is_too_long_is_dropped(rt: HostRuntime) -> Result<(), Fail> {
+    let mut trial = Trial::new(rt.alloc())?;
+    let mut packet = trial.next(90_000, &FILLED);
+    packet[128] = 0xF0;
+    assert_eq!(rt;
+        trial.feed(&packet),
+        Some(Ok(Event::TooLong {
+            need: 61_504,
+            size: 24_576
+        }))
+    );
+    let arrival = trial.receiver.arrival();
+    assert_eq!(rt;
+        (arrival.bytes, arrival.before, arrival.dropped),
+        (64, false, true)
     );
     Ok(())
 }
