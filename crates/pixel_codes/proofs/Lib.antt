@@ -14,3 +14,5 @@ pub mod Steps
 pub mod Sizes
 mod RowSizes
 mod LaneRuns
+pub mod BlockParts
+pub mod OneBlock

@@ -22,7 +22,11 @@ mod token;
 mod block;
 mod runs;
 
+// Laws of the grammar.
+mod laws;
+
 pub use block::{CodeBlock, check_block};
+pub use laws::{every_block_is_read, one_block};
 pub use least::run_bits;
 pub use maximal::run_length;
 pub use part::is_no_deeper;

@@ -52,7 +52,7 @@ use Rattle.shown_stream.proofs.LateCompiled.{have_packets, IsCutSet, IsEnteredLa
 use Rattle.shown_stream.proofs.LatePlaces.{HavePackets, count_sets, some_bytes}
 use Rattle.shown_stream.proofs.LateRest.{IsBrokenFirst}
 use Rattle.shown_stream.proofs.LateSets.{IsRest, none_left, some_left, zip_behind}
-use Rattle.shown_stream.proofs.OneView.{same_past}
+use Rattle.readings.proofs.OneReading.{same_past}
 use Rattle.shown_stream.proofs.PlannedRegions.{planned_well}
 use Rattle.shown_stream.proofs.PlannedTimes.{pts_of, times_in_span, pts_rise}
 use Rattle.shown_stream.proofs.SentPieces.{IsFree}

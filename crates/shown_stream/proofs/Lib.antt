@@ -39,7 +39,6 @@ pub mod PlannedRegions
 pub mod SetPackets
 pub mod LateCompiled
 pub mod LateGood
-pub mod OneReading
 pub mod OneView
 pub mod CompiledSets
 pub mod PlannedTimes

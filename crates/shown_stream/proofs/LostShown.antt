@@ -46,7 +46,7 @@ use Rattle.shown_stream.proofs.LostPieces.{there_at, flow, walked}
 use Rattle.shown_stream.proofs.LostUnits.{Fresh, Arrive, Walking, come_whole, units_arrive}
 use Rattle.shown_stream.proofs.LostViews.{AreFit, Ends, GoodFrom, good_ends}
 use Rattle.shown_stream.proofs.LostWalk.{Before}
-use Rattle.shown_stream.proofs.OneView.{same_past}
+use Rattle.readings.proofs.OneReading.{same_past}
 use Rattle.shown_stream.proofs.PlannedRegions.{planned_well}
 use Rattle.shown_stream.proofs.PlannedTimes.{times_in_span, pts_rise}
 use Rattle.shown_stream.proofs.RisingSlots.{slots_rise}

@@ -36,7 +36,7 @@ use Rattle.shown_stream.proofs.EnteredRuns.{turned, turned_is}
 use Rattle.shown_stream.proofs.EntrySizes.{count_behind}
 use Rattle.shown_stream.proofs.LateCompiled.{IsEnteredLate}
 use Rattle.shown_stream.proofs.LateSets.{IsRest, none_left, some_left, sets_behind, late_sets, zip_behind}
-use Rattle.shown_stream.proofs.OneView.{same_past}
+use Rattle.readings.proofs.OneReading.{same_past}
 use Rattle.shown_stream.proofs.PlannedTimes.{pts_of}
 use Rattle.shown_stream.proofs.SentPieces.{IsFree}
 use Rattle.shown_stream.proofs.SetPaintings.{painting_in, calls_behind, IsPaintedAs}

@@ -1,23 +1,18 @@
--- Bytes are read in one way: the codes of a string, the sub-blocks of a block, and the content of a segment.
-use Rattle.std.proofs.Common.{◌≡◌, ◌∙◌, ℕ, ◌+◌, ◌-◌, ◌≤◌, false, cond, eqb, List, [], ◌∷◌, ◌++◌, length, drop, Option, Some, refl, sym, ap, subst, arith, All, Err}
-use Rattle.std.proofs.Math.Seq.{take-length, drop-append_seam}
+-- A block has one list of sub-blocks: bytes spell one list of codes at most, and begin with one sub-block at most.
+use Rattle.std.proofs.Common.{◌≡◌, ◌∙◌, ℕ, ◌+◌, ◌-◌, ◌≤◌, false, cond, eqb, List, [], ◌∷◌, ◌++◌, length, drop, Option, Some, refl, sym, ap, subst, arith, All}
+use Rattle.std.proofs.Math.Seq.{drop-append_seam}
 use Rattle.std.proofs.lemmas.Bool.Decides.{nat_tests}
 use Rattle.std.proofs.lemmas.List.Elements.{All-head, All-tail}
 use Rattle.sub_base.specs.declared.depth.Depth.{Depth}
 use Rattle.sub_base.specs.declared.depth.Depth.TheVariants.{Two, Four, Eight}
 use Rattle.stream_syntax.specs.PixelCodes.{bits_of, Code, pixel, one_zero, two_zeros, zeros, short_run, middle_run, long_run, IsCode, pixel_count, colour_of, string_of, IsString}
 use Rattle.stream_syntax.specs.PixelBlocks.{Part, string, table, line_end, string_type, table_type, line_end_type, entries_of, IsPart, AreParts}
-use Rattle.stream_syntax.specs.Segments.{SegmentValue, of_page, of_region, of_clut, of_object, of_display, end_of_set, passed_over, IsSegment}
 use Rattle.stream_syntax.specs.declared.map_table.MapTable.{MapTable}
 use Rattle.stream_syntax.specs.declared.map_table.MapTable.TheVariants.{TwoToFour, TwoToEight, FourToEight}
+use Rattle.pixel_codes.specs.Spelling.{width_of}
 use Rattle.pixel_codes.proofs.Strings.{string_of-cons, behind}
 use Rattle.pixel_codes.proofs.Tokens.{token_spelled, token_ending}
 use Rattle.pixel_codes.proofs.Parts.{same_part, no_part, same_depth}
-use Rattle.pixel_codes.specs.Spelling.{width_of}
-use Rattle.decoder_model.specs.Readings.{Content, AreFields, IsContent}
-use Rattle.segments.proofs.Readings.{Outcome, every_segment, every_fault, one_reading}
-use Rattle.stream_syntax.specs.SegmentTests.{IsSegmentFault}
-use Rattle.stream_syntax.specs.declared.segment_fault.SegmentFault.{SegmentFault}
 
 -- ---- codes
 
@@ -156,29 +151,3 @@ one_block region (p ∷ ps) (q ∷ qs) bytes h k =
     let front : h.0 ≡ k.0 = same_part region p q h.0 k.0 h.1 k.1 h.3 k.3 both in
     let rest : h.1 ≡ k.1 = sym (drop-append_seam h.0 h.1) ∙ ap (drop (length h.0)) both ∙ ap (λ (a : List ℕ). drop (length a) (k.0 ++ k.1)) front ∙ drop-append_seam k.0 k.1 in
     ap (λ part. part ∷ ps) (one_part region p q h.0 h.3 (subst (IsPart region q) (sym front) k.3)) ∙ ap (λ more. q ∷ more) (one_block region ps qs h.1 h.4 (subst (AreParts region qs) (sym rest) k.4))
-
--- ---- contents
-
-one_field_pair : (value : SegmentValue) (top bottom top' bottom' : List Part) → AreFields value top bottom → AreFields value top' bottom' → (top ≡ top') × (bottom ≡ bottom')
-one_field_pair (of_page value) top bottom top' bottom' h k = (h.0 ∙ sym k.0, h.1 ∙ sym k.1)
-one_field_pair (of_region value) top bottom top' bottom' h k = (h.0 ∙ sym k.0, h.1 ∙ sym k.1)
-one_field_pair (of_clut value) top bottom top' bottom' h k = (h.0 ∙ sym k.0, h.1 ∙ sym k.1)
-one_field_pair (of_object value) top bottom top' bottom' h k = (one_block Eight top top' value.top h.0 k.0, one_block Eight bottom bottom' value.bottom h.1 k.1)
-one_field_pair (of_display value) top bottom top' bottom' h k = (h.0 ∙ sym k.0, h.1 ∙ sym k.1)
-one_field_pair end_of_set top bottom top' bottom' h k = (h.0 ∙ sym k.0, h.1 ∙ sym k.1)
-one_field_pair passed_over top bottom top' bottom' h k = (h.0 ∙ sym k.0, h.1 ∙ sym k.1)
-
--- bytes are a segment with one content
-pub one_content : (bytes : List ℕ) (one other : Content) → IsContent bytes one → IsContent bytes other → one ≡ other
-one_content bytes one other h k =
-    let value : one.value ≡ other.value = (one_reading bytes bytes [] [] one.value other.value h.segment k.segment refl).1 in
-    let fields = one_field_pair other.value one.top one.bottom other.top other.bottom (subst (λ (v : SegmentValue). AreFields v one.top one.bottom) value h.fields) k.fields in
-    λ i. record { value = value i; top = fields.0 i; bottom = fields.1 i }
-
--- and are not refused for a fault too
-pub no_fault_too : (bytes : List ℕ) (content : Content) (fault : SegmentFault) → IsContent bytes content → IsSegmentFault bytes fault → ⊥
-no_fault_too bytes content fault h bad = every_segment bytes (Err fault) tt bad content.value (length bytes) (omega arith) (subst (λ (all : List ℕ). IsSegment all content.value) (sym (take-length bytes)) h.segment)
-
--- nor for two
-pub one_fault : (bytes : List ℕ) (one other : SegmentFault) → IsSegmentFault bytes one → IsSegmentFault bytes other → one ≡ other
-one_fault bytes one other h k = let e : ◌≡◌ {A = Outcome} (Err one) (Err other) = every_fault bytes (Err one) tt h other k in cc

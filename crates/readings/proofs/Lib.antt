@@ -1,0 +1,5 @@
+pub mod SegmentsRead
+pub mod OneReading
+pub mod ReceivedBytes
+pub mod ReceivedSets
+pub mod PacketsRead

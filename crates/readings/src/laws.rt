@@ -1,0 +1,34 @@
+//! Laws on the readings of segments and of packets, over all bytes.
+
+ghost use Rattle.std.specs.Prelude.{◌≡◌, ◌<◌, ℕ, All, Bool, List};
+ghost use Rattle.decoder_model.specs.Readings.{AreDeliveriesRead, IsReading, Reading};
+ghost use Rattle.decoder_model.specs.Received.{HasReceived, IsFramed};
+ghost use Rattle.decoder_model.specs.Sets.{Delivery};
+ghost use Rattle.sub_base.specs.declared.profile.Profile.{Profile};
+
+/// Bytes that are one segment by their head are read: they have a content or a fault.
+pub fn every_segment_is_read()
+    ensures { (bytes : List ℕ) → All (λ byte. byte < 256) bytes → IsFramed bytes
+        → (reading : Reading) × IsReading bytes reading }
+{}
+
+/// What is read is read in one way: a segment, sets and losses, and all that was received in
+/// packets.
+pub fn one_reading()
+    ensures segment { (bytes : List ℕ) (one other : Reading)
+        → IsReading bytes one → IsReading bytes other → one ≡ other }
+    ensures sets { (deliveries : List (Delivery (List ℕ))) (one other : List (Delivery Reading))
+        → AreDeliveriesRead deliveries one → AreDeliveriesRead deliveries other → one ≡ other }
+    ensures packets { (profile : Profile) (pid page : ℕ) (ended : Bool) (packets : List (List ℕ))
+        (one other : List (Delivery Reading))
+        → HasReceived profile pid page ended packets one
+        → HasReceived profile pid page ended packets other → one ≡ other }
+{}
+
+/// Packets of bytes are received, whatever stands in them: as some sets and losses, each segment
+/// read.
+pub fn packets_are_read()
+    ensures { (profile : Profile) (pid page : ℕ) (ended : Bool) (packets : List (List ℕ))
+        → All (λ packet. All (λ byte. byte < 256) packet) packets
+        → (past : List (Delivery Reading)) × HasReceived profile pid page ended packets past }
+{}
