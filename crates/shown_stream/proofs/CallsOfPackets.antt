@@ -15,7 +15,7 @@ use Rattle.decoder_model.proofs.SentUnits.{all_taken}
 use Rattle.sent_levels.specs.EnteredCalls.{Entry}
 use Rattle.sent_levels.proofs.EnteredSums.{AreSlots, within_slots, rising}
 use Rattle.shown_stream.specs.SlotStream.{Piece, packet_of, all_pieces}
-use Rattle.shown_stream.specs.StreamCalls.{count_with}
+use Rattle.stream_calls.specs.StreamCalls.{count_with}
 use Rattle.shown_stream.proofs.BroughtPieces.{null_brings}
 use Rattle.shown_stream.proofs.CallsOfPieces.{E, AreUsedUp, Add, one_more, units_in, AreLeft, Piecewise, Position, nothing_left, goes_on, dropped}
 use Rattle.shown_stream.proofs.EnteredSlots.{no_packet}

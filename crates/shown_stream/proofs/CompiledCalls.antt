@@ -23,7 +23,7 @@ use Rattle.decoder_model.proofs.SentUnits.{all_taken}
 use Rattle.sent_levels.specs.EnteredCalls.{Entry, entered_calls}
 use Rattle.shown_stream.specs.Compiled.{AreSizedAs, all_units, IsCompiledTo}
 use Rattle.shown_stream.specs.SlotStream.{all_pieces}
-use Rattle.shown_stream.specs.StreamCalls.{set_call, set_calls, calls_from, AreCallsOf}
+use Rattle.stream_calls.specs.StreamCalls.{itself, set_call, set_calls, calls_from, AreCallsOf}
 use Rattle.shown_stream.proofs.CallsOfPackets.{used_up}
 use Rattle.shown_stream.proofs.CallsOfPieces.{AreSentSets, AreLeft, AreUsedUp}
 use Rattle.shown_stream.proofs.CompiledPackets.{packets_in, ArePackets, as_many, count_pieces}
@@ -133,5 +133,5 @@ compiled_calls name pid page script bytes free compiled known loads_are painted 
     as_many_calls (profile_of name) anchor [] (reverse given.past) ∙ length-reverse given.past ∙ as_many_read (reverse (sets_of coded pid page false packets)) given.past given.received ∙ length-reverse (sets_of coded pid page false packets) in
     let used : AreUsedUp coded pid page [] packets (length left) = used_up coded pid page [] packets (length left) sound (omega (arith, many, ap length (nothing_sent coded pid page))) in
     given.are
-    ∙ ap (λ taken. reverse (calls_from coded pid page missed [] taken left)) (all_taken pid packets sound)
+    ∙ ap (λ taken. reverse (calls_from itself coded pid page missed [] taken left)) (all_taken pid packets sound)
     ∙ late_calls coded pid page compiled.loads compiled.table.slots compiled.units known.sent painted missed m left free is kept within used
