@@ -1,6 +1,6 @@
 -- The told calls of packets: one packet more, and the end of the stream.
 use Rattle.std.proofs.Common.{◌≡◌, ◌∙◌, ℕ, suc, ◌+◌, Bool, false, List, [], ◌∷◌, ◌++◌, length, map, reverse, Option, None, refl, sym, ap, subst, arith, append-nil, length-append}
-use Rattle.std.specs.List.{filter_map}
+use Rattle.std.specs.List.{AllByRecursion, filter_map}
 use Rattle.std.proofs.lemmas.List.{length-reverse, map-append, reverse-append}
 use Rattle.std.proofs.lemmas.List.Elements.{filter_map-append}
 use Rattle.sub_base.specs.Lists.{with_earlier}
@@ -13,7 +13,7 @@ use Rattle.decoder_model.specs.Arrivals.{packets_taken}
 use Rattle.decoder_model.specs.PacketArrivals.{packet_arrival}
 use Rattle.decoder_model.specs.Readings.{Reading, AreDeliveriesRead}
 use Rattle.decoder_model.specs.Received.{HasReceived}
-use Rattle.decoder_model.specs.Sets.{Delivery, sets_of}
+use Rattle.decoder_model.specs.Sets.{Delivery, lost, sets_of}
 use Rattle.decoder_model.proofs.Growth.{flat-append}
 use Rattle.decoder_model.proofs.SentSets.{all-append}
 use Rattle.stream_calls.specs.StreamCalls.{set_call, each_behind, itself, calls_of_packet, calls_from, all_of, AreCallsOf}
@@ -140,20 +140,11 @@ sets_more pace told more =
     ∙ filter_map-append of_placed (with_earlier [] told) (with_earlier (reverse told ++ []) more)
     ∙ ap (λ earlier. told_sets pace told ++ told_sets_behind pace earlier more) (append-nil (reverse told))
 
+-- the latest of them first
 pub calls_more : (told more : List ToldCall) → calls_told (told ++ more) ≡ calls_told more ++ calls_told told
 calls_more told more =
     ap reverse (map-append (λ (one : ToldCall). one.call) told more)
     ∙ reverse-append (map (λ (one : ToldCall). one.call) told) (map (λ (one : ToldCall). one.call) more)
-
--- before the first packet nothing is told
-pub nothing_told : (profile : Profile) (pid page anchor slot : ℕ) (ended : Bool)
-    → AreToldCalls profile pid page anchor slot ended [] []
-nothing_told profile pid page anchor slot ended = record {
-  past = [];
-  received = subst (λ (sets : List (Delivery (List ℕ))). AreDeliveriesRead (reverse sets) [])
-      (sym (none_yet profile.coded pid page ended)) tt;
-  are = refl;
-}
 
 -- ---- sets and losses one by one
 
@@ -166,3 +157,24 @@ one_more_tells profile anchor past more one =
     ∙ flat-append (told_behind profile anchor past (reverse more)) (told_call profile anchor (more ++ past) one ∷ [])
     ∙ ap (λ calls. all_of (told_behind profile anchor past (reverse more)) ++ calls)
     (append-nil (told_call profile anchor (more ++ past) one))
+
+-- losses alone tell nothing
+pub losses_tell : (profile : Profile) (anchor : ℕ) (past more : List (Delivery Reading))
+    → AllByRecursion (λ one. one ≡ lost) more → all_of (told_behind profile anchor past (reverse more)) ≡ []
+losses_tell profile anchor past [] h = refl
+losses_tell profile anchor past (one ∷ more) h =
+    one_more_tells profile anchor past more one
+    ∙ ap (λ last. all_of (told_behind profile anchor past (reverse more)) ++ told_call profile anchor (more ++ past) last) h.0
+    ∙ ap (λ calls. calls ++ []) (losses_tell profile anchor past more h.1)
+
+-- ---- nothing
+
+-- before the first packet nothing is told
+pub nothing_told : (profile : Profile) (pid page anchor slot : ℕ) (ended : Bool)
+    → AreToldCalls profile pid page anchor slot ended [] []
+nothing_told profile pid page anchor slot ended = record {
+  past = [];
+  received = subst (λ (sets : List (Delivery (List ℕ))). AreDeliveriesRead (reverse sets) [])
+      (sym (none_yet profile.coded pid page ended)) tt;
+  are = refl;
+}

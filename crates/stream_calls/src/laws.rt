@@ -2,6 +2,7 @@
 
 ghost use Rattle.std.specs.Prelude.{◌≡◌, ◌+◌, ℕ, Bool, false, true, List, [], ◌∷◌, ◌++◌};
 ghost use Rattle.std.specs.Prelude.{length, reverse, Some, None};
+ghost use Rattle.std.specs.List.{AllByRecursion};
 ghost use Rattle.sub_base.specs.declared.load.SetLoad.{SetLoad};
 ghost use Rattle.sub_base.specs.declared.pace.Pace.{Pace};
 ghost use Rattle.sub_base.specs.declared.profile.Profile.{Profile};
@@ -103,6 +104,19 @@ pub fn set_is_told()
 pub fn loss_is_not_told()
     ensures { (profile : Profile) (anchor : ℕ) (past : List (Delivery Reading))
         → told_call profile anchor past lost ≡ [] }
+{}
+
+/// Losses alone tell nothing.
+pub fn losses_are_not_told()
+    ensures { (profile : Profile) (anchor : ℕ) (past more : List (Delivery Reading))
+        → AllByRecursion (λ one. one ≡ lost) more
+        → all_of (told_behind profile anchor past (reverse more)) ≡ [] }
+{}
+
+/// More told calls come before the others where the latest stands first.
+pub fn more_calls_are_told()
+    ensures { (told more : List ToldCall)
+        → calls_told (told ++ more) ≡ calls_told more ++ calls_told told }
 {}
 
 /// The sets of more told calls come behind those before, each with its own tick.
