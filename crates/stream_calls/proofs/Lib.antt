@@ -6,3 +6,4 @@ pub mod SetCalls
 pub mod ToldLaws
 pub mod MoreReceived
 pub mod StoppedCalls
+mod ToldExample
