@@ -15,7 +15,8 @@ use Rattle.decoder_model.proofs.SentUnits.{all_taken}
 use Rattle.sent_levels.specs.EnteredCalls.{Entry}
 use Rattle.sent_levels.proofs.EnteredSums.{AreSlots, within_slots, rising}
 use Rattle.shown_stream.specs.SlotStream.{Piece, packet_of, all_pieces}
-use Rattle.shown_stream.specs.StreamCalls.{count_with}
+use Rattle.stream_calls.specs.StreamCalls.{count_with}
+use Rattle.stream_calls.proofs.PacketCalls.{sound_front}
 use Rattle.shown_stream.proofs.BroughtPieces.{null_brings}
 use Rattle.shown_stream.proofs.CallsOfPieces.{E, AreUsedUp, Add, one_more, units_in, AreLeft, Piecewise, Position, nothing_left, goes_on, dropped}
 use Rattle.shown_stream.proofs.EnteredSlots.{no_packet}
@@ -59,10 +60,6 @@ used_next coded pid page count before packets packet calls counted used =
     let left : length calls - count_with coded pid page before packet ≡ length (drop count calls) = ap (λ n. length calls - n) counted ∙ sym (length-drop count calls) in
     (omega (arith, some, counted), subst (AreUsedUp coded pid page (before ++ packet ∷ []) packets) left used.1)
 
-all_front : {X : Type 0} (P : X → Type 0) (xs ys : List X) → AllByRecursion P (xs ++ ys) → AllByRecursion P xs
-all_front P [] ys h = tt
-all_front P (x ∷ xs) ys h = (h.0, all_front P xs ys h.1)
-
 -- the sets and losses that come with packets are used up by them
 pub used_up : (coded pid page : ℕ) (before packets : List (List ℕ)) (n : ℕ) → AllByRecursion (λ packet. packet_fault pid packet ≡ None) (before ++ packets) → length (sets_of coded pid page false (before ++ packets)) ≡ length (sets_of coded pid page false before) + n
     → AreUsedUp coded pid page before packets n
@@ -70,8 +67,8 @@ used_up coded pid page before [] n sound all = omega (arith, all, ap (λ packets
 used_up coded pid page before (packet ∷ packets) n sound all =
     let regrouped : (before ++ packet ∷ []) ++ packets ≡ before ++ packet ∷ packets = append_assoc before (packet ∷ []) packets in
     let sound_all = subst (AllByRecursion (λ packet. packet_fault pid packet ≡ None)) (sym regrouped) sound in
-    let sound_more = all_front (λ packet. packet_fault pid packet ≡ None) (before ++ packet ∷ []) packets sound_all in
-    let sound_here = all_front (λ packet. packet_fault pid packet ≡ None) before (packet ∷ []) sound_more in
+    let sound_more = sound_front pid (before ++ packet ∷ []) packets sound_all in
+    let sound_here = sound_front pid before (packet ∷ []) sound_more in
     let one = packets_add coded pid page before (packet ∷ []) (all_taken pid before sound_here) (all_taken pid (before ++ packet ∷ []) sound_more) in
     let rest = packets_add coded pid page (before ++ packet ∷ []) packets (all_taken pid (before ++ packet ∷ []) sound_more) (all_taken pid ((before ++ packet ∷ []) ++ packets) sound_all) in
     let whole : length (sets_of coded pid page false ((before ++ packet ∷ []) ++ packets)) ≡ length (sets_of coded pid page false before) + n = ap (λ packets. length (sets_of coded pid page false packets)) regrouped ∙ all in

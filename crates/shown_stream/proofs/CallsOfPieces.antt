@@ -13,7 +13,7 @@ use Rattle.decoder_model.specs.PacketArrivals.{packet_arrival}
 use Rattle.decoder_model.proofs.SentSets.{SetUnit, TimedSet, timed, IsTimedSet, IsUnitOf, HaveDifferentTimes}
 use Rattle.sent_levels.specs.EnteredCalls.{Entry, from_of, heard_load, entered_calls}
 use Rattle.shown_stream.specs.SlotStream.{Piece, all_pieces, IsPiece}
-use Rattle.shown_stream.specs.StreamCalls.{count_with, calls_of_packet, arrived_in, calls_from}
+use Rattle.stream_calls.specs.StreamCalls.{itself, count_with, calls_of_packet, arrived_in, calls_from}
 use Rattle.shown_stream.proofs.BroughtPieces.{IsReady}
 use Rattle.shown_stream.proofs.SentPieces.{AreFurther, FollowsOn}
 use Rattle.shown_stream.proofs.SentStream.{first_piece, further_of, its_pieces, its_bytes, its_first, its_further}
@@ -60,18 +60,18 @@ AreUsedUp coded pid page before (packet ∷ packets) n = (count_with coded pid p
 -- the packets from a slot on add to the calls so far those of the slots that they have
 abbrev pub Add : (coded pid page : ℕ) (loads : List WriteLoad) (slots : List ℕ) (painted : ℕ → ℕ) (entry : Entry) (slot : ℕ) (before packets : List (List ℕ)) (left : List (List Call)) (m : ℕ) → Type 0
 Add coded pid page loads slots painted entry slot before packets left m =
-    reverse (calls_from coded pid page slot before packets left) ++ E loads slots painted entry slot ≡ E loads slots painted entry (slot + m)
+    reverse (calls_from itself coded pid page slot before packets left) ++ E loads slots painted entry slot ≡ E loads slots painted entry (slot + m)
 
 pub one_more : (coded pid page : ℕ) (loads : List WriteLoad) (slots : List ℕ) (painted : ℕ → ℕ) (entry : Entry) (slot bytes count m : ℕ) (before : List (List ℕ)) (packet : List ℕ) (packets : List (List ℕ)) (left : List (List Call))
     → IsPlain coded pid page before packet bytes → count_with coded pid page before packet ≡ count
-    → reverse (arrived_in slot bytes ++ flat_map (λ (calls : List Call). calls) (take count left)) ++ E loads slots painted entry slot ≡ E loads slots painted entry (slot + 1)
+    → reverse (arrived_in itself slot bytes ++ flat_map (λ (calls : List Call). calls) (take count left)) ++ E loads slots painted entry slot ≡ E loads slots painted entry (slot + 1)
     → Add coded pid page loads slots painted entry (slot + 1) (before ++ packet ∷ []) packets (drop count left) m
     → Add coded pid page loads slots painted entry slot before (packet ∷ packets) left (suc m)
 one_more coded pid page loads slots painted entry slot bytes count m before packet packets left plain counted here onward =
-    let own = arrived_in slot bytes ++ flat_map (λ (calls : List Call). calls) (take count left) in
-    let behind = calls_from coded pid page (slot + 1) (before ++ packet ∷ []) packets (drop count left) in
+    let own = arrived_in itself slot bytes ++ flat_map (λ (calls : List Call). calls) (take count left) in
+    let behind = calls_from itself coded pid page (slot + 1) (before ++ packet ∷ []) packets (drop count left) in
     let same : slot + 1 + m ≡ slot + suc m = omega arith in
-    ap (λ n. reverse (calls_of_packet (event_at pid coded before packet) (packet_arrival coded pid page before packet) slot (flat_map (λ (calls : List Call). calls) (take n left)) ++ calls_from coded pid page (slot + 1) (before ++ packet ∷ []) packets (drop n left)) ++ E loads slots painted entry slot) counted
+    ap (λ n. reverse (calls_of_packet itself (event_at pid coded before packet) (packet_arrival coded pid page before packet) slot (flat_map (λ (calls : List Call). calls) (take n left)) ++ calls_from itself coded pid page (slot + 1) (before ++ packet ∷ []) packets (drop n left)) ++ E loads slots painted entry slot) counted
     ∙ ap (λ calls. reverse (calls ++ behind) ++ E loads slots painted entry slot) (plain_calls coded pid page slot bytes before packet (flat_map (λ (calls : List Call). calls) (take count left)) plain)
     ∙ ap (λ calls. calls ++ E loads slots painted entry slot) (reverse-append own behind)
     ∙ append_assoc (reverse behind) (reverse own) (E loads slots painted entry slot)

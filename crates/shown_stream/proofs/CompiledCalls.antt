@@ -1,13 +1,11 @@
 -- The calls that a compiled stream gives to a receiver that enters it behind any number of packets, up to any packet.
-use Rattle.std.proofs.Common.{◌≡◌, ◌∙◌, ℕ, zero, suc, ◌+◌, ◌<◌, ◌≤◌, false, List, [], ◌∷◌, ◌++◌, length, map, take, drop, reverse, get_or, None, refl, sym, ap, arith}
+use Rattle.std.proofs.Common.{◌≡◌, ◌∙◌, ℕ, zero, suc, ◌+◌, ◌<◌, ◌≤◌, false, List, [], ◌∷◌, ◌++◌, length, map, take, drop, reverse, get_or, None, sym, ap, arith}
 use Rattle.std.specs.Prelude.{All}
 use Rattle.std.specs.List.{AllByRecursion, AllZip}
 use Rattle.std.proofs.lemmas.List.{length-map, length-reverse}
-use Rattle.sub_base.specs.Lists.{with_earlier}
 use Rattle.sub_base.specs.Pace.{pace_of}
 use Rattle.sub_base.specs.Profile.{profile_of}
 use Rattle.sub_base.specs.declared.load.WriteLoad.{WriteLoad}
-use Rattle.sub_base.specs.declared.profile.Profile.{Profile}
 use Rattle.sub_base.specs.declared.profile.ProfileName.{ProfileName}
 use Rattle.cue_list.specs.declared.script.Script.{Script}
 use Rattle.page_epoch.specs.declared.planned_set.PlannedSet.{PlannedSet}
@@ -15,15 +13,17 @@ use Rattle.buffer_model.specs.Calls.{Call}
 use Rattle.schedule.specs.Slots.{IsLoad}
 use Rattle.stream_syntax.specs.Cutting.{IsUnit}
 use Rattle.stream_syntax.specs.TransportPackets.{packet_fault}
-use Rattle.decoder_model.specs.Readings.{Reading, AreDeliveriesRead}
-use Rattle.decoder_model.specs.Sets.{Delivery, sets_of}
+use Rattle.decoder_model.specs.Sets.{sets_of}
 use Rattle.decoder_model.specs.Streams.{entered_at}
 use Rattle.decoder_model.proofs.SentSets.{TimedSet, timed, timed_units, IsTimedSet, IsUnitOf}
 use Rattle.decoder_model.proofs.SentUnits.{all_taken}
 use Rattle.sent_levels.specs.EnteredCalls.{Entry, entered_calls}
 use Rattle.shown_stream.specs.Compiled.{AreSizedAs, all_units, IsCompiledTo}
 use Rattle.shown_stream.specs.SlotStream.{all_pieces}
-use Rattle.shown_stream.specs.StreamCalls.{set_call, set_calls, calls_from, AreCallsOf}
+use Rattle.stream_calls.specs.StreamCalls.{itself, set_call, set_calls, calls_from, AreCallsOf}
+use Rattle.stream_calls.proofs.EachBehind.{each_count}
+use Rattle.stream_calls.proofs.PacketCalls.{none_yet}
+use Rattle.stream_calls.proofs.ToldLaws.{as_many_received}
 use Rattle.shown_stream.proofs.CallsOfPackets.{used_up}
 use Rattle.shown_stream.proofs.CallsOfPieces.{AreSentSets, AreLeft, AreUsedUp}
 use Rattle.shown_stream.proofs.CompiledPackets.{packets_in, ArePackets, as_many, count_pieces}
@@ -34,7 +34,6 @@ use Rattle.shown_stream.proofs.RisingSlots.{rises, slots_rise}
 use Rattle.shown_stream.proofs.SentPieces.{IsFree, none_refused}
 use Rattle.shown_stream.proofs.SentStream.{pieces_are}
 use Rattle.shown_stream.proofs.SetPackets.{bytes_in, set_bytes}
-use Rattle.shown_stream.proofs.SetsInHand.{none_came, sets_whole}
 
 -- ---- the sets of a compiled stream as they are sent
 
@@ -101,19 +100,6 @@ compiled_entry name pid page script bytes compiled known loads_are missed =
 
 -- ---- its calls
 
-as_many_read : (deliveries : List (Delivery (List ℕ))) (past : List (Delivery Reading)) → AreDeliveriesRead deliveries past → length past ≡ length deliveries
-as_many_read [] [] h = refl
-as_many_read [] (one ∷ past) h = absurd h
-as_many_read (delivery ∷ deliveries) [] h = absurd h
-as_many_read (delivery ∷ deliveries) (one ∷ past) h = ap suc (as_many_read deliveries past h.1)
-
-as_many_calls : (profile : Profile) (anchor : ℕ) (older received : List (Delivery Reading)) → length (map (λ (placed : Delivery Reading × List (Delivery Reading)). set_call profile anchor placed.1 placed.0) (with_earlier older received)) ≡ length received
-as_many_calls profile anchor older [] = refl
-as_many_calls profile anchor older (one ∷ received) = ap suc (as_many_calls profile anchor (one ∷ older) received)
-
-nothing_sent : (coded pid page : ℕ) → sets_of coded pid page false [] ≡ []
-nothing_sent coded pid page = let set : TimedSet = record { time = 0; units = [] } in sets_whole coded pid page [] [] set (none_came coded pid page set) tt tt
-
 -- the calls of a compiled stream that is entered behind so many packets, up to any packet, are those of its scheduled sets; where
 -- each set is received at its own time, with as much painting as is said of it
 pub compiled_calls : (name : ProfileName) (pid page : ℕ) (script : Script) (bytes : List ℕ) → IsFree pid → (compiled : IsCompiledTo name pid page script bytes) (known : ArePackets name pid page script bytes compiled) (loads_are : All IsLoad compiled.loads)
@@ -130,8 +116,8 @@ compiled_calls name pid page script bytes free compiled known loads_are painted 
     let sound : AllByRecursion (λ packet. packet_fault pid packet ≡ None) packets = all_take (λ packet. packet_fault pid packet ≡ None) m (entered_at missed (packets_in name pid page script bytes compiled))
     (all_drop (λ packet. packet_fault pid packet ≡ None) missed (packets_in name pid page script bytes compiled) (none_refused pid 0 0 (all_pieces units) compiled.table.slots free (pieces_are coded units known.units))) in
     let many : length left ≡ length (sets_of coded pid page false packets) =
-    as_many_calls (profile_of name) anchor [] (reverse given.past) ∙ length-reverse given.past ∙ as_many_read (reverse (sets_of coded pid page false packets)) given.past given.received ∙ length-reverse (sets_of coded pid page false packets) in
-    let used : AreUsedUp coded pid page [] packets (length left) = used_up coded pid page [] packets (length left) sound (omega (arith, many, ap length (nothing_sent coded pid page))) in
+    each_count (set_call (profile_of name) anchor) [] (reverse given.past) ∙ length-reverse given.past ∙ as_many_received (profile_of name) pid page false packets given.past given.received in
+    let used : AreUsedUp coded pid page [] packets (length left) = used_up coded pid page [] packets (length left) sound (omega (arith, many, ap length (none_yet coded pid page false))) in
     given.are
-    ∙ ap (λ taken. reverse (calls_from coded pid page missed [] taken left)) (all_taken pid packets sound)
+    ∙ ap (λ taken. reverse (calls_from itself coded pid page missed [] taken left)) (all_taken pid packets sound)
     ∙ late_calls coded pid page compiled.loads compiled.table.slots compiled.units known.sent painted missed m left free is kept within used

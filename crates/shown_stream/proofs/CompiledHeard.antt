@@ -27,7 +27,7 @@ use Rattle.shown_stream.specs.SentSets.{sent_sets, times_from}
 use Rattle.shown_stream.specs.Shows.{IsAnchorOf}
 use Rattle.shown_stream.specs.SlotStream.{Piece, all_pieces, packet_of}
 use Rattle.shown_stream.specs.StaysWithin.{AreCallsBefore}
-use Rattle.shown_stream.specs.StreamCalls.{set_calls, AreCallsOf}
+use Rattle.stream_calls.specs.StreamCalls.{set_calls, AreCallsOf}
 use Rattle.shown_stream.proofs.CallsOfPieces.{AreLeft}
 use Rattle.shown_stream.proofs.CompiledCalls.{compiled_stream, compiled_entry, compiled_calls}
 use Rattle.shown_stream.proofs.CompiledKept.{AreWholeUpTo, cut_units, compiled_kept, read_turned}

@@ -19,7 +19,7 @@ use Rattle.decoder_model.proofs.SentSets.{TimedSet, size_of_units, delivered}
 use Rattle.shown_stream.specs.Compiled.{IsCompiledTo, all_units}
 use Rattle.shown_stream.specs.SentSets.{sent_sets, times_from}
 use Rattle.shown_stream.specs.Shows.{IsAnchorOf}
-use Rattle.shown_stream.specs.StreamCalls.{set_calls}
+use Rattle.stream_calls.specs.StreamCalls.{set_calls}
 use Rattle.shown_stream.proofs.CompiledCalls.{compiled_stream, compiled_entry}
 use Rattle.shown_stream.proofs.CompiledPackets.{packets_in, ArePackets}
 use Rattle.shown_stream.proofs.CompiledSets.{AreSentAs}

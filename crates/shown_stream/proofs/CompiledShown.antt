@@ -42,7 +42,7 @@ use Rattle.shown_stream.specs.HoldsWhole.{HoldsWhole}
 use Rattle.shown_stream.specs.KeptSets.{IsKept}
 use Rattle.shown_stream.specs.SentSets.{sent_set, sent_from, sent_sets, times_from}
 use Rattle.shown_stream.specs.Shows.{authored_view, IsAnchorOf, ShowsFrom}
-use Rattle.shown_stream.specs.StreamCalls.{call_by, set_call}
+use Rattle.stream_calls.specs.StreamCalls.{call_by, set_call}
 use Rattle.shown_stream.proofs.ComingSets.{SetComes, set_comes, all_come}
 use Rattle.shown_stream.proofs.CompiledPackets.{packets_in, as_many, ArePackets, are_packets}
 use Rattle.shown_stream.proofs.EnteredRuns.{none_with, turned, turned_is, IsReceivedSo, AreFrom, wait_for}

@@ -35,7 +35,7 @@ use Rattle.shown_stream.specs.Compiled.{all_units, IsCompiledTo}
 use Rattle.shown_stream.specs.SentSets.{sent_set, sent_sets, times_from}
 use Rattle.shown_stream.specs.Shows.{IsAnchorOf}
 use Rattle.shown_stream.specs.StaysWithin.{AreCallsBefore, StaysWithin, IsAsScheduled}
-use Rattle.shown_stream.specs.StreamCalls.{set_calls, calls_from, AreCallsOf}
+use Rattle.stream_calls.specs.StreamCalls.{itself, set_calls, calls_from, AreCallsOf}
 use Rattle.shown_stream.proofs.CompiledCalls.{compiled_stream, compiled_entry}
 use Rattle.shown_stream.proofs.CompiledHeard.{compiled_read, ended_sets, heard_calls, before_slot, packet_inside}
 use Rattle.shown_stream.proofs.CompiledKept.{cut_units}
@@ -219,7 +219,7 @@ compiled_stays name pid page script bytes free compiled known missed anchor suit
     given_before : (slot : ℕ) → (calls : List Call) × AreCallsBefore slot name pid page anchor missed packets calls
     given_before slot =
         let some = compiled_read name pid page script bytes free compiled known compiled.each anchor missed (min (slot - missed) (length (drop missed packets))) suits late in (
-          reverse (calls_from (profile_of name).coded pid page missed [] (packets_taken pid (drop missed (take slot packets))) (set_calls (profile_of name) anchor (reverse some.0))),
+          reverse (calls_from itself (profile_of name).coded pid page missed [] (packets_taken pid (drop missed (take slot packets))) (set_calls (profile_of name) anchor (reverse some.0))),
           record { past = some.0; received = subst (λ (found : List (List ℕ)). HasReceived (profile_of name) pid page false found some.0) (sym (before_slot missed slot packets)) some.1; are = refl },
         )
 

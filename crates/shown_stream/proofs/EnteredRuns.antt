@@ -23,7 +23,7 @@ use Rattle.shown_plan.proofs.Runs.{IsRun, begins, goes_on, RunKeeps, run_keeps}
 use Rattle.shown_stream.specs.KeptSets.{IsFromEntry, IsKept}
 use Rattle.shown_stream.specs.SentSets.{sent_set, sent_from}
 use Rattle.shown_stream.specs.Shows.{authored_view}
-use Rattle.shown_stream.specs.StreamCalls.{set_call}
+use Rattle.stream_calls.specs.StreamCalls.{set_call}
 use Rattle.shown_stream.proofs.ComingSets.{SetComes, reading_of, is_read, turned_more}
 use Rattle.shown_stream.proofs.HeldSets.{HoldsEach, holds_next, kept_holds}
 use Rattle.shown_stream.proofs.RunViews.{IsBefore, run_shows}

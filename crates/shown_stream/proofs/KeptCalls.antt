@@ -16,7 +16,7 @@ use Rattle.decoder_model.specs.Sets.{Delivery, whole}
 use Rattle.decoder_model.specs.Verdict.{verdict_of}
 use Rattle.decoder_model.proofs.SentSets.{TimedSet, size_of_units, delivered}
 use Rattle.sent_levels.specs.EnteredCalls.{Entry, from_of}
-use Rattle.shown_stream.specs.StreamCalls.{call_by, set_call}
+use Rattle.stream_calls.specs.StreamCalls.{call_by, set_call}
 use Rattle.shown_stream.proofs.CallsOfPieces.{AreLeft}
 use Rattle.shown_stream.proofs.PlannedTimes.{pts_of}
 use Rattle.shown_stream.proofs.SetPaintings.{painting_in, calls_behind}

@@ -17,7 +17,7 @@ use Rattle.decoder_model.proofs.SentUnits.{no_hand}
 use Rattle.sent_levels.specs.EnteredCalls.{Entry, entered_calls}
 use Rattle.sent_levels.proofs.EnteredSums.{AreSlots, within_slots}
 use Rattle.shown_stream.specs.SlotStream.{Piece, all_pieces, pieces_of}
-use Rattle.shown_stream.specs.StreamCalls.{calls_from}
+use Rattle.stream_calls.specs.StreamCalls.{itself, calls_from}
 use Rattle.shown_stream.proofs.CallsOfPieces.{AreUsedUp, IsSentSet, AreSentSets, units_in, AreLeft, unit_has_bytes}
 use Rattle.shown_stream.proofs.EarlyPackets.{Begins, Behind, nothing_behind, begins, Early, early_walk}
 use Rattle.shown_stream.proofs.EnteredSlots.{IsNotBegun, nothing_yet}
@@ -224,7 +224,7 @@ entry_not_begun coded page loads slots groups sets missed is =
 pub late_calls : (coded pid page : ℕ) (loads : List WriteLoad) (slots : List ℕ) (groups : List (List (List ℕ))) (sets : List TimedSet) (painted : ℕ → ℕ) (missed m : ℕ) (calls : List (List Call)) → IsFree pid → (is : IsSentStream coded page loads slots groups sets)
     → AreLeft loads painted (entry_of coded page loads slots groups sets missed is) (entry_of coded page loads slots groups sets missed is).set calls
     → m ≤ length (drop missed (laid pid 0 0 (all_pieces (units_in groups)) slots)) → AreUsedUp coded pid page [] (take m (drop missed (laid pid 0 0 (all_pieces (units_in groups)) slots))) (length calls)
-    → reverse (calls_from coded pid page missed [] (take m (drop missed (laid pid 0 0 (all_pieces (units_in groups)) slots))) calls) ≡ entered_calls loads slots (missed + m) painted (entry_of coded page loads slots groups sets missed is) (length loads)
+    → reverse (calls_from itself coded pid page missed [] (take m (drop missed (laid pid 0 0 (all_pieces (units_in groups)) slots))) calls) ≡ entered_calls loads slots (missed + m) painted (entry_of coded page loads slots groups sets missed is) (length loads)
 late_calls coded pid page loads slots groups sets painted missed m calls free is is_left many used =
     let units = units_in groups in
     let n = passed (0 + missed) slots in
@@ -260,9 +260,9 @@ late_calls coded pid page loads slots groups sets painted missed m calls free is
       came = none_came coded pid page;
       next = behind;
     } in
-    subst (λ (found : List (List ℕ)). m ≤ length found → AreUsedUp coded pid page [] (take m found) (length calls) → reverse (calls_from coded pid page missed [] (take m found) calls) ≡ entered_calls loads slots (missed + m) painted entry (length loads)) (sym packets)
+    subst (λ (found : List (List ℕ)). m ≤ length found → AreUsedUp coded pid page [] (take m found) (length calls) → reverse (calls_from itself coded pid page missed [] (take m found) calls) ≡ entered_calls loads slots (missed + m) painted entry (length loads)) (sym packets)
     (λ many used.
-    sym (append-nil (reverse (calls_from coded pid page missed [] (take m (laid pid missed n (left.further ++ all_pieces (drop left.cut units)) (drop n slots))) calls)))
-    ∙ ap (λ past. reverse (calls_from coded pid page missed [] (take m (laid pid missed n (left.further ++ all_pieces (drop left.cut units)) (drop n slots))) calls) ++ past) (sym (nothing_yet loads slots painted entry missed (length loads) is.are (omega arith) (not_yet coded page loads slots entry missed n (length left.further) (all_pieces (drop left.cut units)) is.are is.ahead refl behind)))
+    sym (append-nil (reverse (calls_from itself coded pid page missed [] (take m (laid pid missed n (left.further ++ all_pieces (drop left.cut units)) (drop n slots))) calls)))
+    ∙ ap (λ past. reverse (calls_from itself coded pid page missed [] (take m (laid pid missed n (left.further ++ all_pieces (drop left.cut units)) (drop n slots))) calls) ++ past) (sym (nothing_yet loads slots painted entry missed (length loads) is.are (omega arith) (not_yet coded page loads slots entry missed n (length left.further) (all_pieces (drop left.cut units)) is.are is.ahead refl behind)))
     ∙ early_walk coded pid page loads slots painted entry m free is.are missed n [] left.further (all_pieces (drop left.cut units)) (drop n slots) calls early (subst (λ (place : ℕ). IsAhead place (drop n slots)) at_place (ahead_from (0 + missed) 0 slots is.ahead)) refl is_left many used)
     many used

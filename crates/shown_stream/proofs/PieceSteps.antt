@@ -18,7 +18,7 @@ use Rattle.ts_packets.proofs.WrittenPackets.{null_is_taken}
 use Rattle.sent_levels.specs.EnteredCalls.{Entry, from_of, heard_load}
 use Rattle.sent_levels.proofs.EnteredSums.{AreSlots}
 use Rattle.shown_stream.specs.SlotStream.{Piece, packet_of, pieces_of, all_pieces, IsPiece}
-use Rattle.shown_stream.specs.StreamCalls.{count_with, arrived_in}
+use Rattle.stream_calls.specs.StreamCalls.{itself, count_with, arrived_in}
 use Rattle.shown_stream.proofs.BroughtPieces.{Brings, IsReady, null_brings, piece_brings, last_brings}
 use Rattle.shown_stream.proofs.CallsOfPieces.{ArePiecesOf, bytes_left, unit_has_bytes, E, IsSentSet, AreSentSets, units_in, AreLeft, Goes, Piecewise, Position, nothing_left, goes_on, dropped, unit_at_front, begin_unit}
 use Rattle.shown_stream.proofs.EnteredSlots.{StandsAt, packet_adds, last_adds}
@@ -98,12 +98,12 @@ pub record Step (coded pid page : ℕ) (loads : List WriteLoad) (slots : List �
   pub count : ℕ
   pub counted : count_with coded pid page before (packet_of pid number piece) ≡ count
   pub adds : (calls : List (List Call)) → count ≤ length calls → AreLeft loads painted entry i calls
-      → reverse (arrived_in slot (length piece.bytes) ++ flat_map (λ (calls : List Call). calls) (take count calls)) ++ E loads slots painted entry slot ≡ E loads slots painted entry (slot + 1)
+      → reverse (arrived_in itself slot (length piece.bytes) ++ flat_map (λ (calls : List Call). calls) (take count calls)) ++ E loads slots painted entry slot ≡ E loads slots painted entry (slot + 1)
   pub next : ℕ
   pub left_behind : (calls : List (List Call)) → AreLeft loads painted entry i calls → AreLeft loads painted entry next (drop count calls)
   pub onward : Position coded pid page loads slots entry (slot + 1) (number + 1) next (before ++ packet_of pid number piece ∷ []) rest
 
-some_arrive : (slot bytes : ℕ) → 1 ≤ bytes → arrived_in slot bytes ≡ Arrived slot bytes ∷ []
+some_arrive : (slot bytes : ℕ) → 1 ≤ bytes → arrived_in itself slot bytes ≡ Arrived slot bytes ∷ []
 some_arrive slot bytes some = ap (λ none. cond none [] (Arrived slot bytes ∷ [])) (not_none bytes some)
   where
     not_none : (n : ℕ) → 1 ≤ n → eqb n 0 ≡ false
@@ -148,7 +148,7 @@ stands_here coded pid page loads slots entry slot number i before left at here =
 -- a packet that ends no set: its bytes arrive
 adds_bytes : (coded pid page : ℕ) (loads : List WriteLoad) (slots : List ℕ) (painted : ℕ → ℕ) (entry : Entry) (slot number i : ℕ) (before : List (List ℕ)) (left : List Piece) (at : Piecewise coded pid page loads slots entry slot number i before left)
     → AreSlots loads slots → Stands coded pid page loads slots entry slot number i before left at → 1 ≤ length at.piece.bytes → 1 ≤ length (at.pieces ++ all_pieces at.units)
-    → reverse (arrived_in slot (length at.piece.bytes) ++ []) ++ E loads slots painted entry slot ≡ E loads slots painted entry (slot + 1)
+    → reverse (arrived_in itself slot (length at.piece.bytes) ++ []) ++ E loads slots painted entry slot ≡ E loads slots painted entry (slot + 1)
 adds_bytes coded pid page loads slots painted entry slot number i before left at are stands some more =
     let many = stands.many in
     let next : suc slot ≡ slot + 1 = omega arith in
@@ -161,7 +161,7 @@ adds_bytes coded pid page loads slots painted entry slot number i before left at
 adds_set : (coded pid page : ℕ) (loads : List WriteLoad) (slots : List ℕ) (painted : ℕ → ℕ) (entry : Entry) (slot number i : ℕ) (before : List (List ℕ)) (left : List Piece) (at : Piecewise coded pid page loads slots entry slot number i before left)
     → AreSlots loads slots → Stands coded pid page loads slots entry slot number i before left at → 1 ≤ length at.piece.bytes → length (at.pieces ++ all_pieces at.units) ≡ 0
     → (calls : List (List Call)) → 1 ≤ length calls → AreLeft loads painted entry i calls
-    → reverse (arrived_in slot (length at.piece.bytes) ++ flat_map (λ (calls : List Call). calls) (take 1 calls)) ++ E loads slots painted entry slot ≡ E loads slots painted entry (slot + 1)
+    → reverse (arrived_in itself slot (length at.piece.bytes) ++ flat_map (λ (calls : List Call). calls) (take 1 calls)) ++ E loads slots painted entry slot ≡ E loads slots painted entry (slot + 1)
 adds_set coded pid page loads slots painted entry slot number i before left at are stands some last [] any h = absurd (omega arith)
 adds_set coded pid page loads slots painted entry slot number i before left at are stands some last (own ∷ calls) any h =
     let many = stands.many in

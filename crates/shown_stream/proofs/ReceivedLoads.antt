@@ -27,7 +27,7 @@ use Rattle.sent_levels.specs.EnteredCalls.{Entry, planned_painting}
 use Rattle.shown_stream.specs.Compiled.{IsCompiledTo, all_units}
 use Rattle.shown_stream.specs.SentSets.{sent_sets, times_from}
 use Rattle.shown_stream.specs.Shows.{IsAnchorOf}
-use Rattle.shown_stream.specs.StreamCalls.{set_call, set_calls}
+use Rattle.stream_calls.specs.StreamCalls.{set_call, set_calls}
 use Rattle.shown_stream.proofs.CompiledCalls.{compiled_stream, compiled_entry}
 use Rattle.shown_stream.proofs.CompiledKept.{AreWholeUpTo, cut_units, read_turned}
 use Rattle.shown_stream.proofs.CompiledPackets.{packets_in, ArePackets}

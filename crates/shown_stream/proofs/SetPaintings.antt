@@ -27,7 +27,7 @@ use Rattle.decoder_model.specs.Verdict.{verdict_of}
 use Rattle.decoder_model.specs.declared.set_end.SetEnd.TheVariants.{Shown, Waiting}
 use Rattle.decoder_model.proofs.SentSets.{TimedSet}
 use Rattle.shown_plan.proofs.ReadSets.{plain, IsDrawnObject, IsReadSet}
-use Rattle.shown_stream.specs.StreamCalls.{call_by, set_call}
+use Rattle.stream_calls.specs.StreamCalls.{call_by, set_call}
 use Rattle.shown_stream.proofs.ComingSets.{SetComes, reading_of}
 use Rattle.shown_stream.proofs.LateRest.{IsNoRegion, region_with}
 

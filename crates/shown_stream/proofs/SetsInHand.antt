@@ -18,7 +18,7 @@ use Rattle.decoder_model.specs.Sets.{Stretch, runs_of, is_ended, frames_in, set_
 use Rattle.decoder_model.proofs.Growth.{flat-append}
 use Rattle.decoder_model.proofs.SentSets.{all-append, SetUnit, TimedSet, timed, timed_units, segments_of_units, IsTimedSet, IsUnitOf, unit_of, arrives, IsArrivalOf, HaveDifferentTimes, IsPlaced, AreOwnRuns, no_run, own_run, own_runs, find-map, not_ended, front_not_ended, whole_ended, no_end_among, none_ends, front_bytes, run_frames, set_ends, delivered, handed_whole, all_handed, have_units}
 use Rattle.decoder_model.proofs.SentUnits.{each_after-append, all_taken}
-use Rattle.shown_stream.specs.StreamCalls.{count_with, calls_of_packet, arrived_in, drop_where}
+use Rattle.stream_calls.specs.StreamCalls.{itself, count_with, calls_of_packet, arrived_in, drop_where}
 use Rattle.shown_stream.proofs.BroughtPieces.{Brings, no_break}
 
 -- ---- the run in hand
@@ -311,11 +311,11 @@ plain_last coded pid page bytes before packet unit_bytes hand counter sets set k
 
 -- the calls of such a packet: its bytes, and then those of the sets that come with it
 pub plain_calls : (coded pid page slot bytes : ℕ) (before : List (List ℕ)) (packet : List ℕ) (sets : List Call) → IsPlain coded pid page before packet bytes
-    → calls_of_packet (event_at pid coded before packet) (packet_arrival coded pid page before packet) slot sets ≡ arrived_in slot bytes ++ sets
+    → calls_of_packet itself (event_at pid coded before packet) (packet_arrival coded pid page before packet) slot sets ≡ arrived_in itself slot bytes ++ sets
 plain_calls coded pid page slot bytes before packet sets plain =
-    ap (λ arrival. calls_of_packet (event_at pid coded before packet) arrival slot sets) plain.brought
-    ∙ ap (λ broken. drop_where broken ++ (arrived_in slot bytes ++ (sets ++ []))) plain.no_break
-    ∙ ap (λ rest. arrived_in slot bytes ++ rest) (append-nil sets)
+    ap (λ arrival. calls_of_packet itself (event_at pid coded before packet) arrival slot sets) plain.brought
+    ∙ ap (λ broken. drop_where itself broken ++ (arrived_in itself slot bytes ++ (sets ++ []))) plain.no_break
+    ∙ ap (λ rest. arrived_in itself slot bytes ++ rest) (append-nil sets)
 
 -- how many sets come with a packet, by those behind it and before it
 pub count_is : (coded pid page : ℕ) (before : List (List ℕ)) (packet : List ℕ) (sets more : List TimedSet) → sets_of coded pid page false before ≡ map delivered sets → sets_of coded pid page false (before ++ packet ∷ []) ≡ map delivered (sets ++ more)

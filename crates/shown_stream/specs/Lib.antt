@@ -2,7 +2,6 @@ pub mod SlotStream
 pub mod Compiled
 pub mod Shows
 pub mod SentSets
-pub mod StreamCalls
 pub mod HoldsWhole
 pub mod KeptSets
 pub mod Entered

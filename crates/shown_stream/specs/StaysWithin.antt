@@ -16,7 +16,7 @@ use Rattle.sent_levels.specs.DoneSets.{DoneSet, done_sets, AreDoneNoLater, IsDec
 use Rattle.decoder_model.specs.Streams.{entered_at, is_from}
 use Rattle.shown_stream.specs.SentSets.{sent_set, sent_sets, times_from}
 use Rattle.shown_stream.specs.Shows.{IsAnchorOf}
-use Rattle.shown_stream.specs.StreamCalls.{AreCallsOf}
+use Rattle.stream_calls.specs.StreamCalls.{AreCallsOf}
 
 -- how packets are sent: from the script's origin on, in the slots of the profile
 abbrev pub sent_pace : ProfileName → Script → Pace

@@ -1,0 +1,3 @@
+pub mod StreamCalls
+pub mod ToldSets
+pub mod Before
