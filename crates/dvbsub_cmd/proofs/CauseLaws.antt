@@ -3,14 +3,17 @@ use Rattle.std.proofs.Common.{◌≡◌, ℕ, Bool, List, Option, Some, None, �
 use Rattle.cue_list.specs.declared.script.Script.{Script}
 use Rattle.sub_base.specs.Counts.{HasRisen}
 use Rattle.sub_base.specs.declared.profile.ProfileName.{ProfileName}
-use Rattle.dvbsub_cmd.specs.Command.{command_of}
+use Rattle.dvbsub_cmd.specs.Command.{asked_ticks, command_of}
 use Rattle.dvbsub_cmd.specs.CompileOutcome.{IsCompileCause, IsCompilable}
-use Rattle.dvbsub_cmd.specs.Completeness.{IsComplete, IsUntroubled}
+use Rattle.dvbsub_cmd.specs.Completeness.{IsComplete, IsReadable, IsUntroubled}
+use Rattle.dvbsub_cmd.specs.Dumps.{dumps}
 use Rattle.dvbsub_cmd.specs.ExpectOutcome.{IsExpectCause, IsExpectable}
+use Rattle.dvbsub_cmd.specs.Listing.{lists}
 use Rattle.dvbsub_cmd.specs.Outcome.{HasCause, IsCausedBy, Tells}
 use Rattle.dvbsub_cmd.specs.ReadScript.{HasRightScript, IsInputCause}
 use Rattle.sub_base.specs.Endpoints.{Supplied, Received}
 use Rattle.dvbsub_cmd.specs.Seen.{Seen}
+use Rattle.dvbsub_cmd.specs.StreamOutcome.{IsStreamCause, Telling}
 use Rattle.dvbsub_cmd.specs.declared.command.Command.{Command}
 use Rattle.dvbsub_cmd.specs.declared.command.Command.TheVariants as command
 use Rattle.dvbsub_cmd.specs.declared.status.Status.{Status}
@@ -75,35 +78,37 @@ expect_whole has_font ticks before now (status.WriteFault which.Notes) cause wri
 expect_whole has_font ticks before now status.Memory cause written calm = inr refl
 expect_whole has_font ticks before now (status.InputTooLong which) cause written calm = calm_input has_font _ _ _ _ _ (status.InputTooLong which) cause.0 calm
 
-list_whole : (words : List (List ℕ)) (pid : ℕ) (before now : Seen) (notes_before notes_now : Received) (run : Status)
-    → IsCausedBy words (Some (command.List pid)) before now run → IsUntroubled (Some (command.List pid)) before now notes_before notes_now → IsWhole run
-list_whole words pid before now notes_before notes_now (status.Done cut) cause calm = inl (cut, refl)
-list_whole words pid before now notes_before notes_now status.Usage cause calm = absurd cause
-list_whole words pid before now notes_before notes_now (status.FontRefused fault) cause calm = absurd cause
-list_whole words pid before now notes_before notes_now (status.ScriptRefused fault) cause calm = absurd cause
-list_whole words pid before now notes_before notes_now (status.PlanRefused fault) cause calm = absurd cause
-list_whole words pid before now notes_before notes_now (status.ScheduleRefused row fault) cause calm = absurd cause
-list_whole words pid before now notes_before notes_now (status.StreamRefused packet fault) cause calm = absurd (calm.right.right.right cause.packets cause.refused cause.rest fault cause.taken cause.whole cause.fault_is)
-list_whole words pid before now notes_before notes_now (status.ReadFault which.First) cause calm = absurd (calm.right.read cause.0)
-list_whole words pid before now notes_before notes_now (status.ReadFault which.Second) cause calm = absurd cause
-list_whole words pid before now notes_before notes_now (status.ReadFault which.Out) cause calm = absurd cause
-list_whole words pid before now notes_before notes_now (status.ReadFault which.Notes) cause calm = absurd cause
-list_whole words pid before now notes_before notes_now (status.WriteFault which.Out) cause calm = absurd (calm.written cause.0)
-list_whole words pid before now notes_before notes_now (status.WriteFault which.First) cause calm = absurd cause
-list_whole words pid before now notes_before notes_now (status.WriteFault which.Second) cause calm = absurd cause
-list_whole words pid before now notes_before notes_now (status.WriteFault which.Notes) cause calm = absurd cause
-list_whole words pid before now notes_before notes_now status.Memory cause calm = inr refl
-list_whole words pid before now notes_before notes_now (status.InputTooLong which.First) cause calm = absurd (calm.right.right.within cause.0)
-list_whole words pid before now notes_before notes_now (status.InputTooLong which.Second) cause calm = absurd cause
-list_whole words pid before now notes_before notes_now (status.InputTooLong which.Out) cause calm = absurd cause
-list_whole words pid before now notes_before notes_now (status.InputTooLong which.Notes) cause calm = absurd cause
+stream_whole : (Told : Telling) (pid : ℕ) (before now : Supplied) (out_before out_now : Received) (run : Status)
+    → IsStreamCause Told pid before now out_before out_now run → (HasRisen out_before.faults out_now.faults → ⊥) → IsReadable pid before now → IsWhole run
+stream_whole Told pid before now out_before out_now (status.Done cut) cause written calm = inl (cut, refl)
+stream_whole Told pid before now out_before out_now status.Usage cause written calm = absurd cause
+stream_whole Told pid before now out_before out_now (status.FontRefused fault) cause written calm = absurd cause
+stream_whole Told pid before now out_before out_now (status.ScriptRefused fault) cause written calm = absurd cause
+stream_whole Told pid before now out_before out_now (status.PlanRefused fault) cause written calm = absurd cause
+stream_whole Told pid before now out_before out_now (status.ScheduleRefused row fault) cause written calm = absurd cause
+stream_whole Told pid before now out_before out_now (status.StreamRefused packet fault) cause written calm = absurd (calm.right.right cause.packets cause.refused cause.rest fault cause.taken cause.whole cause.fault_is)
+stream_whole Told pid before now out_before out_now (status.ReadFault which.First) cause written calm = absurd (calm.read cause.0)
+stream_whole Told pid before now out_before out_now (status.ReadFault which.Second) cause written calm = absurd cause
+stream_whole Told pid before now out_before out_now (status.ReadFault which.Out) cause written calm = absurd cause
+stream_whole Told pid before now out_before out_now (status.ReadFault which.Notes) cause written calm = absurd cause
+stream_whole Told pid before now out_before out_now (status.WriteFault which.Out) cause written calm = absurd (written cause.0)
+stream_whole Told pid before now out_before out_now (status.WriteFault which.First) cause written calm = absurd cause
+stream_whole Told pid before now out_before out_now (status.WriteFault which.Second) cause written calm = absurd cause
+stream_whole Told pid before now out_before out_now (status.WriteFault which.Notes) cause written calm = absurd cause
+stream_whole Told pid before now out_before out_now status.Memory cause written calm = inr refl
+stream_whole Told pid before now out_before out_now (status.InputTooLong which.First) cause written calm = absurd (calm.right.within cause.0)
+stream_whole Told pid before now out_before out_now (status.InputTooLong which.Second) cause written calm = absurd cause
+stream_whole Told pid before now out_before out_now (status.InputTooLong which.Out) cause written calm = absurd cause
+stream_whole Told pid before now out_before out_now (status.InputTooLong which.Notes) cause written calm = absurd cause
 
 -- each command
 run_whole : (words : List (List ℕ)) (command : Option Command) (before now : Seen) (notes_before notes_now : Received) (run : Status) → IsCausedBy words command before now run →
     IsUntroubled command before now notes_before notes_now → IsWhole run
 run_whole words None before now notes_before notes_now run cause calm = absurd calm.right
 run_whole words (Some (command.Compile profile pid page has_font)) before now notes_before notes_now run cause calm = compile_whole profile pid page has_font before now run cause calm.written calm.right
-run_whole words (Some (command.List pid)) before now notes_before notes_now run cause calm = list_whole words pid before now notes_before notes_now run cause calm
+run_whole words (Some (command.List pid)) before now notes_before notes_now run cause calm = stream_whole (lists pid) pid before.first now.first before.out now.out run cause calm.written calm.right
+run_whole words (Some (command.Dump profile pid page bands)) before now notes_before notes_now run cause calm =
+    stream_whole (dumps profile pid page (asked_ticks 7 words)) pid before.first now.first before.out now.out run cause calm.written calm.right
 run_whole words (Some (command.Expect has_font)) before now notes_before notes_now run cause calm = expect_whole has_font _ before now run cause calm.written calm.right
 
 -- the line of the status is written where the notes do not fail

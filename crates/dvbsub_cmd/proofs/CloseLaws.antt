@@ -8,14 +8,15 @@ use Rattle.packet_source.specs.Packets.{Gave, IsWithin, stream_length}
 use Rattle.packet_source.specs.declared.limits.TheConstants.{STREAM_LIMIT}
 use Rattle.packet_source.specs.declared.stream_end.StreamEnd.{StreamEnd}
 use Rattle.packet_source.specs.declared.stream_end.StreamEnd.TheVariants as stream
-use Rattle.dvbsub_cmd.specs.ListOutcome.{IsListCause, IsFront}
-use Rattle.dvbsub_cmd.specs.declared.list_packets.Refused.{Refused}
-use Rattle.dvbsub_cmd.specs.Putting.{Buffered, IsPutOut, PutsOut}
+use Rattle.dvbsub_cmd.specs.StreamOutcome.{IsStreamCause, IsFront, Telling}
+use Rattle.packet_walk.specs.Walking.{IsEnd, IsTold}
+use Rattle.packet_walk.specs.declared.walk.Refused.{Refused}
+use Rattle.packet_walk.specs.declared.walk.WalkEnd.{WalkEnd}
+use Rattle.packet_walk.specs.declared.walk.WalkEnd.TheVariants as end
+use Rattle.command_text.specs.Putting.{Buffered, IsPutOut, PutsOut}
 use Rattle.sub_base.specs.Endpoints.{Supplied, Received}
-use Rattle.dvbsub_cmd.specs.SlotWalk.{Sent}
-use Rattle.dvbsub_cmd.specs.Walking.{IsTold, IsEnd, Closes}
-use Rattle.dvbsub_cmd.specs.declared.list.End.{End}
-use Rattle.dvbsub_cmd.specs.declared.list.End.TheVariants as end
+use Rattle.command_text.specs.Putting.{Sent}
+use Rattle.dvbsub_cmd.specs.Closing.{Closes, ClosesEnd, HasEnded}
 use Rattle.dvbsub_cmd.specs.declared.status.Status.{Status}
 use Rattle.dvbsub_cmd.specs.declared.status.Status.TheVariants as status
 use Rattle.dvbsub_cmd.specs.declared.status.Which.TheVariants as which
@@ -32,9 +33,9 @@ put_front start now buffer text true is out = (out.front (sym is)).0
 put_front start now buffer text false is out = sent_front start.written now.written buffer.waits text (out.sent (sym is))
 
 -- a front of what was told was written
-told_front : (pid : ℕ) (before now : Supplied) (start out : Received) (buffer : Buffered) (packets : List (List ℕ)) (rest : List ℕ) → IsTold pid before now start out buffer packets rest → IsFront pid before now start out
-told_front pid before now start out buffer packets rest told =
-    record { packets = packets; rest = rest; taken = told.taken; text = told.text; told = told.told; written = put_front start out buffer told.text buffer.failed refl told.put_out }
+told_front : (Told : Telling) (is_end : Bool) (pid : ℕ) (before now : Supplied) (start out : Received) (buffer : Buffered) (packets : List (List ℕ)) (rest : List ℕ) → IsTold (Told is_end) pid before now start out buffer packets rest → IsFront Told pid before now start out
+told_front Told is_end pid before now start out buffer packets rest told =
+    record { packets = packets; rest = rest; taken = told.taken; ended = is_end; text = told.text; told = told.told; written = put_front start out buffer told.text buffer.failed refl told.put_out }
 
 -- the source gave at most its limit
 at_most : (start had now limit : ℕ) → had ≤ limit → now ≡ counted start had → now ≤ counted start limit
@@ -51,21 +52,21 @@ closed_failed before now old new run puts failed = λ start text. λ out.
     inr (refl, subst (λ (l : List ℕ). AppendsPrefix start.written now.written l) (append-nil text) front.0, front.1)
 
 -- a write fault where the text was told
-write_fault : (pid : ℕ) (before now : Supplied) (start out next : Received) (buffer : Buffered) (packets : List (List ℕ)) (rest : List ℕ) (told : IsTold pid before now start out buffer packets rest) → IsWithin packets rest
-    → AppendsPrefix start.written next.written told.text → HasRisen start.faults next.faults → IsListCause pid before now start next (status.WriteFault which.Out)
-write_fault pid before now start out next buffer packets rest told within front risen = (
+write_fault : (Told : Telling) (is_end : Bool) (pid : ℕ) (before now : Supplied) (start out next : Received) (buffer : Buffered) (packets : List (List ℕ)) (rest : List ℕ) (told : IsTold (Told is_end) pid before now start out buffer packets rest) → IsWithin packets rest
+    → AppendsPrefix start.written next.written told.text → HasRisen start.faults next.faults → IsStreamCause Told pid before now start next (status.WriteFault which.Out)
+write_fault Told is_end pid before now start out next buffer packets rest told within front risen = (
   risen,
-  record { packets = packets; rest = rest; taken = told.taken; text = told.text; told = told.told; written = front },
+  record { packets = packets; rest = rest; taken = told.taken; ended = is_end; text = told.text; told = told.told; written = front },
   given_at_most before now packets rest told.taken.gave within,
 )
 
-pub ended_whole : (pid : ℕ) (before now : Supplied) (start out next : Received) (buffer : Buffered) (cut : ℕ) (answer : Status) → IsEnd pid before now start out buffer (end.Stream (stream.Whole cut)) → Closes out next buffer (status.Done cut) answer
-    → IsListCause pid before now start next answer
-ended_whole pid before now start out next buffer cut answer ended closes = by_close (closes start ended.2.text ended.2.put_out)
+ended_whole : (Told : Telling) (pid : ℕ) (before now : Supplied) (start out next : Received) (buffer : Buffered) (cut : ℕ) (answer : Status) → HasEnded Told pid before now start out buffer (end.Stream (stream.Whole cut)) → Closes out next buffer (status.Done cut) answer
+    → IsStreamCause Told pid before now start next answer
+ended_whole Told pid before now start out next buffer cut answer ended closes = by_close (closes start ended.2.text ended.2.put_out)
   where
     by_close : ((answer ≡ status.Done cut) × Appends start.written next.written ended.2.text) ⊎ ((answer ≡ status.WriteFault which.Out) × AppendsPrefix start.written next.written ended.2.text × HasRisen start.faults next.faults)
-        → IsListCause pid before now start next answer
-    by_close (inl whole) = subst (λ (s : Status). IsListCause pid before now start next s) (sym whole.0) (record {
+        → IsStreamCause Told pid before now start next answer
+    by_close (inl whole) = subst (λ (s : Status). IsStreamCause Told pid before now start next s) (sym whole.0) (record {
       packets = ended.0;
       rest = ended.1;
       taken = ended.2.taken;
@@ -77,18 +78,15 @@ ended_whole pid before now start out next buffer cut answer ended closes = by_cl
       told = ended.2.told;
       written = whole.1;
     })
-    by_close (inr front) = subst (λ (s : Status). IsListCause pid before now start next s) (sym front.0) (write_fault pid before now start out next buffer ended.0 ended.1 ended.2 ended.3 front.1 front.2)
+    by_close (inr front) = subst (λ (s : Status). IsStreamCause Told pid before now start next s) (sym front.0) (write_fault Told true pid before now start out next buffer ended.0 ended.1 ended.2 ended.3 front.1 front.2)
 
-pub ended_refused : (pid : ℕ) (before now : Supplied) (start out next : Received) (buffer : Buffered) (refused : Refused) (run answer : Status) → IsEnd pid before now start out buffer (end.Refused refused) → run ≡ status.StreamRefused refused.packet refused.fault → Closes out next buffer run answer
-    → IsListCause pid before now start next answer
-ended_refused pid before now start out next buffer refused run answer ended run_is closes = by_close (same start ended.3.text ended.3.put_out)
+ended_refused : (Told : Telling) (pid : ℕ) (before now : Supplied) (start out next : Received) (buffer : Buffered) (refused : Refused) (answer : Status) → HasEnded Told pid before now start out buffer (end.Refused refused) → Closes out next buffer (status.StreamRefused refused.packet refused.fault) answer
+    → IsStreamCause Told pid before now start next answer
+ended_refused Told pid before now start out next buffer refused answer ended closes = by_close (closes start ended.3.text ended.3.put_out)
   where
-    same : Closes out next buffer (status.StreamRefused refused.packet refused.fault) answer
-    same = subst (λ (s : Status). Closes out next buffer s answer) run_is closes
-
     by_close : ((answer ≡ status.StreamRefused refused.packet refused.fault) × Appends start.written next.written ended.3.text) ⊎ ((answer ≡ status.WriteFault which.Out) × AppendsPrefix start.written next.written ended.3.text × HasRisen start.faults next.faults)
-        → IsListCause pid before now start next answer
-    by_close (inl whole) = subst (λ (s : Status). IsListCause pid before now start next s) (sym whole.0) (record {
+        → IsStreamCause Told pid before now start next answer
+    by_close (inl whole) = subst (λ (s : Status). IsStreamCause Told pid before now start next s) (sym whole.0) (record {
       packets = ended.0;
       refused = ended.1;
       rest = ended.2;
@@ -101,15 +99,15 @@ ended_refused pid before now start out next buffer refused run answer ended run_
       told = ended.3.told;
       written = whole.1;
     })
-    by_close (inr front) = subst (λ (s : Status). IsListCause pid before now start next s) (sym front.0) (write_fault pid before now start out next buffer ended.0 (ended.1 ++ ended.2) ended.3 ended.4 front.1 front.2)
+    by_close (inr front) = subst (λ (s : Status). IsStreamCause Told pid before now start next s) (sym front.0) (write_fault Told false pid before now start out next buffer ended.0 (ended.1 ++ ended.2) ended.3 ended.4 front.1 front.2)
 
-pub ended_unread : (pid : ℕ) (before now : Supplied) (start out next : Received) (buffer : Buffered) (answer : Status) → IsEnd pid before now start out buffer (end.Stream stream.Unread) → Closes out next buffer (status.ReadFault which.First) answer
-    → IsListCause pid before now start next answer
-ended_unread pid before now start out next buffer answer ended closes = by_close (closes start ended.2.text ended.2.put_out)
+ended_unread : (Told : Telling) (pid : ℕ) (before now : Supplied) (start out next : Received) (buffer : Buffered) (answer : Status) → HasEnded Told pid before now start out buffer (end.Stream stream.Unread) → Closes out next buffer (status.ReadFault which.First) answer
+    → IsStreamCause Told pid before now start next answer
+ended_unread Told pid before now start out next buffer answer ended closes = by_close (closes start ended.2.text ended.2.put_out)
   where
     by_close : ((answer ≡ status.ReadFault which.First) × Appends start.written next.written ended.2.text) ⊎ ((answer ≡ status.WriteFault which.Out) × AppendsPrefix start.written next.written ended.2.text × HasRisen start.faults next.faults)
-        → IsListCause pid before now start next answer
-    by_close (inl whole) = subst (λ (s : Status). IsListCause pid before now start next s) (sym whole.0) (
+        → IsStreamCause Told pid before now start next answer
+    by_close (inl whole) = subst (λ (s : Status). IsStreamCause Told pid before now start next s) (sym whole.0) (
       ended.5,
       record {
         packets = ended.0;
@@ -122,21 +120,25 @@ ended_unread pid before now start out next buffer answer ended closes = by_close
         written = whole.1;
       },
     )
-    by_close (inr front) = subst (λ (s : Status). IsListCause pid before now start next s) (sym front.0) (write_fault pid before now start out next buffer ended.0 ended.1 ended.2 ended.3 front.1 front.2)
+    by_close (inr front) = subst (λ (s : Status). IsStreamCause Told pid before now start next s) (sym front.0) (write_fault Told false pid before now start out next buffer ended.0 ended.1 ended.2 ended.3 front.1 front.2)
 
-pub ended_unwritten : (pid : ℕ) (before now : Supplied) (start out : Received) (buffer : Buffered) → IsEnd pid before now start out buffer end.Unwritten → IsListCause pid before now start out (status.WriteFault which.Out)
-ended_unwritten pid before now start out buffer ended =
+ended_unwritten : (Told : Telling) (pid : ℕ) (before now : Supplied) (start out : Received) (buffer : Buffered) → HasEnded Told pid before now start out buffer end.Unwritten → IsStreamCause Told pid before now start out (status.WriteFault which.Out)
+ended_unwritten Told pid before now start out buffer ended =
     let front = ended.2.put_out.front ended.4 in
-    write_fault pid before now start out out buffer ended.0 ended.1 ended.2 ended.3 front.0 front.1
+    write_fault Told false pid before now start out out buffer ended.0 ended.1 ended.2 ended.3 front.0 front.1
 
-pub ended_too_long : (pid : ℕ) (before now : Supplied) (start out : Received) (buffer : Buffered) → IsEnd pid before now start out buffer (end.Stream stream.TooLong) → IsListCause pid before now start out (status.InputTooLong which.First)
-ended_too_long pid before now start out buffer ended = (ended.3, told_front pid before now start out buffer ended.0 ended.1 ended.2)
+ended_too_long : (Told : Telling) (pid : ℕ) (before now : Supplied) (start out : Received) (buffer : Buffered) → HasEnded Told pid before now start out buffer (end.Stream stream.TooLong) → IsStreamCause Told pid before now start out (status.InputTooLong which.First)
+ended_too_long Told pid before now start out buffer ended = (ended.3, told_front Told false pid before now start out buffer ended.0 ended.1 ended.2)
 
--- how a walk has ended, by another name
-pub as_end : (pid : ℕ) (before now : Supplied) (start out : Received) (buffer : Buffered) (one other : End) → one ≡ other → IsEnd pid before now start out buffer one → IsEnd pid before now start out buffer other
-as_end pid before now start out buffer one other same ended = subst (λ (e : End). IsEnd pid before now start out buffer e) same ended
-
--- how a stream has ended, by another name
-pub as_stream_end : (pid : ℕ) (before now : Supplied) (start out : Received) (buffer : Buffered) (one other : StreamEnd) → one ≡ other → IsEnd pid before now start out buffer (end.Stream one)
-    → IsEnd pid before now start out buffer (end.Stream other)
-as_stream_end pid before now start out buffer one other same ended = subst (λ (e : StreamEnd). IsEnd pid before now start out buffer (end.Stream e)) same ended
+-- what a command answers has its cause in the end of its walk
+pub closed : (Told : Telling) (pid : ℕ) (before now : Supplied) (start out next : Received) (buffer : Buffered) (ended : WalkEnd) (answer : Status) → HasEnded Told pid before now start out buffer ended
+    → ClosesEnd out next buffer ended answer → IsStreamCause Told pid before now start next answer
+closed Told pid before now start out next buffer (end.Stream (stream.Whole cut)) answer has closes = ended_whole Told pid before now start out next buffer cut answer has closes
+closed Told pid before now start out next buffer (end.Stream stream.Unread) answer has closes = ended_unread Told pid before now start out next buffer answer has closes
+closed Told pid before now start out next buffer (end.Stream stream.TooLong) answer has closes =
+    subst (λ (s : Status). IsStreamCause Told pid before now start next s) (sym closes.0)
+    (subst (λ (shown : Received). IsStreamCause Told pid before now start shown (status.InputTooLong which.First)) (sym closes.1) (ended_too_long Told pid before now start out buffer has))
+closed Told pid before now start out next buffer (end.Refused refused) answer has closes = ended_refused Told pid before now start out next buffer refused answer has closes
+closed Told pid before now start out next buffer end.Unwritten answer has closes =
+    subst (λ (s : Status). IsStreamCause Told pid before now start next s) (sym closes.0)
+    (subst (λ (shown : Received). IsStreamCause Told pid before now start shown (status.WriteFault which.Out)) (sym closes.1) (ended_unwritten Told pid before now start out buffer has))

@@ -4,7 +4,7 @@ use Rattle.std.specs.Io.KnownBytes.{Appends}
 use Rattle.std.proofs.KnownBytes.{Appends-nil}
 use Rattle.sub_base.specs.Counts.{HasRisen}
 use Rattle.sub_base.specs.Endpoints.{AppendsPrefix}
-use Rattle.dvbsub_cmd.specs.Putting.{Buffered, IsPutOut, PutsOut}
+use Rattle.command_text.specs.Putting.{Buffered, IsPutOut, PutsOut}
 use Rattle.sub_base.specs.Endpoints.{Received}
 
 -- a buffer without text, at the start

@@ -5,12 +5,10 @@ pub mod ListLaws
 pub mod LoadLaws
 pub mod ListingLaws
 pub mod PieceLaws
-pub mod PutLaws
 pub mod SlotLaws
-pub mod WalkLaws
 pub mod WordsLaws
-pub mod PictureLaws
 pub mod UnitLaws
 pub mod TickLaws
+pub mod DumpLaws
 pub mod ExpectLaws
 pub mod CompileLaws

@@ -10,9 +10,9 @@ use Rattle.stream_syntax.specs.declared.segment_fault.SegmentFault.{SegmentFault
 use Rattle.dvbsub_cmd.specs.ListLines.{segment_line, fault_line, unit_line}
 use Rattle.stream_syntax.specs.DataField.{segment, broken, ends_segments, segment_size, AreFrames, no_more, cut_off, one_more}
 use Rattle.dvbsub_cmd.specs.ListText.{IsSegmentLine, right, AreFrameLines, AreSegmentLines, none_left, cut_line, line_first, AreUnitLines, of_subtitles}
-use Rattle.dvbsub_cmd.specs.Putting.{Buffered, PutsOut}
+use Rattle.command_text.specs.Putting.{Buffered, PutsOut}
 use Rattle.sub_base.specs.Endpoints.{Received}
-use Rattle.dvbsub_cmd.proofs.PutLaws.{PutsOut-nothing, PutsOut-both}
+use Rattle.command_text.proofs.PutLaws.{PutsOut-nothing, PutsOut-both}
 
 -- the front of bytes has their bytes
 pub front_byte : (n place : ℕ) (bytes : List ℕ) → place < n → byte_at place (take n bytes) ≡ byte_at place bytes

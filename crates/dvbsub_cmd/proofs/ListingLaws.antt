@@ -2,21 +2,19 @@
 use Rattle.std.proofs.Common.{◌≡◌, ℕ, ◌+◌, ◌<◌, ◌⊎◌, inl, inr, List, [], ◌∷◌, ◌++◌, length, take, get_or, Option, Some, None, append-nil, append_assoc, length-append, length-take-le, refl, sym, ap, subst, ◌∙◌, arith}
 use Rattle.std.specs.List.{flat_map}
 use Rattle.std.proofs.lemmas.List.{take-append-le, take_more}
-use Rattle.std.proofs.lemmas.List.Elements.{All-push}
 use Rattle.std.proofs.lemmas.Grind.{flat_map-append}
 use Rattle.std.proofs.Math.ListN.{get_or-append}
 use Rattle.std.proofs.Math.Seq.{get_or-append_seam, take-append_seam}
-use Rattle.stream_syntax.specs.TransportPackets.{packet_fault}
 use Rattle.stream_syntax.specs.Units.{event_at, unit_at}
 use Rattle.stream_syntax.specs.declared.transport.Event.{Event}
-use Rattle.stream_syntax.specs.declared.transport.PacketFault.{PacketFault}
+use Rattle.packet_walk.specs.Told.{TellsOne}
 use Rattle.ts_packets.specs.Demuxing.{Demuxing, Stands, GoesOn}
-use Rattle.dvbsub_cmd.specs.Listing.{AreListed, Lists}
+use Rattle.dvbsub_cmd.specs.Listing.{IsListed}
 use Rattle.dvbsub_cmd.specs.ListLines.{loss_line}
 use Rattle.dvbsub_cmd.specs.ListText.{ArePacketLines, AreEndLines, IsListText, unit_limit}
-use Rattle.dvbsub_cmd.specs.Putting.{Buffered, PutsOut}
+use Rattle.command_text.specs.Putting.{Buffered, PutsOut}
 use Rattle.sub_base.specs.Endpoints.{Received}
-use Rattle.dvbsub_cmd.proofs.PutLaws.{PutsOut-both}
+use Rattle.command_text.proofs.PutLaws.{PutsOut-both}
 
 -- a number below the next one is below it, or it
 below_next : (k n : ℕ) → k < n + 1 → (k < n) ⊎ (k ≡ n)
@@ -49,74 +47,30 @@ IsListText-nothing pid = record { lines = []; count = refl; each = λ k h. absur
 
 -- one packet more is listed
 pub packet_listed : (before mid next : Received) (old new : Demuxing) (was between is : Buffered) (place : ℕ) (packet : List ℕ) (event : Event) (unit : Option (List ℕ))
-    → packet_fault old.pid packet ≡ None → GoesOn old new packet
+    → GoesOn old new packet
     → ((packets : List (List ℕ)) → Stands old packets → event ≡ event_at old.pid old.size packets packet)
     → ((packets : List (List ℕ)) → Stands old packets → unit ≡ unit_at old.pid old.size packets packet)
     → PutsOut before mid was between (loss_line place event)
     → (lines : List ℕ) × AreEndLines place unit lines × PutsOut mid next between is lines
-    → Lists before next old new was is place (packet ∷ [])
-packet_listed before mid next old new was between is place packet event unit taken goes event_is unit_is loss end = record {
-  pid_is = goes.pid;
-  extends = λ pid start packets. λ count listed.
-      let event_here : event ≡ event_at pid unit_limit packets packet =
-      event_is packets listed.stands ∙ (ap (λ (p : ℕ). event_at p old.size packets packet) listed.pid_is ∙ ap (λ (s : ℕ). event_at pid s packets packet) listed.size_is) in
-      let unit_here : unit ≡ unit_at pid unit_limit packets packet =
-      unit_is packets listed.stands ∙ (ap (λ (p : ℕ). unit_at p old.size packets packet) listed.pid_is ∙ ap (λ (s : ℕ). unit_at pid s packets packet) listed.size_is) in
-      let ended : AreEndLines (length packets) (unit_at pid unit_limit packets packet) end.0 =
+    → TellsOne IsListed before next old new was is place packet
+packet_listed before mid next old new was between is place packet event unit goes event_is unit_is loss end = record {
+  goes = λ packets text. λ count listed.
+      let event_here : event ≡ event_at old.pid unit_limit packets packet = event_is packets listed.stands ∙ ap (λ (s : ℕ). event_at old.pid s packets packet) listed.size_is in
+      let unit_here : unit ≡ unit_at old.pid unit_limit packets packet = unit_is packets listed.stands ∙ ap (λ (s : ℕ). unit_at old.pid s packets packet) listed.size_is in
+      let ended : AreEndLines (length packets) (unit_at old.pid unit_limit packets packet) end.0 =
       subst (λ (u : Option (List ℕ)). AreEndLines (length packets) u end.0) unit_here (subst (λ (n : ℕ). AreEndLines n unit end.0) (sym count) end.1) in
       let lines = loss_line place event ++ end.0 in
-      let lines_are : ArePacketLines pid packets packet lines = record {
+      let lines_are : ArePacketLines old.pid packets packet lines = record {
         of_unit = end.0;
         ended = ended;
         whole = ap (λ (n : ℕ). loss_line n event ++ end.0) (sym count) ∙ ap (λ (e : Event). loss_line (length packets) e ++ end.0) event_here;
-      } in
-      record {
-        pid_is = goes.pid ∙ listed.pid_is;
-        size_is = goes.size ∙ listed.size_is;
-        stands = goes.stands packets listed.stands;
-        passed = All-push (λ (p : List ℕ). packet_fault pid p ≡ None) packets packet listed.passed (subst (λ (p : ℕ). packet_fault p packet ≡ None) listed.pid_is taken);
-        text = listed.text ++ lines;
-        told = IsListText-more pid packets packet listed.text lines listed.told lines_are;
-        out = (PutsOut-both before mid next was between is (loss_line place event) end.0 loss end.2).extends start listed.text listed.out;
-      };
+      } in (
+        lines,
+        record {
+          size_is = goes.size ∙ listed.size_is;
+          stands = goes.stands packets listed.stands;
+          told = subst (λ (pid : ℕ). IsListText pid (packets ++ packet ∷ []) (text ++ lines)) (sym goes.pid) (IsListText-more old.pid packets packet text lines listed.told lines_are);
+        },
+        PutsOut-both before mid next was between is (loss_line place event) end.0 loss end.2,
+      );
 }
-
--- packets, and then others behind them
-pub Lists-both : (a b c : Received) (old mid new : Demuxing) (was between is : Buffered) (first next : ℕ) (some more : List (List ℕ))
-    → Lists a b old mid was between first some → Lists b c mid new between is next more → next ≡ first + length some → Lists a c old new was is first (some ++ more)
-Lists-both a b c old mid new was between is first next some more one other next_is = record {
-  pid_is = other.pid_is ∙ one.pid_is;
-  extends = λ pid start packets. λ count listed.
-      let so_far : length (packets ++ some) ≡ next = length-append packets some ∙ (ap (λ (n : ℕ). n + length some) count ∙ sym next_is) in
-      subst (λ (all : List (List ℕ)). AreListed pid start c new is all) (append_assoc packets some more)
-      (other.extends pid start (packets ++ some) so_far (one.extends pid start packets count listed));
-}
-
--- no packets
-pub Lists-nothing : (a : Received) (demux : Demuxing) (buffer : Buffered) (first : ℕ) → Lists a a demux demux buffer buffer first []
-Lists-nothing a demux buffer first = record {
-  pid_is = refl;
-  extends = λ pid start packets. λ count listed. subst (λ (all : List (List ℕ)). AreListed pid start a demux buffer all) (sym (append-nil packets)) listed;
-}
-
--- one packet of a list more
-pub lists_one_more : (a b c : Received) (old mid new : Demuxing) (was between is : Buffered) (first place i : ℕ) (packets : List (List ℕ))
-    → Lists a b old mid was between first (take i packets) → Lists b c mid new between is place (get_or packets i [] ∷ []) → i < length packets → place ≡ first + i
-    → Lists a c old new was is first (take (i + 1) packets)
-lists_one_more a b c old mid new was between is first place i packets so_far one within here =
-    let count : place ≡ first + length (take i packets) = here ∙ ap (λ (n : ℕ). first + n) (sym (length-take-le i packets (omega arith))) in
-    subst (λ (all : List (List ℕ)). Lists a c old new was is first all) (sym (take_more packets i [] within)) (Lists-both a b c old mid new was between is first place _ _ so_far one count)
-
--- a packet of a list cannot be taken
-pub lists_refused : (a b c : Received) (old mid new : Demuxing) (was between is : Buffered) (first place i : ℕ) (packets : List (List ℕ)) (fault : PacketFault)
-    → Lists a b old mid was between first (take i packets) → Lists b c mid new between is place [] → i < length packets → place ≡ first + i
-    → packet_fault mid.pid (get_or packets i []) ≡ Some fault
-    → (k : ℕ) × (k < length packets) × (place ≡ first + k) × (packet_fault old.pid (get_or packets k []) ≡ Some fault) × Lists a c old new was is first (take k packets)
-lists_refused a b c old mid new was between is first place i packets fault so_far none within here refused =
-    let count : place ≡ first + length (take i packets) = here ∙ ap (λ (n : ℕ). first + n) (sym (length-take-le i packets (omega arith))) in (
-      i,
-      within,
-      here,
-      subst (λ (p : ℕ). packet_fault p (get_or packets i []) ≡ Some fault) so_far.pid_is refused,
-      subst (λ (all : List (List ℕ)). Lists a c old new was is first all) (append-nil (take i packets)) (Lists-both a b c old mid new was between is first place _ _ so_far none count),
-    )

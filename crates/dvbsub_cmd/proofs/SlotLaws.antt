@@ -14,7 +14,7 @@ use Rattle.stream_syntax.specs.TransportPackets.{null_packet}
 use Rattle.dvbsub_cmd.specs.PieceView.{plain}
 use Rattle.shown_stream.proofs.LaidPackets.{range-split}
 use Rattle.shown_stream.specs.SlotStream.{place_from, slot_packet, packet_at, packet_of, no_piece}
-use Rattle.dvbsub_cmd.specs.SlotWalk.{IsNext, Sent}
+use Rattle.dvbsub_cmd.specs.SlotWalk.{IsNext}
 use Rattle.dvbsub_cmd.specs.declared.slot_stream.Piece.{Piece as Lent}
 
 -- a number is below another, the same, or above it
@@ -107,37 +107,6 @@ slot_packet-next pid pieces slots next slot d at pairs within is =
 pub slot_packet-idle : (pid : ℕ) (pieces : List Lent) (slots : List ℕ) (next slot : ℕ) → IsStrictlyIncreasing slots → IsNext slots next slot → (next < length slots → get_or slots next 0 ≢ slot)
     → slot_packet pid (map plain pieces) slots slot ≡ null_packet
 slot_packet-idle pid pieces slots next slot rising at idle = ap (packet_at pid (map plain pieces)) (place_from-idle slots next slot rising at idle)
-
--- nothing was written yet
-pub Sent-nothing : (start : Option (List ℕ)) → Sent start start [] []
-Sent-nothing start = record { written = []; appended = Appends-nil start; whole = refl }
-
--- what was to be written next was written
-pub Sent-written : (start now next : Option (List ℕ)) (pending bytes : List ℕ) → Sent start now pending bytes → Appends now next pending → Sent start next [] bytes
-Sent-written start now next pending bytes sent more =
-    record { written = sent.written ++ pending; appended = Appends-trans start now next sent.written pending sent.appended more; whole = append-nil _ ∙ sent.whole }
-
--- a packet more is to be written
-pub Sent-more : (start now : Option (List ℕ)) (pending bytes packet : List ℕ) → Sent start now pending bytes → Sent start now (pending ++ packet) (bytes ++ packet)
-Sent-more start now pending bytes packet sent =
-    record { written = sent.written; appended = sent.appended; whole = sym (append_assoc sent.written pending packet) ∙ ap (λ k. k ++ packet) sent.whole }
-
--- a front of what was to be written next was written: then a front of all bytes was, whatever follows
-pub Sent-front : (start now next : Option (List ℕ)) (pending bytes rest all : List ℕ) → Sent start now pending bytes → AppendsPrefix now next pending → bytes ++ rest ≡ all → AppendsPrefix start next all
-Sent-front start now next pending bytes rest all sent front joined =
-    let n = front.0 in
-    let here : Appends start next (sent.written ++ take n pending) = Appends-trans start now next sent.written (take n pending) sent.appended front.2 in
-    let both : sent.written ++ (take n pending ++ (drop n pending ++ rest)) ≡ all =
-    ap (λ k. sent.written ++ k) (sym (append_assoc (take n pending) (drop n pending) rest) ∙ ap (λ k. k ++ rest) (take-append-drop n pending))
-    ∙ (sym (append_assoc sent.written pending rest) ∙ (ap (λ k. k ++ rest) sent.whole ∙ joined)) in
-    let count : length (sent.written ++ take n pending) ≡ length sent.written + n = length-append sent.written (take n pending) ∙ ap (λ k. length sent.written + k) (length-take-le n pending front.1) in
-    let Front : List ℕ → Type 0 = λ bytes. Appends start next bytes in
-    let within : length sent.written + n ≤ length all =
-    omega (arith, ap length both, length-append sent.written (take n pending ++ (drop n pending ++ rest)), length-append (take n pending) (drop n pending ++ rest), length-take-le n pending front.1) in
-    let taken : take (length sent.written + n) all ≡ sent.written ++ take n pending =
-    ap (λ k. take k all) (sym count) ∙ (ap (λ k. take (length (sent.written ++ take n pending)) k) (sym both ∙ sym (append_assoc sent.written (take n pending) (drop n pending ++ rest)))
-    ∙ take-append_seam (sent.written ++ take n pending) (drop n pending ++ rest)) in
-    (length sent.written + n, within, subst Front (sym taken) here)
 
 -- one number more
 range-suc : (n a : ℕ) → range_with_len a (suc n) ≡ range_with_len a n ++ (a + n) ∷ []

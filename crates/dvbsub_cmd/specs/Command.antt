@@ -1,14 +1,14 @@
 -- The commands of the program.
-use Rattle.std.specs.Prelude.{ℕ, ◌==◌, not, Bool, true, false, ◌&&◌, nat_lt, nat_le, if◌then◌else◌, List, [], ◌∷◌, length, drop, map, unwrap_or, slice_index, slice_index_or, Option, Some, None, ◌<◌, codes}
+use Rattle.std.specs.Prelude.{◌≡◌, ℕ, ◌==◌, not, Bool, true, false, ◌&&◌, nat_lt, nat_le, if◌then◌else◌, List, [], ◌∷◌, length, drop, map, unwrap_or, slice_index, slice_index_or, Option, Some, None, ◌+◌, ◌<◌, ◌≤◌, codes}
 use Rattle.std.specs.List.{list_all}
 use Rattle.std.specs.Option.{option_or}
 use Rattle.std.specs.Str.{bytes_eq}
 use Rattle.cue_list.specs.Cells.{◌>>=◌}
 use Rattle.sub_base.specs.Number.{number_in}
 use Rattle.sub_base.specs.declared.profile.ProfileName.{ProfileName}
-use Rattle.sub_base.specs.declared.profile.ProfileName.TheVariants.{Sd, Hd, Large}
+use Rattle.sub_base.specs.declared.profile.ProfileName.TheVariants.{Sd, Hd, Wide, Large}
 use Rattle.shown_stream.specs.Compiled.{IsCompiledFor}
-use Rattle.dvbsub_cmd.specs.declared.command.TheConstants.{GREATEST_PAGE, GREATEST_PID, LATEST_TICK, LEAST_PID}
+use Rattle.dvbsub_cmd.specs.declared.command.TheConstants.{GREATEST_PAGE, GREATEST_PID, LATEST_TICK, LEAST_PID, MOST_BANDS}
 use Rattle.dvbsub_cmd.specs.declared.command.Command.{Command}
 use Rattle.dvbsub_cmd.specs.declared.command.Command.TheVariants as command
 use Rattle.dvbsub_cmd.specs.declared.command.InputPlaces.{InputPlaces}
@@ -32,6 +32,10 @@ sending_profile word =
     else if bytes_eq word (codes "hd") then Some Hd
     else if bytes_eq word (codes "large") then Some Large
     else None
+
+-- the profile of that name
+abbrev pub reading_profile : List ℕ → Option ProfileName
+reading_profile word = if bytes_eq word (codes "wide") then Some Wide else sending_profile word
 
 -- the word names a font, and is not that for no font
 abbrev pub names_font : List ℕ → Bool
@@ -74,20 +78,33 @@ are_rising before (word ∷ words) = rises_from before (tick_of word) (λ tick. 
 abbrev pub tick_or_zero : List ℕ → ℕ
 tick_or_zero word = unwrap_or (tick_of word) 0
 
--- the ticks that are asked for: those that the words from the fifth on are
-abbrev pub asked_ticks : List (List ℕ) → List ℕ
-asked_ticks words = map tick_or_zero (drop 4 words)
+-- the ticks that are asked for: those that the words from a place on are
+abbrev pub asked_ticks : ℕ → List (List ℕ) → List ℕ
+asked_ticks place words = map tick_or_zero (drop place words)
+
+-- so many words come before 1 to 1,000 rising ticks
+abbrev pub has_ticks : ℕ → List (List ℕ) → Bool
+has_ticks place words = nat_lt place (length words) && nat_le (length words) (place + 1000) && are_rising None (drop place words)
 
 -- `expect SCRIPT FONT OUT TICK...`, with 1 to 1,000 rising ticks
 abbrev pub is_expect : List (List ℕ) → Bool
-is_expect words = has_word words 0 (codes "expect") && nat_le 5 (length words) && nat_le (length words) 1004 && are_rising None (drop 4 words)
+is_expect words = has_ticks 4 words && has_word words 0 (codes "expect")
 
 abbrev pub expect_of : List (List ℕ) → Option Command
 expect_of words = if is_expect words then Some (command.Expect (names_font (word_at words 2))) else None
 
+-- `dump PROFILE PID PAGE BANDS STREAM OUT TICK...`, with 1 to 1,000 rising ticks
+abbrev pub dump_of : List (List ℕ) → Option Command
+dump_of words = if has_ticks 7 words && has_word words 0 (codes "dump") then (do
+  profile ← reading_profile (word_at words 1)
+  pid ← number_in LEAST_PID GREATEST_PID (word_at words 2)
+  page ← number_in 1 GREATEST_PAGE (word_at words 3)
+  bands ← number_in 1 MOST_BANDS (word_at words 4)
+  Some (command.Dump profile pid page bands)) else None
+
 -- the command of these words, none of which is empty or begins with `-`
 abbrev pub named_command : List (List ℕ) → Option Command
-named_command words = option_or (compile_of words) (option_or (list_of words) (expect_of words))
+named_command words = option_or (compile_of words) (option_or (list_of words) (option_or (dump_of words) (expect_of words)))
 
 -- the command that the words are, if they are one: no word is empty or begins with `-`, and each number is in its range
 unfoldable pub command_of : List (List ℕ) → Option Command
@@ -103,10 +120,13 @@ abbrev pub places_of : Option Command → InputPlaces
 places_of None = record { first = None; second = None; out = None }
 places_of (Some (command.Compile profile pid page has_font)) = record { first = Some 4; second = font_place has_font 5; out = Some 6 }
 places_of (Some (command.List pid)) = record { first = Some 2; second = None; out = Some 3 }
+places_of (Some (command.Dump profile pid page bands)) = record { first = Some 5; second = None; out = Some 6 }
 places_of (Some (command.Expect has_font)) = record { first = Some 1; second = font_place has_font 2; out = Some 3 }
 
--- a command that sends packets has a PID of 13 bits that null packets do not have, and a profile that scripts are compiled for
-abbrev pub IsSending : Command → Type 0
-IsSending (command.Compile profile pid page has_font) = (pid < 8191) × IsCompiledFor profile
-IsSending (command.List pid) = Unit {0}
-IsSending (command.Expect has_font) = Unit {0}
+-- the numbers of a command are in their ranges: packets are sent with a PID of 13 bits that null packets do not have, for a profile
+-- that scripts are compiled for; pictures are drawn in 1 to 64 bands, and the ticks rise
+abbrev pub IsInRange : List (List ℕ) → Command → Type 0
+IsInRange words (command.Compile profile pid page has_font) = (pid < 8191) × IsCompiledFor profile
+IsInRange words (command.List pid) = Unit {0}
+IsInRange words (command.Dump profile pid page bands) = (1 ≤ bands) × (bands ≤ 64) × (are_rising None (drop 7 words) ≡ true)
+IsInRange words (command.Expect has_font) = Unit {0}

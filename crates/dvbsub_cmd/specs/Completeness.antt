@@ -4,7 +4,7 @@ use Rattle.sub_base.specs.Counts.{HasRisen}
 use Rattle.dvbsub_cmd.specs.Command.{command_of}
 use Rattle.dvbsub_cmd.specs.CompileOutcome.{IsCompilable}
 use Rattle.dvbsub_cmd.specs.ExpectOutcome.{IsExpectable}
-use Rattle.dvbsub_cmd.specs.ListOutcome.{IsRightStream}
+use Rattle.dvbsub_cmd.specs.StreamOutcome.{IsRightStream}
 use Rattle.sub_base.specs.Endpoints.{Supplied, Received}
 use Rattle.dvbsub_cmd.specs.Seen.{Seen}
 use Rattle.dvbsub_cmd.specs.declared.command.Command.{Command}
@@ -13,7 +13,7 @@ use Rattle.dvbsub_cmd.specs.declared.status.Status.{Status}
 use Rattle.dvbsub_cmd.specs.declared.status.Status.TheVariants as status
 
 -- a stream that was read whole, within its limit, and of which no packet is refused
-pub record IsListable (pid : ℕ) (before now : Supplied) : Type 0 where
+pub record IsReadable (pid : ℕ) (before now : Supplied) : Type 0 where
   pub read : HasRisen before.faults now.faults → ⊥
   pub right : IsRightStream pid before now
 
@@ -21,7 +21,8 @@ pub record IsListable (pid : ℕ) (before now : Supplied) : Type 0 where
 abbrev pub IsRightInput : Option Command → Seen → Seen → Type 0
 IsRightInput None before now = ⊥
 IsRightInput (Some (command.Compile profile pid page has_font)) before now = IsCompilable profile has_font before now
-IsRightInput (Some (command.List pid)) before now = IsListable pid before.first now.first
+IsRightInput (Some (command.List pid)) before now = IsReadable pid before.first now.first
+IsRightInput (Some (command.Dump profile pid page bands)) before now = IsReadable pid before.first now.first
 IsRightInput (Some (command.Expect has_font)) before now = IsExpectable has_font before now
 
 -- no count of faults rose, and what the command reads is right

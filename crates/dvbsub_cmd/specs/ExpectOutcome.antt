@@ -6,7 +6,7 @@ use Rattle.cue_list.specs.Authored.{authored_picture}
 use Rattle.cue_list.specs.declared.script.Script.{Script}
 use Rattle.sub_base.specs.Counts.{HasRisen}
 use Rattle.sub_base.specs.Endpoints.{AppendsPrefix}
-use Rattle.dvbsub_cmd.specs.PictureText.{picture_text}
+use Rattle.command_text.specs.PictureText.{picture_text}
 use Rattle.dvbsub_cmd.specs.ReadScript.{ReadsScript, IsInputCause, HasRightScript}
 use Rattle.sub_base.specs.Endpoints.{WroteNothing}
 use Rattle.dvbsub_cmd.specs.Seen.{Seen}

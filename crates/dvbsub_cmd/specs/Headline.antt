@@ -46,4 +46,5 @@ abbrev pub IsShownBy : Option Command → Seen → Seen → Status → Type 0
 IsShownBy None before now answer = Unit {0}
 IsShownBy (Some (command.Compile profile pid page has_font)) before now answer = OnDone answer (ShowsScript profile pid page has_font before now)
 IsShownBy (Some (command.List pid)) before now answer = Unit {0}
+IsShownBy (Some (command.Dump profile pid page bands)) before now answer = Unit {0}
 IsShownBy (Some (command.Expect has_font)) before now answer = Unit {0}

@@ -1,3 +1,4 @@
+pub mod Closing
 pub mod Command
 pub mod CompileOutcome
 pub mod CompileRefused
@@ -5,18 +6,16 @@ pub mod Completeness
 pub mod Headline
 pub mod KindNames
 pub mod ListLines
-pub mod ListOutcome
 pub mod ListText
 pub mod Listing
 pub mod Outcome
-pub mod PictureText
 pub mod PieceView
-pub mod Putting
 pub mod Sending
 pub mod Seen
 pub mod SlotWalk
 pub mod StatusText
-pub mod Walking
+pub mod StreamOutcome
 pub mod ReadScript
+pub mod Dumps
 pub mod ExpectOutcome
 pub mod SetUnits

@@ -1,22 +1,11 @@
 -- The lines of `list`, each with its line feed.
-use Rattle.std.specs.Prelude.{ℕ, ◌+◌, ◌/◌, ◌%◌, nat_lt, if◌then◌else◌, List, [], ◌∷◌, ◌++◌, codes}
+use Rattle.std.specs.Prelude.{ℕ, ◌+◌, List, [], ◌++◌, codes}
 use Rattle.stream_syntax.specs.declared.pes.PesFault.{PesFault}
 use Rattle.stream_syntax.specs.declared.segment_fault.SegmentFault.{SegmentFault}
 use Rattle.stream_syntax.specs.declared.transport.Event.{Event}
 use Rattle.stream_syntax.specs.declared.transport.Event.TheVariants as event
 use Rattle.dvbsub_cmd.specs.KindNames.{pes_fault_name, segment_kind_name}
-use Rattle.dvbsub_cmd.specs.StatusText.{then_number}
-
--- the line feed
-abbrev pub line_end : List ℕ
-line_end = 10 ∷ []
-
--- one hexadecimal digit, in capitals, and the two of a byte
-abbrev pub hex_digit : ℕ → ℕ
-hex_digit n = if nat_lt n 10 then 48 + n else 55 + n
-
-abbrev pub two_hex : ℕ → List ℕ
-two_hex byte = hex_digit (byte / 16) ∷ hex_digit (byte % 16) ∷ []
+use Rattle.command_text.specs.Lines.{line_end, two_hex, then_number}
 
 -- the line of a loss at the packet of that place, and no line at another event
 abbrev pub loss_line : ℕ → Event → List ℕ

@@ -5,11 +5,13 @@ use Rattle.sub_base.specs.Counts.{HasRisen}
 use Rattle.sub_base.specs.Endpoints.{AppendsPrefix}
 use Rattle.dvbsub_cmd.specs.Command.{command_of, asked_ticks}
 use Rattle.dvbsub_cmd.specs.CompileOutcome.{IsCompileCause}
+use Rattle.dvbsub_cmd.specs.Dumps.{dumps}
 use Rattle.dvbsub_cmd.specs.ExpectOutcome.{IsExpectCause}
-use Rattle.dvbsub_cmd.specs.ListOutcome.{IsListCause}
+use Rattle.dvbsub_cmd.specs.Listing.{lists}
 use Rattle.sub_base.specs.Endpoints.{Received, WroteNothing}
 use Rattle.dvbsub_cmd.specs.Seen.{Seen}
 use Rattle.dvbsub_cmd.specs.StatusText.{status_line}
+use Rattle.dvbsub_cmd.specs.StreamOutcome.{IsStreamCause}
 use Rattle.dvbsub_cmd.specs.declared.command.Command.{Command}
 use Rattle.dvbsub_cmd.specs.declared.command.Command.TheVariants as command
 use Rattle.dvbsub_cmd.specs.declared.status.Status.{Status}
@@ -21,8 +23,10 @@ use Rattle.dvbsub_cmd.specs.declared.status.Which.TheVariants as which
 abbrev pub IsCausedBy : List (List ℕ) → Option Command → Seen → Seen → Status → Type 0
 IsCausedBy words None before now answer = (answer ≡ status.Usage) × (now.first ≡ before.first) × WroteNothing before.out now.out
 IsCausedBy words (Some (command.Compile profile pid page has_font)) before now answer = IsCompileCause profile pid page has_font before now answer
-IsCausedBy words (Some (command.List pid)) before now answer = IsListCause pid before.first now.first before.out now.out answer
-IsCausedBy words (Some (command.Expect has_font)) before now answer = IsExpectCause has_font (asked_ticks words) before now answer
+IsCausedBy words (Some (command.List pid)) before now answer = IsStreamCause (lists pid) pid before.first now.first before.out now.out answer
+IsCausedBy words (Some (command.Dump profile pid page bands)) before now answer =
+    IsStreamCause (dumps profile pid page (asked_ticks 7 words)) pid before.first now.first before.out now.out answer
+IsCausedBy words (Some (command.Expect has_font)) before now answer = IsExpectCause has_font (asked_ticks 4 words) before now answer
 
 -- the cause of a status by the words
 abbrev pub IsCaused : List (List ℕ) → Seen → Seen → Status → Type 0
@@ -33,6 +37,7 @@ abbrev pub IsSecondKept : {Origin : Type 0} → Option Command → Origin → Or
 IsSecondKept None before now = now ≡ before
 IsSecondKept (Some (command.Compile profile pid page has_font)) before now = has_font ≡ false → now ≡ before
 IsSecondKept (Some (command.List pid)) before now = now ≡ before
+IsSecondKept (Some (command.Dump profile pid page bands)) before now = now ≡ before
 IsSecondKept (Some (command.Expect has_font)) before now = has_font ≡ false → now ≡ before
 
 -- the answer where the line of a status could not be written: what was done whole is a write fault of the notes

@@ -1,6 +1,5 @@
 -- The line that tells how a command ended.
 use Rattle.std.specs.Prelude.{ℕ, ◌==◌, if◌then◌else◌, List, [], ◌∷◌, ◌++◌, codes}
-use Rattle.std.specs.Fmt.{decimal}
 use Rattle.bitmap_font.specs.declared.font_fault.FontFault.{FontFault}
 use Rattle.bitmap_font.specs.declared.font_fault.FontFault.TheVariants as font
 use Rattle.cue_list.specs.KindNames.{kind_name}
@@ -13,6 +12,7 @@ use Rattle.page_epoch.specs.declared.fault.PlanFault.TheVariants as plan
 use Rattle.schedule.specs.declared.fault.ScheduleFault.{ScheduleFault}
 use Rattle.schedule.specs.declared.fault.ScheduleFault.TheVariants as schedule
 use Rattle.stream_syntax.specs.declared.transport.PacketFault.{PacketFault}
+use Rattle.command_text.specs.Lines.{then_number}
 use Rattle.dvbsub_cmd.specs.KindNames.{font_kind_name, packet_fault_name}
 use Rattle.dvbsub_cmd.specs.declared.status.Status.{Status}
 use Rattle.dvbsub_cmd.specs.declared.status.Status.TheVariants as status
@@ -25,10 +25,6 @@ which_name which.First = codes "first"
 which_name which.Second = codes "second"
 which_name which.Out = codes "out"
 which_name which.Notes = codes "notes"
-
--- a space and a number
-abbrev pub then_number : ℕ → List ℕ
-then_number n = codes " " ++ decimal n
 
 -- the character's number, of a glyph that is missing
 abbrev pub glyph_number : ScriptKind → List ℕ

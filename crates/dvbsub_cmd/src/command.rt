@@ -1,7 +1,7 @@
-ghost use Rattle.std.specs.Prelude.{◌≡◌, ◌<◌, ◌≤◌, length, drop, IfSome, None};
+ghost use Rattle.std.specs.Prelude.{◌≡◌, ◌<◌, ◌≤◌, length, drop, IfSome, None, true};
 ghost use Rattle.std.specs.List.{list_all};
 ghost use Rattle.std.specs.Option.{option_or};
-ghost use Rattle.dvbsub_cmd.specs.Command.{command_of as command_of_words, compile_of as compile_of_words, expect_of as expect_of_words, font_place as font_place_of, has_word as has_word_at, is_above as is_tick_above, is_expect as is_expect_words, is_plain as is_plain_word, list_of as list_of_words, named_command, names_font as is_font_named, places_of, sending_profile as profile_of_word, are_rising as are_ticks_rising, IsSending};
+ghost use Rattle.dvbsub_cmd.specs.Command.{command_of as command_of_words, compile_of as compile_of_words, dump_of as dump_of_words, expect_of as expect_of_words, font_place as font_place_of, has_ticks as has_ticks_at, has_word as has_word_at, is_above as is_tick_above, is_plain as is_plain_word, list_of as list_of_words, named_command, names_font as is_font_named, places_of, reading_profile as any_profile_of_word, sending_profile as profile_of_word, are_rising as are_ticks_rising, IsInRange};
 
 use sub_base::{ProfileName, Words, number_in};
 
@@ -16,6 +16,17 @@ pub const GREATEST_PAGE: u64 = 65_535;
 
 /// The latest tick that is asked for: twice round the 33 bits of a presentation time.
 pub const LATEST_TICK: u64 = 17_179_869_183;
+
+/// The most bands that a picture is drawn in.
+pub const MOST_BANDS: u64 = 64;
+
+/// The most ticks that are asked for.
+const MOST_TICKS: usize = 1_000;
+
+/// How many words `dump` has before its ticks, and how many `expect`.
+pub const WORDS_OF_DUMP: usize = 7;
+
+pub const WORDS_OF_EXPECT: usize = 4;
 
 /// A command with its words read.
 #[derive(Clone, Copy, Debug)]
@@ -35,6 +46,17 @@ pub enum Command {
     List {
         /// The PID of the packets that are looked at.
         pid: u16,
+    },
+    /// Writes the pictures that a receiver shows of a stream at the ticks that are asked for.
+    Dump {
+        /// What the receiver has.
+        profile: ProfileName,
+        /// The PID of the packets that it takes.
+        pid: u16,
+        /// The page id of the segments that it takes.
+        page: u16,
+        /// In how many bands it draws its pictures, 1 to 64.
+        bands: u32,
     },
     /// Writes the authored pictures of a script at the ticks that are asked for.
     Expect {
@@ -75,6 +97,11 @@ pub fn inputs(words: &Words) -> InputPlaces
             second: None,
             out: Some(3),
         },
+        Some(Command::Dump { .. }) => InputPlaces {
+            first: Some(5),
+            second: None,
+            out: Some(6),
+        },
         Some(Command::Expect { has_font }) => InputPlaces {
             first: Some(1),
             second: font_place(has_font, 2),
@@ -93,25 +120,25 @@ fn font_place(has_font: bool, place: usize) -> Option<usize>
 #[tactic(auto, unfolding(crate::specs::Command::command_of))]
 pub fn command_of(words: &Words) -> Option<Command>
     ensures command { result ≡ command_of_words words.now }
-    ensures sending { IfSome result IsSending }
+    ensures range { IfSome result (IsInRange words.now) }
 {
     if are_plain(words) { named(words) } else { None }
 }
 
 fn named(words: &Words) -> Option<Command>
     ensures command { result ≡ named_command words.now }
-    ensures sending { IfSome result IsSending }
+    ensures range { IfSome result (IsInRange words.now) }
 {
     match compile_of(words) {
         Some(command) => Some(command),
-        None => list_or_expect_of(words),
+        None => list_or_others_of(words),
     }
 }
 
 /// The command `compile PROFILE PID PAGE SCRIPT FONT OUT`.
 fn compile_of(words: &Words) -> Option<Command>
     ensures command { result ≡ compile_of_words words.now }
-    ensures sending { IfSome result IsSending }
+    ensures range { IfSome result (IsInRange words.now) }
 {
     if words.count() != 7 || !has_word(words, 0, "compile") {
         return None;
@@ -127,11 +154,22 @@ fn compile_of(words: &Words) -> Option<Command>
     })
 }
 
-fn list_or_expect_of(words: &Words) -> Option<Command>
-    ensures command { result ≡ option_or (list_of_words words.now) (expect_of_words words.now) }
-    ensures sending { IfSome result IsSending }
+fn list_or_others_of(words: &Words) -> Option<Command>
+    ensures command { result ≡ option_or (list_of_words words.now)
+        (option_or (dump_of_words words.now) (expect_of_words words.now)) }
+    ensures range { IfSome result (IsInRange words.now) }
 {
     match list_of(words) {
+        Some(command) => Some(command),
+        None => dump_or_expect_of(words),
+    }
+}
+
+fn dump_or_expect_of(words: &Words) -> Option<Command>
+    ensures command { result ≡ option_or (dump_of_words words.now) (expect_of_words words.now) }
+    ensures range { IfSome result (IsInRange words.now) }
+{
+    match dump_of(words) {
         Some(command) => Some(command),
         None => expect_of(words),
     }
@@ -140,7 +178,7 @@ fn list_or_expect_of(words: &Words) -> Option<Command>
 /// The command `list PID STREAM OUT`.
 fn list_of(words: &Words) -> Option<Command>
     ensures command { result ≡ list_of_words words.now }
-    ensures sending { IfSome result IsSending }
+    ensures range { IfSome result (IsInRange words.now) }
 {
     if words.count() != 4 || !has_word(words, 0, "list") {
         return None;
@@ -164,6 +202,17 @@ fn sending_profile(word: &str) -> Option<ProfileName>
     }
 }
 
+/// The profile of that name.
+fn reading_profile(word: &str) -> Option<ProfileName>
+    ensures { result ≡ any_profile_of_word word.now }
+{
+    if word == "wide" {
+        Some(ProfileName::Wide)
+    } else {
+        sending_profile(word)
+    }
+}
+
 /// Whether the word names a font, and is not that for no font.
 fn names_font(word: &str) -> bool
     ensures { result ≡ is_font_named word.now }
@@ -171,28 +220,47 @@ fn names_font(word: &str) -> bool
     word != "none"
 }
 
+/// The command `dump PROFILE PID PAGE BANDS STREAM OUT TICK...`.
+fn dump_of(words: &Words) -> Option<Command>
+    ensures command { result ≡ dump_of_words words.now }
+    ensures range { IfSome result (IsInRange words.now) }
+{
+    if !has_ticks(words, WORDS_OF_DUMP) || !has_word(words, 0, "dump") {
+        return None;
+    }
+    let profile = reading_profile(words.word(1))?;
+    let pid = number_in(words.word(2).as_bytes(), LEAST_PID, GREATEST_PID)? as u16;
+    let page = number_in(words.word(3).as_bytes(), 1, GREATEST_PAGE)? as u16;
+    let bands = number_in(words.word(4).as_bytes(), 1, MOST_BANDS)? as u32;
+    Some(Command::Dump {
+        profile,
+        pid,
+        page,
+        bands,
+    })
+}
+
 /// The command `expect SCRIPT FONT OUT TICK...`.
 fn expect_of(words: &Words) -> Option<Command>
     ensures command { result ≡ expect_of_words words.now }
-    ensures sending { IfSome result IsSending }
+    ensures range { IfSome result (IsInRange words.now) }
 {
-    if is_expect(words) {
-        Some(Command::Expect {
-            has_font: names_font(words.word(2)),
-        })
-    } else {
-        None
+    if !has_ticks(words, WORDS_OF_EXPECT) || !has_word(words, 0, "expect") {
+        return None;
     }
+    Some(Command::Expect {
+        has_font: names_font(words.word(2)),
+    })
 }
 
-fn is_expect(words: &Words) -> bool
-    ensures is { result ≡ is_expect_words words.now }
+/// Whether so many words come before 1 to 1,000 ticks that rise.
+fn has_ticks(words: &Words, place: usize) -> bool
+    requires { place ≤ 7 }
+    ensures is { result ≡ has_ticks_at place words.now }
+    ensures some { result ≡ true → place < length words.now }
+    ensures rising { result ≡ true → are_ticks_rising None (drop place words.now) ≡ true }
 {
-    // Four words, and 1 to 1,000 ticks behind them.
-    words.count() >= 5
-        && words.count() <= 1_004
-        && has_word(words, 0, "expect")
-        && are_rising(words, 4)
+    words.count() > place && words.count() <= place + MOST_TICKS && are_rising(words, place)
 }
 
 /// Whether the words from a place on are ticks that rise.

@@ -1,20 +1,17 @@
-ghost use Rattle.std.specs.Prelude.{◌≡◌, ◌*◌, ◌<◌, false, length, vec_len, IfOk};
-ghost use Rattle.dvbsub_cmd.specs.Command.{asked_ticks, tick_or_zero, word_at};
+ghost use Rattle.std.specs.Prelude.{◌≡◌, ◌*◌, false, length, vec_len, IfOk};
+ghost use Rattle.dvbsub_cmd.specs.Command.{asked_ticks};
 ghost use Rattle.dvbsub_cmd.specs.ExpectOutcome.{IsExpectCause, authored_text, expect_text};
-ghost use Rattle.dvbsub_cmd.specs.Putting.{PutsOut};
+ghost use Rattle.command_text.specs.Putting.{PutsOut};
 ghost use Rattle.dvbsub_cmd.specs.Seen.{seen};
 
-use crate::command::LATEST_TICK;
-use crate::picture_text::put_picture;
+use crate::command::WORDS_OF_EXPECT;
 use crate::read_script::read_script;
 use crate::status::{Status, Which};
-use crate::text_buffer::{TextBuffer, flush};
+use crate::ticks::ticks_of;
+use command_text::{TextBuffer, flush, put_picture};
 use cue_list::{Script, picture_at};
 use std::alloc::{AllocError, Global};
-use sub_base::{CLEAR, Colour, Sink, Source, Words, number_in};
-
-/// The place of the first tick among the words.
-const FIRST_TICK: usize = 4;
+use sub_base::{CLEAR, Colour, Sink, Source, Words};
 
 /// Writes the authored pictures of a script at the ticks that are asked for.
 pub fn expect<A: Source, B: Source, K: Sink>(
@@ -25,7 +22,7 @@ pub fn expect<A: Source, B: Source, K: Sink>(
     second: &mut B,
     out: &mut K,
 ) -> Status
-    ensures cause { IsExpectCause has_font (asked_ticks words.now)
+    ensures cause { IsExpectCause has_font (asked_ticks 4 words.now)
         (seen (A.supplied first.old) (B.supplied second.old) (K.received out.old))
         (seen (A.supplied first.new) (B.supplied second.new) (K.received out.new))
         result }
@@ -35,6 +32,9 @@ pub fn expect<A: Source, B: Source, K: Sink>(
         Ok(script) => script,
         Err(status) => return status,
     };
+    let Ok(ticks) = ticks_of(alloc, words, WORDS_OF_EXPECT) else {
+        return Status::Memory;
+    };
     let Ok(mut plane) = plane_of(alloc, &script) else {
         return Status::Memory;
     };
@@ -42,7 +42,13 @@ pub fn expect<A: Source, B: Source, K: Sink>(
         return Status::Memory;
     };
     // All memory is taken, so that only the sink can fail from here on.
-    put_pictures(out, &mut buffer, words, &script, plane.as_mut_slice());
+    put_pictures(
+        out,
+        &mut buffer,
+        &script,
+        ticks.as_slice(),
+        plane.as_mut_slice(),
+    );
     flush(out, &mut buffer);
     if buffer.has_failed() {
         Status::WriteFault(Which::Out)
@@ -62,28 +68,19 @@ fn plane_of(alloc: Global, script: &Script) -> Result<Vec<Colour>, AllocError>
 fn put_pictures<K: Sink>(
     out: &mut K,
     buffer: &mut TextBuffer,
-    words: &Words,
     script: &Script,
+    ticks: &[u64],
     plane: &mut [Colour],
 )
     requires { length plane.old ≡ script.now.width * script.now.height }
     ensures { PutsOut
         (K.received out.old)
         (K.received out.new)
-        buffer.old buffer.new (expect_text script.now (asked_ticks words.now)) }
+        buffer.old buffer.new (expect_text script.now ticks.now) }
 {
-    for place in FIRST_TICK..words.count() {
-        put_authored(out, buffer, script, tick_at(words, place), plane);
+    for tick in ticks {
+        put_authored(out, buffer, script, *tick, plane);
     }
-}
-
-/// The tick that the word at a place is.
-fn tick_at(words: &Words, place: usize) -> u64
-    requires { place < length words.now }
-    ensures { result ≡ tick_or_zero (word_at words.now place) }
-{
-    // Each of these words is a tick, or the command would not be `expect`.
-    number_in(words.word(place).as_bytes(), 0, LATEST_TICK).unwrap_or(0)
 }
 
 /// Puts out the text of the authored picture at a tick.
@@ -101,5 +98,12 @@ fn put_authored<K: Sink>(
         buffer.old buffer.new (authored_text script.now tick) }
 {
     picture_at(script, tick, plane);
-    put_picture(out, buffer, tick, script.width, script.height, plane);
+    put_picture(
+        out,
+        buffer,
+        tick,
+        u32::from(script.width),
+        u32::from(script.height),
+        plane,
+    );
 }

@@ -5,10 +5,7 @@
 mod command;
 mod kind_names;
 mod status;
-
-// Text that is put out.
-mod line;
-mod text_buffer;
+mod ticks;
 
 // `compile`: a script, its loads, units, pieces and slots.
 mod compile;
@@ -18,9 +15,14 @@ mod read_script;
 mod slot_stream;
 mod units;
 
-// `expect`: pictures as text.
+// `expect`: the authored pictures.
 mod expect;
-mod picture_text;
+
+// How a command ends that reads a stream.
+mod closing;
+
+// `dump`: the pictures that a receiver shows.
+mod dump;
 
 // `list`: the lines of packets, units and segments.
 mod list;

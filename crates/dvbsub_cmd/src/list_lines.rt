@@ -1,10 +1,9 @@
 ghost use Rattle.std.specs.Prelude.{◌≡◌, ◌+◌, ◌<◌, ◌≤◌, ◌^◌, ◌++◌, length, codes};
-ghost use Rattle.dvbsub_cmd.specs.StatusText.{then_number};
-ghost use Rattle.dvbsub_cmd.specs.ListLines.{line_end, hex_digit as hex_digit_of, two_hex, loss_line as loss_line_of, unit_line as unit_line_of, pes_line as pes_line_of, segment_line as segment_line_of, fault_line as fault_line_of};
+ghost use Rattle.command_text.specs.Lines.{line_end, then_number};
+ghost use Rattle.dvbsub_cmd.specs.ListLines.{loss_line as loss_line_of, unit_line as unit_line_of, pes_line as pes_line_of, segment_line as segment_line_of, fault_line as fault_line_of};
 
 use crate::kind_names::{pes_fault_name, segment_kind_name};
-use crate::line::Line;
-use crate::status::{line_of, push_then_number};
+use command_text::Line;
 use stream_syntax::{Event, PesFault, SegmentFault};
 
 /// The line of a loss at the packet of that place, and an empty text at another event.
@@ -27,12 +26,12 @@ pub fn unit_line(place: u64, pts: u64, size: u64) -> Line
     ensures line { result ≡ unit_line_of place pts size }
     ensures short { length result ≤ 128 }
 {
-    let mut line = line_of("unit");
-    push_then_number(&mut line, place);
+    let mut line = Line::of("unit");
+    line.push_then_number(place);
     line.push_text(" pts");
-    push_then_number(&mut line, pts);
+    line.push_then_number(pts);
     line.push_text(" length");
-    push_then_number(&mut line, size);
+    line.push_then_number(size);
     line.push_text("\n");
     line
 }
@@ -42,8 +41,8 @@ pub fn pes_line(place: u64, fault: PesFault) -> Line
     ensures line { result ≡ pes_line_of place fault }
     ensures short { length result ≤ 128 }
 {
-    let mut line = line_of("pes");
-    push_then_number(&mut line, place);
+    let mut line = Line::of("pes");
+    line.push_then_number(place);
     push_name(&mut line, pes_fault_name(fault));
     line
 }
@@ -53,12 +52,12 @@ pub fn segment_line(place: u64, kind: u8, page: u16, size: u64) -> Line
     ensures line { result ≡ segment_line_of place kind page size }
     ensures short { length result ≤ 128 }
 {
-    let mut line = line_of("segment");
-    push_then_number(&mut line, place);
+    let mut line = Line::of("segment");
+    line.push_then_number(place);
     line.push_text(" ");
-    push_hex(&mut line, kind);
-    push_then_number(&mut line, u64::from(page));
-    push_then_number(&mut line, size);
+    line.push_hex(kind);
+    line.push_then_number(u64::from(page));
+    line.push_then_number(size);
     line.push_text("\n");
     line
 }
@@ -69,9 +68,9 @@ pub fn fault_line(place: u64, fault: SegmentFault) -> Line
     ensures line { result ≡ fault_line_of place fault }
     ensures short { length result ≤ 128 }
 {
-    let mut line = line_of("fault");
+    let mut line = Line::of("fault");
     // A fault's place counts from the first byte of its segment, a line's from that of the field.
-    push_then_number(&mut line, place + u64::from(fault.place));
+    line.push_then_number(place + u64::from(fault.place));
     push_name(&mut line, segment_kind_name(fault.kind));
     line
 }
@@ -80,10 +79,10 @@ fn gap_line(place: u64, expected: u8, found: u8) -> Line
     ensures line { result ≡ loss_line_of place (Event.Gap expected found) }
     ensures short { length result ≤ 128 }
 {
-    let mut line = line_of("gap");
-    push_then_number(&mut line, place);
-    push_then_number(&mut line, u64::from(expected));
-    push_then_number(&mut line, u64::from(found));
+    let mut line = Line::of("gap");
+    line.push_then_number(place);
+    line.push_then_number(u64::from(expected));
+    line.push_then_number(u64::from(found));
     line.push_text("\n");
     line
 }
@@ -94,8 +93,8 @@ fn placed_line(word: &str, place: u64) -> Line
     ensures line { result ≡ word.now ++ then_number place ++ line_end }
     ensures short { length result ≤ 128 }
 {
-    let mut line = line_of(word);
-    push_then_number(&mut line, place);
+    let mut line = Line::of(word);
+    line.push_then_number(place);
     line.push_text("\n");
     line
 }
@@ -110,26 +109,4 @@ fn push_name(line: &mut Line, name: &str)
     line.push_text(" ");
     line.push_text(name);
     line.push_text("\n");
-}
-
-/// Puts the two hexadecimal digits of the byte at the end, in capitals.
-pub fn push_hex(line: &mut Line, byte: u8)
-    requires { length line.old ≤ 80 }
-    ensures line { line.new ≡ line.old ++ two_hex byte }
-    ensures short { length line.new ≡ length line.old + 2 }
-{
-    line.push_byte(hex_digit(byte / 16));
-    line.push_byte(hex_digit(byte % 16));
-}
-
-/// The hexadecimal digit of a number below 16.
-fn hex_digit(number: u8) -> u8
-    requires { number < 16 }
-    ensures { result ≡ hex_digit_of number }
-{
-    if number < 10 {
-        b'0' + number
-    } else {
-        b'A' + (number - 10)
-    }
 }

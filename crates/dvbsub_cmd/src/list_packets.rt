@@ -1,71 +1,56 @@
-ghost use Rattle.std.specs.Prelude.{◌≡◌, ◌+◌, ◌<◌, ◌^◌, List, ℕ, [], ◌∷◌, length, take, slice_index_or, None, Some, MatchResult, OnOk, OnErr, IfErr};
+ghost use Rattle.std.specs.Prelude.{◌≡◌, ℕ, List, [], None, Some, OnOk, OnErr, IfOk, MatchResult};
 ghost use Rattle.std.specs.Option.{option_copied};
 ghost use Rattle.stream_syntax.specs.TransportPackets.{packet_fault};
+ghost use Rattle.packet_walk.specs.Told.{StaysTold, TellsOne};
+ghost use Rattle.command_text.specs.Putting.{PutsOut};
 ghost use Rattle.dvbsub_cmd.specs.ListLines.{loss_line as loss_line_of};
-ghost use Rattle.dvbsub_cmd.specs.Listing.{Lists};
+ghost use Rattle.dvbsub_cmd.specs.Listing.{IsListed};
 ghost use Rattle.dvbsub_cmd.specs.ListText.{AreEndLines};
-ghost use Rattle.dvbsub_cmd.specs.Putting.{PutsOut};
-ghost use Rattle.dvbsub_cmd.specs.declared.status.Status.TheVariants.{StreamRefused};
 
 use crate::list_lines::loss_line;
 use crate::list_units::list_unit;
-use crate::status::Status;
-use crate::text_buffer::{TextBuffer, put};
+use command_text::{TextBuffer, put};
+use packet_walk::PacketTeller;
+use std::alloc::Global;
 use stream_syntax::{Event, PacketFault};
-use sub_base::Sink;
+use sub_base::{NoMemory, Sink};
 use ts_packets::Demux;
 
-/// The first packet of a stream that cannot be taken: its place, counted from 0, and why.
-#[derive(Clone, Copy, Drop)]
-pub struct Refused {
-    /// The number of the packet in the stream.
-    pub packet: u64,
-    /// The first test that it fails.
-    pub fault: PacketFault,
+/// Units that need more bytes are dropped: the coded data buffer of the widest profile.
+const UNIT_LIMIT: u64 = 262_144;
+
+/// What tells of the losses, units and segments of a PID.
+#[derive(Drop)]
+pub struct Lister {
+    demux: Demux,
 }
 
-impl Refused {
-    /// How a command ends that cannot take the packet.
-    pub fn status(self) -> Status
-        ensures { result ≡ StreamRefused self.packet self.fault }
+impl Lister {
+    /// What took no packet yet. All memory is taken here.
+    pub fn make(alloc: Global, pid: u16) -> Result<Lister, NoMemory>
+        ensures pid { IfOk result (λ lister. lister.demux.pid ≡ pid) }
+        ensures nothing { IfOk result (λ lister. IsListed lister.demux [] []) }
     {
-        Status::StreamRefused {
-            packet: self.packet,
-            fault: self.fault,
-        }
+        Ok(Lister {
+            demux: Demux::make(alloc, pid, UNIT_LIMIT)?,
+        })
     }
 }
 
-/// Takes packets, the first of that place, and puts out their lines, up to a packet that cannot be taken.
-pub fn list_packets<K: Sink>(
-    sink: &mut K,
-    buffer: &mut TextBuffer,
-    demux: &mut Demux,
-    first: u64,
-    packets: &[[u8; 188]],
-) -> Result<(), Refused>
-    requires { first + length packets.now < 2 ^ 64 }
-    ensures lists { OnOk result (Lists
-        (K.received sink.old)
-        (K.received sink.new)
-        demux.old demux.new buffer.old buffer.new first packets.now) }
-    ensures refused { IfErr result (λ refused. (k : ℕ) × (k < length packets.now) × (refused.packet ≡ first + k)
-        × (packet_fault demux.old.pid (slice_index_or packets.now k []) ≡ Some refused.fault) × Lists
-        (K.received sink.old)
-        (K.received sink.new)
-        demux.old demux.new buffer.old buffer.new first (take k packets.now)) }
-{
-    let mut place = first;
-    for packet in packets {
-        if let Err(fault) = list_packet(sink, buffer, demux, place, packet) {
-            return Err(Refused {
-                packet: place,
-                fault,
-            });
-        }
-        place += 1;
+impl PacketTeller for Lister {
+    ghost pid = { λ lister. lister.demux.pid };
+
+    ghost stands = { λ lister. IsListed lister.demux };
+
+    fn take_packet<K: Sink>(
+        &mut self,
+        out: &mut K,
+        buffer: &mut TextBuffer,
+        place: u64,
+        packet: &[u8; 188],
+    ) -> Result<(), PacketFault> {
+        list_packet(out, buffer, &mut self.demux, place, packet)
     }
-    Ok(())
 }
 
 /// Takes the packet of that place, and puts out its lines; or finds why it cannot be taken.
@@ -76,15 +61,17 @@ fn list_packet<K: Sink>(
     place: u64,
     packet: &[u8; 188],
 ) -> Result<(), PacketFault>
-    ensures fault { MatchResult result (λ _. packet_fault demux.old.pid packet.now ≡ None) (λ fault. packet_fault demux.old.pid packet.now ≡ Some fault) }
-    ensures lists { OnOk result (Lists
+    ensures fault { MatchResult result (λ _. packet_fault demux.old.pid packet.now ≡ None)
+        (λ fault. packet_fault demux.old.pid packet.now ≡ Some fault) }
+    ensures pid { demux.new.pid ≡ demux.old.pid }
+    ensures lists { OnOk result (TellsOne IsListed
         (K.received sink.old)
         (K.received sink.new)
-        demux.old demux.new buffer.old buffer.new place (packet.now ∷ [])) }
-    ensures kept { OnErr result (Lists
+        demux.old demux.new buffer.old buffer.new place packet.now) }
+    ensures kept { OnErr result (StaysTold IsListed
         (K.received sink.old)
         (K.received sink.new)
-        demux.old demux.new buffer.old buffer.new place []) }
+        demux.old demux.new buffer.old buffer.new) }
 {
     let fed = demux.feed(packet)?;
     // The loss came before the unit that ends with this packet.

@@ -2,11 +2,10 @@ ghost use Rattle.std.specs.Prelude.{◌≡◌, ◌+◌, ◌<◌, ◌≤◌, ◌^
 ghost use Rattle.stream_syntax.specs.Tests.{byte_at, word_at};
 ghost use Rattle.stream_syntax.specs.DataField.{ends_segments as ends_segments_of};
 ghost use Rattle.dvbsub_cmd.specs.ListText.{AreSegmentLines, AreUnitLines, IsSegmentLine};
-ghost use Rattle.dvbsub_cmd.specs.Putting.{PutsOut};
+ghost use Rattle.command_text.specs.Putting.{PutsOut};
 
-use crate::line::Line;
 use crate::list_lines::{fault_line, pes_line, segment_line, unit_line};
-use crate::text_buffer::{TextBuffer, put};
+use command_text::{Line, TextBuffer, put};
 use pes_packets::read_pes;
 use segments::{Frame, read_frame, read_segment};
 use sub_base::Sink;

@@ -4,7 +4,8 @@ ghost use Rattle.std.specs.Io.KnownBytes.{Appends, Keeps};
 ghost use Rattle.sub_base.specs.Counts.{HasRisen};
 ghost use Rattle.sub_base.specs.Endpoints.{AppendsPrefix};
 ghost use Rattle.shown_stream.specs.SlotStream.{IsPiece, packet_of, slot_packet, slot_count as slot_count_of, stream_of};
-ghost use Rattle.dvbsub_cmd.specs.SlotWalk.{IsNext, Sent};
+ghost use Rattle.command_text.specs.Putting.{Sent};
+ghost use Rattle.dvbsub_cmd.specs.SlotWalk.{IsNext};
 ghost use Rattle.dvbsub_cmd.specs.PieceView.{plain};
 
 use std::alloc::{AllocError, Global};

@@ -1,10 +1,11 @@
 ghost use Rattle.std.specs.Prelude.{◌≡◌, ◌≤◌, ◌+◌, ◌++◌, length};
 ghost use Rattle.dvbsub_cmd.specs.Outcome.{unfinished as unfinished_of};
-ghost use Rattle.dvbsub_cmd.specs.StatusText.{which_name as which_name_of, then_number, kind_text, done_text as done_text_of, font_text as font_text_of, plan_text as plan_text_of, schedule_text as schedule_text_of, script_text as script_text_of, stream_text as stream_text_of, status_text, status_line as line_of_status, code_of};
+ghost use Rattle.command_text.specs.Lines.{then_number};
+ghost use Rattle.dvbsub_cmd.specs.StatusText.{which_name as which_name_of, kind_text, done_text as done_text_of, font_text as font_text_of, plan_text as plan_text_of, schedule_text as schedule_text_of, script_text as script_text_of, stream_text as stream_text_of, status_text, status_line as line_of_status, code_of};
 
 use crate::kind_names::{font_kind_name, packet_fault_name};
-use crate::line::Line;
 use bitmap_font::FontFault;
+use command_text::Line;
 use cue_list::{ScriptFault, ScriptKind};
 use page_epoch::PlanFault;
 use schedule::ScheduleFault;
@@ -98,7 +99,7 @@ fn text_of(status: Status) -> Line
 {
     match status {
         Status::Done { cut } => done_text(cut),
-        Status::Usage => line_of("usage"),
+        Status::Usage => Line::of("usage"),
         Status::FontRefused(fault) => font_text(fault),
         Status::ScriptRefused(fault) => script_text(fault),
         Status::PlanRefused(fault) => plan_text(fault),
@@ -106,20 +107,9 @@ fn text_of(status: Status) -> Line
         Status::StreamRefused { packet, fault } => stream_text(packet, fault),
         Status::ReadFault(which) => named_text("read ", which),
         Status::WriteFault(which) => named_text("write ", which),
-        Status::Memory => line_of("memory"),
+        Status::Memory => Line::of("memory"),
         Status::InputTooLong(which) => named_text("long ", which),
     }
-}
-
-/// A line that begins with the text.
-pub fn line_of(text: &str) -> Line
-    requires { length text.now ≤ 60 }
-    ensures text { result ≡ text.now }
-    ensures length { length result ≡ length text.now }
-{
-    let mut line = Line::new();
-    line.push_text(text);
-    line
 }
 
 fn done_text(cut: u64) -> Line
@@ -127,10 +117,10 @@ fn done_text(cut: u64) -> Line
     ensures short { length result ≤ 100 }
 {
     if cut == 0 {
-        return line_of("done");
+        return Line::of("done");
     }
-    let mut line = line_of("done cut");
-    push_then_number(&mut line, cut);
+    let mut line = Line::of("done cut");
+    line.push_then_number(cut);
     line
 }
 
@@ -139,7 +129,7 @@ fn named_text(text: &str, which: Which) -> Line
     ensures text { result ≡ text.now ++ which_name_of which }
     ensures short { length result ≤ 100 }
 {
-    let mut line = line_of(text);
+    let mut line = Line::of(text);
     line.push_text(which_name(which));
     line
 }
@@ -162,10 +152,10 @@ fn font_text(fault: FontFault) -> Line
 {
     match fault {
         // Want of memory is a status of its own; the line is the same whichever of them comes.
-        FontFault::Memory => line_of("memory"),
+        FontFault::Memory => Line::of("memory"),
         FontFault::Refused { line: place, kind } => {
-            let mut line = line_of("font");
-            push_then_number(&mut line, place);
+            let mut line = Line::of("font");
+            line.push_then_number(place);
             line.push_text(" ");
             line.push_text(font_kind_name(kind));
             line
@@ -177,8 +167,8 @@ fn stream_text(packet: u64, fault: PacketFault) -> Line
     ensures text { result ≡ stream_text_of packet fault }
     ensures short { length result ≤ 100 }
 {
-    let mut line = line_of("stream");
-    push_then_number(&mut line, packet);
+    let mut line = Line::of("stream");
+    line.push_then_number(packet);
     line.push_text(" ");
     line.push_text(packet_fault_name(fault));
     line
@@ -189,10 +179,10 @@ fn script_text(fault: ScriptFault) -> Line
     ensures short { length result ≤ 100 }
 {
     match fault {
-        ScriptFault::Memory => line_of("memory"),
+        ScriptFault::Memory => Line::of("memory"),
         ScriptFault::Refused { row, kind } => {
-            let mut line = line_of("script");
-            push_then_number(&mut line, row);
+            let mut line = Line::of("script");
+            line.push_then_number(row);
             line.push_text(" ");
             push_kind(&mut line, kind);
             line
@@ -205,10 +195,10 @@ fn plan_text(fault: PlanFault) -> Line
     ensures short { length result ≤ 100 }
 {
     match fault {
-        PlanFault::Memory => line_of("memory"),
+        PlanFault::Memory => Line::of("memory"),
         PlanFault::DisplayTooLarge { row } => {
-            let mut line = line_of("plan DisplayTooLarge");
-            push_then_number(&mut line, row);
+            let mut line = Line::of("plan DisplayTooLarge");
+            line.push_then_number(row);
             line
         }
         PlanFault::PixelFull { row, need } => plan_need_text("plan PixelFull", row, need),
@@ -223,9 +213,9 @@ fn plan_need_text(words: &str, row: u64, need: u64) -> Line
     ensures text { result ≡ (words.now ++ then_number row) ++ then_number need }
     ensures short { length result ≤ 100 }
 {
-    let mut line = line_of(words);
-    push_then_number(&mut line, row);
-    push_then_number(&mut line, need);
+    let mut line = Line::of(words);
+    line.push_then_number(row);
+    line.push_then_number(need);
     line
 }
 
@@ -234,24 +224,24 @@ fn schedule_text(row: u64, fault: ScheduleFault) -> Line
     ensures short { length result ≤ 100 }
 {
     match fault {
-        ScheduleFault::Memory => line_of("memory"),
+        ScheduleFault::Memory => Line::of("memory"),
         ScheduleFault::CodedFull { size, .. } => {
-            let mut line = line_of("schedule CodedFull");
-            push_then_number(&mut line, row);
-            push_then_number(&mut line, size);
+            let mut line = Line::of("schedule CodedFull");
+            line.push_then_number(row);
+            line.push_then_number(size);
             line
         }
         ScheduleFault::Late { done, pts, .. } => {
-            let mut line = line_of("schedule Late");
-            push_then_number(&mut line, row);
-            push_then_number(&mut line, done);
-            push_then_number(&mut line, pts);
+            let mut line = Line::of("schedule Late");
+            line.push_then_number(row);
+            line.push_then_number(done);
+            line.push_then_number(pts);
             line
         }
         ScheduleFault::SegmentFull { longest, .. } => {
-            let mut line = line_of("schedule SegmentFull");
-            push_then_number(&mut line, row);
-            push_then_number(&mut line, longest);
+            let mut line = Line::of("schedule SegmentFull");
+            line.push_then_number(row);
+            line.push_then_number(longest);
             line
         }
     }
@@ -264,16 +254,6 @@ fn push_kind(line: &mut Line, kind: ScriptKind)
 {
     line.push_text(kind.name());
     if let ScriptKind::Glyph(character) = kind {
-        push_then_number(line, u64::from(u32::from(character)));
+        line.push_then_number(u64::from(u32::from(character)));
     }
-}
-
-/// Puts a space and the number at the end.
-pub fn push_then_number(line: &mut Line, number: u64)
-    requires { length line.old ≤ 80 }
-    ensures line { line.new ≡ line.old ++ then_number number }
-    ensures short { length line.new ≤ length line.old + 21 }
-{
-    line.push_text(" ");
-    line.push_number(number);
 }

@@ -6,6 +6,7 @@ ghost use Rattle.dvbsub_cmd.specs.Outcome.{HasCause, IsCaused, IsSecondKept, Tel
 
 use crate::command::{Command, command_of};
 use crate::compile::compile;
+use crate::dump::dump;
 use crate::expect::expect;
 use crate::list::list;
 use crate::status::{Status, Which, status_line};
@@ -16,14 +17,14 @@ use sub_base::{BandGate, Sink, Source, Words, write_whole};
 /// Carries out the command that the words are: reads its sources, writes its output to `out`, and tells how it
 /// ended, by its answer and by one line to `notes`.
 pub fn top<R, A, B, K, N, G>(
-    _rt: &R,
+    rt: &R,
     alloc: Global,
     words: &Words,
     first: &mut A,
     second: &mut B,
     out: &mut K,
     notes: &mut N,
-    _gate: &G,
+    gate: &G,
 ) -> Status
 where
     R: Threads + Sync,
@@ -55,7 +56,7 @@ where
     // A command that names no font does not call the second source.
     ensures second { IsSecondKept (command_of_words words.now) second.old second.new }
 {
-    let status = run(alloc, words, first, second, out);
+    let status = run(rt, alloc, words, first, second, out, gate);
     tell(status, notes)
 }
 
@@ -75,13 +76,21 @@ pub fn tell<N: Sink>(status: Status, notes: &mut N) -> Status
 }
 
 /// Carries out the command without telling how it ended.
-fn run<A: Source, B: Source, K: Sink>(
+fn run<R, A, B, K, G>(
+    rt: &R,
     alloc: Global,
     words: &Words,
     first: &mut A,
     second: &mut B,
     out: &mut K,
+    gate: &G,
 ) -> Status
+where
+    R: Threads + Sync,
+    A: Source,
+    B: Source,
+    K: Sink,
+    G: BandGate + Sync,
     ensures cause { IsCaused words.now
         (seen (A.supplied first.old) (B.supplied second.old) (K.received out.old))
         (seen (A.supplied first.new) (B.supplied second.new) (K.received out.new))
@@ -103,6 +112,16 @@ fn run<A: Source, B: Source, K: Sink>(
             },
         ) => compile(alloc, profile, pid, page, has_font, first, second, out),
         Some(Command::List { pid }) => list(alloc, pid, first, out),
+        Some(
+            Command::Dump {
+                profile,
+                pid,
+                page,
+                bands,
+            },
+        ) => dump(
+            rt, alloc, words, profile, pid, page, bands, first, out, gate,
+        ),
         Some(Command::Expect { has_font }) => expect(alloc, words, has_font, first, second, out),
     }
 }

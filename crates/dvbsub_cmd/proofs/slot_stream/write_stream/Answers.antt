@@ -3,8 +3,9 @@ use Rattle.std.specs.List.{flat_map, range_with_len}
 use Rattle.sub_base.specs.Endpoints.{AppendsPrefix}
 use Rattle.dvbsub_cmd.specs.PieceView.{plain}
 use Rattle.shown_stream.specs.SlotStream.{slot_packet, slot_count}
-use Rattle.dvbsub_cmd.specs.SlotWalk.{Sent}
-use Rattle.dvbsub_cmd.proofs.SlotLaws.{Sent-front, stream-more, stream-rest}
+use Rattle.command_text.specs.Putting.{Sent}
+use Rattle.command_text.proofs.SentLaws.{Sent-front}
+use Rattle.dvbsub_cmd.proofs.SlotLaws.{stream-more, stream-rest}
 use Rattle.dvbsub_cmd.proofs.slot_stream.write_stream.Goals as goal
 
 pub loop-slot-preserved : goal.loop-slot-preserved

@@ -1,7 +1,8 @@
 use Rattle.std.proofs.Common.{◌≡◌, ◌%◌, ◌≤◌, map}
 use Rattle.std.specs.List.{flat_map, range_with_len}
 use Rattle.shown_stream.specs.SlotStream.{slot_packet}
-use Rattle.dvbsub_cmd.specs.SlotWalk.{IsNext, Sent}
+use Rattle.command_text.specs.Putting.{Sent}
+use Rattle.dvbsub_cmd.specs.SlotWalk.{IsNext}
 use Rattle.dvbsub_cmd.specs.PieceView.{plain}
 use Rattle.dvbsub_cmd.proofs.slot_stream.write_stream.Given as goal
 

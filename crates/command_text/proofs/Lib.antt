@@ -1,0 +1,3 @@
+pub mod PictureLaws
+pub mod PutLaws
+pub mod SentLaws

@@ -1,0 +1,3 @@
+pub mod DumpLaws
+pub mod TextLaws
+pub mod ToldLaws

@@ -1,0 +1,15 @@
+use Rattle.std.proofs.Common.{◌≤◌, length}
+use Rattle.dump_text.specs.Dumping.{AreBefore, PutsBetween}
+use Rattle.dump_text.proofs.pictures.put_before.Given as goal
+
+abbrev pub invariant-loop-place : goal.invariant-loop-place
+invariant-loop-place g l =
+    record {
+      next : l.fn.first ≤ l.place;
+      within : l.place ≤ length l.ticks;
+      before : AreBefore l.end l.fn.first l.place l.ticks;
+      puts : PutsBetween l.receiver
+          (g.K.Sink.received l.fn.out)
+          (g.K.Sink.received l.out)
+          l.fn.buffer l.buffer l.ticks l.fn.first l.place;
+    }

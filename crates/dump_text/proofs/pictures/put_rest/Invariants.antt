@@ -1,0 +1,14 @@
+use Rattle.std.proofs.Common.{◌≤◌, length}
+use Rattle.dump_text.specs.Dumping.{PutsBetween}
+use Rattle.dump_text.proofs.pictures.put_rest.Given as goal
+
+abbrev pub invariant-loop-place : goal.invariant-loop-place
+invariant-loop-place g l =
+    record {
+      next : l.fn.first ≤ l.place;
+      within : l.place ≤ length l.ticks;
+      puts : PutsBetween l.receiver
+          (g.K.Sink.received l.fn.out)
+          (g.K.Sink.received l.out)
+          l.fn.buffer l.buffer l.ticks l.fn.first l.place;
+    }

@@ -1,0 +1,7 @@
+//! What `dump` tells of a stream: the text of the picture that a receiver shows at each asked tick.
+#![tactic(auto)]
+
+mod dump;
+mod pictures;
+
+pub use dump::Dump;

@@ -1,0 +1,8 @@
+//! A walk over the transport packets of a stream, by what tells of them in a text, packet by packet.
+#![tactic(auto)]
+
+mod teller;
+mod walk;
+
+pub use teller::PacketTeller;
+pub use walk::{Refused, WalkEnd, walk_packets};
