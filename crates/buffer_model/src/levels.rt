@@ -1,6 +1,7 @@
 ghost use Rattle.std.specs.Prelude.{◌≡◌, ◌+◌, ◌^◌, ◌<◌, ◌≤◌, List, [], ◌∷◌, IfOk};
-ghost use Rattle.sub_base.specs.Pace.{pace_of, IsSending};
-ghost use Rattle.buffer_model.specs.Calls.{Call, Arrived, SetWhole, Dropped, done_of, measured, greatest, first_breach_of};
+ghost use Rattle.sub_base.specs.Pace.{pace_of, tick_of, IsSending};
+ghost use Rattle.buffer_model.specs.Calls.{Call, Arrived, SetWhole, Dropped, done_of, measured, greatest};
+ghost use Rattle.buffer_model.specs.Calls.{first_breach_of, last_slot};
 ghost use Rattle.buffer_model.specs.Meters.{Stands};
 
 use crate::breach::Breach;
@@ -122,6 +123,14 @@ impl Levels {
         ensures pace { self.new.pace ≡ self.old.pace }
     {
         self.pending = 0;
+    }
+
+    /// The tick of the slot of the last packet, or that of slot 0 before the first.
+    pub fn tick(&self) -> u64
+        ensures { (past : List Call) → Stands past self.now
+            → result ≡ tick_of self.now.pace (last_slot past) }
+    {
+        self.pace.tick(self.last)
     }
 
     /// The greatest level. After a breach of the coded data buffer it is the breaching level.

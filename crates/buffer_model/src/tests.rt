@@ -15,6 +15,7 @@ fn set_leaves_when_done(rt: HostRuntime) -> Result<(), Fail> {
     assert_eq!(rt; levels.set_whole(load), 20_007);
     assert_eq!(rt; levels.arrive(1, 4_416), 24_416);
     assert_eq!(rt; levels.arrive(29, 184), 4_600);
+    assert_eq!(rt; levels.tick(), 20_445);
     levels.drop_unit();
     assert_eq!(rt; levels.peak(), 24_416);
     assert_eq!(rt; levels.first_breach(), None);

@@ -3,6 +3,7 @@ use Rattle.std.proofs.Common.{◌≡◌, ℕ, Bool, List, Option, Some, None, �
 use Rattle.cue_list.specs.declared.script.Script.{Script}
 use Rattle.sub_base.specs.Counts.{HasRisen}
 use Rattle.sub_base.specs.declared.profile.ProfileName.{ProfileName}
+use Rattle.dvbsub_cmd.specs.Checks.{checks}
 use Rattle.dvbsub_cmd.specs.Command.{asked_ticks, command_of}
 use Rattle.dvbsub_cmd.specs.CompileOutcome.{IsCompileCause, IsCompilable}
 use Rattle.dvbsub_cmd.specs.Completeness.{IsComplete, IsReadable, IsUntroubled}
@@ -109,6 +110,8 @@ run_whole words (Some (command.Compile profile pid page has_font)) before now no
 run_whole words (Some (command.List pid)) before now notes_before notes_now run cause calm = stream_whole (lists pid) pid before.first now.first before.out now.out run cause calm.written calm.right
 run_whole words (Some (command.Dump profile pid page bands)) before now notes_before notes_now run cause calm =
     stream_whole (dumps profile pid page (asked_ticks 7 words)) pid before.first now.first before.out now.out run cause calm.written calm.right
+run_whole words (Some (command.Check profile origin pid page)) before now notes_before notes_now run cause calm =
+    stream_whole (checks profile origin pid page) pid before.first now.first before.out now.out run cause calm.written calm.right
 run_whole words (Some (command.Expect has_font)) before now notes_before notes_now run cause calm = expect_whole has_font _ before now run cause calm.written calm.right
 
 -- the line of the status is written where the notes do not fail

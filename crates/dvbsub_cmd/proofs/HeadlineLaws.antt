@@ -64,6 +64,7 @@ untold_is_not_done : (command : Option Command) (before now : Seen) (run : Statu
 untold_is_not_done None before now run = tt
 untold_is_not_done (Some (command.List pid)) before now run = tt
 untold_is_not_done (Some (command.Dump profile pid page bands)) before now run = tt
+untold_is_not_done (Some (command.Check profile origin pid page)) before now run = tt
 untold_is_not_done (Some (command.Expect has_font)) before now run = tt
 untold_is_not_done (Some (command.Compile profile pid page has_font)) before now run = by run
   where

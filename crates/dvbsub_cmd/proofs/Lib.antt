@@ -9,6 +9,8 @@ pub mod SlotLaws
 pub mod WordsLaws
 pub mod UnitLaws
 pub mod TickLaws
+pub mod CheckLaws
 pub mod DumpLaws
+pub mod FinishLaws
 pub mod ExpectLaws
 pub mod CompileLaws

@@ -8,7 +8,7 @@ use Rattle.sub_base.specs.Number.{number_in}
 use Rattle.sub_base.specs.declared.profile.ProfileName.{ProfileName}
 use Rattle.sub_base.specs.declared.profile.ProfileName.TheVariants.{Sd, Hd, Wide, Large}
 use Rattle.shown_stream.specs.Compiled.{IsCompiledFor}
-use Rattle.dvbsub_cmd.specs.declared.command.TheConstants.{GREATEST_PAGE, GREATEST_PID, LATEST_TICK, LEAST_PID, MOST_BANDS}
+use Rattle.dvbsub_cmd.specs.declared.command.TheConstants.{GREATEST_PAGE, GREATEST_PID, LATEST_ORIGIN, LATEST_TICK, LEAST_PID, MOST_BANDS}
 use Rattle.dvbsub_cmd.specs.declared.command.Command.{Command}
 use Rattle.dvbsub_cmd.specs.declared.command.Command.TheVariants as command
 use Rattle.dvbsub_cmd.specs.declared.command.InputPlaces.{InputPlaces}
@@ -102,9 +102,18 @@ dump_of words = if has_ticks 7 words && has_word words 0 (codes "dump") then (do
   bands ← number_in 1 MOST_BANDS (word_at words 4)
   Some (command.Dump profile pid page bands)) else None
 
+-- `check PROFILE ORIGIN PID PAGE STREAM OUT`
+abbrev pub check_of : List (List ℕ) → Option Command
+check_of words = if (length words == 7) && has_word words 0 (codes "check") then (do
+  profile ← sending_profile (word_at words 1)
+  origin ← number_in 0 LATEST_ORIGIN (word_at words 2)
+  pid ← number_in LEAST_PID GREATEST_PID (word_at words 3)
+  page ← number_in 1 GREATEST_PAGE (word_at words 4)
+  Some (command.Check profile origin pid page)) else None
+
 -- the command of these words, none of which is empty or begins with `-`
 abbrev pub named_command : List (List ℕ) → Option Command
-named_command words = option_or (compile_of words) (option_or (list_of words) (option_or (dump_of words) (expect_of words)))
+named_command words = option_or (compile_of words) (option_or (list_of words) (option_or (dump_of words) (option_or (check_of words) (expect_of words))))
 
 -- the command that the words are, if they are one: no word is empty or begins with `-`, and each number is in its range
 unfoldable pub command_of : List (List ℕ) → Option Command
@@ -121,12 +130,14 @@ places_of None = record { first = None; second = None; out = None }
 places_of (Some (command.Compile profile pid page has_font)) = record { first = Some 4; second = font_place has_font 5; out = Some 6 }
 places_of (Some (command.List pid)) = record { first = Some 2; second = None; out = Some 3 }
 places_of (Some (command.Dump profile pid page bands)) = record { first = Some 5; second = None; out = Some 6 }
+places_of (Some (command.Check profile origin pid page)) = record { first = Some 5; second = None; out = Some 6 }
 places_of (Some (command.Expect has_font)) = record { first = Some 1; second = font_place has_font 2; out = Some 3 }
 
 -- the numbers of a command are in their ranges: packets are sent with a PID of 13 bits that null packets do not have, for a profile
--- that scripts are compiled for; pictures are drawn in 1 to 64 bands, and the ticks rise
+-- that scripts are compiled for, and so are levels measured; a stream begins at a tick of 33 bits; pictures are drawn in 1 to 64 bands, and the ticks rise
 abbrev pub IsInRange : List (List ℕ) → Command → Type 0
 IsInRange words (command.Compile profile pid page has_font) = (pid < 8191) × IsCompiledFor profile
 IsInRange words (command.List pid) = Unit {0}
 IsInRange words (command.Dump profile pid page bands) = (1 ≤ bands) × (bands ≤ 64) × (are_rising None (drop 7 words) ≡ true)
+IsInRange words (command.Check profile origin pid page) = IsCompiledFor profile × (origin < 8589934592)
 IsInRange words (command.Expect has_font) = Unit {0}

@@ -23,6 +23,7 @@ IsRightInput None before now = ⊥
 IsRightInput (Some (command.Compile profile pid page has_font)) before now = IsCompilable profile has_font before now
 IsRightInput (Some (command.List pid)) before now = IsReadable pid before.first now.first
 IsRightInput (Some (command.Dump profile pid page bands)) before now = IsReadable pid before.first now.first
+IsRightInput (Some (command.Check profile origin pid page)) before now = IsReadable pid before.first now.first
 IsRightInput (Some (command.Expect has_font)) before now = IsExpectable has_font before now
 
 -- no count of faults rose, and what the command reads is right

@@ -47,4 +47,5 @@ IsShownBy None before now answer = Unit {0}
 IsShownBy (Some (command.Compile profile pid page has_font)) before now answer = OnDone answer (ShowsScript profile pid page has_font before now)
 IsShownBy (Some (command.List pid)) before now answer = Unit {0}
 IsShownBy (Some (command.Dump profile pid page bands)) before now answer = Unit {0}
+IsShownBy (Some (command.Check profile origin pid page)) before now answer = Unit {0}
 IsShownBy (Some (command.Expect has_font)) before now answer = Unit {0}

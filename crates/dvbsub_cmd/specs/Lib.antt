@@ -1,3 +1,4 @@
+pub mod Checks
 pub mod Closing
 pub mod Command
 pub mod CompileOutcome

@@ -5,6 +5,7 @@ use Rattle.sub_base.specs.Counts.{HasRisen}
 use Rattle.sub_base.specs.Endpoints.{AppendsPrefix}
 use Rattle.dvbsub_cmd.specs.Command.{command_of, asked_ticks}
 use Rattle.dvbsub_cmd.specs.CompileOutcome.{IsCompileCause}
+use Rattle.dvbsub_cmd.specs.Checks.{checks}
 use Rattle.dvbsub_cmd.specs.Dumps.{dumps}
 use Rattle.dvbsub_cmd.specs.ExpectOutcome.{IsExpectCause}
 use Rattle.dvbsub_cmd.specs.Listing.{lists}
@@ -26,6 +27,8 @@ IsCausedBy words (Some (command.Compile profile pid page has_font)) before now a
 IsCausedBy words (Some (command.List pid)) before now answer = IsStreamCause (lists pid) pid before.first now.first before.out now.out answer
 IsCausedBy words (Some (command.Dump profile pid page bands)) before now answer =
     IsStreamCause (dumps profile pid page (asked_ticks 7 words)) pid before.first now.first before.out now.out answer
+IsCausedBy words (Some (command.Check profile origin pid page)) before now answer =
+    IsStreamCause (checks profile origin pid page) pid before.first now.first before.out now.out answer
 IsCausedBy words (Some (command.Expect has_font)) before now answer = IsExpectCause has_font (asked_ticks 4 words) before now answer
 
 -- the cause of a status by the words
@@ -38,6 +41,7 @@ IsSecondKept None before now = now ≡ before
 IsSecondKept (Some (command.Compile profile pid page has_font)) before now = has_font ≡ false → now ≡ before
 IsSecondKept (Some (command.List pid)) before now = now ≡ before
 IsSecondKept (Some (command.Dump profile pid page bands)) before now = now ≡ before
+IsSecondKept (Some (command.Check profile origin pid page)) before now = now ≡ before
 IsSecondKept (Some (command.Expect has_font)) before now = has_font ≡ false → now ≡ before
 
 -- the answer where the line of a status could not be written: what was done whole is a write fault of the notes

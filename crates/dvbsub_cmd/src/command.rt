@@ -1,7 +1,7 @@
 ghost use Rattle.std.specs.Prelude.{◌≡◌, ◌<◌, ◌≤◌, length, drop, IfSome, None, true};
 ghost use Rattle.std.specs.List.{list_all};
 ghost use Rattle.std.specs.Option.{option_or};
-ghost use Rattle.dvbsub_cmd.specs.Command.{command_of as command_of_words, compile_of as compile_of_words, dump_of as dump_of_words, expect_of as expect_of_words, font_place as font_place_of, has_ticks as has_ticks_at, has_word as has_word_at, is_above as is_tick_above, is_plain as is_plain_word, list_of as list_of_words, named_command, names_font as is_font_named, places_of, reading_profile as any_profile_of_word, sending_profile as profile_of_word, are_rising as are_ticks_rising, IsInRange};
+ghost use Rattle.dvbsub_cmd.specs.Command.{command_of as command_of_words, check_of as check_of_words, compile_of as compile_of_words, dump_of as dump_of_words, expect_of as expect_of_words, font_place as font_place_of, has_ticks as has_ticks_at, has_word as has_word_at, is_above as is_tick_above, is_plain as is_plain_word, list_of as list_of_words, named_command, names_font as is_font_named, places_of, reading_profile as any_profile_of_word, sending_profile as profile_of_word, are_rising as are_ticks_rising, IsInRange};
 
 use sub_base::{ProfileName, Words, number_in};
 
@@ -16,6 +16,9 @@ pub const GREATEST_PAGE: u64 = 65_535;
 
 /// The latest tick that is asked for: twice round the 33 bits of a presentation time.
 pub const LATEST_TICK: u64 = 17_179_869_183;
+
+/// The latest tick at which a stream begins: the greatest of 33 bits.
+pub const LATEST_ORIGIN: u64 = 8_589_934_591;
 
 /// The most bands that a picture is drawn in.
 pub const MOST_BANDS: u64 = 64;
@@ -58,6 +61,17 @@ pub enum Command {
         /// In how many bands it draws its pictures, 1 to 64.
         bands: u32,
     },
+    /// Writes what becomes of each display set of a stream, and the levels of the coded data buffer.
+    Check {
+        /// What the receiver has.
+        profile: ProfileName,
+        /// The tick at which the first packet arrives, and lifted times begin.
+        origin: u64,
+        /// The PID of the packets that it takes.
+        pid: u16,
+        /// The page id of the segments that it takes.
+        page: u16,
+    },
     /// Writes the authored pictures of a script at the ticks that are asked for.
     Expect {
         /// Whether a font is named, the second source.
@@ -98,6 +112,11 @@ pub fn inputs(words: &Words) -> InputPlaces
             out: Some(3),
         },
         Some(Command::Dump { .. }) => InputPlaces {
+            first: Some(5),
+            second: None,
+            out: Some(6),
+        },
+        Some(Command::Check { .. }) => InputPlaces {
             first: Some(5),
             second: None,
             out: Some(6),
@@ -156,20 +175,32 @@ fn compile_of(words: &Words) -> Option<Command>
 
 fn list_or_others_of(words: &Words) -> Option<Command>
     ensures command { result ≡ option_or (list_of_words words.now)
-        (option_or (dump_of_words words.now) (expect_of_words words.now)) }
+        (option_or (dump_of_words words.now)
+        (option_or (check_of_words words.now) (expect_of_words words.now))) }
     ensures range { IfSome result (IsInRange words.now) }
 {
     match list_of(words) {
         Some(command) => Some(command),
-        None => dump_or_expect_of(words),
+        None => dump_or_others_of(words),
     }
 }
 
-fn dump_or_expect_of(words: &Words) -> Option<Command>
-    ensures command { result ≡ option_or (dump_of_words words.now) (expect_of_words words.now) }
+fn dump_or_others_of(words: &Words) -> Option<Command>
+    ensures command { result ≡ option_or (dump_of_words words.now)
+        (option_or (check_of_words words.now) (expect_of_words words.now)) }
     ensures range { IfSome result (IsInRange words.now) }
 {
     match dump_of(words) {
+        Some(command) => Some(command),
+        None => check_or_expect_of(words),
+    }
+}
+
+fn check_or_expect_of(words: &Words) -> Option<Command>
+    ensures command { result ≡ option_or (check_of_words words.now) (expect_of_words words.now) }
+    ensures range { IfSome result (IsInRange words.now) }
+{
+    match check_of(words) {
         Some(command) => Some(command),
         None => expect_of(words),
     }
@@ -237,6 +268,26 @@ fn dump_of(words: &Words) -> Option<Command>
         pid,
         page,
         bands,
+    })
+}
+
+/// The command `check PROFILE ORIGIN PID PAGE STREAM OUT`.
+fn check_of(words: &Words) -> Option<Command>
+    ensures command { result ≡ check_of_words words.now }
+    ensures range { IfSome result (IsInRange words.now) }
+{
+    if words.count() != 7 || !has_word(words, 0, "check") {
+        return None;
+    }
+    let profile = sending_profile(words.word(1))?;
+    let origin = number_in(words.word(2).as_bytes(), 0, LATEST_ORIGIN)?;
+    let pid = number_in(words.word(3).as_bytes(), LEAST_PID, GREATEST_PID)? as u16;
+    let page = number_in(words.word(4).as_bytes(), 1, GREATEST_PAGE)? as u16;
+    Some(Command::Check {
+        profile,
+        origin,
+        pid,
+        page,
     })
 }
 

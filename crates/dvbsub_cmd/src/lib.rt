@@ -21,7 +21,8 @@ mod expect;
 // How a command ends that reads a stream.
 mod closing;
 
-// `dump`: the pictures that a receiver shows.
+// `dump`: the pictures that a receiver shows; `check`: its sets and the levels of its buffer.
+mod check;
 mod dump;
 
 // `list`: the lines of packets, units and segments.

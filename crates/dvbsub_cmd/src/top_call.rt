@@ -4,6 +4,7 @@ ghost use Rattle.dvbsub_cmd.specs.Headline.{IsShownBy};
 ghost use Rattle.dvbsub_cmd.specs.Seen.{seen};
 ghost use Rattle.dvbsub_cmd.specs.Outcome.{HasCause, IsCaused, IsSecondKept, Tells};
 
+use crate::check::check;
 use crate::command::{Command, command_of};
 use crate::compile::compile;
 use crate::dump::dump;
@@ -122,6 +123,14 @@ where
         ) => dump(
             rt, alloc, words, profile, pid, page, bands, first, out, gate,
         ),
+        Some(
+            Command::Check {
+                profile,
+                origin,
+                pid,
+                page,
+            },
+        ) => check(rt, alloc, profile, origin, pid, page, first, out, gate),
         Some(Command::Expect { has_font }) => expect(alloc, words, has_font, first, second, out),
     }
 }

@@ -1,0 +1,4 @@
+pub mod CheckLaws
+pub mod ReadLaws
+pub mod SetLaws
+pub mod StepLaws

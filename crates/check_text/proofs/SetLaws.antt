@@ -1,0 +1,264 @@
+-- Sets that are taken, one after the other, and the calls of a packet with them.
+use Rattle.std.proofs.Common.{◌≡◌, ◌∙◌, ℕ, ◌+◌, Bool, true, false, if◌then◌else◌, List, [], ◌∷◌, ◌++◌, length, take, drop, reverse, Some, append-nil, append_assoc, refl, sym, ap, subst, arith}
+use Rattle.std.specs.Prelude.{IsSome}
+use Rattle.std.proofs.lemmas.List.{length-append}
+use Rattle.buffer_model.specs.Calls.{Call}
+use Rattle.buffer_model.specs.Meters as meters
+use Rattle.buffer_model.specs.Meters.{Meter}
+use Rattle.command_text.specs.Putting.{Buffered, PutsOut}
+use Rattle.command_text.proofs.PutLaws.{PutsOut-both, PutsOut-nothing}
+use Rattle.decoder_model.specs.PacketArrivals.{PacketArrival, is_break}
+use Rattle.decoder_model.specs.Painting.{set_load}
+use Rattle.decoder_model.specs.Readings.{AreDeliveriesRead, IsDeliveryRead, Reading}
+use Rattle.decoder_model.specs.Sets.{Delivery}
+use Rattle.decoder_model.specs.Verdict.{verdict_of}
+use Rattle.decoder_model.specs.declared.set_end.SetEnd.{SetEnd}
+use Rattle.display_sets.specs.Gathered.{ReadySet, first_ready, ready_sets, sets_behind}
+use Rattle.readings.proofs.PacketsRead.{packets_read}
+use Rattle.receiver.specs.Receiving.{IsNext, IsSame, Receiving, Stands}
+use Rattle.stream_calls.specs.StreamCalls.{arrived_in, calls_of_packet, drop_where}
+use Rattle.stream_calls.specs.ToldSets.{ToldCall, call_of_end, calls_told, done_by, of_no_set}
+use Rattle.stream_calls.proofs.ToldLaws.{calls_more}
+use Rattle.stream_syntax.specs.declared.transport.Event.{Event}
+use Rattle.sub_base.specs.Endpoints.{Received}
+use Rattle.sub_base.specs.Pace.{pace_of}
+use Rattle.sub_base.specs.declared.load.SetLoad.{SetLoad}
+use Rattle.sub_base.specs.declared.pace.Pace.{Pace}
+use Rattle.sub_base.specs.declared.profile.Profile.{Profile}
+use Rattle.check_text.specs.CheckText.{set_line}
+use Rattle.check_text.specs.Checking.{Counts, HasNext, IsAt, IsMadeFor, Purpose, TakesCalls, TakesSets, behind_first, told_with}
+use Rattle.check_text.proofs.ReadLaws.{next_read, read_more}
+use Rattle.check_text.proofs.StepLaws.{arrived_silent, counted, drop_silent, one_told, text_one, told_one, with_both}
+
+-- ---- the same receiver
+
+pub same_itself : (receiving : Receiving) → IsSame receiving receiving
+same_itself receiving = record { pid = refl; core = record { profile = refl; page = refl; anchor = refl } }
+
+pub same_both : (a b c : Receiving) → IsSame a b → IsSame b c → IsSame a c
+same_both a b c one other = record {
+  pid = other.pid ∙ one.pid;
+  core = record { profile = other.core.profile ∙ one.core.profile; page = other.core.page ∙ one.core.page; anchor = other.core.anchor ∙ one.core.anchor };
+}
+
+pub still_made : (made : Purpose) (old new : Receiving) → IsSame old new → IsMadeFor made old → IsMadeFor made new
+still_made made old new same own = record {
+  profile = same.core.profile ∙ own.profile;
+  pid = same.pid ∙ own.pid;
+  page = same.core.page ∙ own.page;
+  origin = same.core.anchor ∙ own.origin;
+}
+
+-- ---- one set
+
+one_less : (sets : List ReadySet) → IsSome (first_ready sets) → 1 + length (sets_behind sets) ≡ length sets
+one_less [] some = absurd (let never : false ≡ true = some in cc)
+one_less (set ∷ sets) some = omega arith
+
+module _ (old new : Receiving) (start fin : Meter) (before now : Received) (was is : Buffered) (end : SetEnd) (load : SetLoad) (done : ℕ)
+    (has_next : HasNext old)
+    (takes : (ended : Bool) (packets : List (List ℕ)) (given rest : List (Delivery (List ℕ))) (delivery : Delivery (List ℕ)) → IsNext ended packets given delivery rest old → Stands ended packets (given ++ delivery ∷ []) new)
+    (answers : (ended : Bool) (packets : List (List ℕ)) (given rest : List (Delivery (List ℕ))) (delivery : Delivery (List ℕ)) (past : List (Delivery Reading)) (one : Delivery Reading)
+    → IsNext ended packets given delivery rest old → AreDeliveriesRead (reverse given) past → IsDeliveryRead delivery one → Some end ≡ verdict_of old.showing.core.profile old.showing.core.anchor past one)
+    (loads : (ended : Bool) (packets : List (List ℕ)) (given rest : List (Delivery (List ℕ))) (delivery : Delivery (List ℕ)) (past : List (Delivery Reading)) (one : Delivery Reading)
+    → IsNext ended packets given delivery rest old → AreDeliveriesRead (reverse given) past → IsDeliveryRead delivery one → Some new.load ≡ set_load old.showing.core.profile old.showing.core.anchor past one)
+    (load_is : load ≡ new.load)
+    (same : IsSame old new)
+    (some : IsSome (first_ready (ready_sets old.sets)))
+    (left : ready_sets new.sets ≡ sets_behind (ready_sets old.sets))
+    (counts : (past : List Call) → meters.Stands past start → meters.Stands (call_of_end end load ∷ past) fin)
+    (done_at : (past : List Call) → meters.Stands past start → done ≡ done_by start.pace past (call_of_end end load))
+    (pace : fin.pace ≡ start.pace)
+    (puts : PutsOut before now was is (set_line (record { set = record { end = end; load = load }; done = done }))) where
+  -- the set that comes next, as it is read
+  record Comes (made : Purpose) (ended : Bool) (packets : List (List ℕ)) (given : List (Delivery (List ℕ))) (past : List (Delivery Reading)) : Type 0 where
+    delivery : Delivery (List ℕ)
+    one : Delivery Reading
+    stands : Stands ended packets (given ++ delivery ∷ []) new
+    read : AreDeliveriesRead (reverse (given ++ delivery ∷ [])) (one ∷ past)
+    told : told_with made past (one ∷ []) ≡ told_one end load ∷ []
+
+  told_so : (made : Purpose) (past : List (Delivery Reading)) (one : Delivery Reading) → IsMadeFor made old → Some end ≡ verdict_of old.showing.core.profile old.showing.core.anchor past one
+      → Some new.load ≡ set_load old.showing.core.profile old.showing.core.anchor past one → told_with made past (one ∷ []) ≡ told_one end load ∷ []
+  told_so made past one own is_end is_load =
+      one_told made past one end load
+      (is_end ∙ ap (λ (profile : Profile). verdict_of profile old.showing.core.anchor past one) own.profile ∙ ap (λ (anchor : ℕ). verdict_of made.profile anchor past one) own.origin)
+      (ap Some load_is ∙ is_load ∙ ap (λ (profile : Profile). set_load profile old.showing.core.anchor past one) own.profile ∙ ap (λ (anchor : ℕ). set_load made.profile anchor past one) own.origin)
+
+  comes : (made : Purpose) (ended : Bool) (packets : List (List ℕ)) (past : List (Delivery Reading)) (told : List ToldCall) (text : List ℕ) (at : IsAt made ended old start packets past told text) → Comes made ended packets at.given past
+  comes made ended packets past told text at =
+      let next = has_next ended packets at.given at.stands in
+      let all = packets_read old.showing.core.profile old.demux.pid old.showing.core.page ended packets at.bytes in
+      let found = next_read old.showing.core.profile old.demux.pid old.showing.core.page ended packets at.given next.1 next.0 all.0 all.1 next.2.all in
+      record {
+        delivery = next.0;
+        one = found.0;
+        stands = takes ended packets at.given next.1 next.0 next.2;
+        read = read_more at.given next.0 past found.0 at.read found.1;
+        told = told_so made past found.0 at.own (answers ended packets at.given next.1 next.0 past found.0 next.2 at.read found.1) (loads ended packets at.given next.1 next.0 past found.0 next.2 at.read found.1);
+      }
+
+  at_one : (made : Purpose) (ended : Bool) (packets : List (List ℕ)) (past : List (Delivery Reading)) (told : List ToldCall) (text : List ℕ) (at : IsAt made ended old start packets past told text) (next : Comes made ended packets at.given past)
+      → IsAt made ended new fin packets (next.one ∷ past) (told ++ told_one end load ∷ []) (text ++ set_line (record { set = record { end = end; load = load }; done = done }))
+  at_one made ended packets past told text at next = record {
+    own = still_made made old new same at.own;
+    bytes = at.bytes;
+    given = at.given ++ next.delivery ∷ [];
+    stands = next.stands;
+    read = next.read;
+    pace = pace ∙ at.pace;
+    metered = subst (λ (calls : List Call). meters.Stands calls fin) (sym (calls_more told (told_one end load ∷ []))) (counts (calls_told told) at.metered);
+    whole = text_one (pace_of made.origin made.profile) told text end load done
+        (done_at (calls_told told) at.metered ∙ ap (λ (p : Pace). done_by p (calls_told told) (call_of_end end load)) at.pace) at.whole;
+  }
+
+  count_one : (calls : List ToldCall) → calls ≡ told_one end load ∷ [] → length calls + length (ready_sets new.sets) ≡ length (ready_sets old.sets)
+  count_one calls is = omega (arith, ap (λ (l : List ToldCall). length l) is, ap (λ (l : List ReadySet). length l) left, one_less (ready_sets old.sets) some)
+
+  -- the set that is ready was taken
+  pub set_taken : TakesSets before now old new start fin was is
+  set_taken = record {
+    goes = λ made ended packets past told text. λ at.
+        let next = comes made ended packets past told text at in (
+          next.one ∷ [],
+          set_line (record { set = record { end = end; load = load }; done = done }),
+          count_one (told_with made past (next.one ∷ [])) next.told,
+          subst (λ (calls : List ToldCall). IsAt made ended new fin packets (next.one ∷ past) (told ++ calls) (text ++ set_line (record { set = record { end = end; load = load }; done = done })))
+              (sym next.told) (at_one made ended packets past told text at next),
+          puts,
+        );
+  }
+
+-- ---- several sets
+
+pub taken_nothing : (shown : Received) (receiving : Receiving) (meter : Meter) (buffer : Buffered) → TakesSets shown shown receiving receiving meter meter buffer buffer
+taken_nothing shown receiving meter buffer = record {
+  goes = λ made ended packets past told text. λ at. (
+    [],
+    [],
+    omega arith,
+    subst (λ (calls : List ToldCall). IsAt made ended receiving meter packets past calls (text ++ [])) (sym (append-nil told))
+        (subst (λ (line : List ℕ). IsAt made ended receiving meter packets past told line) (sym (append-nil text)) at),
+    PutsOut-nothing shown buffer,
+  );
+}
+
+at_both : (made : Purpose) (ended : Bool) (receiving : Receiving) (meter : Meter) (packets : List (List ℕ)) (past more later : List (Delivery Reading)) (told : List ToldCall) (text first second : List ℕ)
+    → IsAt made ended receiving meter packets (later ++ (more ++ past)) ((told ++ told_with made past more) ++ told_with made (more ++ past) later) ((text ++ first) ++ second)
+    → IsAt made ended receiving meter packets ((later ++ more) ++ past) (told ++ told_with made past (later ++ more)) (text ++ (first ++ second))
+at_both made ended receiving meter packets past more later told text first second at =
+    subst (λ (all : List (Delivery Reading)). IsAt made ended receiving meter packets all (told ++ told_with made past (later ++ more)) (text ++ (first ++ second))) (sym (append_assoc later more past))
+    (subst (λ (calls : List ToldCall). IsAt made ended receiving meter packets (later ++ (more ++ past)) calls (text ++ (first ++ second)))
+    (append_assoc told (told_with made past more) (told_with made (more ++ past) later) ∙ ap (λ (calls : List ToldCall). told ++ calls) (sym (with_both made past more later)))
+    (subst (λ (line : List ℕ). IsAt made ended receiving meter packets (later ++ (more ++ past)) ((told ++ told_with made past more) ++ told_with made (more ++ past) later) line) (append_assoc text first second) at))
+
+count_both : (made : Purpose) (past more later : List (Delivery Reading)) (a b c : ℕ) → length (told_with made past more) + b ≡ a → length (told_with made (more ++ past) later) + c ≡ b
+    → length (told_with made past (later ++ more)) + c ≡ a
+count_both made past more later a b c one other =
+    omega (arith, one, other, ap (λ (l : List ToldCall). length l) (with_both made past more later), length-append (told_with made past more) (told_with made (more ++ past) later))
+
+pub taken_both : (a b c : Received) (old mid new : Receiving) (start between fin : Meter) (was half is : Buffered) → TakesSets a b old mid start between was half → TakesSets b c mid new between fin half is
+    → TakesSets a c old new start fin was is
+taken_both a b c old mid new start between fin was half is one other = record {
+  goes = λ made ended packets past told text. λ at.
+      let first = one.goes made ended packets past told text at in
+      let second = other.goes made ended packets (first.0 ++ past) (told ++ told_with made past first.0) (text ++ first.1) first.3 in (
+        second.0 ++ first.0,
+        first.1 ++ second.1,
+        count_both made past first.0 second.0 _ _ _ first.2 second.2,
+        at_both made ended new fin packets past first.0 second.0 told text first.1 second.1 second.3,
+        PutsOut-both a b c was half is first.1 second.1 first.4 second.4,
+      );
+}
+
+-- ---- a packet
+
+-- the calls of the sets that come with a packet, by the one that stands before its bytes
+parted : (first : Bool) (sets : List ReadySet) (rest : List ReadySet) (one other : List ToldCall) → rest ≡ behind_first first sets → length one + length rest ≡ length sets → length other + 0 ≡ length rest
+    → ((if first then take 1 (one ++ other) else []) ≡ one) × ((if first then drop 1 (one ++ other) else one ++ other) ≡ other)
+parted true [] rest [] [] left few fewer = (refl, refl)
+parted true [] rest [] (call ∷ other) left few fewer = absurd (omega (arith, few, fewer))
+parted true [] rest (call ∷ one) other left few fewer = absurd (omega (arith, few))
+parted true (set ∷ sets) rest [] other left few fewer = absurd (omega (arith, few, ap (λ (l : List ReadySet). length l) left))
+parted true (set ∷ sets) rest (call ∷ []) other left few fewer = (refl, refl)
+parted true (set ∷ sets) rest (call ∷ next ∷ one) other left few fewer = absurd (omega (arith, few, ap (λ (l : List ReadySet). length l) left))
+parted false sets rest [] other left few fewer = (refl, refl)
+parted false sets rest (call ∷ one) other left few fewer = absurd (omega (arith, few, ap (λ (l : List ReadySet). length l) left))
+
+joined : (told a b c d e : List ToldCall) → ((((told ++ a) ++ b) ++ c) ++ d) ++ e ≡ told ++ (a ++ (b ++ (c ++ (d ++ e))))
+joined told a b c d e =
+    append_assoc (((told ++ a) ++ b) ++ c) d e ∙ append_assoc ((told ++ a) ++ b) c (d ++ e) ∙ append_assoc (told ++ a) b (c ++ (d ++ e)) ∙ append_assoc told a (b ++ (c ++ (d ++ e)))
+
+module _ (event : Event) (arrival : PacketArrival) (slot : ℕ) where
+  -- what breaks off, arrives, and is dropped with the packet
+  abbrev breaks : List ToldCall
+  breaks = drop_where of_no_set (is_break event)
+
+  abbrev arrives : List ToldCall
+  arrives = arrived_in of_no_set slot arrival.bytes
+
+  abbrev drops : List ToldCall
+  drops = drop_where of_no_set arrival.dropped
+
+  packet_calls : (all one other : List ToldCall) → all ≡ one ++ other
+      → ((if arrival.before then take 1 (one ++ other) else []) ≡ one) × ((if arrival.before then drop 1 (one ++ other) else one ++ other) ≡ other)
+      → breaks ++ (one ++ (arrives ++ (other ++ drops))) ≡ calls_of_packet of_no_set event arrival slot all
+  packet_calls all one other is both =
+      ap (λ (l : List ToldCall). breaks ++ (l ++ (arrives ++ (other ++ drops)))) (sym both.0)
+      ∙ ap (λ (l : List ToldCall). breaks ++ ((if arrival.before then take 1 (one ++ other) else []) ++ (arrives ++ (l ++ drops)))) (sym both.1)
+      ∙ ap (calls_of_packet of_no_set event arrival slot) (sym is)
+
+  module _ (a b c : Received) (old mid new : Receiving) (m0 m1 m2 m3 m4 m5 : Meter) (was half is : Buffered)
+      (broken : Counts m0 m1 breaks)
+      (one : TakesSets a b old mid m1 m2 was half)
+      (left : ready_sets mid.sets ≡ behind_first arrival.before (ready_sets old.sets))
+      (arrived : Counts m2 m3 arrives)
+      (other : TakesSets b c mid new m3 m4 half is)
+      (none : ready_sets new.sets ≡ [])
+      (dropped : Counts m4 m5 drops) where
+    -- what comes of the whole packet
+    abbrev Comes_of : (made : Purpose) (packets : List (List ℕ)) (past : List (Delivery Reading)) (told : List ToldCall) (text : List ℕ) → Type 0
+    Comes_of made packets past told text =
+        (more : List (Delivery Reading)) × (line : List ℕ)
+        × IsAt made false new m5 packets (more ++ past) (told ++ calls_of_packet of_no_set event arrival slot (told_with made past more)) (text ++ line)
+        × PutsOut a c was is line
+
+    second : (made : Purpose) (packets : List (List ℕ)) (past more later : List (Delivery Reading)) (told : List ToldCall) (text line after : List ℕ)
+        → length (told_with made past more) + length (ready_sets mid.sets) ≡ length (ready_sets old.sets)
+        → length (told_with made (more ++ past) later) + length (ready_sets new.sets) ≡ length (ready_sets mid.sets)
+        → IsAt made false new m4 packets (later ++ (more ++ past)) ((((told ++ breaks) ++ told_with made past more) ++ arrives) ++ told_with made (more ++ past) later) ((text ++ line) ++ after)
+        → PutsOut a b was half line → PutsOut b c half is after → Comes_of made packets past told text
+    second made packets past more later told text line after few fewer at puts more_puts =
+        let first_calls : List ToldCall = told_with made past more in
+        let other_calls : List ToldCall = told_with made (more ++ past) later in
+        let rest : length other_calls + 0 ≡ length (ready_sets mid.sets) = omega (arith, fewer, ap (λ (l : List ReadySet). length l) none) in (
+          later ++ more,
+          line ++ after,
+          subst (λ (all : List (Delivery Reading)). IsAt made false new m5 packets all (told ++ calls_of_packet of_no_set event arrival slot (told_with made past (later ++ more))) (text ++ (line ++ after))) (sym (append_assoc later more past))
+              (subst (λ (l : List ℕ). IsAt made false new m5 packets (later ++ (more ++ past)) (told ++ calls_of_packet of_no_set event arrival slot (told_with made past (later ++ more))) l) (append_assoc text line after)
+              (subst (λ (calls : List ToldCall). IsAt made false new m5 packets (later ++ (more ++ past)) calls ((text ++ line) ++ after))
+              (joined told breaks first_calls arrives other_calls drops
+              ∙ ap (λ (calls : List ToldCall). told ++ calls)
+              (packet_calls (told_with made past (later ++ more)) first_calls other_calls (with_both made past more later)
+              (parted arrival.before (ready_sets old.sets) (ready_sets mid.sets) first_calls other_calls left few rest)))
+              (counted made false new m4 m5 packets (later ++ (more ++ past)) ((((told ++ breaks) ++ first_calls) ++ arrives) ++ other_calls) drops ((text ++ line) ++ after)
+              (drop_silent arrival.dropped) dropped at))),
+          PutsOut-both a b c was half is line after puts more_puts,
+        )
+
+    first : (made : Purpose) (packets : List (List ℕ)) (past more : List (Delivery Reading)) (told : List ToldCall) (text line : List ℕ)
+        → length (told_with made past more) + length (ready_sets mid.sets) ≡ length (ready_sets old.sets)
+        → IsAt made false mid m2 packets (more ++ past) ((told ++ breaks) ++ told_with made past more) (text ++ line)
+        → PutsOut a b was half line → Comes_of made packets past told text
+    first made packets past more told text line few at puts =
+        let next = other.goes made false packets (more ++ past) (((told ++ breaks) ++ told_with made past more) ++ arrives) (text ++ line)
+        (counted made false mid m2 m3 packets (more ++ past) ((told ++ breaks) ++ told_with made past more) arrives (text ++ line) (arrived_silent slot arrival.bytes) arrived at) in
+        second made packets past more next.0 told text line next.1 few next.2 next.3 puts next.4
+
+    -- the calls of a packet, one after the other
+    pub calls_taken : TakesCalls event arrival slot a c old new m0 m5 was is
+    calls_taken = record {
+      goes = λ made packets past told text. λ at.
+          let next = one.goes made false packets past (told ++ breaks) text (counted made false old m0 m1 packets past told breaks text (drop_silent (is_break event)) broken at) in
+          first made packets past next.0 told text next.1 next.2 next.3 next.4;
+    }

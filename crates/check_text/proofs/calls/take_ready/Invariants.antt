@@ -1,0 +1,19 @@
+use Rattle.std.proofs.Common.{◌≡◌, length}
+use Rattle.display_sets.specs.Gathered.{ready_sets}
+use Rattle.receiver.specs.Receiving.{IsSame}
+use Rattle.check_text.specs.Checking.{TakesSets}
+use Rattle.check_text.proofs.calls.take_ready.Given as goal
+
+abbrev pub invariant-loop-out : goal.invariant-loop-out
+invariant-loop-out g l =
+    record {
+      sets : TakesSets
+          (g.K.Sink.received l.fn.out)
+          (g.K.Sink.received l.out)
+          l.fn.receiver l.receiver l.fn.levels l.levels l.fn.buffer l.buffer;
+      same : IsSame l.fn.receiver l.receiver;
+      next : l.levels.next ≡ l.fn.levels.next;
+    }
+
+abbrev pub decreases-loop-out : goal.decreases-loop-out
+decreases-loop-out g l = length (ready_sets l.receiver.sets)

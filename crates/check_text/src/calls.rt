@@ -1,0 +1,199 @@
+//! The calls of the coded data buffer that a packet gives, with those of the sets that come with
+//! it.
+
+ghost use Rattle.std.specs.Prelude.{◌≡◌, ◌+◌, ◌<◌, ◌≤◌, ◌^◌, ℕ, List, [], ◌∷◌, IsSome};
+ghost use Rattle.buffer_model.specs.Calls.{Call};
+ghost use Rattle.buffer_model.specs.Meters.{Stands};
+ghost use Rattle.decoder_model.specs.PacketArrivals.{is_break};
+ghost use Rattle.display_sets.specs.Gathered.{first_ready, ready_sets, sets_behind};
+ghost use Rattle.packet_source.specs.declared.limits.TheConstants.{STREAM_LIMIT};
+ghost use Rattle.receiver.specs.Arrived.{arrival_value};
+ghost use Rattle.receiver.specs.Receiving.{IsSame};
+ghost use Rattle.stream_calls.specs.StreamCalls.{arrived_in, drop_where as drop_calls};
+ghost use Rattle.stream_calls.specs.ToldSets.{call_of_end, done_by, of_no_set};
+ghost use Rattle.stream_syntax.specs.declared.wire.TheConstants.{PAYLOAD_LENGTH};
+ghost use Rattle.check_text.specs.Checking.{AllTaken, Counts, HasNext, TakesCalls, TakesSets};
+ghost use Rattle.check_text.specs.Checking.{behind_first};
+
+use crate::lines::set_line;
+use buffer_model::Levels;
+use command_text::{TextBuffer, put};
+use decoder_model::SetEnd;
+use receiver::{Arrival, Receiver};
+use std::thread::Threads;
+use stream_syntax::Event;
+use sub_base::{BandGate, SetLoad, Sink};
+
+/// Tells the meter the calls of the packet of that place, by its event and what it brought, with
+/// those of the sets that come with it, whose lines are put out. The set that a unit of another
+/// time makes ready stands before the packet's bytes.
+pub(crate) fn take_calls<R: Threads + Sync, G: BandGate + Sync, K: Sink>(
+    rt: &R,
+    gate: &G,
+    out: &mut K,
+    buffer: &mut TextBuffer,
+    receiver: &mut Receiver,
+    levels: &mut Levels,
+    place: u64,
+    event: Event,
+    arrival: Arrival,
+)
+    requires coded { receiver.old.showing.core.profile.coded ≤ 2 ^ 18 }
+    requires place { place < STREAM_LIMIT }
+    requires next { levels.old.next ≤ place }
+    requires short { arrival.bytes ≤ PAYLOAD_LENGTH }
+    ensures calls { TakesCalls event (arrival_value arrival) place
+        (K.received out.old)
+        (K.received out.new)
+        receiver.old receiver.new levels.old levels.new buffer.old buffer.new }
+    ensures none { ready_sets receiver.new.sets ≡ [] }
+    ensures all { AllTaken receiver.new }
+    ensures same { IsSame receiver.old receiver.new }
+    ensures next { levels.new.next ≤ place + 1 }
+{
+    drop_where(levels, is_broken_off(event));
+    take_first(rt, gate, out, buffer, receiver, levels, arrival.before);
+    arrive(levels, place, u64::from(arrival.bytes));
+    take_ready(rt, gate, out, buffer, receiver, levels);
+    drop_where(levels, arrival.dropped);
+}
+
+/// Whether a packet breaks off a unit in hand, by what became of it.
+fn is_broken_off(event: Event) -> bool
+    ensures { result ≡ is_break event }
+{
+    match event {
+        Event::Gap { .. } | Event::ErrorFlag | Event::Short { .. } => true,
+        Event::Followed
+        | Event::Other
+        | Event::NoPayload
+        | Event::Double
+        | Event::Dropped
+        | Event::TooLong { .. } => false,
+    }
+}
+
+/// The bytes of a unit are dropped, where there is one to drop.
+fn drop_where(levels: &mut Levels, dropped: bool)
+    ensures calls { Counts levels.old levels.new (drop_calls of_no_set dropped) }
+    ensures next { levels.new.next ≡ levels.old.next }
+{
+    if dropped {
+        levels.drop_unit();
+    }
+}
+
+/// A packet of that place arrives, where any of its bytes do.
+fn arrive(levels: &mut Levels, place: u64, bytes: u64)
+    requires place { place < STREAM_LIMIT }
+    requires next { levels.old.next ≤ place }
+    requires short { bytes ≤ PAYLOAD_LENGTH }
+    ensures calls { Counts levels.old levels.new (arrived_in of_no_set place bytes) }
+    ensures next { levels.new.next ≤ place + 1 }
+{
+    if bytes != 0 {
+        levels.arrive(place, bytes);
+    }
+}
+
+/// Takes the first of the sets that are ready, where it is to be taken and there is one.
+fn take_first<R: Threads + Sync, G: BandGate + Sync, K: Sink>(
+    rt: &R,
+    gate: &G,
+    out: &mut K,
+    buffer: &mut TextBuffer,
+    receiver: &mut Receiver,
+    levels: &mut Levels,
+    first: bool,
+)
+    requires coded { receiver.old.showing.core.profile.coded ≤ 2 ^ 18 }
+    ensures sets { TakesSets
+        (K.received out.old)
+        (K.received out.new)
+        receiver.old receiver.new levels.old levels.new buffer.old buffer.new }
+    ensures left { ready_sets receiver.new.sets
+        ≡ behind_first first (ready_sets receiver.old.sets) }
+    ensures same { IsSame receiver.old receiver.new }
+    ensures next { levels.new.next ≡ levels.old.next }
+{
+    if first {
+        if let Some(_) = receiver.ready() {
+            take_next(rt, gate, out, buffer, receiver, levels);
+        }
+    }
+}
+
+/// Takes the sets that are ready, one after the other, and puts out their lines.
+pub(crate) fn take_ready<R: Threads + Sync, G: BandGate + Sync, K: Sink>(
+    rt: &R,
+    gate: &G,
+    out: &mut K,
+    buffer: &mut TextBuffer,
+    receiver: &mut Receiver,
+    levels: &mut Levels,
+)
+    requires coded { receiver.old.showing.core.profile.coded ≤ 2 ^ 18 }
+    ensures sets { TakesSets
+        (K.received out.old)
+        (K.received out.new)
+        receiver.old receiver.new levels.old levels.new buffer.old buffer.new }
+    ensures none { ready_sets receiver.new.sets ≡ [] }
+    ensures all { AllTaken receiver.new }
+    ensures same { IsSame receiver.old receiver.new }
+    ensures next { levels.new.next ≡ levels.old.next }
+{
+    while let Some(_) = receiver.ready() {
+        take_next(rt, gate, out, buffer, receiver, levels);
+    }
+}
+
+/// The same of one set.
+fn take_next<R: Threads + Sync, G: BandGate + Sync, K: Sink>(
+    rt: &R,
+    gate: &G,
+    out: &mut K,
+    buffer: &mut TextBuffer,
+    receiver: &mut Receiver,
+    levels: &mut Levels,
+)
+    requires ready { IsSome (first_ready (ready_sets receiver.old.sets)) }
+    requires next { HasNext receiver.old }
+    requires coded { receiver.old.showing.core.profile.coded ≤ 2 ^ 18 }
+    ensures sets { TakesSets
+        (K.received out.old)
+        (K.received out.new)
+        receiver.old receiver.new levels.old levels.new buffer.old buffer.new }
+    ensures left { ready_sets receiver.new.sets ≡ sets_behind (ready_sets receiver.old.sets) }
+    ensures same { IsSame receiver.old receiver.new }
+    ensures next { levels.new.next ≡ levels.old.next }
+{
+    let end = receiver.take(rt, 1, gate);
+    let load = receiver.load();
+    let done = count_set(levels, end, load);
+    put(out, buffer, set_line(end, load, done).as_bytes());
+}
+
+/// Tells the meter of a set with that end and load: one that is not kept is a drop. Answers the
+/// tick at which it is done.
+fn count_set(levels: &mut Levels, end: SetEnd, load: SetLoad) -> u64
+    requires pts { load.pts < 2 ^ 62 }
+    requires size { load.size < 2 ^ 62 }
+    requires painted { load.painted < 2 ^ 62 }
+    ensures stands { (past : List Call) → Stands past levels.old
+        → Stands (call_of_end end load ∷ past) levels.new }
+    ensures done { (past : List Call) → Stands past levels.old
+        → result ≡ done_by levels.old.pace past (call_of_end end load) }
+    ensures next { levels.new.next ≡ levels.old.next }
+    ensures pace { levels.new.pace ≡ levels.old.pace }
+{
+    match end {
+        SetEnd::Shown => levels.set_whole(load),
+        SetEnd::Waiting => levels.set_whole(load),
+        SetEnd::Broken(_) => levels.set_whole(load),
+        SetEnd::NotLater { last: _ } => {
+            let done = levels.tick();
+            levels.drop_unit();
+            done
+        }
+    }
+}

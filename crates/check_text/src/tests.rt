@@ -1,0 +1,156 @@
+ghost use Rattle.std.specs.Prelude.{◌≤◌, length};
+
+use super::*;
+use command_text::{TextBuffer, flush};
+use packet_source::{PacketSource, StreamEnd};
+use packet_walk::WalkEnd;
+use std::alloc::Global;
+use std::test::Fail;
+use std::thread::Threads;
+use sub_base::{MemSink, MemSource, NoGate, Profile, ProfileName};
+
+/// A page without regions that begins an epoch, and no end of its set.
+const OPEN: [u8; 8] = [0x0F, 0x10, 0x00, 0x01, 0x00, 0x02, 0x0C, 0x0B];
+
+/// The end of a set.
+const END: [u8; 6] = [0x0F, 0x80, 0x00, 0x01, 0x00, 0x00];
+
+/// A page without regions of state normal, and the end of its set.
+const NORMAL: [u8; 14] = [
+    0x0F, 0x10, 0x00, 0x01, 0x00, 0x02, 0x0C, 0x13, 0x0F, 0x80, 0x00, 0x01, 0x00, 0x00,
+];
+
+/// A display of four columns and two rows, filled with one code, which takes a tick to be painted;
+/// an epoch begins with it.
+#[rattlefmt::skip]
+const FILLED: [u8; 47] = [
+    0x0F, 0x14, 0x00, 0x01, 0x00, 0x05, 0x07, 0x00, 0x03, 0x00, 0x01,
+    0x0F, 0x10, 0x00, 0x01, 0x00, 0x08, 0x0C, 0x0B, 0x00, 0xFF, 0x00, 0x00, 0x00, 0x00,
+    0x0F, 0x11, 0x00, 0x01, 0x00, 0x0A, 0x00, 0x0F, 0x00, 0x04, 0x00, 0x02, 0x6F, 0x00, 0x01, 0x03,
+    0x0F, 0x80, 0x00, 0x01, 0x00, 0x00,
+];
+
+/// The second packet is lost. The sets have 64, 31, 23 and again 64 bytes, and a slot 705 ticks;
+/// the third set has no page, and the last one an earlier time than the others.
+const ALL_ENDS: &str =
+    "set 90000 shown 64 65\nset 180000 waiting 31 90031\nset 270000 broken 23 180023\nset 45000 notlater 64 2115\npeak 118\nbreach none\n";
+
+/// The first set is whole at slot 0, by the unit of another time at slot 2.
+const BEFORE: &str = "set 90000 shown 25 25\nset 180000 shown 64 90065\npeak 64\nbreach none\n";
+
+/// The last set is ready with the end of the stream.
+const AT_END: &str = "set 64 shown 64 65\nset 90000 shown 25 730\npeak 64\nbreach late 64 65\n";
+
+/// The bytes of a PES packet before its segments, of which there are so many bytes.
+fn head_of(pts: u32, length: u8) -> [u8; 16]
+    requires { length ≤ 160 }
+{
+    [
+        0x00,
+        0x00,
+        0x01,
+        0xBD,
+        0x00,
+        11 + length,
+        0x84,
+        0x80,
+        0x05,
+        0x21 + 2 * (pts >> 30) as u8,
+        ((pts >> 22) % 256) as u8,
+        ((pts >> 15) % 128 * 2 + 1) as u8,
+        ((pts >> 7) % 256) as u8,
+        (pts % 128 * 2 + 1) as u8,
+        0x20,
+        0x00,
+    ]
+}
+
+/// A transport packet of PID 256 with a PES packet of these segments, of 17 bytes more, at its end.
+fn packet_of(counter: u8, pts: u32, segments: &[u8]) -> [u8; 188]
+    requires { length segments.now ≤ 160 }
+{
+    let length = segments.len() as u8;
+    let begin = 171 - segments.len();
+    let mut packet = [0xFF; 188];
+    packet[..6].copy_from_slice(&[0x47, 0x41, 0x00, 0x30 + counter % 16, 166 - length, 0x00]);
+    packet[begin..begin + 16].copy_from_slice(&head_of(pts, length));
+    packet[begin + 16..187].copy_from_slice(segments);
+    packet
+}
+
+/// A packet without subtitles.
+fn null_packet() -> [u8; 188] {
+    let mut packet = [0xFF; 188];
+    packet[..4].copy_from_slice(&[0x47, 0x1F, 0xFF, 0x10]);
+    packet
+}
+
+/// The packets, one after the other.
+fn joined(alloc: Global, packets: &[[u8; 188]]) -> Result<Vec<u8>, Fail> {
+    let mut bytes = Vec::new(alloc);
+    for packet in packets {
+        bytes.extend_from_slice(packet)?;
+    }
+    Ok(bytes)
+}
+
+/// What is told of the packets to the end of the stream, of page 1 out of PID 256 from tick 0 on.
+fn told_of<R: Threads + Sync>(
+    rt: &R,
+    alloc: Global,
+    packets: &[[u8; 188]],
+) -> Result<MemSink, Fail> {
+    let bytes = joined(alloc, packets)?;
+    let mut stream = MemSource::make(alloc, bytes, 100_000, Vec::new(alloc));
+    let mut out = MemSink::make(alloc, 100_000, Vec::new(alloc));
+    let mut check = Check::make(alloc, &Profile::of(ProfileName::Sd), 0, 256, 1)?;
+    let mut buffer = TextBuffer::make(alloc)?;
+    let mut source = PacketSource::make(alloc)?;
+    let end = check.walk(rt, &NoGate, &mut stream, &mut out, &mut buffer, &mut source);
+    if let WalkEnd::Stream(StreamEnd::Whole { .. }) = end {
+        check.finish(rt, &NoGate, &mut out, &mut buffer);
+        flush(&mut out, &mut buffer);
+        Ok(out)
+    } else {
+        Err(Fail::from("the stream is not read whole"))
+    }
+}
+
+#[test]
+fn what_becomes_of_sets(rt: HostRuntime) -> Result<(), Fail> {
+    let packets = [
+        packet_of(0, 90_000, &FILLED),
+        packet_of(2, 180_000, &NORMAL),
+        packet_of(3, 270_000, &END),
+        packet_of(4, 45_000, &FILLED),
+    ];
+    assert_eq!(rt;
+        told_of(&rt, rt.alloc(), &packets)?.written(),
+        ALL_ENDS.as_bytes()
+    );
+    Ok(())
+}
+
+#[test]
+fn set_stands_before_bytes_of_another_time(rt: HostRuntime) -> Result<(), Fail> {
+    let packets = [
+        packet_of(0, 90_000, &OPEN),
+        null_packet(),
+        packet_of(1, 180_000, &FILLED),
+    ];
+    assert_eq!(rt;
+        told_of(&rt, rt.alloc(), &packets)?.written(),
+        BEFORE.as_bytes()
+    );
+    Ok(())
+}
+
+#[test]
+fn set_is_late(rt: HostRuntime) -> Result<(), Fail> {
+    let packets = [packet_of(0, 64, &FILLED), packet_of(1, 90_000, &OPEN)];
+    assert_eq!(rt;
+        told_of(&rt, rt.alloc(), &packets)?.written(),
+        AT_END.as_bytes()
+    );
+    Ok(())
+}

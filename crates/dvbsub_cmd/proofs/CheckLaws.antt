@@ -1,0 +1,17 @@
+-- What `check` tells is what was asked.
+use Rattle.std.proofs.Common.{◌≡◌, ◌∙◌, ℕ, Bool, List, subst}
+use Rattle.check_text.specs.CheckText.{IsCheckText}
+use Rattle.check_text.specs.Checking.{Checking, IsSameCheck}
+use Rattle.sub_base.specs.Profile.{profile_of}
+use Rattle.sub_base.specs.declared.profile.Profile.{Profile}
+use Rattle.sub_base.specs.declared.profile.ProfileName.{ProfileName}
+use Rattle.dvbsub_cmd.specs.Checks.{check_tells, checks}
+
+-- what the receiver tells is what the command tells
+pub tells_as_asked : (name : ProfileName) (origin pid page : ℕ) (made walked : Checking) (ended : Bool) (packets : List (List ℕ)) (text : List ℕ) → IsSameCheck made walked → made.receiving.showing.core.profile ≡ profile_of name
+    → made.receiving.showing.core.anchor ≡ origin → made.receiving.demux.pid ≡ pid → made.receiving.showing.core.page ≡ page → check_tells walked ended packets text → checks name origin pid page ended packets text
+tells_as_asked name origin pid page made walked ended packets text same profile_is origin_is pid_is page_is is =
+    subst (λ (p : Profile). IsCheckText p origin pid page ended packets text) (same.receiver.core.profile ∙ profile_is)
+    (subst (λ (n : ℕ). IsCheckText walked.receiving.showing.core.profile n pid page ended packets text) (same.receiver.core.anchor ∙ origin_is)
+    (subst (λ (n : ℕ). IsCheckText walked.receiving.showing.core.profile walked.receiving.showing.core.anchor n page ended packets text) (same.receiver.pid ∙ pid_is)
+    (subst (λ (n : ℕ). IsCheckText walked.receiving.showing.core.profile walked.receiving.showing.core.anchor walked.receiving.demux.pid n ended packets text) (same.receiver.core.page ∙ page_is) is)))

@@ -1,0 +1,72 @@
+ghost use Rattle.std.specs.Prelude.{◌<◌};
+ghost use Rattle.check_text.specs.Checking.{HasChecked};
+ghost use Rattle.shown_stream.specs.Compiled.{IsCompiledFor};
+ghost use Rattle.dvbsub_cmd.specs.Checks.{check_tells, checks};
+ghost use Rattle.dvbsub_cmd.specs.Closing.{Finishes};
+ghost use Rattle.dvbsub_cmd.specs.StreamOutcome.{IsStreamCause};
+
+use crate::closing::{close, is_whole};
+use crate::status::Status;
+use check_text::Check;
+use command_text::TextBuffer;
+use packet_source::PacketSource;
+use packet_walk::WalkEnd;
+use std::alloc::Global;
+use std::thread::Threads;
+use sub_base::{BandGate, Profile, ProfileName, Sink, Source};
+
+/// Writes what becomes of each display set of a stream, when it is done, and the greatest level of the coded data buffer with the
+/// first breach. All memory is taken before the first byte is read.
+pub fn check<R: Threads + Sync, A: Source, K: Sink, G: BandGate + Sync>(
+    rt: &R,
+    alloc: Global,
+    profile: ProfileName,
+    origin: u64,
+    pid: u16,
+    page: u16,
+    stream: &mut A,
+    out: &mut K,
+    gate: &G,
+) -> Status
+    requires profile { IsCompiledFor profile }
+    requires origin { origin < 8589934592 }
+    ensures { IsStreamCause (checks profile origin pid page) pid
+        (A.supplied stream.old)
+        (A.supplied stream.new)
+        (K.received out.old)
+        (K.received out.new)
+        result }
+{
+    let profile = Profile::of(profile);
+    let Ok(mut check) = Check::make(alloc, &profile, origin, pid, page) else {
+        return Status::Memory;
+    };
+    let Ok(mut buffer) = TextBuffer::make(alloc) else {
+        return Status::Memory;
+    };
+    let Ok(mut packets) = PacketSource::make(alloc) else {
+        return Status::Memory;
+    };
+    let end = check.walk(rt, gate, stream, out, &mut buffer, &mut packets);
+    finish(rt, gate, &mut check, out, &mut buffer, end);
+    close(out, &mut buffer, end)
+}
+
+/// Puts out what is told of a stream that has ended, where it was read to its end.
+fn finish<R: Threads + Sync, K: Sink, G: BandGate + Sync>(
+    rt: &R,
+    gate: &G,
+    check: &mut Check,
+    out: &mut K,
+    buffer: &mut TextBuffer,
+    end: WalkEnd,
+)
+    ensures { Finishes (HasChecked check.old) (check_tells check.old)
+        (K.received out.old)
+        (K.received out.new)
+        buffer.old buffer.new end }
+{
+    if is_whole(end) {
+        check.finish(rt, gate, out, buffer);
+    }
+}
