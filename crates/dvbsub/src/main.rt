@@ -13,7 +13,8 @@ use std::{env, io};
 use sub_base::{FileSink, FileSource, NoGate, NoMemory, Words};
 
 /// The commands, one a line.
-const COMMANDS: &str = "compile PROFILE PID PAGE SCRIPT FONT OUT\nlist PID STREAM OUT\ndump PROFILE PID PAGE BANDS STREAM OUT TICK...\ncheck PROFILE ORIGIN PID PAGE STREAM OUT\nexpect SCRIPT FONT OUT TICK...";
+const COMMANDS: &str =
+    "compile PROFILE PID PAGE SCRIPT FONT OUT\nlist PID STREAM OUT\ndump PROFILE PID PAGE BANDS STREAM OUT TICK...\ncheck PROFILE ORIGIN PID PAGE STREAM OUT\nexpect SCRIPT FONT OUT TICK...";
 
 /// Why the words of the command line were not read.
 #[derive(Drop)]
