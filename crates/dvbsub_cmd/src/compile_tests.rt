@@ -15,7 +15,7 @@ const SIXTY_LETTERS: &str =
     "origin,0\ndisplay,720,576\nrefresh,5\nepoch,900000\nregion,0,0,480,720,80,4,0\ncue,900000,1260000,0,180,16,7,0,\"HHHHHHHHHHHHHHHHHHHHHHHHHHHHHH\nHHHHHHHHHHHHHHHHHHHHHHHHHHHHHH\"\n";
 
 /// Two epochs with the same cue.
-const TWO_EPOCHS: &str =
+pub(crate) const TWO_EPOCHS: &str =
     "origin,0\ndisplay,4,2\nrefresh,5\nepoch,90000\nregion,0,0,0,4,2,8,0\npicture,a,8,4,2,0102020203030303\nplace,90000,180000,0,0,0,solid,a\nepoch,270000\nregion,0,0,0,4,2,8,0\nplace,270000,360000,0,0,0,solid,a\n";
 
 /// A cue of forty seconds, whose page is sent again each five seconds.

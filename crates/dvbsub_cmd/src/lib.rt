@@ -41,6 +41,8 @@ pub use top_call::{tell, top};
 #[cfg(test)]
 mod compile_tests;
 #[cfg(test)]
+mod entered_tests;
+#[cfg(test)]
 mod list_tests;
 #[cfg(test)]
 mod set_tests;
