@@ -2,6 +2,8 @@
 #![tactic(auto)]
 
 mod dump;
+mod laws;
 mod pictures;
 
 pub use dump::Dump;
+pub use laws::packets_are_shown;
