@@ -1,4 +1,5 @@
-//! Text that commands put out: lines, pictures as text, and a buffer that is written to a sink in large pieces.
+//! Text that commands put out: lines, pictures as text, and a buffer that is written to a sink in
+//! large pieces.
 #![tactic(auto)]
 
 mod line;

@@ -8,7 +8,8 @@ use crate::line::Line;
 use crate::text_buffer::{TextBuffer, put};
 use sub_base::{CLEAR, Colour, Sink};
 
-/// Puts out the text of the picture at a tick, with these sides in pixels and these colours by rows.
+/// Puts out the text of the picture at a tick, with these sides in pixels and these colours by
+/// rows.
 pub fn put_picture<K: Sink>(
     sink: &mut K,
     buffer: &mut TextBuffer,

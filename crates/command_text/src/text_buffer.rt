@@ -11,8 +11,8 @@ const ROOM: usize = 65_536;
 /// The most bytes of text that are put out at once.
 const LONGEST: usize = 128;
 
-/// Text that waits to be written. Once its sink has failed, further text is dropped: a command finishes what it has in
-/// hand, and looks for the failure then.
+/// Text that waits to be written. Once its sink has failed, further text is dropped: a command
+/// finishes what it has in hand, and looks for the failure then.
 #[derive(Drop)]
 pub struct TextBuffer {
     bytes: Vec<u8>,
@@ -90,7 +90,8 @@ impl TextBuffer {
     }
 }
 
-/// Puts out a text of at most 128 bytes: it waits behind the text before it, which is written first where there is no room.
+/// Puts out a text of at most 128 bytes: it waits behind the text before it, which is written first
+/// where there is no room.
 pub fn put<K: Sink>(sink: &mut K, buffer: &mut TextBuffer, text: &[u8])
     requires { length text.now ≤ 128 }
     ensures { PutsOut

@@ -18,8 +18,8 @@ use std::thread::Threads;
 use stream_syntax::PacketFault;
 use sub_base::{BandGate, NoMemory, Profile, Sink, Source};
 
-/// A receiver, and the ticks at which it is to be told what it shows. The text of a tick is put out as soon as a set with a later
-/// time is there, and those of the others at the end of the stream.
+/// A receiver, and the ticks at which it is to be told what it shows. The text of a tick is put out
+/// as soon as a set with a later time is there, and those of the others at the end of the stream.
 #[derive(Drop)]
 pub struct Dump<'a> {
     bands: u32,
@@ -34,9 +34,19 @@ impl<'a> Model for Dump<'a> {
 
     ghost Value = { Dumping };
 
-    ghost view = { λ d. record { receiving = d.receiver; bands = d.bands; ticks = d.ticks.now; told = d.told } };
+    ghost view = { λ d. record {
+      receiving = d.receiver;
+      bands = d.bands;
+      ticks = d.ticks.now;
+      told = d.told;
+    } };
 
-    ghost invariant = { λ d. IsDumping (record { receiving = d.receiver; bands = d.bands; ticks = d.ticks.now; told = d.told }) };
+    ghost invariant = { λ d. IsDumping (record {
+      receiving = d.receiver;
+      bands = d.bands;
+      ticks = d.ticks.now;
+      told = d.told;
+    }) };
 }
 
 impl<'a> Dump<'a> {
@@ -54,8 +64,9 @@ impl<'a> Dump<'a> {
     ghost use Rattle.dump_text.specs.DumpText.{IsDumpText};
     ghost use Rattle.dump_text.specs.Dumping.{AreAsked, HasDumped, IsSameDump};
 
-    /// A receiver of a profile for a PID and a page, which draws in so many bands, 1 to 64. Its lifted times begin at the first of the
-    /// ticks, which rise, less 2^32. All memory is taken here.
+    /// A receiver of a profile for a PID and a page, which draws in so many bands, 1 to 64. Its
+    /// lifted times begin at the first of the ticks, which rise, less 2^32. All memory is taken
+    /// here.
     pub fn make(
         alloc: Global,
         bands: u32,
@@ -82,8 +93,8 @@ impl<'a> Dump<'a> {
         })
     }
 
-    /// Takes the packets of a stream, those of one read after the other, up to its end or to what stops the walk. Text may wait
-    /// in the buffer then.
+    /// Takes the packets of a stream, those of one read after the other, up to its end or to what
+    /// stops the walk. Text may wait in the buffer then.
     pub fn walk<R, G, A, K>(
         &mut self,
         rt: &R,
@@ -147,8 +158,10 @@ impl<'a> Dump<'a> {
             (K.received out.old)
             (K.received out.new)
             self.old self.new buffer.old buffer.new first packets.now) }
-        ensures refused { IfErr result (λ refused. (k : ℕ) × (k < length packets.now) × (refused.packet ≡ first + k)
-            × (packet_fault self.old.receiving.demux.pid (slice_index_or packets.now k []) ≡ Some refused.fault)
+        ensures refused { IfErr result (λ refused.
+            (k : ℕ) × (k < length packets.now) × (refused.packet ≡ first + k)
+            × (packet_fault self.old.receiving.demux.pid (slice_index_or packets.now k [])
+            ≡ Some refused.fault)
             × Tells HasDumped self.old.receiving.demux.pid
             (K.received out.old)
             (K.received out.new)
@@ -167,8 +180,8 @@ impl<'a> Dump<'a> {
         Ok(())
     }
 
-    /// Takes the next packet, and puts out the texts of the ticks that are settled with it. A packet that cannot be taken changes
-    /// nothing.
+    /// Takes the next packet, and puts out the texts of the ticks that are settled with it. A
+    /// packet that cannot be taken changes nothing.
     fn take_packet<R: Threads + Sync, G: BandGate + Sync, K: Sink>(
         &mut self,
         rt: &R,
@@ -177,7 +190,8 @@ impl<'a> Dump<'a> {
         buffer: &mut TextBuffer,
         packet: &[u8; 188],
     ) -> Result<(), PacketFault>
-        ensures fault { MatchResult result (λ _. packet_fault self.old.receiving.demux.pid packet.now ≡ None)
+        ensures fault { MatchResult result
+            (λ _. packet_fault self.old.receiving.demux.pid packet.now ≡ None)
             (λ fault. packet_fault self.old.receiving.demux.pid packet.now ≡ Some fault) }
         ensures same { IsSameDump self.old self.new }
         ensures told { OnOk result ((place : ℕ) → TellsOne HasDumped
@@ -242,8 +256,8 @@ fn anchor(ticks: &[u64]) -> u64
     }
 }
 
-/// Takes the sets that are ready, one after the other. Before each, puts out the texts of the ticks from a place on that it
-/// settles. Answers how many ticks were told.
+/// Takes the sets that are ready, one after the other. Before each, puts out the texts of the ticks
+/// from a place on that it settles. Answers how many ticks were told.
 fn take_ready<R: Threads + Sync, G: BandGate + Sync, K: Sink>(
     rt: &R,
     gate: &G,
@@ -301,8 +315,9 @@ fn take_next<R: Threads + Sync, G: BandGate + Sync, K: Sink>(
     told
 }
 
-/// Puts out the texts of the ticks from a place on that a set with that lifted time settles: those before it, since what is shown
-/// then does not change with the set. Answers how many ticks were told.
+/// Puts out the texts of the ticks from a place on that a set with that lifted time settles: those
+/// before it, since what is shown then does not change with the set. Answers how many ticks were
+/// told.
 fn put_settled<K: Sink>(
     out: &mut K,
     buffer: &mut TextBuffer,

@@ -11,8 +11,8 @@ use command_text::{TextBuffer, put_clear, put_picture};
 use receiver::{Receiver, View};
 use sub_base::Sink;
 
-/// Puts out the texts of what is shown at the ticks from a place on, up to the first that is not before an end; answers the
-/// place of that one. The ticks rise.
+/// Puts out the texts of what is shown at the ticks from a place on, up to the first that is not
+/// before an end; answers the place of that one. The ticks rise.
 pub(crate) fn put_before<K: Sink>(
     out: &mut K,
     buffer: &mut TextBuffer,

@@ -15,8 +15,8 @@ use std::alloc::Global;
 use std::thread::Threads;
 use sub_base::{BandGate, Profile, ProfileName, Sink, Source};
 
-/// Writes what becomes of each display set of a stream, when it is done, and the greatest level of the coded data buffer with the
-/// first breach. All memory is taken before the first byte is read.
+/// Writes what becomes of each display set of a stream, when it is done, and the greatest level of
+/// the coded data buffer with the first breach. All memory is taken before the first byte is read.
 pub fn check<R: Threads + Sync, A: Source, K: Sink, G: BandGate + Sync>(
     rt: &R,
     alloc: Global,

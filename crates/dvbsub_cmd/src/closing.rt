@@ -8,7 +8,8 @@ use packet_source::StreamEnd;
 use packet_walk::{Refused, WalkEnd};
 use sub_base::Sink;
 
-/// Writes the text that waits, and answers how the command ended, by how its walk over the stream did.
+/// Writes the text that waits, and answers how the command ended, by how its walk over the stream
+/// did.
 pub fn close<K: Sink>(out: &mut K, buffer: &mut TextBuffer, end: WalkEnd) -> Status
     ensures { ClosesEnd
         (K.received out.old)

@@ -18,8 +18,8 @@ use std::alloc::Global;
 use std::thread::Threads;
 use sub_base::{BandGate, Profile, ProfileName, Sink, Source, Words};
 
-/// Writes the pictures that a receiver shows of a stream at the ticks that are asked for, each as soon as no set can change it.
-/// All memory is taken before the first byte is read.
+/// Writes the pictures that a receiver shows of a stream at the ticks that are asked for, each as
+/// soon as no set can change it. All memory is taken before the first byte is read.
 pub fn dump<R: Threads + Sync, A: Source, K: Sink, G: BandGate + Sync>(
     rt: &R,
     alloc: Global,

@@ -41,8 +41,9 @@ fn checked<R: Threads + Sync>(
     Ok(out)
 }
 
-/// A compiled script has no breach in a receiver that enters behind any number of its first packets, which get their slots all the
-/// same. Behind a null packet, and before another one, nothing else is asked than before both.
+/// A compiled script has no breach in a receiver that enters behind any number of its first
+/// packets, which get their slots all the same. Behind a null packet, and before another one,
+/// nothing else is asked than before both.
 fn is_without_breach<R: Threads + Sync + Abort>(
     rt: &R,
     alloc: Global,

@@ -10,7 +10,8 @@ use packet_walk::walk_packets;
 use std::alloc::Global;
 use sub_base::{Sink, Source};
 
-/// Lists the losses, units and segments of a PID in a stream. All memory is taken before the first byte is read.
+/// Lists the losses, units and segments of a PID in a stream. All memory is taken before the first
+/// byte is read.
 pub fn list<A: Source, K: Sink>(alloc: Global, pid: u16, stream: &mut A, out: &mut K) -> Status
     ensures { IsStreamCause (lists pid) pid
         (A.supplied stream.old)

@@ -1,4 +1,5 @@
-//! A walk over the transport packets of a stream, by what tells of them in a text, packet by packet.
+//! A walk over the transport packets of a stream, by what tells of them in a text, packet by
+//! packet.
 #![tactic(auto)]
 
 mod teller;

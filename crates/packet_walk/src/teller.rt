@@ -15,8 +15,8 @@ pub trait PacketTeller {
     /// It took these packets, and has put out this text.
     ghost stands: { Self → List (List ℕ) → List ℕ → Type 0 };
 
-    /// Takes the packet of that place in the stream, counted from 0, and puts out what there is to tell with it. A packet
-    /// that cannot be taken changes nothing.
+    /// Takes the packet of that place in the stream, counted from 0, and puts out what there is to
+    /// tell with it. A packet that cannot be taken changes nothing.
     fn take_packet<K: Sink>(
         &mut self,
         out: &mut K,

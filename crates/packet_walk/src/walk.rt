@@ -1,4 +1,5 @@
-ghost use Rattle.std.specs.Prelude.{◌≡◌, ◌+◌, ◌<◌, ◌≤◌, ℕ, List, [], IfErr, OnOk, Some, false, length, slice_index_or, take};
+ghost use Rattle.std.specs.Prelude.{◌≡◌, ◌+◌, ◌<◌, ◌≤◌, ℕ, false, List, [], length, take};
+ghost use Rattle.std.specs.Prelude.{slice_index_or, Some, IfErr, OnOk};
 ghost use Rattle.packet_source.specs.InHand.{nothing_read};
 ghost use Rattle.packet_source.specs.Packets.{Stands};
 ghost use Rattle.packet_source.specs.declared.limits.TheConstants.{STREAM_LIMIT};
@@ -33,8 +34,8 @@ pub enum WalkEnd {
     Unwritten,
 }
 
-/// Takes the packets of a stream, those of one read after the other, up to its end or to what stops the walk. Text may wait
-/// in the buffer then.
+/// Takes the packets of a stream, those of one read after the other, up to its end or to what stops
+/// the walk. Text may wait in the buffer then.
 pub fn walk_packets<T: PacketTeller, A: Source, K: Sink>(
     stream: &mut A,
     out: &mut K,
@@ -82,7 +83,8 @@ fn take_packets<T: PacketTeller, K: Sink>(
         (K.received out.old)
         (K.received out.new)
         teller.old teller.new buffer.old buffer.new first packets.now) }
-    ensures refused { IfErr result (λ refused. (k : ℕ) × (k < length packets.now) × (refused.packet ≡ first + k)
+    ensures refused { IfErr result (λ refused.
+        (k : ℕ) × (k < length packets.now) × (refused.packet ≡ first + k)
         × (packet_fault (T.pid teller.old) (slice_index_or packets.now k []) ≡ Some refused.fault)
         × Tells T.stands (T.pid teller.old)
         (K.received out.old)
