@@ -1,6 +1,6 @@
 -- The end of a walk over a stream, with the text that waits.
 use Rattle.std.proofs.Common.{◌≡◌, ℕ, ◌≤◌, ◌⊎◌, inl, inr, Bool, true, false, List, [], ◌++◌, length, take, Option, append-nil, length-append, refl, sym, ap, subst, ◌∙◌, arith}
-use Rattle.std.specs.Io.KnownBytes.{Appends}
+use Rattle.std.specs.Io.KnownBytes.{Appends, IsAtEnd}
 use Rattle.std.proofs.Math.Seq.{take-append_seam}
 use Rattle.sub_base.specs.Counts.{HasRisen, counted}
 use Rattle.sub_base.specs.Endpoints.{AppendsPrefix}
@@ -32,10 +32,17 @@ put_front : (start now : Received) (buffer : Buffered) (text : List ℕ) (failed
 put_front start now buffer text true is out = (out.front (sym is)).0
 put_front start now buffer text false is out = sent_front start.written now.written buffer.waits text (out.sent (sym is))
 
+-- a stream that goes on adds nothing for its end
+goes_on : (now : Supplied) → false ≡ true → IsAtEnd now.left
+goes_on now ended = absurd (clash ended)
+  where
+    clash : false ≡ true → ⊥
+    clash never = cc
+
 -- a front of what was told was written
-told_front : (Told : Telling) (is_end : Bool) (pid : ℕ) (before now : Supplied) (start out : Received) (buffer : Buffered) (packets : List (List ℕ)) (rest : List ℕ) → IsTold (Told is_end) pid before now start out buffer packets rest → IsFront Told pid before now start out
-told_front Told is_end pid before now start out buffer packets rest told =
-    record { packets = packets; rest = rest; taken = told.taken; ended = is_end; text = told.text; told = told.told; written = put_front start out buffer told.text buffer.failed refl told.put_out }
+told_front : (Told : Telling) (is_end : Bool) (pid : ℕ) (before now : Supplied) (start out : Received) (buffer : Buffered) (packets : List (List ℕ)) (rest : List ℕ) → (is_end ≡ true → IsAtEnd now.left) → IsTold (Told is_end) pid before now start out buffer packets rest → IsFront Told pid before now start out
+told_front Told is_end pid before now start out buffer packets rest at_end told =
+    record { packets = packets; rest = rest; taken = told.taken; ended = is_end; at_end = at_end; text = told.text; told = told.told; written = put_front start out buffer told.text buffer.failed refl told.put_out }
 
 -- the source gave at most its limit
 at_most : (start had now limit : ℕ) → had ≤ limit → now ≡ counted start had → now ≤ counted start limit
@@ -52,11 +59,11 @@ closed_failed before now old new run puts failed = λ start text. λ out.
     inr (refl, subst (λ (l : List ℕ). AppendsPrefix start.written now.written l) (append-nil text) front.0, front.1)
 
 -- a write fault where the text was told
-write_fault : (Told : Telling) (is_end : Bool) (pid : ℕ) (before now : Supplied) (start out next : Received) (buffer : Buffered) (packets : List (List ℕ)) (rest : List ℕ) (told : IsTold (Told is_end) pid before now start out buffer packets rest) → IsWithin packets rest
+write_fault : (Told : Telling) (is_end : Bool) (pid : ℕ) (before now : Supplied) (start out next : Received) (buffer : Buffered) (packets : List (List ℕ)) (rest : List ℕ) → (is_end ≡ true → IsAtEnd now.left) → (told : IsTold (Told is_end) pid before now start out buffer packets rest) → IsWithin packets rest
     → AppendsPrefix start.written next.written told.text → HasRisen start.faults next.faults → IsStreamCause Told pid before now start next (status.WriteFault which.Out)
-write_fault Told is_end pid before now start out next buffer packets rest told within front risen = (
+write_fault Told is_end pid before now start out next buffer packets rest at_end told within front risen = (
   risen,
-  record { packets = packets; rest = rest; taken = told.taken; ended = is_end; text = told.text; told = told.told; written = front },
+  record { packets = packets; rest = rest; taken = told.taken; ended = is_end; at_end = at_end; text = told.text; told = told.told; written = front },
   given_at_most before now packets rest told.taken.gave within,
 )
 
@@ -78,7 +85,7 @@ ended_whole Told pid before now start out next buffer cut answer ended closes = 
       told = ended.2.told;
       written = whole.1;
     })
-    by_close (inr front) = subst (λ (s : Status). IsStreamCause Told pid before now start next s) (sym front.0) (write_fault Told true pid before now start out next buffer ended.0 ended.1 ended.2 ended.3 front.1 front.2)
+    by_close (inr front) = subst (λ (s : Status). IsStreamCause Told pid before now start next s) (sym front.0) (write_fault Told true pid before now start out next buffer ended.0 ended.1 (λ _. ended.6) ended.2 ended.3 front.1 front.2)
 
 ended_refused : (Told : Telling) (pid : ℕ) (before now : Supplied) (start out next : Received) (buffer : Buffered) (refused : Refused) (answer : Status) → HasEnded Told pid before now start out buffer (end.Refused refused) → Closes out next buffer (status.StreamRefused refused.packet refused.fault) answer
     → IsStreamCause Told pid before now start next answer
@@ -99,7 +106,7 @@ ended_refused Told pid before now start out next buffer refused answer ended clo
       told = ended.3.told;
       written = whole.1;
     })
-    by_close (inr front) = subst (λ (s : Status). IsStreamCause Told pid before now start next s) (sym front.0) (write_fault Told false pid before now start out next buffer ended.0 (ended.1 ++ ended.2) ended.3 ended.4 front.1 front.2)
+    by_close (inr front) = subst (λ (s : Status). IsStreamCause Told pid before now start next s) (sym front.0) (write_fault Told false pid before now start out next buffer ended.0 (ended.1 ++ ended.2) (goes_on now) ended.3 ended.4 front.1 front.2)
 
 ended_unread : (Told : Telling) (pid : ℕ) (before now : Supplied) (start out next : Received) (buffer : Buffered) (answer : Status) → HasEnded Told pid before now start out buffer (end.Stream stream.Unread) → Closes out next buffer (status.ReadFault which.First) answer
     → IsStreamCause Told pid before now start next answer
@@ -120,15 +127,15 @@ ended_unread Told pid before now start out next buffer answer ended closes = by_
         written = whole.1;
       },
     )
-    by_close (inr front) = subst (λ (s : Status). IsStreamCause Told pid before now start next s) (sym front.0) (write_fault Told false pid before now start out next buffer ended.0 ended.1 ended.2 ended.3 front.1 front.2)
+    by_close (inr front) = subst (λ (s : Status). IsStreamCause Told pid before now start next s) (sym front.0) (write_fault Told false pid before now start out next buffer ended.0 ended.1 (goes_on now) ended.2 ended.3 front.1 front.2)
 
 ended_unwritten : (Told : Telling) (pid : ℕ) (before now : Supplied) (start out : Received) (buffer : Buffered) → HasEnded Told pid before now start out buffer end.Unwritten → IsStreamCause Told pid before now start out (status.WriteFault which.Out)
 ended_unwritten Told pid before now start out buffer ended =
     let front = ended.2.put_out.front ended.4 in
-    write_fault Told false pid before now start out out buffer ended.0 ended.1 ended.2 ended.3 front.0 front.1
+    write_fault Told false pid before now start out out buffer ended.0 ended.1 (goes_on now) ended.2 ended.3 front.0 front.1
 
 ended_too_long : (Told : Telling) (pid : ℕ) (before now : Supplied) (start out : Received) (buffer : Buffered) → HasEnded Told pid before now start out buffer (end.Stream stream.TooLong) → IsStreamCause Told pid before now start out (status.InputTooLong which.First)
-ended_too_long Told pid before now start out buffer ended = (ended.3, told_front Told false pid before now start out buffer ended.0 ended.1 ended.2)
+ended_too_long Told pid before now start out buffer ended = (ended.3, told_front Told false pid before now start out buffer ended.0 ended.1 (goes_on now) ended.2)
 
 -- what a command answers has its cause in the end of its walk
 pub closed : (Told : Telling) (pid : ℕ) (before now : Supplied) (start out next : Received) (buffer : Buffered) (ended : WalkEnd) (answer : Status) → HasEnded Told pid before now start out buffer ended

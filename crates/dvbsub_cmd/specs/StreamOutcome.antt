@@ -56,12 +56,14 @@ pub record IsUpToFailure (Told : Telling) (pid : ℕ) (before now : Supplied) (o
   pub told : Told false packets text
   pub written : Appends out_before.written out_now.written text
 
--- the output has received a front of the text of packets that the source gave
+-- the output has received a front of the text of packets that the source gave; of what the end of the stream adds only where the
+-- source is at its end
 pub record IsFront (Told : Telling) (pid : ℕ) (before now : Supplied) (out_before out_now : Received) : Type 0 where
   pub packets : List (List ℕ)
   pub rest : List ℕ
   pub taken : AreTaken pid before now packets rest
   pub ended : Bool
+  pub at_end : ended ≡ true → IsAtEnd now.left
   pub text : List ℕ
   pub told : Told ended packets text
   pub written : AppendsPrefix out_before.written out_now.written text
