@@ -39,7 +39,11 @@ pub use status::{Status, Which};
 pub use top_call::{tell, top};
 
 #[cfg(test)]
+mod check_tests;
+#[cfg(test)]
 mod compile_tests;
+#[cfg(test)]
+mod dump_tests;
 #[cfg(test)]
 mod entered_tests;
 #[cfg(test)]
