@@ -1,5 +1,5 @@
 //! Transport packets that are sent twice: laws that the copies change nothing of what a receiver of
-//! EN 300 743 subtitles gets, and that a packet with an error flag is a loss. There is no code here.
+//! EN 300 743 subtitles gets, and that a packet with an error flag is a loss. There is no code.
 #![tactic(auto)]
 
 mod laws;
