@@ -1,7 +1,7 @@
 //! Pictures of text: words in the letters of examples/subtitle.bdf, three times as large and smoothed. Each pixel is the mean of
 //! the nine about it, by so many levels as the depth has codes.
 
-ghost use Rattle.std.specs.Prelude.{◌≤◌, ◌<◌};
+ghost use Rattle.std.specs.Prelude.{◌≡◌, ◌≤◌, ◌<◌, IfOk};
 
 use anyhow::Result;
 use indexed_picture::Indexed;
@@ -36,6 +36,9 @@ struct Text {
 pub fn picture(alloc: Global, number: u8, width: u16, height: u16, depth: Depth) -> Result<Indexed>
     requires wide { 1 ≤ width }
     requires high { 1 ≤ height }
+    ensures width { IfOk result (λ picture. picture.width ≡ width) }
+    ensures height { IfOk result (λ picture. picture.height ≡ height) }
+    ensures depth { IfOk result (λ picture. picture.depth ≡ depth) }
 {
     let text = Text {
         number,

@@ -1,6 +1,7 @@
 //! The bytes of a display set (EN 300 743, clause 7.2) whose one region shows a picture.
 
-ghost use Rattle.std.specs.Prelude.{◌<◌, ◌≤◌, All, IfOk, length};
+ghost use Rattle.std.specs.Prelude.{◌<◌, ◌≤◌, All, IfOk, OnOk, length};
+ghost use Rattle.set_bench.specs.Appended.{IsAppended};
 ghost use Rattle.set_bench.specs.Sent.{IsSent};
 
 use anyhow::{Context, Result, ensure};
@@ -19,6 +20,7 @@ pub const PAGE: u16 = 1;
 /// Appends a set: the display, the page, its region with a fill, all colours of its CLUT, the picture as an object, and the end.
 pub fn append_set(picture: &Indexed, state: State, version: u8, out: &mut Vec<u8>) -> Result<()>
     requires { version < 16 }
+    ensures appended { OnOk result (IsAppended out.old.items out.new.items) }
 {
     let large = picture.width() > 720;
     append_display(large, out)?;
@@ -31,7 +33,9 @@ pub fn append_set(picture: &Indexed, state: State, version: u8, out: &mut Vec<u8
 }
 
 /// Appends a display of 1,920 by 1,080 pixels, or of 720 by 576.
-fn append_display(large: bool, out: &mut Vec<u8>) -> Result<()> {
+fn append_display(large: bool, out: &mut Vec<u8>) -> Result<()>
+    ensures appended { OnOk result (IsAppended out.old.items out.new.items) }
+{
     let display = if large {
         SegmentOut::Display {
             version: 0,
@@ -52,6 +56,7 @@ fn append_display(large: bool, out: &mut Vec<u8>) -> Result<()> {
 /// Appends a page with the region near the bottom of the display.
 fn append_page(large: bool, state: State, version: u8, out: &mut Vec<u8>) -> Result<()>
     requires { version < 16 }
+    ensures appended { OnOk result (IsAppended out.old.items out.new.items) }
 {
     let entry = PageEntry {
         region: 0,
@@ -71,6 +76,7 @@ fn append_page(large: bool, state: State, version: u8, out: &mut Vec<u8>) -> Res
 /// Appends the region, as large as the picture.
 fn append_region(picture: &Indexed, version: u8, out: &mut Vec<u8>) -> Result<()>
     requires { version < 16 }
+    ensures appended { OnOk result (IsAppended out.old.items out.new.items) }
 {
     let head = RegionHead {
         region: 0,
@@ -100,6 +106,7 @@ fn append_region(picture: &Indexed, version: u8, out: &mut Vec<u8>) -> Result<()
 /// Appends all colours of the CLUT: the first is clear, and the others are grey.
 fn append_clut(depth: Depth, version: u8, out: &mut Vec<u8>) -> Result<()>
     requires { version < 16 }
+    ensures appended { OnOk result (IsAppended out.old.items out.new.items) }
 {
     let entries = greys(*out.allocator(), depth)?;
     let clut = SegmentOut::Clut {
@@ -145,6 +152,7 @@ fn grey(depth: Depth, entry: u8) -> ClutEntry
 /// Appends the picture as an object.
 fn append_object(picture: &Indexed, version: u8, out: &mut Vec<u8>) -> Result<()>
     requires { version < 16 }
+    ensures appended { OnOk result (IsAppended out.old.items out.new.items) }
 {
     let mut blocks = Vec::new(*out.allocator());
     let lengths = write_fields(picture, picture.depth(), &mut blocks)?;
@@ -158,6 +166,7 @@ fn append_object(picture: &Indexed, version: u8, out: &mut Vec<u8>) -> Result<()
 /// Appends an object with the blocks of its two fields.
 fn append_blocks(top: &[u8], bottom: &[u8], version: u8, out: &mut Vec<u8>) -> Result<()>
     requires { version < 16 }
+    ensures appended { OnOk result (IsAppended out.old.items out.new.items) }
 {
     ensure!(
         top.len() + bottom.len() < 65_528,
