@@ -31,7 +31,8 @@ use Rattle.sub_base.specs.declared.profile.ProfileName.TheVariants.{Hd, Large, S
 use Rattle.sub_base.specs.declared.pace.Pace.{Pace}
 use Rattle.sub_base.specs.declared.profile.Profile.{Profile}
 use Rattle.check_text.specs.CheckText.{IsCheckText, check_text, end_text, sets_text}
-use Rattle.check_text.specs.Checking.{AllTaken, AreBytes, Checking, HasChecked, IsAt, IsMadeFor, Purpose, PutsEnd, TakesCalls, TakesSets, told_with}
+use Rattle.receiver.specs.Taking.{AllTaken, AreBytes}
+use Rattle.check_text.specs.Checking.{Checking, HasChecked, IsAt, IsMadeFor, Purpose, PutsEnd, TakesCalls, TakesSets, told_with}
 use Rattle.check_text.proofs.ReadLaws.{AreLost, losses_read}
 use Rattle.check_text.proofs.SetLaws.{still_made}
 use Rattle.check_text.proofs.StepLaws.{with_both}
@@ -47,17 +48,6 @@ few_in_profile profile sending = subst (λ (p : Profile). (p.coded ≤ 2 ^ 18) �
     by Hd = (omega arith, omega arith)
     by Wide = (omega arith, omega arith)
     by Large = (omega arith, omega arith)
-
-no_sets : (sets : List ReadySet) → AreReady [] sets → sets ≡ []
-no_sets [] are = refl
-no_sets (set ∷ sets) are = absurd are
-
--- nothing is ready
-pub none_at_first : (receiving : Receiving) → Stands false [] [] receiving → ready_sets receiving.sets ≡ []
-none_at_first receiving stands =
-    let none : sets_in receiving.sets.coded false (runs_of (arrivals_of receiving.showing.core.profile.coded receiving.demux.pid receiving.showing.core.page [])) ≡ [] =
-    ap (λ (arrivals : List Arrival). sets_in receiving.sets.coded false (runs_of arrivals)) (none_arrived receiving.showing.core.profile.coded receiving.demux.pid receiving.showing.core.page) in
-    no_sets (ready_sets receiving.sets) (subst (λ (waiting : List (Delivery (List ℕ))). AreReady waiting (ready_sets receiving.sets)) (sym stands.gathers.sets.sets ∙ none) stands.gathers.sets.are_ready)
 
 -- nothing was received
 pub none_received : (profile : Profile) (pid page : ℕ) → HasReceived profile pid page false [] []

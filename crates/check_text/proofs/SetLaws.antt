@@ -26,20 +26,10 @@ use Rattle.sub_base.specs.declared.load.SetLoad.{SetLoad}
 use Rattle.sub_base.specs.declared.pace.Pace.{Pace}
 use Rattle.sub_base.specs.declared.profile.Profile.{Profile}
 use Rattle.check_text.specs.CheckText.{set_line}
-use Rattle.check_text.specs.Checking.{Counts, HasNext, IsAt, IsMadeFor, Purpose, TakesCalls, TakesSets, behind_first, told_with}
-use Rattle.check_text.proofs.ReadLaws.{next_read, read_more}
+use Rattle.receiver.specs.Taking.{HasNext}
+use Rattle.receiver.proofs.TakenSets.{next_read, read_more, same_both, same_itself}
+use Rattle.check_text.specs.Checking.{Counts, IsAt, IsMadeFor, Purpose, TakesCalls, TakesSets, behind_first, told_with}
 use Rattle.check_text.proofs.StepLaws.{arrived_silent, counted, drop_silent, one_told, text_one, told_one, with_both}
-
--- ---- the same receiver
-
-pub same_itself : (receiving : Receiving) → IsSame receiving receiving
-same_itself receiving = record { pid = refl; core = record { profile = refl; page = refl; anchor = refl } }
-
-pub same_both : (a b c : Receiving) → IsSame a b → IsSame b c → IsSame a c
-same_both a b c one other = record {
-  pid = other.pid ∙ one.pid;
-  core = record { profile = other.core.profile ∙ one.core.profile; page = other.core.page ∙ one.core.page; anchor = other.core.anchor ∙ one.core.anchor };
-}
 
 pub still_made : (made : Purpose) (old new : Receiving) → IsSame old new → IsMadeFor made old → IsMadeFor made new
 still_made made old new same own = record {

@@ -10,7 +10,8 @@ use Rattle.decoder_model.specs.Readings.{AreDeliveriesRead, Reading}
 use Rattle.decoder_model.specs.Received.{HasReceived}
 use Rattle.decoder_model.specs.Sets.{Delivery, sets_of}
 use Rattle.display_sets.specs.Gathered.{ReadySet, ready_sets, sets_behind}
-use Rattle.receiver.specs.Receiving.{IsNext, IsSame, Receiving, Stands}
+use Rattle.receiver.specs.Receiving.{IsSame, Receiving, Stands}
+use Rattle.receiver.specs.Taking.{AreBytes}
 use Rattle.stream_calls.specs.StreamCalls.{all_of, calls_of_packet}
 use Rattle.stream_calls.specs.ToldSets.{ToldCall, calls_told, of_no_set, told_behind, told_of}
 use Rattle.stream_syntax.specs.declared.transport.Event.{Event}
@@ -47,10 +48,6 @@ pub record IsMadeFor (made : Purpose) (receiving : Receiving) : Type 0 where
   pub pid : receiving.demux.pid ≡ made.pid
   pub page : receiving.showing.core.page ≡ made.page
   pub origin : receiving.showing.core.anchor ≡ made.origin
-
--- each of these numbers is a byte
-abbrev pub AreBytes : List ℕ → Type 0
-AreBytes numbers = All (λ number. number < 256) numbers
 
 -- the receiver was fed the packets, which are of bytes, and this past was taken from it, the latest first; the meter is
 -- that of the told calls; and the text is of their sets
@@ -97,19 +94,6 @@ pub record TakesSets (before now : Received) (old new : Receiving) (start end : 
       × (length (told_with made past more) + length (ready_sets new.sets) ≡ length (ready_sets old.sets))
       × IsAt made ended new end packets (more ++ past) (told ++ told_with made past more) (text ++ line)
       × PutsOut before now was is line
-
--- a set or loss comes next, where anything was fed
-abbrev pub HasNext : Receiving → Type 0
-HasNext receiving = (ended : Bool) (packets : List (List ℕ)) (given : List (Delivery (List ℕ)))
-    → Stands ended packets given receiving
-    → (delivery : Delivery (List ℕ)) × (rest : List (Delivery (List ℕ)))
-    × IsNext ended packets given delivery rest receiving
-
--- all sets and losses of what was fed were taken
-abbrev pub AllTaken : Receiving → Type 0
-AllTaken receiving = (fed : List (List ℕ)) (ended : Bool) (given : List (Delivery (List ℕ)))
-    → Stands ended fed given receiving
-    → sets_of receiving.showing.core.profile.coded receiving.demux.pid receiving.showing.core.page ended fed ≡ given
 
 -- the sets that are ready once the first one was taken, where it is to be taken
 abbrev pub behind_first : Bool → List ReadySet → List ReadySet

@@ -12,7 +12,8 @@ ghost use Rattle.receiver.specs.Receiving.{IsSame};
 ghost use Rattle.stream_calls.specs.StreamCalls.{arrived_in, drop_where as drop_calls};
 ghost use Rattle.stream_calls.specs.ToldSets.{call_of_end, done_by, of_no_set};
 ghost use Rattle.stream_syntax.specs.declared.wire.TheConstants.{PAYLOAD_LENGTH};
-ghost use Rattle.check_text.specs.Checking.{AllTaken, Counts, HasNext, TakesCalls, TakesSets};
+ghost use Rattle.receiver.specs.Taking.{AllTaken, HasNext};
+ghost use Rattle.check_text.specs.Checking.{Counts, TakesCalls, TakesSets};
 ghost use Rattle.check_text.specs.Checking.{behind_first};
 
 use crate::lines::set_line;

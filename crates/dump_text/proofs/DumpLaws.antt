@@ -16,48 +16,15 @@ use Rattle.display_sets.proofs.PacketLaws.{none_arrived, sets_of_packets}
 use Rattle.page_core.specs.Memory.{IsSameReceiver}
 use Rattle.readings.proofs.PacketsRead.{packets_read}
 use Rattle.receiver.specs.Receiving.{AreLosses, IsNext, IsSame, Receiving, Stands}
+use Rattle.receiver.specs.Taking.{AllTaken, AreBytes, HasNext}
+use Rattle.receiver.proofs.TakenSets.{next_read, none_at_first, read_more, same_both, same_itself}
 use Rattle.sub_base.specs.Endpoints.{Received}
 use Rattle.sub_base.specs.declared.profile.Profile.{Profile}
 use Rattle.packet_walk.specs.Told.{TellsOne}
 use Rattle.dump_text.specs.DumpText.{IsDumpText, anchor_of, settled_ticks, shown_text, told_ticks}
-use Rattle.dump_text.specs.Dumping.{AllTaken, AreBefore, AreBytes, AreFrom, Dumping, DumpsOn, HasDumped, HasNext, IsSameDump, IsSettled, IsTold, IsToldOf, PutsBetween, Settles, ticks_between}
+use Rattle.dump_text.specs.Dumping.{AreBefore, AreFrom, Dumping, DumpsOn, HasDumped, IsSameDump, IsSettled, IsTold, IsToldOf, PutsBetween, Settles, ticks_between}
 use Rattle.dump_text.proofs.TextLaws.{before_end, text_joined}
 use Rattle.dump_text.proofs.ToldLaws.{told_kept, told_same}
-
--- ---- readings of what comes next
-
--- deliveries that are read, split where the deliveries do
-record IsSplit (front behind : List (Delivery (List ℕ))) (past : List (Delivery Reading)) : Type 0 where
-  first : List (Delivery Reading)
-  rest : List (Delivery Reading)
-  joined : past ≡ first ++ rest
-  are_rest : AreDeliveriesRead behind rest
-
-split_read : (front behind : List (Delivery (List ℕ))) (past : List (Delivery Reading)) → AreDeliveriesRead (front ++ behind) past → IsSplit front behind past
-split_read [] behind past are = record { first = []; rest = past; joined = refl; are_rest = are }
-split_read (delivery ∷ front) behind [] are = absurd are
-split_read (delivery ∷ front) behind (one ∷ past) are =
-    let more = split_read front behind past are.1 in
-    record { first = one ∷ more.first; rest = more.rest; joined = ap (λ (all : List (Delivery Reading)). one ∷ all) more.joined; are_rest = more.are_rest }
-
-first_read : (delivery : Delivery (List ℕ)) (behind : List (Delivery (List ℕ))) (past : List (Delivery Reading)) → AreDeliveriesRead (delivery ∷ behind) past → (one : Delivery Reading) × IsDeliveryRead delivery one
-first_read delivery behind [] are = absurd are
-first_read delivery behind (one ∷ past) are = (one, are.0)
-
--- what comes next in packets of bytes is read
-pub next_read : (profile : Profile) (pid page : ℕ) (ended : Bool) (packets : List (List ℕ)) (given rest : List (Delivery (List ℕ))) (delivery : Delivery (List ℕ)) (past : List (Delivery Reading))
-    → HasReceived profile pid page ended packets past → sets_of profile.coded pid page ended packets ≡ given ++ delivery ∷ rest → (one : Delivery Reading) × IsDeliveryRead delivery one
-next_read profile pid page ended packets given rest delivery past received all =
-    let turned : reverse (given ++ delivery ∷ rest) ≡ reverse rest ++ delivery ∷ reverse given =
-    ap reverse (sym (append_assoc given (delivery ∷ []) rest)) ∙ reverse-append (given ++ delivery ∷ []) rest ∙ ap (λ (front : List (Delivery (List ℕ))). reverse rest ++ front) (reverse-append given (delivery ∷ [])) in
-    let split = split_read (reverse rest) (delivery ∷ reverse given) past
-    (subst (λ (deliveries : List (Delivery (List ℕ))). AreDeliveriesRead deliveries past) turned (subst (λ (deliveries : List (Delivery (List ℕ))). AreDeliveriesRead (reverse deliveries) past) all received)) in
-    first_read delivery (reverse given) split.rest split.are_rest
-
--- one more that is read
-pub read_more : (given : List (Delivery (List ℕ))) (delivery : Delivery (List ℕ)) (past : List (Delivery Reading)) (one : Delivery Reading) → AreDeliveriesRead (reverse given) past → IsDeliveryRead delivery one
-    → AreDeliveriesRead (reverse (given ++ delivery ∷ [])) (one ∷ past)
-read_more given delivery past one are read = subst (λ (deliveries : List (Delivery (List ℕ))). AreDeliveriesRead deliveries (one ∷ past)) (sym (reverse-append given (delivery ∷ []))) (read, are)
 
 -- ---- one more set
 
@@ -163,15 +130,6 @@ dumps_both a b c old mid new ticks told next last was between is one other = rec
 
 -- ---- the same receiver
 
-pub same_itself : (receiving : Receiving) → IsSame receiving receiving
-same_itself receiving = record { pid = refl; core = record { profile = refl; page = refl; anchor = refl } }
-
-pub same_both : (a b c : Receiving) → IsSame a b → IsSame b c → IsSame a c
-same_both a b c one other = record {
-  pid = other.pid ∙ one.pid;
-  core = record { profile = other.core.profile ∙ one.core.profile; page = other.core.page ∙ one.core.page; anchor = other.core.anchor ∙ one.core.anchor };
-}
-
 pub same_dumps : (a b c : Dumping) → IsSameDump a b → IsSameDump b c → IsSameDump a c
 same_dumps a b c one other = record { receiver = same_both a.receiving b.receiving c.receiving one.receiver other.receiver; ticks = other.ticks ∙ one.ticks }
 
@@ -179,17 +137,6 @@ pub same_dump_itself : (dumping : Dumping) → IsSameDump dumping dumping
 same_dump_itself dumping = record { receiver = same_itself dumping.receiving; ticks = refl }
 
 -- ---- before the first packet
-
-no_sets : (sets : List ReadySet) → AreReady [] sets → sets ≡ []
-no_sets [] are = refl
-no_sets (set ∷ sets) are = absurd are
-
--- nothing is ready
-pub none_at_first : (receiving : Receiving) → Stands false [] [] receiving → ready_sets receiving.sets ≡ []
-none_at_first receiving stands =
-    let none : sets_in receiving.sets.coded false (runs_of (arrivals_of receiving.showing.core.profile.coded receiving.demux.pid receiving.showing.core.page [])) ≡ [] =
-    ap (λ (arrivals : List Arrival). sets_in receiving.sets.coded false (runs_of arrivals)) (none_arrived receiving.showing.core.profile.coded receiving.demux.pid receiving.showing.core.page) in
-    no_sets (ready_sets receiving.sets) (subst (λ (waiting : List (Delivery (List ℕ))). AreReady waiting (ready_sets receiving.sets)) (sym stands.gathers.sets.sets ∙ none) stands.gathers.sets.are_ready)
 
 -- every tick is no earlier than nothing
 pub from_nothing : (anchor : ℕ) (ticks : List ℕ) → AreFrom (unwrap_or (last_time {S = Reading} anchor []) 0) 0 ticks
@@ -255,7 +202,7 @@ packet_told before now old mid new next was is place packet within bytes same fe
           anchored = later.core.anchor ∙ same.core.anchor ∙ has.anchored;
           within = inside;
           told = on.1;
-          all = all false (packets ++ packet ∷ []) on.1.given on.1.stands;
+          all = all (packets ++ packet ∷ []) false on.1.given on.1.stands;
         },
         on.2,
       );
@@ -317,7 +264,7 @@ dumped_whole before mid now old fed new next was between is finishes same dumps 
     let at_anchor : anchor ≡ anchor_of old.ticks = both.core.anchor ∙ has.anchored in
     let is_new : IsDumpText profile new.demux.pid new.showing.core.page old.ticks true packets ((text ++ on.0) ++ others) = record {
       past = state.past;
-      received = subst (λ (all : List (Delivery (List ℕ))). AreDeliveriesRead (reverse all) state.past) (sym (all true packets state.given state.stands)) state.read;
+      received = subst (λ (all : List (Delivery (List ℕ))). AreDeliveriesRead (reverse all) state.past) (sym (all packets true state.given state.stands)) state.read;
       whole = whole ∙ ap (λ (a : ℕ). shown_text profile a state.past old.ticks) at_anchor;
     } in (
       on.0 ++ others,

@@ -33,9 +33,11 @@ abbrev pub anchor_of : List ℕ → ℕ
 anchor_of [] = 0
 anchor_of (tick ∷ ticks) = tick - 4294967296
 
--- the text of the pictures that are shown at these ticks, in a receiver of a profile for a PID and a page: the stream ends with
--- these packets, or the text is of the ticks that the packets settle
-pub record IsDumpText (profile : Profile) (pid page : ℕ) (ticks : List ℕ) (ended : Bool) (packets : List (List ℕ)) (text : List ℕ) : Type 0 where
+-- the text of the pictures that are shown at these ticks, in a receiver of a profile for a PID and a page: the stream
+-- ends with these packets, or the text is of the ticks that the packets settle
+pub record IsDumpText (profile : Profile) (pid page : ℕ) (ticks : List ℕ) (ended : Bool)
+    (packets : List (List ℕ)) (text : List ℕ) : Type 0 where
   pub past : List (Delivery Reading)
   pub received : HasReceived profile pid page ended packets past
-  pub whole : text ≡ shown_text profile (anchor_of ticks) past (told_ticks ended (last_time (anchor_of ticks) past) ticks)
+  pub whole : text
+      ≡ shown_text profile (anchor_of ticks) past (told_ticks ended (last_time (anchor_of ticks) past) ticks)

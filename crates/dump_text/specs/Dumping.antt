@@ -1,5 +1,6 @@
 -- What `dump` keeps, and what that has to do with the packets that it took and the text that it put out.
-use Rattle.std.specs.Prelude.{◌≡◌, ℕ, ◌<◌, ◌≤◌, Bool, false, List, [], ◌++◌, length, reverse, drop, take, slice_index_or, All, Option, Some, None, unwrap_or}
+use Rattle.std.specs.Prelude.{◌≡◌, ℕ, ◌<◌, ◌≤◌, Bool, false, Option, Some, None, unwrap_or, All}
+use Rattle.std.specs.Prelude.{List, [], ◌++◌, length, reverse, drop, take, slice_index_or}
 use Rattle.std.specs.List.Sorted.{IsStrictlyIncreasing}
 use Rattle.command_text.specs.Putting.{Buffered, PutsOut}
 use Rattle.decoder_model.specs.Kept.{last_time}
@@ -7,7 +8,8 @@ use Rattle.decoder_model.specs.Readings.{Reading, AreDeliveriesRead}
 use Rattle.decoder_model.specs.Sets.{Delivery, sets_of}
 use Rattle.decoder_model.specs.Shown.{view_at}
 use Rattle.display_sets.specs.Gathered.{ready_sets}
-use Rattle.receiver.specs.Receiving.{IsNext, IsSame, Receiving, Stands}
+use Rattle.receiver.specs.Receiving.{IsSame, Receiving, Stands}
+use Rattle.receiver.specs.Taking.{AreBytes}
 use Rattle.sub_base.specs.Endpoints.{Received}
 use Rattle.sub_base.specs.declared.profile.Profile.{Profile}
 use Rattle.dump_text.specs.DumpText.{anchor_of, shown_text, view_text}
@@ -54,19 +56,18 @@ abbrev pub IsSettled : Option ℕ → ℕ → Type 0
 IsSettled None tick = ⊥
 IsSettled (Some last) tick = tick < last
 
--- behind this past, the first so many ticks are settled and the others are not, and this text is of what is shown at the first ones
-pub record IsToldOf (profile : Profile) (anchor : ℕ) (ticks : List ℕ) (told : ℕ) (past : List (Delivery Reading)) (text : List ℕ) : Type 0 where
+-- behind this past, the first so many ticks are settled and the others are not, and this text is of what is shown
+-- at the first ones
+pub record IsToldOf (profile : Profile) (anchor : ℕ) (ticks : List ℕ) (told : ℕ) (past : List (Delivery Reading))
+    (text : List ℕ) : Type 0 where
   pub settled : (k : ℕ) → k < told → IsSettled (last_time anchor past) (slice_index_or ticks k 0)
   pub later : AreFrom (unwrap_or (last_time anchor past) 0) told ticks
   pub whole : text ≡ shown_text profile anchor past (take told ticks)
 
--- each of these numbers is a byte
-abbrev pub AreBytes : List ℕ → Type 0
-AreBytes numbers = All (λ number. number < 256) numbers
-
--- the receiver was fed the packets, which are of bytes; the stream ends with them or not; and the text is of the first so many ticks,
--- which they settle
-pub record IsTold (ended : Bool) (receiving : Receiving) (ticks : List ℕ) (told : ℕ) (packets : List (List ℕ)) (text : List ℕ) : Type 0 where
+-- the receiver was fed the packets, which are of bytes; the stream ends with them or not; and the text is of the first
+-- so many ticks, which they settle
+pub record IsTold (ended : Bool) (receiving : Receiving) (ticks : List ℕ) (told : ℕ) (packets : List (List ℕ))
+    (text : List ℕ) : Type 0 where
   pub bytes : All AreBytes packets
   pub given : List (Delivery (List ℕ))
   pub stands : Stands ended packets given receiving
@@ -76,18 +77,27 @@ pub record IsTold (ended : Bool) (receiving : Receiving) (ticks : List ℕ) (tol
 
 -- what is shown at a tick that is no earlier than the kept sets is put out
 abbrev pub PutsShown : Receiving → Received → Received → Buffered → Buffered → ℕ → Type 0
-PutsShown receiving before now was is tick = (ended : Bool) (packets : List (List ℕ)) (given : List (Delivery (List ℕ))) (past : List (Delivery Reading))
-    → Stands ended packets given receiving → AreDeliveriesRead (reverse given) past → unwrap_or (last_time receiving.showing.core.anchor past) 0 ≤ tick
-    → PutsOut before now was is (view_text tick (view_at receiving.showing.core.profile receiving.showing.core.anchor tick past))
+PutsShown receiving before now was is tick = (ended : Bool) (packets : List (List ℕ)) (given : List (Delivery (List ℕ)))
+    (past : List (Delivery Reading))
+    → Stands ended packets given receiving → AreDeliveriesRead (reverse given) past
+    → unwrap_or (last_time receiving.showing.core.anchor past) 0 ≤ tick
+    → PutsOut before now was is
+    (view_text tick (view_at receiving.showing.core.profile receiving.showing.core.anchor tick past))
 
--- what is shown at the ticks from a place on, up to another one, is put out, where these are no earlier than the kept sets
+-- what is shown at the ticks from a place on, up to another one, is put out, where these are no earlier than the
+-- kept sets
 abbrev pub PutsBetween : Receiving → Received → Received → Buffered → Buffered → List ℕ → ℕ → ℕ → Type 0
-PutsBetween receiving before now was is ticks first next = (ended : Bool) (packets : List (List ℕ)) (given : List (Delivery (List ℕ))) (past : List (Delivery Reading))
-    → Stands ended packets given receiving → AreDeliveriesRead (reverse given) past → AreFrom (unwrap_or (last_time receiving.showing.core.anchor past) 0) first ticks
-    → PutsOut before now was is (shown_text receiving.showing.core.profile receiving.showing.core.anchor past (ticks_between first next ticks))
+PutsBetween receiving before now was is ticks first next = (ended : Bool) (packets : List (List ℕ))
+    (given : List (Delivery (List ℕ))) (past : List (Delivery Reading))
+    → Stands ended packets given receiving → AreDeliveriesRead (reverse given) past
+    → AreFrom (unwrap_or (last_time receiving.showing.core.anchor past) 0) first ticks
+    → PutsOut before now was is
+    (shown_text receiving.showing.core.profile receiving.showing.core.anchor past (ticks_between first next ticks))
 
--- the texts were put out of the ticks from a place on that are before a time, and the next place is that of the first one from it on
-pub record SettlesBefore (receiving : Receiving) (before now : Received) (was is : Buffered) (ticks : List ℕ) (told next time : ℕ) : Type 0 where
+-- the texts were put out of the ticks from a place on that are before a time, and the next place is that of the first
+-- one from it on
+pub record SettlesBefore (receiving : Receiving) (before now : Received) (was is : Buffered) (ticks : List ℕ)
+    (told next time : ℕ) : Type 0 where
   pub from : told ≤ next
   pub within : next ≤ length ticks
   pub early : AreBefore time told next ticks
@@ -103,29 +113,22 @@ pub record SettlesNothing (before now : Received) (was is : Buffered) (told next
 -- the ticks that a set with that lifted time settles were told: none, where it is not kept
 abbrev pub Settles : Receiving → Received → Received → Buffered → Buffered → List ℕ → ℕ → ℕ → Option ℕ → Type 0
 Settles receiving before now was is ticks told next None = SettlesNothing before now was is told next
-Settles receiving before now was is ticks told next (Some time) = SettlesBefore receiving before now was is ticks told next time
+Settles receiving before now was is ticks told next (Some time) =
+    SettlesBefore receiving before now was is ticks told next time
 
 -- sets were taken, and the texts of the ticks that they settle were put out
-pub record DumpsOn (before now : Received) (old new : Receiving) (ticks : List ℕ) (told next : ℕ) (was is : Buffered) : Type 0 where
+pub record DumpsOn (before now : Received) (old new : Receiving) (ticks : List ℕ) (told next : ℕ) (was is : Buffered)
+    : Type 0 where
   pub goes : (ended : Bool) (packets : List (List ℕ)) (text : List ℕ) → IsTold ended old ticks told packets text
       → (more : List ℕ) × IsTold ended new ticks next packets (text ++ more) × PutsOut before now was is more
-
--- a set or loss comes next, where anything was fed
-abbrev pub HasNext : Receiving → Type 0
-HasNext receiving = (ended : Bool) (packets : List (List ℕ)) (given : List (Delivery (List ℕ))) → Stands ended packets given receiving
-    → (delivery : Delivery (List ℕ)) × (rest : List (Delivery (List ℕ))) × IsNext ended packets given delivery rest receiving
-
--- all sets and losses of what was fed were taken
-abbrev pub AllTaken : Receiving → Type 0
-AllTaken receiving = (ended : Bool) (packets : List (List ℕ)) (given : List (Delivery (List ℕ))) → Stands ended packets given receiving
-    → sets_of receiving.showing.core.profile.coded receiving.demux.pid receiving.showing.core.page ended packets ≡ given
 
 -- the packets were taken, and the text is of the ticks that they settle
 pub record HasDumped (dumping : Dumping) (packets : List (List ℕ)) (text : List ℕ) : Type 0 where
   pub anchored : dumping.receiving.showing.core.anchor ≡ anchor_of dumping.ticks
   pub within : dumping.told ≤ length dumping.ticks
   pub told : IsTold false dumping.receiving dumping.ticks dumping.told packets text
-  pub all : sets_of dumping.receiving.showing.core.profile.coded dumping.receiving.demux.pid dumping.receiving.showing.core.page false packets ≡ told.given
+  pub all : sets_of dumping.receiving.showing.core.profile.coded dumping.receiving.demux.pid
+      dumping.receiving.showing.core.page false packets ≡ told.given
 
 -- the same receiver and the same ticks
 pub record IsSameDump (old new : Dumping) : Type 0 where

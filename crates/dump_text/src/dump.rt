@@ -5,7 +5,8 @@ ghost use Rattle.std.specs.List.Sorted.{IsStrictlyIncreasing};
 ghost use Rattle.display_sets.specs.Gathered.{first_ready, ready_sets, sets_behind};
 ghost use Rattle.dump_text.specs.DumpText.{anchor_of};
 ghost use Rattle.receiver.specs.Receiving.{IsSame};
-ghost use Rattle.dump_text.specs.Dumping.{AllTaken, DumpsOn, HasNext, Settles};
+ghost use Rattle.receiver.specs.Taking.{AllTaken, HasNext};
+ghost use Rattle.dump_text.specs.Dumping.{DumpsOn, Settles};
 
 use crate::pictures::{put_before, put_rest};
 use command_text::TextBuffer;

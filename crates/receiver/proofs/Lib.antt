@@ -6,3 +6,4 @@ pub mod Feeds
 pub mod Loads
 pub mod Takes
 pub mod Views
+pub mod TakenSets

@@ -4,5 +4,6 @@ pub mod Lent
 pub mod Screens
 pub mod Arrived
 pub mod Receiving
+pub mod Taking
 pub mod Ends
 pub mod Verdicts

@@ -1,5 +1,6 @@
 use Rattle.std.proofs.Common.{◌∙◌, refl}
-use Rattle.check_text.proofs.SetLaws.{same_both, same_itself, taken_both, taken_nothing}
+use Rattle.receiver.proofs.TakenSets.{same_both, same_itself}
+use Rattle.check_text.proofs.SetLaws.{taken_both, taken_nothing}
 use Rattle.check_text.proofs.calls.take_ready.Goals as goal
 
 pub loop-out-init : goal.loop-out-init

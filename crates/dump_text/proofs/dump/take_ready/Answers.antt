@@ -1,5 +1,6 @@
 use Rattle.std.proofs.Common.{refl}
-use Rattle.dump_text.proofs.DumpLaws.{dumps_both, dumps_nothing, same_both, same_itself}
+use Rattle.receiver.proofs.TakenSets.{same_both, same_itself}
+use Rattle.dump_text.proofs.DumpLaws.{dumps_both, dumps_nothing}
 use Rattle.dump_text.proofs.dump.take_ready.Goals as goal
 
 pub loop-out-init : goal.loop-out-init
@@ -21,4 +22,4 @@ loop-out-preserved g c = record {
 }
 
 pub returns-clause-all : goal.returns-clause-all
-returns-clause-all g c ended packets given stands = c.in_default.ensures.all refl packets ended given stands
+returns-clause-all g c packets ended given stands = c.in_default.ensures.all refl packets ended given stands

@@ -1,7 +1,8 @@
 use Rattle.std.proofs.Common.{◌∙◌, ◌≤◌, ◌^◌, sym, subst}
 use Rattle.sub_base.specs.Pace.{pace_of}
 use Rattle.sub_base.specs.declared.profile.Profile.{Profile}
-use Rattle.check_text.proofs.CheckLaws.{few_in_profile, none_at_first, nothing_checked}
+use Rattle.receiver.proofs.TakenSets.{none_at_first}
+use Rattle.check_text.proofs.CheckLaws.{few_in_profile, nothing_checked}
 use Rattle.check_text.proofs.check.Check.make.Goals as goal
 
 pub invariant_of-result : goal.invariant_of-result

@@ -2,7 +2,7 @@ use Rattle.std.proofs.Common.{◌≡◌, ℕ, Some, None, subst, get_or, [], ari
 use Rattle.stream_syntax.specs.TransportPackets.{packet_fault}
 use Rattle.packet_walk.proofs.TellLaws.{tells_one_more, tells_refused}
 use Rattle.check_text.specs.Checking.{HasChecked}
-use Rattle.check_text.proofs.SetLaws.{same_both}
+use Rattle.receiver.proofs.TakenSets.{same_both}
 use Rattle.check_text.proofs.check.Check.take_packets.Goals as goal
 
 pub returns-in-Err-clause-refused : goal.returns-in-Err-clause-refused

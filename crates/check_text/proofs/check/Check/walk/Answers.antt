@@ -3,7 +3,7 @@ use Rattle.packet_source.specs.declared.stream_end.StreamEnd.{StreamEnd}
 use Rattle.packet_walk.specs.Told.{Tells}
 use Rattle.packet_walk.proofs.WalkLaws.{RefusesAt, come_refused, come_to_end, come_told, few_in_hand, nothing_walked, nothing_within, walked_on, walked_unwritten}
 use Rattle.check_text.specs.Checking.{HasChecked}
-use Rattle.check_text.proofs.SetLaws.{same_both, same_itself}
+use Rattle.receiver.proofs.TakenSets.{same_both, same_itself}
 use Rattle.check_text.proofs.check.Check.walk.Goals as goal
 
 pub loop-end-init : goal.loop-end-init

@@ -1,5 +1,6 @@
 use Rattle.std.proofs.Common.{◌∙◌, arith}
-use Rattle.dump_text.proofs.DumpLaws.{no_packets, none_at_first, nothing_told}
+use Rattle.receiver.proofs.TakenSets.{none_at_first}
+use Rattle.dump_text.proofs.DumpLaws.{no_packets, nothing_told}
 use Rattle.dump_text.proofs.dump.Dump.make.Goals as goal
 
 pub invariant_of-result : goal.invariant_of-result
