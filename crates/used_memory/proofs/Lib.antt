@@ -1,0 +1,3 @@
+pub mod RegionBytes
+pub mod MoreSegments
+pub mod UsedWithin
