@@ -1,0 +1,5 @@
+pub mod Rows
+pub mod SpacedSlots
+pub mod SpacedArrival
+pub mod ApartSets
+pub mod SpacedExample
