@@ -1,0 +1,4 @@
+pub mod LiveCues
+pub mod ListedCues
+pub mod PlanFaults
+pub mod PlanTicks

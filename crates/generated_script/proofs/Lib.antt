@@ -1,0 +1,4 @@
+pub mod ListLaws
+pub mod PictureLaws
+pub mod TickLaws
+pub mod SoundLaws
