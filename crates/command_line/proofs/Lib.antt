@@ -1,0 +1,3 @@
+mod CommandLaws
+mod WalkLaws
+mod WordsLaws
