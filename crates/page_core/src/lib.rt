@@ -36,7 +36,11 @@ pub use painted_time::painting_time;
 #[cfg(test)]
 mod core_tests;
 #[cfg(test)]
+mod fault_tests;
+#[cfg(test)]
 mod painting_tests;
+#[cfg(test)]
+mod room_tests;
 #[cfg(test)]
 mod rows_tests;
 #[cfg(test)]

@@ -9,23 +9,23 @@ use stream_syntax::{CodeFault, CodeKind};
 use sub_base::{CLEAR, Colour, Profile, ProfileName};
 
 // Segments of page 1. Pages: a mode change that lists region 1, the same of state normal, and one of state normal without entries.
-const PAGE: &[u8] = &[15, 16, 0, 1, 0, 8, 10, 8, 1, 0, 0, 0, 0, 0];
+pub(crate) const PAGE: &[u8] = &[15, 16, 0, 1, 0, 8, 10, 8, 1, 0, 0, 0, 0, 0];
 
-const NORMAL: &[u8] = &[15, 16, 0, 1, 0, 8, 10, 0, 1, 0, 0, 0, 0, 0];
+pub(crate) const NORMAL: &[u8] = &[15, 16, 0, 1, 0, 8, 10, 0, 1, 0, 0, 0, 0, 0];
 
-const EMPTY_PAGE: &[u8] = &[15, 16, 0, 1, 0, 2, 10, 0];
+pub(crate) const EMPTY_PAGE: &[u8] = &[15, 16, 0, 1, 0, 2, 10, 0];
 
 // Region 1 of 2 by 1 pixels in 2 bits that lists object 5: without a fill, in version 0; with a fill of code 1 in versions 0, 1
 // and 15, and with a fill of code 2 in version 0. Then one of 4 by 1 pixels in version 1, and one of 720 by 576 pixels in 8 bits.
-const REGION: &[u8] = &[
+pub(crate) const REGION: &[u8] = &[
     15, 17, 0, 1, 0, 16, 1, 0, 0, 2, 0, 1, 0x24, 0, 0, 0, 0, 5, 0, 0, 0, 0,
 ];
 
-const FILLED: &[u8] = &[
+pub(crate) const FILLED: &[u8] = &[
     15, 17, 0, 1, 0, 16, 1, 8, 0, 2, 0, 1, 0x24, 0, 0, 4, 0, 5, 0, 0, 0, 0,
 ];
 
-const FILLED_NEXT: &[u8] = &[
+pub(crate) const FILLED_NEXT: &[u8] = &[
     15, 17, 0, 1, 0, 16, 1, 24, 0, 2, 0, 1, 0x24, 0, 0, 4, 0, 5, 0, 0, 0, 0,
 ];
 
@@ -52,9 +52,9 @@ const EIGHT_BITS: &[u8] = &[
 
 // Object 5: the codes 1 and 3 in 2 bits; two codes 2 in versions 0 and 1; the codes 1 and F in 4 bits, and 01 and FF in 8 bits; and
 // one of characters.
-const OBJECT: &[u8] = &[15, 19, 0, 1, 0, 11, 0, 5, 0, 0, 4, 0, 0, 16, 0x70, 0, 240];
+pub(crate) const OBJECT: &[u8] = &[15, 19, 0, 1, 0, 11, 0, 5, 0, 0, 4, 0, 0, 16, 0x70, 0, 240];
 
-const OTHER: &[u8] = &[15, 19, 0, 1, 0, 11, 0, 5, 0, 0, 4, 0, 0, 16, 0xA0, 0, 240];
+pub(crate) const OTHER: &[u8] = &[15, 19, 0, 1, 0, 11, 0, 5, 0, 0, 4, 0, 0, 16, 0xA0, 0, 240];
 
 const OTHER_NEXT: &[u8] = &[15, 19, 0, 1, 0, 11, 0, 5, 16, 0, 4, 0, 0, 16, 0xA0, 0, 240];
 
@@ -64,23 +64,23 @@ const EIGHT_BIT_OBJECT: &[u8] = &[
     15, 19, 0, 1, 0, 13, 0, 5, 0, 0, 6, 0, 0, 18, 1, 255, 0, 0, 240,
 ];
 
-const CHARACTERS: &[u8] = &[15, 19, 0, 1, 0, 3, 0, 5, 4];
+pub(crate) const CHARACTERS: &[u8] = &[15, 19, 0, 1, 0, 3, 0, 5, 4];
 
 // CLUT 0 gives code 1 of 2 bits the colours (100, 128, 128, 0) and, in versions 0 and 1, (50, 128, 128, 0).
-const CLUT: &[u8] = &[15, 18, 0, 1, 0, 8, 0, 0, 1, 0x81, 100, 128, 128, 0];
+pub(crate) const CLUT: &[u8] = &[15, 18, 0, 1, 0, 8, 0, 0, 1, 0x81, 100, 128, 128, 0];
 
-const CLUT_AGAIN: &[u8] = &[15, 18, 0, 1, 0, 8, 0, 0, 1, 0x81, 50, 128, 128, 0];
+pub(crate) const CLUT_AGAIN: &[u8] = &[15, 18, 0, 1, 0, 8, 0, 0, 1, 0x81, 50, 128, 128, 0];
 
 const CLUT_NEXT: &[u8] = &[15, 18, 0, 1, 0, 8, 0, 16, 1, 0x81, 50, 128, 128, 0];
 
 // Displays of 4 by 2 and of 721 by 576 pixels, a segment of a type that is passed over, and the end.
-const SMALL_DISPLAY: &[u8] = &[15, 20, 0, 1, 0, 5, 0, 0, 3, 0, 1];
+pub(crate) const SMALL_DISPLAY: &[u8] = &[15, 20, 0, 1, 0, 5, 0, 0, 3, 0, 1];
 
 const WIDE_DISPLAY: &[u8] = &[15, 20, 0, 1, 0, 5, 0, 2, 208, 2, 63];
 
 const STUFFING: &[u8] = &[15, 255, 0, 1, 0, 2, 170, 170];
 
-const END: &[u8] = &[15, 128, 0, 1, 0, 0];
+pub(crate) const END: &[u8] = &[15, 128, 0, 1, 0, 0];
 
 const WHITE: Colour = Colour {
     y: 235,
@@ -97,7 +97,7 @@ const GREY: Colour = Colour {
 };
 
 // Puts bytes behind those that are there, as far as they have room.
-fn put(bytes: &mut [u8; 4096], size: &mut usize, part: &[u8]) {
+pub(crate) fn put(bytes: &mut [u8; 4096], size: &mut usize, part: &[u8]) {
     for byte in part {
         if *size < 4096 {
             bytes[*size] = *byte;
@@ -107,7 +107,7 @@ fn put(bytes: &mut [u8; 4096], size: &mut usize, part: &[u8]) {
 }
 
 // A set of these segments, one after another, is taken.
-fn take(core: &mut Core, pts: u32, parts: &[&[u8]]) -> SetEnd
+pub(crate) fn take(core: &mut Core, pts: u32, parts: &[&[u8]]) -> SetEnd
     ensures { result ≡ Shown → core.new.known ≡ true }
 {
     let mut bytes = [0; 4096];
@@ -170,7 +170,7 @@ fn take_large(
 }
 
 // The fault of a segment.
-fn in_segment(place: u32, kind: SegmentKind) -> SetEnd {
+pub(crate) fn in_segment(place: u32, kind: SegmentKind) -> SetEnd {
     SetEnd::Broken(SetFault::Segment(SegmentFault { place, kind }))
 }
 
@@ -402,7 +402,7 @@ fn colours_and_displays(rt: HostRuntime) -> Result<(), Fail> {
 }
 
 // The width of a picture, and the first colour of its first row, which the row then has.
-fn first_colour(scene: &Scene<'_>, row: &mut [Colour; 720]) -> Option<(u32, Colour)> {
+pub(crate) fn first_colour(scene: &Scene<'_>, row: &mut [Colour; 720]) -> Option<(u32, Colour)> {
     let width = scene.width();
     let places = row.get_mut(..width as usize)?;
     if scene.height() == 0 {

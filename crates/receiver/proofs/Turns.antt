@@ -1,7 +1,7 @@
 -- What a receiver's two pictures show with one more set or loss.
 use Rattle.std.proofs.Common.{◌≡◌, ◌∙◌, ℕ, ◌+◌, ◌<◌, ◌≤◌, Bool, true, false, cond, nat_le, nat_lt, ◌&&◌, List, [], ◌∷◌, Option, Some, None, refl, sym, ap, subst, arith}
 use Rattle.std.specs.Prelude.{option_and_then, unwrap_or}
-use Rattle.std.specs.Option.{option_or}
+use Rattle.std.specs.Option.{is_some, option_or}
 use Rattle.std.proofs.lemmas.Bool.Decides.{nat_tests}
 use Rattle.sub_base.specs.declared.profile.Profile.{Profile}
 use Rattle.decoder_model.specs.Faults.{contents_in}
@@ -19,7 +19,7 @@ use Rattle.page_core.specs.Memory as cores
 use Rattle.page_core.specs.Memory.{IsSameReceiver, Memory}
 use Rattle.page_core.specs.Scenes.{Shows, until_in}
 use Rattle.page_core.proofs.Standings.{WaitsOrShows, waits_or_shows}
-use Rattle.receiver.specs.Showing.{Slot, Showing, Stands, plane_in, shown_at, view_in, view_until}
+use Rattle.receiver.specs.Showing.{Slot, Showing, Stands, plane_in, shown_at, time_before_last, view_in, view_until}
 
 -- ---- before the first set
 
@@ -30,11 +30,12 @@ none_handed anchor = refl
 -- nothing is shown
 pub stands_nothing : (core : Memory) (pending current : Slot) → cores.Stands [] core → pending ≡ record { time = 0; until = None; plane = None } → current ≡ record { time = 0; until = None; plane = None }
     → Stands [] (record { core = core; pending = pending; current = current })
-unfolding view_at
+unfolding view_at time_before_last
 stands_nothing core pending current stands first other = record {
   core = stands;
   order = omega (arith, ap (λ (slot : Slot). slot.time) first, ap (λ (slot : Slot). slot.time) other);
   latest = ap (λ (slot : Slot). slot.time) first ∙ ap (λ last. unwrap_or last 0) (sym (stands.last ∙ none_handed core.anchor));
+  earlier = ap (λ (slot : Slot). slot.time) other;
   shows = λ tick from. both tick (nat_le pending.time tick);
 }
   where
@@ -47,7 +48,7 @@ stands_nothing core pending current stands first other = record {
 -- where it is not kept, or is a loss, the pictures stay
 pub stands_on : (past : List (Delivery Reading)) (delivery : Delivery Reading) (old : Showing) (core : Memory) → Stands past old → cores.Stands (delivery ∷ past) core → IsSameReceiver old.core core
     → lifted_time old.core.anchor past delivery ≡ None → Stands (delivery ∷ past) (record { core = core; pending = old.pending; current = old.current })
-unfolding last_time
+unfolding last_time time_before_last
 stands_on past delivery old core stands after same late =
     let there : last_time core.anchor (delivery ∷ past) ≡ old.core.last =
     ap (λ anchor. last_time anchor (delivery ∷ past)) same.anchor ∙ ap (λ found. option_or found (last_time old.core.anchor past)) late ∙ sym stands.core.last in
@@ -55,6 +56,9 @@ stands_on past delivery old core stands after same late =
       core = after;
       order = stands.order;
       latest = stands.latest ∙ ap (λ last. unwrap_or last 0) (sym (after.last ∙ there));
+      earlier = stands.earlier
+          ∙ ap (λ found. unwrap_or (cond (is_some found) (last_time old.core.anchor past) (time_before_last old.core.anchor past)) 0) (sym late)
+          ∙ ap (λ anchor. unwrap_or (time_before_last anchor (delivery ∷ past)) 0) (sym same.anchor);
       shows = λ tick from.
           stands.shows tick from ∙ sym (view_without old.core.profile old.core.anchor tick past delivery late)
           ∙ ap (λ profile. view_at profile old.core.anchor tick (delivery ∷ past)) (sym same.profile) ∙ ap (λ anchor. view_at core.profile anchor tick (delivery ∷ past)) (sym same.anchor);
@@ -72,7 +76,7 @@ pub stands_turned : (past : List (Delivery Reading)) (delivery : Delivery Readin
     → lifted_time old.core.anchor past delivery ≡ Some at → pending.time ≡ at → current ≡ old.pending
     → ((tick : ℕ) → view_in pending tick ≡ view_of tick (standing_after old.core.profile old.core.anchor (delivery ∷ past)))
     → Stands (delivery ∷ past) (record { core = core; pending = pending; current = current })
-unfolding last_time
+unfolding last_time time_before_last
 stands_turned past delivery at old core pending current stands after same lifted time was shows =
     let last : unwrap_or old.core.last 0 ≤ at = above old.core.anchor at old.core.last (time_of delivery) (ap (λ found. lifted_after old.core.anchor found delivery) stands.core.last ∙ lifted) in
     let order = stands.order in
@@ -83,6 +87,9 @@ stands_turned past delivery at old core pending current stands after same lifted
       order = omega (arith, now, time, latest, last);
       latest = time ∙ ap (λ found. unwrap_or found 0)
           (sym (after.last ∙ ap (λ anchor. last_time anchor (delivery ∷ past)) same.anchor ∙ ap (λ found. option_or found (last_time old.core.anchor past)) lifted));
+      earlier = now ∙ latest ∙ ap (λ found. unwrap_or found 0) stands.core.last
+          ∙ ap (λ found. unwrap_or (cond (is_some found) (last_time old.core.anchor past) (time_before_last old.core.anchor past)) 0) (sym lifted)
+          ∙ ap (λ anchor. unwrap_or (time_before_last anchor (delivery ∷ past)) 0) (sym same.anchor);
       shows = λ tick from.
           by tick (omega (arith, from, now)) (nat_le at tick) refl
           ∙ ap (λ profile. view_at profile old.core.anchor tick (delivery ∷ past)) (sym same.profile) ∙ ap (λ anchor. view_at core.profile anchor tick (delivery ∷ past)) (sym same.anchor);

@@ -1,6 +1,8 @@
 -- What a receiver's pictures show, and what that has to do with all sets and losses that it was handed, the latest first.
-use Rattle.std.specs.Prelude.{◌≡◌, ℕ, ◌*◌, ◌≤◌, max, nat_le, List, Option, Some, None, unwrap_or, if◌then◌else◌}
+use Rattle.std.specs.Prelude.{◌≡◌, ℕ, ◌*◌, ◌≤◌, max, nat_le, List, [], ◌∷◌, Option, Some, None, unwrap_or, if◌then◌else◌}
+use Rattle.std.specs.Option.{is_some}
 use Rattle.sub_base.specs.declared.profile.Profile.{Profile}
+use Rattle.decoder_model.specs.Kept.{last_time, lifted_time}
 use Rattle.decoder_model.specs.Readings.{Reading}
 use Rattle.decoder_model.specs.Sets.{Delivery}
 use Rattle.decoder_model.specs.Shown.{Plane, View, nothing, plane, is_over_at, view_at}
@@ -46,10 +48,17 @@ shown_at showing tick = if nat_le showing.pending.time tick then view_in showing
 
 -- ---- what it has to do with all that was handed
 
+-- the lifted time of the kept set before the last one; none where fewer than two sets were kept
+unfoldable pub time_before_last : {S : Type 0} → ℕ → List (Delivery S) → Option ℕ
+time_before_last anchor [] = None
+time_before_last anchor (delivery ∷ past) =
+    if is_some (lifted_time anchor past delivery) then last_time anchor past else time_before_last anchor past
+
 -- the pictures are those after this past, the latest first
 pub record Stands (past : List (Delivery Reading)) (showing : Showing) : Type 0 where
   pub core : cores.Stands past showing.core
   pub order : showing.current.time ≤ showing.pending.time
-  -- the pending picture is that of the last kept set
+  -- the pending picture is that of the last kept set, and the current one that of the kept set before it
   pub latest : showing.pending.time ≡ unwrap_or showing.core.last 0
+  pub earlier : showing.current.time ≡ unwrap_or (time_before_last showing.core.anchor past) 0
   pub shows : (tick : ℕ) → showing.current.time ≤ tick → shown_at showing tick ≡ view_at showing.core.profile showing.core.anchor tick past

@@ -15,4 +15,6 @@ pub use receiver::Receiver;
 pub use view::View;
 
 #[cfg(test)]
+mod loss_tests;
+#[cfg(test)]
 mod tests;

@@ -74,6 +74,7 @@ impl Receiver {
     ghost use Rattle.receiver.specs.Arrived.{arrival_value};
     ghost use Rattle.receiver.specs.Lent.{IsWholeView, view_lent};
     ghost use Rattle.receiver.specs.Receiving.{AreLosses, IsNext, IsSame, Stands, set_time};
+    ghost use Rattle.receiver.specs.Showing.{time_before_last};
 
     /// A receiver of a profile that was fed nothing. Lifted times begin at the anchor. All memory
     /// is taken here.
@@ -234,10 +235,14 @@ impl Receiver {
         }
     }
 
-    /// The lifted time of the current picture, from which on it is known what is shown; 0 before
-    /// two sets were kept.
+    /// The lifted time of the current picture, that of the kept set before the last one, from which
+    /// on it is known what is shown; 0 before two sets were kept.
     pub fn from(&self) -> u64
         ensures time { result ≡ self.now.showing.current.time }
+        ensures earlier { (fed : List (List ℕ)) (ended : Bool) (given : List (Delivery (List ℕ)))
+            (past : List (Delivery Reading))
+            → Stands ended fed given self.now → AreDeliveriesRead (reverse given) past
+            → result ≡ unwrap_or (time_before_last self.now.showing.core.anchor past) 0 }
         ensures before { (fed : List (List ℕ)) (ended : Bool) (given : List (Delivery (List ℕ)))
             (past : List (Delivery Reading))
             → Stands ended fed given self.now → AreDeliveriesRead (reverse given) past

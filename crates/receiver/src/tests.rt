@@ -27,7 +27,7 @@ const OTHER_PAGE: [u8; 14] = [
 /// A display of four columns and two rows, filled with code 1 of 8 bits and timed out after 12
 /// seconds; an epoch begins with it.
 #[rattlefmt::skip]
-const FILLED: [u8; 47] = [
+pub(crate) const FILLED: [u8; 47] = [
     0x0F, 0x14, 0x00, 0x01, 0x00, 0x05, 0x07, 0x00, 0x03, 0x00, 0x01,
     0x0F, 0x10, 0x00, 0x01, 0x00, 0x08, 0x0C, 0x0B, 0x00, 0xFF, 0x00, 0x00, 0x00, 0x00,
     0x0F, 0x11, 0x00, 0x01, 0x00, 0x0A, 0x00, 0x0F, 0x00, 0x04, 0x00, 0x02, 0x6F, 0x00, 0x01, 0x03,
@@ -81,7 +81,7 @@ fn packet_of(counter: u8, pts: u32, segments: &[u8]) -> [u8; 188]
 
 /// What is seen at a tick.
 #[derive(Clone, Copy, Debug, PartialEq, Eq)]
-enum Seen {
+pub(crate) enum Seen {
     /// The receiver does not tell it any more.
     TooEarly,
     /// The video everywhere.
@@ -92,21 +92,23 @@ enum Seen {
 
 /// A receiver of page 1 out of PID 256, and how many packets were sent to it, be they lost or not.
 #[derive(Drop)]
-struct Trial {
-    receiver: Receiver,
+pub(crate) struct Trial {
+    pub receiver: Receiver,
     sent: u8,
 }
 
 impl Trial {
     fn new(alloc: Global) -> Result<Trial, Fail> {
-        Ok(Trial {
-            receiver: Receiver::make(alloc, &Profile::of(ProfileName::Sd), 256, 1, 0)?,
-            sent: 0,
-        })
+        let sd = Profile::of(ProfileName::Sd);
+        Ok(Trial::of(Receiver::make(alloc, &sd, 256, 1, 0)?))
+    }
+
+    pub fn of(receiver: Receiver) -> Trial {
+        Trial { receiver, sent: 0 }
     }
 
     /// What becomes of a packet; none where a set is ready.
-    fn feed(&mut self, packet: &[u8; 188]) -> Option<Result<Event, PacketFault>> {
+    pub fn feed(&mut self, packet: &[u8; 188]) -> Option<Result<Event, PacketFault>> {
         match self.receiver.ready() {
             Some(_) => None,
             None => Some(self.receiver.feed(packet)),
@@ -142,7 +144,7 @@ impl Trial {
     }
 
     /// Takes the set that is ready; none where none is.
-    fn take<R: Threads + Sync>(&mut self, rt: &R) -> Option<SetEnd> {
+    pub fn take<R: Threads + Sync>(&mut self, rt: &R) -> Option<SetEnd> {
         match self.receiver.ready() {
             None => None,
             Some(_) => Some(self.receiver.take(rt, 2, &NoGate)),

@@ -42,6 +42,18 @@ fn equal_fields_share_the_top_block(rt: HostRuntime) -> Result<(), Fail> {
     Ok(())
 }
 
+/// The rows of three are the same, but the top field has one more.
+#[test]
+fn an_odd_height_has_a_bottom_block(rt: HostRuntime) -> Result<(), Fail> {
+    let (bytes, lengths) = blocks(rt.alloc(), 1, 3, &[1, 1, 1], Depth::Two)?;
+    assert_eq!(rt;
+        bytes.as_slice(),
+        b"\x10\x40\xF0\x10\x40\xF0\x10\x40\xF0".as_slice()
+    );
+    assert_eq!(rt; lengths, FieldLengths { top: 6, bottom: 3 });
+    Ok(())
+}
+
 #[test]
 fn a_deeper_region_gets_the_identity_table(rt: HostRuntime) -> Result<(), Fail> {
     let (bytes, lengths) = blocks(rt.alloc(), 2, 2, &[1, 0, 0, 1], Depth::Four)?;
