@@ -14,15 +14,15 @@ use Rattle.decoder_model.proofs.Growth.{packets_add}
 use Rattle.decoder_model.proofs.SentUnits.{all_taken}
 use Rattle.sent_levels.specs.EnteredCalls.{Entry}
 use Rattle.sent_levels.proofs.EnteredSums.{AreSlots, within_slots, rising}
-use Rattle.shown_stream.specs.SlotStream.{Piece, packet_of, all_pieces}
+use Rattle.slot_stream.specs.SlotStream.{Piece, packet_of, all_pieces}
 use Rattle.stream_calls.specs.StreamCalls.{count_with}
 use Rattle.stream_calls.proofs.PacketCalls.{sound_front}
 use Rattle.shown_stream.proofs.BroughtPieces.{null_brings}
 use Rattle.shown_stream.proofs.CallsOfPieces.{E, AreUsedUp, Add, one_more, units_in, AreLeft, Piecewise, Position, nothing_left, goes_on, dropped}
 use Rattle.shown_stream.proofs.EnteredSlots.{no_packet}
-use Rattle.shown_stream.proofs.LaidPackets.{laid, IsAhead}
+use Rattle.slot_stream.proofs.LaidPackets.{laid, IsAhead}
 use Rattle.shown_stream.proofs.PieceSteps.{null_more, null_count, piece_step}
-use Rattle.shown_stream.proofs.SentPieces.{IsFree}
+use Rattle.slot_stream.proofs.SentPieces.{IsFree}
 use Rattle.shown_stream.proofs.SetsInHand.{plain_piece}
 
 -- ---- the next packet

@@ -12,11 +12,11 @@ use Rattle.stream_syntax.specs.Units.{event_at, hand_after, last_counter}
 use Rattle.decoder_model.specs.PacketArrivals.{packet_arrival}
 use Rattle.decoder_model.proofs.SentSets.{SetUnit, TimedSet, timed, IsTimedSet, IsUnitOf, HaveDifferentTimes}
 use Rattle.sent_levels.specs.EnteredCalls.{Entry, from_of, heard_load, entered_calls}
-use Rattle.shown_stream.specs.SlotStream.{Piece, all_pieces, IsPiece}
+use Rattle.slot_stream.specs.SlotStream.{Piece, all_pieces, IsPiece}
 use Rattle.stream_calls.specs.StreamCalls.{itself, count_with, calls_of_packet, arrived_in, calls_from}
 use Rattle.shown_stream.proofs.BroughtPieces.{IsReady}
-use Rattle.shown_stream.proofs.SentPieces.{AreFurther, FollowsOn}
-use Rattle.shown_stream.proofs.SentStream.{first_piece, further_of, its_pieces, its_bytes, its_first, its_further}
+use Rattle.slot_stream.proofs.SentPieces.{AreFurther, FollowsOn}
+use Rattle.slot_stream.proofs.SentStream.{first_piece, further_of, its_pieces, its_bytes, its_first, its_further}
 use Rattle.shown_stream.proofs.SetPackets.{bytes_in}
 use Rattle.shown_stream.proofs.SetsInHand.{HaveCome, IsPlain, plain_calls}
 

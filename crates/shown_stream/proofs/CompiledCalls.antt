@@ -19,7 +19,7 @@ use Rattle.decoder_model.proofs.SentSets.{TimedSet, timed, timed_units, IsTimedS
 use Rattle.decoder_model.proofs.SentUnits.{all_taken}
 use Rattle.sent_levels.specs.EnteredCalls.{Entry, entered_calls}
 use Rattle.shown_stream.specs.Compiled.{AreSizedAs, all_units, IsCompiledTo}
-use Rattle.shown_stream.specs.SlotStream.{all_pieces}
+use Rattle.slot_stream.specs.SlotStream.{all_pieces}
 use Rattle.stream_calls.specs.StreamCalls.{itself, set_call, set_calls, calls_from, AreCallsOf}
 use Rattle.stream_calls.proofs.EachBehind.{each_count}
 use Rattle.stream_calls.proofs.PacketCalls.{none_yet}
@@ -31,8 +31,8 @@ use Rattle.shown_stream.proofs.CompiledSets.{AreSentAs}
 use Rattle.shown_stream.proofs.LateCalls.{IsSentStream, entry_of, late_calls}
 use Rattle.shown_stream.proofs.LatePlaces.{same_many}
 use Rattle.shown_stream.proofs.RisingSlots.{rises, slots_rise}
-use Rattle.shown_stream.proofs.SentPieces.{IsFree, none_refused}
-use Rattle.shown_stream.proofs.SentStream.{pieces_are}
+use Rattle.slot_stream.proofs.SentPieces.{IsFree, none_refused}
+use Rattle.slot_stream.proofs.SentStream.{pieces_are}
 use Rattle.shown_stream.proofs.SetPackets.{bytes_in, set_bytes}
 
 -- ---- the sets of a compiled stream as they are sent

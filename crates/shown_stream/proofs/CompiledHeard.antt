@@ -25,7 +25,7 @@ use Rattle.sent_levels.proofs.EnteredSums.{within_slots}
 use Rattle.shown_stream.specs.Compiled.{IsCompiledTo, all_units}
 use Rattle.shown_stream.specs.SentSets.{sent_sets, times_from}
 use Rattle.shown_stream.specs.Shows.{IsAnchorOf}
-use Rattle.shown_stream.specs.SlotStream.{Piece, all_pieces, packet_of}
+use Rattle.slot_stream.specs.SlotStream.{Piece, all_pieces, packet_of}
 use Rattle.shown_stream.specs.StaysWithin.{AreCallsBefore}
 use Rattle.stream_calls.specs.StreamCalls.{set_calls, AreCallsOf}
 use Rattle.shown_stream.proofs.CallsOfPieces.{AreLeft}
@@ -35,14 +35,14 @@ use Rattle.shown_stream.proofs.CompiledPackets.{packets_in, ArePackets}
 use Rattle.shown_stream.proofs.EnteredSlots.{IsNotBegun, nothing_yet}
 use Rattle.shown_stream.proofs.EntrySizes.{heard_sizes, count_behind}
 use Rattle.shown_stream.proofs.KeptCalls.{IsWholeAt, are_left}
-use Rattle.shown_stream.proofs.LaidPackets.{laid, IsAhead}
+use Rattle.slot_stream.proofs.LaidPackets.{laid, IsAhead}
 use Rattle.shown_stream.proofs.LateCalls.{IsSentStream, entry_not_begun}
 use Rattle.shown_stream.proofs.LateCompiled.{IsEnteredLate}
 use Rattle.shown_stream.proofs.LatePlaces.{count_sets}
 use Rattle.shown_stream.proofs.LateSets.{sets_behind, units_behind, apart_behind}
 use Rattle.shown_stream.proofs.LateStream.{entered_late}
 use Rattle.shown_stream.proofs.ReceivedLoads.{heard_painting, AreAllHeard, all_heard, first_of_all, planned_times, drop_times, calls_of_first, count_calls, read_first}
-use Rattle.shown_stream.proofs.SentPieces.{IsFree}
+use Rattle.slot_stream.proofs.SentPieces.{IsFree}
 use Rattle.shown_stream.proofs.SetPaintings.{painting_in}
 use Rattle.shown_stream.proofs.SetsUpTo.{sets_up_to}
 

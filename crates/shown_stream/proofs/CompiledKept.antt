@@ -29,7 +29,7 @@ use Rattle.shown_stream.proofs.LateCalls.{units_missed}
 use Rattle.shown_stream.proofs.LatePlaces.{same_many}
 use Rattle.shown_stream.proofs.LateSets.{sets_behind}
 use Rattle.shown_stream.proofs.PlannedTimes.{pts_of}
-use Rattle.shown_stream.proofs.SentPieces.{IsFree}
+use Rattle.slot_stream.proofs.SentPieces.{IsFree}
 use Rattle.shown_stream.proofs.SetsUpTo.{sets_up_to, IsTimeOf, first_timed, HaveUnits, timed_from}
 
 have_units : (script : Script) (page : ℕ) (sets : List PlannedSet) (units : List (List (List ℕ))) (sent : List TimedSet) → AreSentAs script page sets units sent → HaveUnits units sent × AllZip IsTimeOf sets sent

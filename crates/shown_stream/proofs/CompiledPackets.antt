@@ -22,13 +22,13 @@ use Rattle.schedule.specs.Packets.{first_packet, packets_of, payloads_of, unit_p
 use Rattle.schedule.proofs.PacketLaws.{unit_count}
 use Rattle.schedule.proofs.SumLaws.{sum_below-zero, sum_below-suc}
 use Rattle.shown_stream.specs.Compiled.{IsCompiledFor, AreSizedAs, all_units, IsCompiledTo}
-use Rattle.shown_stream.specs.SlotStream.{Piece, all_pieces, pieces_of, piece_of, piece_count, packet_of, IsPiece}
-use Rattle.shown_stream.proofs.LaidPackets.{laid, stream_is_laid}
+use Rattle.slot_stream.specs.SlotStream.{Piece, all_pieces, pieces_of, piece_of, piece_count, packet_of, IsPiece}
+use Rattle.slot_stream.proofs.LaidPackets.{laid, stream_is_laid}
 use Rattle.shown_stream.proofs.LateStream.{no_counter}
 use Rattle.shown_stream.proofs.PlannedTimes.{different_times}
 use Rattle.shown_stream.proofs.RisingSlots.{slots_rise}
-use Rattle.shown_stream.proofs.SentPieces.{IsFree, all-replicate, none_refused}
-use Rattle.shown_stream.proofs.SentStream.{pieces_are, sent_units}
+use Rattle.slot_stream.proofs.SentPieces.{IsFree, all-replicate, none_refused}
+use Rattle.slot_stream.proofs.SentStream.{pieces_are, sent_units}
 use Rattle.shown_stream.proofs.CompiledSets.{sent_of, AreAllPackets, all_packets, all_room}
 use Rattle.shown_stream.proofs.UnitSizes.{all_short}
 

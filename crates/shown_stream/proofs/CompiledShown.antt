@@ -55,7 +55,7 @@ use Rattle.shown_stream.proofs.LateSets.{IsRest, none_left, some_left, zip_behin
 use Rattle.readings.proofs.OneReading.{same_past}
 use Rattle.shown_stream.proofs.PlannedRegions.{planned_well}
 use Rattle.shown_stream.proofs.PlannedTimes.{pts_of, times_in_span, pts_rise}
-use Rattle.shown_stream.proofs.SentPieces.{IsFree}
+use Rattle.slot_stream.proofs.SentPieces.{IsFree}
 use Rattle.shown_stream.proofs.SentPlaces.{has_place}
 use Rattle.shown_stream.proofs.SetPaintings.{painting_in, calls_behind}
 use Rattle.shown_stream.proofs.ShownSets.{AreAheadOf, IsIdle, lifted_at}

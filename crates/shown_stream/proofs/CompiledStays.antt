@@ -47,7 +47,7 @@ use Rattle.shown_stream.proofs.LatePlaces.{HavePackets, count_sets}
 use Rattle.shown_stream.proofs.LateStream.{passed, pieces_left}
 use Rattle.shown_stream.proofs.PlannedTimes.{pts_of}
 use Rattle.shown_stream.proofs.ReceivedLoads.{heard_painting, heard_from, heard_most, entry_before, planned_times}
-use Rattle.shown_stream.proofs.SentPieces.{IsFree}
+use Rattle.slot_stream.proofs.SentPieces.{IsFree}
 
 -- ---- the whole stream
 

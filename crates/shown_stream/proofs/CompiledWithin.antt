@@ -13,14 +13,14 @@ use Rattle.sent_levels.specs.EnteredCalls.{Entry}
 use Rattle.sent_levels.proofs.EnteredLevels.{IsEntry}
 use Rattle.sent_levels.proofs.EnteredWithin.{Holds}
 use Rattle.shown_stream.specs.Compiled.{IsCompiledTo}
-use Rattle.shown_stream.specs.SlotStream.{Piece, all_pieces, pieces_of}
+use Rattle.slot_stream.specs.SlotStream.{Piece, all_pieces, pieces_of}
 use Rattle.shown_stream.proofs.CallsOfPieces.{units_in, unit_has_bytes}
 use Rattle.shown_stream.proofs.CompiledCalls.{compiled_stream, compiled_entry}
 use Rattle.shown_stream.proofs.CompiledPackets.{ArePackets}
 use Rattle.shown_stream.proofs.EarlyPackets.{Behind, nothing_behind, begins}
 use Rattle.shown_stream.proofs.LateCalls.{units_missed, behind_units}
 use Rattle.shown_stream.proofs.ScheduledLevels.{schedule_holds}
-use Rattle.shown_stream.proofs.SentStream.{its_pieces}
+use Rattle.slot_stream.proofs.SentStream.{its_pieces}
 use Rattle.shown_stream.proofs.SetPackets.{bytes_in}
 
 -- the schedule of a compiled stream holds

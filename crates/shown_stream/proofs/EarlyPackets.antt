@@ -15,15 +15,15 @@ use Rattle.decoder_model.proofs.SentSets.{TimedSet, timed, IsTimedSet, IsUnitOf,
 use Rattle.ts_packets.proofs.WrittenPackets.{null_is_taken}
 use Rattle.sent_levels.specs.EnteredCalls.{Entry, from_of}
 use Rattle.sent_levels.proofs.EnteredSums.{AreSlots, within_slots, rising}
-use Rattle.shown_stream.specs.SlotStream.{Piece, packet_of, all_pieces, pieces_of}
+use Rattle.slot_stream.specs.SlotStream.{Piece, packet_of, all_pieces, pieces_of}
 use Rattle.stream_calls.specs.StreamCalls.{count_with}
 use Rattle.shown_stream.proofs.BroughtPieces.{Brings, null_brings, further_brings}
 use Rattle.shown_stream.proofs.CallsOfPackets.{laid_here, laid_later, used_next, walk_none, walk}
 use Rattle.shown_stream.proofs.CallsOfPieces.{AreUsedUp, Add, one_more, AreSentSets, units_in, AreLeft, Piecewise, Position, nothing_left, goes_on, begin_unit, dropped, unit_has_bytes}
 use Rattle.shown_stream.proofs.EnteredSlots.{IsNotBegun, nothing_yet}
-use Rattle.shown_stream.proofs.LaidPackets.{laid, IsAhead}
-use Rattle.shown_stream.proofs.SentPieces.{IsFree, AreFurther, FollowsOn, says}
-use Rattle.shown_stream.proofs.SentStream.{its_pieces}
+use Rattle.slot_stream.proofs.LaidPackets.{laid, IsAhead}
+use Rattle.slot_stream.proofs.SentPieces.{IsFree, AreFurther, FollowsOn, says}
+use Rattle.slot_stream.proofs.SentStream.{its_pieces}
 use Rattle.shown_stream.proofs.SetPackets.{bytes_in}
 use Rattle.shown_stream.proofs.SetsInHand.{HaveCome, sets_whole, no_unit_more, plain_piece, count_is}
 

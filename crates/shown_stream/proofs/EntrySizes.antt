@@ -16,7 +16,7 @@ use Rattle.schedule.proofs.SumLaws.{sum_below-same, sum_below-zero}
 use Rattle.schedule.specs.Packets.{sum_below, units_of, size_of, packets_of, payload_of, payloads_of}
 use Rattle.decoder_model.proofs.SentSets.{SetUnit, TimedSet, timed, size_of_units, IsUnitOf}
 use Rattle.sent_levels.specs.EnteredCalls.{Entry, from_of}
-use Rattle.shown_stream.specs.SlotStream.{all_pieces, pieces_of}
+use Rattle.slot_stream.specs.SlotStream.{all_pieces, pieces_of}
 use Rattle.shown_stream.proofs.CallsOfPieces.{IsSentSet, AreSentSets}
 use Rattle.shown_stream.proofs.LateCalls.{same_lengths, entry_behind}
 use Rattle.shown_stream.proofs.LateSets.{rest_of_set, sets_behind, zip_behind}

@@ -10,10 +10,10 @@ use Rattle.schedule.proofs.SumLaws.{sum_below-rises}
 use Rattle.sub_base.specs.declared.load.WriteLoad.{WriteLoad}
 use Rattle.sub_base.specs.declared.pace.Pace.{Pace}
 use Rattle.stream_syntax.specs.Cutting.{IsUnit}
-use Rattle.shown_stream.specs.SlotStream.{pieces_of, all_pieces}
+use Rattle.slot_stream.specs.SlotStream.{pieces_of, all_pieces}
 use Rattle.shown_stream.proofs.LateStream.{first_number}
 use Rattle.shown_stream.proofs.SentPlaces.{start_is}
-use Rattle.shown_stream.proofs.SentStream.{its_pieces}
+use Rattle.slot_stream.proofs.SentStream.{its_pieces}
 
 -- ---- pieces
 

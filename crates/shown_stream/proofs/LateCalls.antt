@@ -16,16 +16,16 @@ use Rattle.decoder_model.proofs.SentSets.{TimedSet, timed, IsUnitOf, HaveDiffere
 use Rattle.decoder_model.proofs.SentUnits.{no_hand}
 use Rattle.sent_levels.specs.EnteredCalls.{Entry, entered_calls}
 use Rattle.sent_levels.proofs.EnteredSums.{AreSlots, within_slots}
-use Rattle.shown_stream.specs.SlotStream.{Piece, all_pieces, pieces_of}
+use Rattle.slot_stream.specs.SlotStream.{Piece, all_pieces, pieces_of}
 use Rattle.stream_calls.specs.StreamCalls.{itself, calls_from}
 use Rattle.shown_stream.proofs.CallsOfPieces.{AreUsedUp, IsSentSet, AreSentSets, units_in, AreLeft, unit_has_bytes}
 use Rattle.shown_stream.proofs.EarlyPackets.{Begins, Behind, nothing_behind, begins, Early, early_walk}
 use Rattle.shown_stream.proofs.EnteredSlots.{IsNotBegun, nothing_yet}
-use Rattle.shown_stream.proofs.LaidPackets.{laid, IsAhead}
+use Rattle.slot_stream.proofs.LaidPackets.{laid, IsAhead}
 use Rattle.shown_stream.proofs.LateSets.{rest_of_set, rest_is_set, zip_behind}
 use Rattle.shown_stream.proofs.LateStream.{no_counter, passed, passed_is, drop-laid, drop_units, pieces_left}
-use Rattle.shown_stream.proofs.SentPieces.{IsFree}
-use Rattle.shown_stream.proofs.SentStream.{its_pieces}
+use Rattle.slot_stream.proofs.SentPieces.{IsFree}
+use Rattle.slot_stream.proofs.SentStream.{its_pieces}
 use Rattle.shown_stream.proofs.SetPackets.{bytes_in}
 use Rattle.shown_stream.proofs.SetsInHand.{none_came}
 

@@ -21,10 +21,10 @@ use Rattle.decoder_model.specs.Streams.{entered_at, SentSet, is_from, entry_set}
 use Rattle.decoder_model.proofs.SentSets.{TimedSet, delivered, have_units}
 use Rattle.shown_stream.specs.Compiled.{all_units, IsCompiledTo}
 use Rattle.shown_stream.specs.SentSets.{sent_set, sent_from, sent_sets}
-use Rattle.shown_stream.specs.SlotStream.{all_pieces}
+use Rattle.slot_stream.specs.SlotStream.{all_pieces}
 use Rattle.shown_stream.proofs.CompiledPackets.{packets_in, ArePackets, as_many, count_pieces}
 use Rattle.shown_stream.proofs.CompiledSets.{IsSentAs, AreSentAs}
-use Rattle.shown_stream.proofs.LaidPackets.{IsAhead}
+use Rattle.slot_stream.proofs.LaidPackets.{IsAhead}
 use Rattle.shown_stream.proofs.LateAnchors.{pieces_rise, next_piece, some_from}
 use Rattle.shown_stream.proofs.LatePlaces.{HavePackets, same_many, count_units, count_sets, unit_inside, first_of_set, some_bytes, places_from}
 use Rattle.shown_stream.proofs.LateRest.{IsBrokenFirst, rest_comes_first}
@@ -32,7 +32,7 @@ use Rattle.shown_stream.proofs.LateSets.{rest_of_set, units_before, IsRest, none
 use Rattle.shown_stream.proofs.LateStream.{passed, pieces_left, first_number, units_that_come}
 use Rattle.shown_stream.proofs.PlannedRegions.{planned_well}
 use Rattle.shown_stream.proofs.RisingSlots.{slots_rise}
-use Rattle.shown_stream.proofs.SentPieces.{IsFree}
+use Rattle.slot_stream.proofs.SentPieces.{IsFree}
 use Rattle.shown_stream.proofs.SentPlaces.{times_rise}
 
 -- ---- a set by its number

@@ -10,9 +10,9 @@ use Rattle.decoder_model.proofs.SentUnits.{no_loss_at}
 use Rattle.ts_packets.specs.Demuxing.{next_hand}
 use Rattle.ts_packets.proofs.UnitLemmas.{hand_push, counter_push}
 use Rattle.ts_packets.proofs.WrittenPackets.{SaysWhatWasWritten}
-use Rattle.shown_stream.proofs.LaidPackets.{laid, other_number}
-use Rattle.shown_stream.proofs.SentPieces.{IsFree, AreFurther, FollowsOn, says, unbroken, null_is_no_payload, counter_here}
-use Rattle.shown_stream.specs.SlotStream.{Piece, packet_of}
+use Rattle.slot_stream.proofs.LaidPackets.{laid, other_number}
+use Rattle.slot_stream.proofs.SentPieces.{IsFree, AreFurther, FollowsOn, says, unbroken, null_is_no_payload, counter_here}
+use Rattle.slot_stream.specs.SlotStream.{Piece, packet_of}
 
 -- behind packets, a packet gives no unit, means no loss, and leaves no unit in hand
 pub record GivesNothing (pid size : ℕ) (before : List (List ℕ)) (packet : List ℕ) : Type 0 where

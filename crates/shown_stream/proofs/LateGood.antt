@@ -12,9 +12,9 @@ use Rattle.decoder_model.specs.Streams.{SentSet, entry_set, IsGoodTick}
 use Rattle.decoder_model.proofs.SentSets.{have_units}
 use Rattle.shown_stream.specs.Compiled.{all_units, IsCompiledTo}
 use Rattle.shown_stream.specs.SentSets.{sent_sets}
-use Rattle.shown_stream.specs.SlotStream.{Piece, packet_of, all_pieces}
+use Rattle.slot_stream.specs.SlotStream.{Piece, packet_of, all_pieces}
 use Rattle.shown_stream.proofs.CompiledPackets.{packets_in, ArePackets, as_many, count_pieces}
-use Rattle.shown_stream.proofs.LaidPackets.{laid, IsAhead}
+use Rattle.slot_stream.proofs.LaidPackets.{laid, IsAhead}
 use Rattle.shown_stream.proofs.LateCompiled.{have_packets}
 use Rattle.shown_stream.proofs.LateCuts.{late_sendings}
 use Rattle.shown_stream.proofs.LatePlaces.{count_sets, some_bytes}

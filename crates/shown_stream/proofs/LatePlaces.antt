@@ -16,10 +16,10 @@ use Rattle.schedule.specs.Slots.{Timetable, IsSchedule, start_of, slots_of}
 use Rattle.decoder_model.proofs.SentSets.{TimedSet}
 use Rattle.set_coder.specs.SetSegments.{unit_packet}
 use Rattle.shown_stream.specs.Compiled.{AreSizedAs, all_units}
-use Rattle.shown_stream.specs.SlotStream.{all_pieces}
+use Rattle.slot_stream.specs.SlotStream.{all_pieces}
 use Rattle.shown_stream.proofs.CompiledPackets.{count_before}
 use Rattle.shown_stream.proofs.CompiledSets.{IsSentAs, AreSentAs}
-use Rattle.shown_stream.proofs.LaidPackets.{IsAhead}
+use Rattle.slot_stream.proofs.LaidPackets.{IsAhead}
 use Rattle.shown_stream.proofs.LateSets.{units_before}
 use Rattle.shown_stream.proofs.LateStream.{first_number}
 use Rattle.shown_stream.proofs.SentOrder.{all_ahead, from_all, sooner}

@@ -10,10 +10,10 @@ use Rattle.std.proofs.lemmas.List.Sums.{sum_by-append}
 use Rattle.stream_syntax.specs.Cutting.{IsUnit}
 use Rattle.decoder_model.specs.Sets.{sets_of}
 use Rattle.decoder_model.proofs.SentSets.{SetUnit, TimedSet, timed, timed_units, segments_of_units, AreSetUnits, IsTimedSet, IsUnitOf, AreUnitsOf, HaveDifferentTimes, delivered, sets_come_whole}
-use Rattle.shown_stream.specs.SlotStream.{all_pieces}
-use Rattle.shown_stream.proofs.LaidPackets.{laid, IsAhead}
+use Rattle.slot_stream.specs.SlotStream.{all_pieces}
+use Rattle.slot_stream.proofs.LaidPackets.{laid, IsAhead}
 use Rattle.shown_stream.proofs.LateStream.{passed, pieces_left, entered_late}
-use Rattle.shown_stream.proofs.SentPieces.{IsFree}
+use Rattle.slot_stream.proofs.SentPieces.{IsFree}
 
 -- ---- sets behind units
 

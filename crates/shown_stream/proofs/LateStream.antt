@@ -13,11 +13,11 @@ use Rattle.decoder_model.proofs.SentUnits.{AreSent, each_after-append, given-app
 use Rattle.stream_syntax.specs.declared.transport.Event.{Event}
 use Rattle.std.proofs.Math.Seq.{drop-nil, drop-append-add}
 use Rattle.ts_packets.proofs.AnyCuttingLemmas.{any_cutting, nothing_lost}
-use Rattle.shown_stream.specs.SlotStream.{Piece, packet_of, pieces_of, all_pieces, IsPiece}
-use Rattle.shown_stream.proofs.LaidPackets.{laid, behind, IsAhead}
+use Rattle.slot_stream.specs.SlotStream.{Piece, packet_of, pieces_of, all_pieces, IsPiece}
+use Rattle.slot_stream.proofs.LaidPackets.{laid, behind, IsAhead}
 use Rattle.shown_stream.proofs.LateEntry.{further_give_nothing}
-use Rattle.shown_stream.proofs.SentPieces.{IsFree, AreFurther, FollowsOn, counter_behind, laid-append, none_refused}
-use Rattle.shown_stream.proofs.SentStream.{first_piece, further_of, its_pieces, its_further, sent_units, pieces_are, only_pieces}
+use Rattle.slot_stream.proofs.SentPieces.{IsFree, AreFurther, FollowsOn, counter_behind, laid-append, none_refused}
+use Rattle.slot_stream.proofs.SentStream.{first_piece, further_of, its_pieces, its_further, sent_units, pieces_are, only_pieces}
 
 pub no_counter : (pid : ℕ) → last_counter pid [] ≡ None
 unfolding last_counter

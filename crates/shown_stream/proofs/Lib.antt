@@ -1,6 +1,3 @@
-pub mod LaidPackets
-pub mod SentPieces
-pub mod SentStream
 pub mod DrawnObject
 pub mod WrittenSets
 pub mod BlockSizes

@@ -7,11 +7,11 @@ use Rattle.std.proofs.lemmas.List.Sums.{sum_by-append, sum_by-cons}
 use Rattle.stream_syntax.specs.TransportPackets.{null_packet}
 use Rattle.stream_syntax.specs.Units.{is_payload}
 use Rattle.decoder_model.specs.Streams.{Sending, is_received, is_missed, IsShortlyCut}
-use Rattle.shown_stream.specs.SlotStream.{Piece, packet_of, IsPiece}
-use Rattle.shown_stream.proofs.LaidPackets.{laid, IsAhead}
+use Rattle.slot_stream.specs.SlotStream.{Piece, packet_of, IsPiece}
+use Rattle.slot_stream.proofs.LaidPackets.{laid, IsAhead}
 use Rattle.shown_stream.proofs.LostPieces.{IsParted, parted, there_at, there_parts}
 use Rattle.shown_stream.proofs.LostUnits.{AreNear}
-use Rattle.shown_stream.proofs.SentPieces.{IsFree, says, null_is_no_payload, written_is_payload}
+use Rattle.slot_stream.proofs.SentPieces.{IsFree, says, null_is_no_payload, written_is_payload}
 
 -- how many are missed since the last that was received, of sendings that end with these
 pub record Since (pid : ℕ) (all left : List Sending) (k : ℕ) : Type 0 where

@@ -13,7 +13,7 @@ use Rattle.cue_list.specs.declared.script.Script.{Script}
 use Rattle.page_epoch.specs.declared.planned_set.PlannedSet.{PlannedSet}
 use Rattle.decoder_model.proofs.SentSets.{TimedSet, IsTimedSet, HaveDifferentTimes}
 use Rattle.shown_stream.specs.Compiled.{all_units}
-use Rattle.shown_stream.specs.SlotStream.{pieces_of, all_pieces}
+use Rattle.slot_stream.specs.SlotStream.{pieces_of, all_pieces}
 use Rattle.shown_stream.proofs.ComingSets.{SetComes}
 use Rattle.shown_stream.proofs.CompiledSets.{AreSentAs}
 use Rattle.shown_stream.proofs.LatePlaces.{same_many}

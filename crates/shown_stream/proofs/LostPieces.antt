@@ -15,11 +15,11 @@ use Rattle.decoder_model.proofs.SentUnits.{no_loss_at}
 use Rattle.ts_packets.specs.Demuxing.{next_hand}
 use Rattle.ts_packets.proofs.UnitLemmas.{hand_push, counter_push}
 use Rattle.ts_packets.proofs.WrittenPackets.{SaysWhatWasWritten}
-use Rattle.shown_stream.specs.SlotStream.{Piece, packet_of, IsPiece}
-use Rattle.shown_stream.proofs.LaidPackets.{laid, IsAhead}
+use Rattle.slot_stream.specs.SlotStream.{Piece, packet_of, IsPiece}
+use Rattle.slot_stream.proofs.LaidPackets.{laid, IsAhead}
 use Rattle.shown_stream.proofs.LateEntry.{other_part}
 use Rattle.shown_stream.proofs.SentOrder.{sooner}
-use Rattle.shown_stream.proofs.SentPieces.{IsFree, says, null_is_no_payload, counter_here}
+use Rattle.slot_stream.proofs.SentPieces.{IsFree, says, null_is_no_payload, counter_here}
 
 -- ---- a packet
 

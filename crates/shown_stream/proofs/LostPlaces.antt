@@ -3,7 +3,7 @@ use Rattle.std.proofs.Common.{◌≡◌, ◌∙◌, ℕ, zero, suc, ◌+◌, ◌
 use Rattle.std.specs.List.{AllByRecursion, list_all, list_any}
 use Rattle.std.proofs.lemmas.List.{drop-drop}
 use Rattle.stream_syntax.specs.Cutting.{IsUnit}
-use Rattle.shown_stream.specs.SlotStream.{pieces_of, all_pieces, piece_count}
+use Rattle.slot_stream.specs.SlotStream.{pieces_of, all_pieces, piece_count}
 use Rattle.shown_stream.proofs.CompiledPackets.{length-pieces_of}
 use Rattle.shown_stream.proofs.LostUnits.{come_whole}
 

@@ -30,13 +30,13 @@ use Rattle.shown_stream.specs.Entered.{IsCutRightly}
 use Rattle.shown_stream.specs.HoldsWhole.{HoldsWhole}
 use Rattle.shown_stream.specs.SentSets.{sent_set, sent_sets, is_received_at, times_received}
 use Rattle.shown_stream.specs.Shows.{authored_view, IsAnchorOf, Shows}
-use Rattle.shown_stream.specs.SlotStream.{Piece, all_pieces, IsPiece}
+use Rattle.slot_stream.specs.SlotStream.{Piece, all_pieces, IsPiece}
 use Rattle.shown_stream.proofs.ComingSets.{all_come}
 use Rattle.shown_stream.proofs.CompiledPackets.{packets_in, ArePackets, are_packets, as_many, count_pieces, count_before, count_of_set}
 use Rattle.shown_stream.proofs.CompiledShown.{new_receiver, no_time, low_origin}
 use Rattle.shown_stream.proofs.EnteredRuns.{turned_is}
 use Rattle.shown_stream.proofs.HeldSets.{holds_none}
-use Rattle.shown_stream.proofs.LaidPackets.{IsAhead}
+use Rattle.slot_stream.proofs.LaidPackets.{IsAhead}
 use Rattle.shown_stream.proofs.LatePlaces.{count_sets}
 use Rattle.shown_stream.proofs.LateStream.{no_counter}
 use Rattle.shown_stream.proofs.LostCompiled.{all_there, some_there, there-take, there-drop, length-there, suits_received, good_from, received_sound, sets_by_flow}
@@ -50,9 +50,9 @@ use Rattle.readings.proofs.OneReading.{same_past}
 use Rattle.shown_stream.proofs.PlannedRegions.{planned_well}
 use Rattle.shown_stream.proofs.PlannedTimes.{times_in_span, pts_rise}
 use Rattle.shown_stream.proofs.RisingSlots.{slots_rise}
-use Rattle.shown_stream.proofs.SentPieces.{IsFree, none_refused}
+use Rattle.slot_stream.proofs.SentPieces.{IsFree, none_refused}
 use Rattle.shown_stream.proofs.SentPlaces.{start_is}
-use Rattle.shown_stream.proofs.SentStream.{pieces_are}
+use Rattle.slot_stream.proofs.SentStream.{pieces_are}
 
 -- what is received of a compiled stream that is shortly cut, what is shown of it, and what is held
 pub record IsReceivedCut (name : ProfileName) (pid page : ℕ) (script : Script) (bytes : List ℕ) (compiled : IsCompiledTo name pid page script bytes) (sendings : List Sending) (received : List (List ℕ)) (anchor tick : ℕ) : Type 0 where

@@ -10,11 +10,11 @@ use Rattle.ts_packets.specs.Demuxing.{kept, next_hand}
 use Rattle.ts_packets.proofs.AnyCuttingLemmas.{front_waits, unit_is_whole}
 use Rattle.decoder_model.specs.Arrivals.{Arrival, loss, unit, arrival_of_unit, losses_at, units_at}
 use Rattle.decoder_model.proofs.SentSets.{TimedUnit, IsUnitOf, unit_of, arrives}
-use Rattle.shown_stream.specs.SlotStream.{Piece, all_pieces, piece_count}
+use Rattle.slot_stream.specs.SlotStream.{Piece, all_pieces, piece_count}
 use Rattle.shown_stream.proofs.CompiledPackets.{length-pieces_of}
 use Rattle.shown_stream.proofs.LostPieces.{Walk, no_piece_left, passes_by, comes_in}
-use Rattle.shown_stream.proofs.SentPieces.{AreFurther}
-use Rattle.shown_stream.proofs.SentStream.{first_piece, further_of, its_pieces, its_bytes, its_further}
+use Rattle.slot_stream.proofs.SentPieces.{AreFurther}
+use Rattle.slot_stream.proofs.SentStream.{first_piece, further_of, its_pieces, its_bytes, its_further}
 
 -- ---- how a piece stands to those before it
 

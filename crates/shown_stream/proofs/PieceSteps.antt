@@ -17,13 +17,13 @@ use Rattle.decoder_model.proofs.SentSets.{all-append, SetUnit, TimedSet, timed, 
 use Rattle.ts_packets.proofs.WrittenPackets.{null_is_taken}
 use Rattle.sent_levels.specs.EnteredCalls.{Entry, from_of, heard_load}
 use Rattle.sent_levels.proofs.EnteredSums.{AreSlots}
-use Rattle.shown_stream.specs.SlotStream.{Piece, packet_of, pieces_of, all_pieces, IsPiece}
+use Rattle.slot_stream.specs.SlotStream.{Piece, packet_of, pieces_of, all_pieces, IsPiece}
 use Rattle.stream_calls.specs.StreamCalls.{itself, count_with, arrived_in}
 use Rattle.shown_stream.proofs.BroughtPieces.{Brings, IsReady, null_brings, piece_brings, last_brings}
 use Rattle.shown_stream.proofs.CallsOfPieces.{ArePiecesOf, bytes_left, unit_has_bytes, E, IsSentSet, AreSentSets, units_in, AreLeft, Goes, Piecewise, Position, nothing_left, goes_on, dropped, unit_at_front, begin_unit}
 use Rattle.shown_stream.proofs.EnteredSlots.{StandsAt, packet_adds, last_adds}
-use Rattle.shown_stream.proofs.SentPieces.{IsFree, FollowsOn, says}
-use Rattle.shown_stream.proofs.SentStream.{its_pieces}
+use Rattle.slot_stream.proofs.SentPieces.{IsFree, FollowsOn, says}
+use Rattle.slot_stream.proofs.SentStream.{its_pieces}
 use Rattle.shown_stream.proofs.SetPackets.{bytes_in}
 use Rattle.shown_stream.proofs.SetsInHand.{HaveCome, sets_so_far, sets_whole, no_unit_more, slice_inside, next_unit_more, last_unit_more, IsPlain, plain_piece, plain_last, count_is}
 

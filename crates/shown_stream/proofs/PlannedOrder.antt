@@ -12,7 +12,7 @@ use Rattle.schedule.specs.Packets.{size_of}
 use Rattle.schedule.specs.Slots.{Timetable, IsSchedule}
 use Rattle.decoder_model.specs.Streams.{SentSet}
 use Rattle.shown_stream.specs.SentSets.{sent_from, sent_sets}
-use Rattle.shown_stream.proofs.LaidPackets.{IsAhead}
+use Rattle.slot_stream.proofs.LaidPackets.{IsAhead}
 use Rattle.shown_stream.proofs.LateTicks.{AreInOrder}
 use Rattle.shown_stream.proofs.RisingSlots.{slots_rise}
 use Rattle.shown_stream.proofs.SentOrder.{DoRise, in_order}

@@ -38,7 +38,7 @@ use Rattle.shown_stream.proofs.LateCompiled.{IsEnteredLate}
 use Rattle.shown_stream.proofs.LateSets.{IsRest, none_left, some_left, sets_behind, late_sets, zip_behind}
 use Rattle.readings.proofs.OneReading.{same_past}
 use Rattle.shown_stream.proofs.PlannedTimes.{pts_of}
-use Rattle.shown_stream.proofs.SentPieces.{IsFree}
+use Rattle.slot_stream.proofs.SentPieces.{IsFree}
 use Rattle.shown_stream.proofs.SetPaintings.{painting_in, calls_behind, IsPaintedAs}
 
 -- ---- paintings

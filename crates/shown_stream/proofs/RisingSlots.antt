@@ -6,7 +6,7 @@ use Rattle.schedule.specs.Slots.{Timetable, IsSchedule}
 use Rattle.sub_base.specs.declared.pace.Pace.{Pace}
 use Rattle.schedule.proofs.SumLaws.{sum_below-zero, sum_below-suc}
 use Rattle.sub_base.specs.declared.load.WriteLoad.{WriteLoad}
-use Rattle.shown_stream.proofs.LaidPackets.{IsAhead}
+use Rattle.slot_stream.proofs.LaidPackets.{IsAhead}
 
 -- the set of a packet, and its place there
 record PlaceOf (loads : List WriteLoad) (n packet : ℕ) : Type 0 where

@@ -4,7 +4,7 @@ use Rattle.std.specs.Prelude.{flat_map, nat_le}
 use Rattle.std.specs.List.{AllByRecursion, list_all}
 use Rattle.std.proofs.lemmas.Bool.Decides.{nat_tests}
 use Rattle.decoder_model.specs.Streams.{SentSet, is_from}
-use Rattle.shown_stream.proofs.LaidPackets.{IsAhead}
+use Rattle.slot_stream.proofs.LaidPackets.{IsAhead}
 use Rattle.shown_stream.proofs.LateTicks.{AreInOrder, no_set, set_first}
 
 pub sooner : (least from : ℕ) (xs : List ℕ) → least ≤ from → IsAhead from xs → IsAhead least xs

@@ -16,13 +16,13 @@ use Rattle.cue_list.specs.declared.script.Script.{Script}
 use Rattle.schedule.specs.Packets.{payload_in, unit_payloads, payloads_of, units_of, packets_of, first_packet}
 use Rattle.schedule.specs.Slots.{slot_of}
 use Rattle.shown_stream.specs.Compiled.{AreSizedAs, all_units, IsCompiledTo}
-use Rattle.shown_stream.specs.SlotStream.{Piece, no_piece, piece_count, piece_of, pieces_of, all_pieces, packet_of}
+use Rattle.slot_stream.specs.SlotStream.{Piece, no_piece, piece_count, piece_of, pieces_of, all_pieces, packet_of}
 use Rattle.shown_stream.proofs.CompiledPackets.{packets_in, count_pieces, count_of_set, pieces_from}
-use Rattle.shown_stream.proofs.LaidPackets.{laid, IsAhead}
+use Rattle.slot_stream.proofs.LaidPackets.{laid, IsAhead}
 use Rattle.shown_stream.proofs.LateStream.{later_slots}
 use Rattle.shown_stream.proofs.RisingSlots.{slots_rise}
-use Rattle.shown_stream.proofs.SentPieces.{AreFurther}
-use Rattle.shown_stream.proofs.SentStream.{further_of, its_pieces, its_further}
+use Rattle.slot_stream.proofs.SentPieces.{AreFurther}
+use Rattle.slot_stream.proofs.SentStream.{further_of, its_pieces, its_further}
 
 -- ---- the pieces of a unit
 

@@ -13,15 +13,15 @@ use Rattle.decoder_model.specs.Sets.{Delivery, sets_of}
 use Rattle.decoder_model.proofs.Growth.{packets_add}
 use Rattle.decoder_model.proofs.SentSets.{TimedSet, AreUnitsOf, HaveDifferentTimes, delivered, sets_come_whole}
 use Rattle.decoder_model.proofs.SentUnits.{all_taken}
-use Rattle.shown_stream.specs.SlotStream.{all_pieces}
+use Rattle.slot_stream.specs.SlotStream.{all_pieces}
 use Rattle.shown_stream.proofs.CompiledCalls.{all_drop, all_take}
 use Rattle.shown_stream.proofs.KeptCalls.{AreTimed}
-use Rattle.shown_stream.proofs.LaidPackets.{laid, IsAhead}
+use Rattle.slot_stream.proofs.LaidPackets.{laid, IsAhead}
 use Rattle.shown_stream.proofs.LateCalls.{entry_behind, units_missed}
 use Rattle.shown_stream.proofs.LateSets.{rest_of_set, sets_behind, units_behind, apart_behind}
 use Rattle.shown_stream.proofs.LateStream.{entered_late}
-use Rattle.shown_stream.proofs.SentPieces.{IsFree, none_refused}
-use Rattle.shown_stream.proofs.SentStream.{pieces_are}
+use Rattle.slot_stream.proofs.SentPieces.{IsFree, none_refused}
+use Rattle.slot_stream.proofs.SentStream.{pieces_are}
 
 -- ---- which sets
 

@@ -11,7 +11,7 @@ use Rattle.set_coder.specs.SetSizes.{IsSetLoad}
 use Rattle.sub_base.specs.Profile.{profile_of}
 use Rattle.sub_base.specs.declared.profile.ProfileName.{ProfileName}
 use Rattle.sub_base.specs.declared.load.WriteLoad.{WriteLoad}
-use Rattle.shown_stream.specs.SlotStream.{all_pieces, stream_of}
+use Rattle.slot_stream.specs.SlotStream.{all_pieces, stream_of}
 
 -- a profile that scripts are compiled for: packets are sent in it
 abbrev pub IsCompiledFor : ProfileName → Type 0
@@ -34,7 +34,8 @@ abbrev pub all_units : List (List (List ℕ)) → List (List ℕ)
 all_units units = flat_map (λ set_units. set_units) units
 
 -- the sets of the script's plan, and what sending them takes
-pub record IsPlanned (profile : ProfileName) (script : Script) (sets : List PlannedSet) (loads : List WriteLoad) : Type 0 where
+pub record IsPlanned (profile : ProfileName) (script : Script) (sets : List PlannedSet)
+    (loads : List WriteLoad) : Type 0 where
   pub plan : IsPlan script (profile_of profile) sets
   pub asked : AreLoads script sets loads
 

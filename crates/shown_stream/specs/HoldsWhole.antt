@@ -17,7 +17,8 @@ use Rattle.shown_plan.specs.WithinNeed.{IsWithinNeed}
 
 -- the sets of a known epoch, the latest first, are those of the epoch of a set of the plan, behind these sets of the plan; with the
 -- page of the latest the page memory holds the script, in at most the bytes of regions and the nodes that the plan needs for the set
-pub record HoldsSet (script : Script) (earlier : List PlannedSet) (set : PlannedSet) (known : List (List Content)) : Type 0 where
+pub record HoldsSet (script : Script) (earlier : List PlannedSet) (set : PlannedSet)
+    (known : List (List Content)) : Type 0 where
   pub epoch : Epoch
   pub found : slice_get script.epochs set.epoch ≡ Some epoch
   pub latest : List Content
@@ -30,8 +31,11 @@ pub record HoldsSet (script : Script) (earlier : List PlannedSet) (set : Planned
 
 -- of the sets of a plan some come whole: with each of them that a receiver has got, at the set's time, and whose epoch is known, the
 -- page memory holds the script
-abbrev pub HoldsWhole : Script → Profile → ℕ → List PlannedSet → (ℕ → PlannedSet → Type 0) → List (Delivery Reading) → Type 0
+abbrev pub HoldsWhole : Script → Profile → ℕ → List PlannedSet → (ℕ → PlannedSet → Type 0) → List (Delivery Reading)
+    → Type 0
 HoldsWhole script profile anchor sets ComesWhole past =
     (later before : List (Delivery Reading)) (delivery : Delivery Reading) → past ≡ later ++ delivery ∷ before
-    → (front back : List PlannedSet) (set : PlannedSet) → sets ≡ front ++ set ∷ back → ComesWhole (length front) set → lifted_time anchor before delivery ≡ Some set.pts
-    → (known : List (List Content)) → known_epoch profile anchor (delivery ∷ before) ≡ Some known → HoldsSet script (reverse front) set known
+    → (front back : List PlannedSet) (set : PlannedSet) → sets ≡ front ++ set ∷ back → ComesWhole (length front) set
+        → lifted_time anchor before delivery ≡ Some set.pts
+    → (known : List (List Content)) → known_epoch profile anchor (delivery ∷ before) ≡ Some known
+        → HoldsSet script (reverse front) set known

@@ -1,4 +1,3 @@
-pub mod SlotStream
 pub mod Compiled
 pub mod Shows
 pub mod SentSets

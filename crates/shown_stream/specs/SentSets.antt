@@ -9,7 +9,8 @@ use Rattle.decoder_model.specs.Streams.{Sending, SentSet}
 
 -- a set of that number as it is sent: the places of its packets are their slots, as each slot has one packet
 abbrev pub sent_set : Timetable → ℕ → PlannedSet → SentSet
-sent_set table number set = record { time = set.pts; is_normal = not (is_whole set.state); places = slots_of table number }
+sent_set table number set =
+    record { time = set.pts; is_normal = not (is_whole set.state); places = slots_of table number }
 
 -- sets from that number on, and all sets of a plan
 abbrev pub sent_from : Timetable → ℕ → List PlannedSet → List SentSet
@@ -21,7 +22,8 @@ sent_sets table sets = sent_from table 0 sets
 
 -- the times of the sets of which a packet stands at that place or a later one
 abbrev pub times_from : ℕ → List SentSet → List ℕ
-times_from place sets = map (λ (set : SentSet). set.time) (filter (λ (set : SentSet). list_any (λ at. nat_le place at) set.places) sets)
+times_from place sets =
+    map (λ (set : SentSet). set.time) (filter (λ (set : SentSet). list_any (λ at. nat_le place at) set.places) sets)
 
 -- the packet at a place is received
 abbrev pub is_received_at : List Sending → ℕ → Bool
@@ -29,4 +31,5 @@ is_received_at sendings place = option_map_or (λ (sending : Sending). sending.r
 
 -- the times of the sets of which a packet is received
 abbrev pub times_received : List Sending → List SentSet → List ℕ
-times_received sendings sets = map (λ (set : SentSet). set.time) (filter (λ (set : SentSet). list_any (is_received_at sendings) set.places) sets)
+times_received sendings sets =
+    map (λ (set : SentSet). set.time) (filter (λ (set : SentSet). list_any (is_received_at sendings) set.places) sets)

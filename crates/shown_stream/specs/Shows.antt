@@ -20,14 +20,16 @@ IsAnchorOf times anchor = All (λ time. (anchor ≤ time) × (time < anchor + 85
 
 -- a receiver of the profile with that anchor that gets these packets, with which the stream ends, shows at a tick, for a PID and
 -- a page, what agrees with that view
-pub record Shows (profile : Profile) (pid page anchor : ℕ) (packets : List (List ℕ)) (tick : ℕ) (wanted : View) : Type 0 where
+pub record Shows (profile : Profile) (pid page anchor : ℕ) (packets : List (List ℕ)) (tick : ℕ)
+    (wanted : View) : Type 0 where
   pub shown : View
   pub is_shown : IsShown profile pid page anchor true packets tick shown
   pub agrees : Agrees shown wanted
 
 -- a receiver of the profile with that anchor that gets these packets, with which the stream ends, shows at a tick, by the set
 -- with which it enters: nothing without one and before its time, and from then on what agrees with that view
-pub record ShowsFrom (profile : Profile) (pid page anchor : ℕ) (packets : List (List ℕ)) (entry : Option SentSet) (tick : ℕ) (wanted : View) : Type 0 where
+pub record ShowsFrom (profile : Profile) (pid page anchor : ℕ) (packets : List (List ℕ)) (entry : Option SentSet)
+    (tick : ℕ) (wanted : View) : Type 0 where
   pub shown : View
   pub is_shown : IsShown profile pid page anchor true packets tick shown
   pub from_entry : IsShownFrom entry tick shown wanted

@@ -30,7 +30,8 @@ AreCallsBefore slot profile pid page anchor missed packets calls =
 
 -- the coded data buffer of a receiver of the profile, for a PID and a page, with that anchor, that gets the packets of a compiled
 -- stream but for the first so many
-pub record StaysWithin (profile : ProfileName) (pid page : ℕ) (script : Script) (sets : List PlannedSet) (table : Timetable)
+pub record StaysWithin (profile : ProfileName) (pid page : ℕ) (script : Script) (sets : List PlannedSet)
+    (table : Timetable)
     (packets : List (List ℕ)) (missed anchor : ℕ) : Type 0 where
   -- what comes before a slot has calls
   pub given : (slot : ℕ) → (calls : List Call) × AreCallsBefore slot profile pid page anchor missed packets calls
@@ -42,10 +43,12 @@ pub record StaysWithin (profile : ProfileName) (pid page : ℕ) (script : Script
       → level_at (sent_pace profile script) slot 0 calls ≤ (profile_of profile).coded
   -- each set of which no packet is missing is decoded by its time
   pub decoded : (calls : List Call) → AreCallsBefore (length packets) profile pid page anchor missed packets calls
-      → (number : ℕ) (set : PlannedSet) → slice_get sets number ≡ Some set → is_from missed (sent_set table number set) ≡ true
+      → (number : ℕ) (set : PlannedSet) → slice_get sets number ≡ Some set
+          → is_from missed (sent_set table number set) ≡ true
       → IsDecodedBy (done_sets (sent_pace profile script) calls) set.pts
   -- the end of the stream gives no call more
-  pub ended : (calls : List Call) → AreCallsOf (profile_of profile) pid page anchor missed true (entered_at missed packets) calls
+  pub ended : (calls : List Call)
+      → AreCallsOf (profile_of profile) pid page anchor missed true (entered_at missed packets) calls
       → AreCallsBefore (length packets) profile pid page anchor missed packets calls
   -- at each slot the level is no higher than in a receiver that gets the whole stream, with any anchor that suits it, and the same
   -- sets, from the latest on, are done no later than there
@@ -56,7 +59,8 @@ pub record StaysWithin (profile : ProfileName) (pid page : ℕ) (script : Script
       × AreDoneNoLater (done_sets (sent_pace profile script) calls) (done_sets (sent_pace profile script) whole)
 
 -- the coded data buffer of a receiver with that anchor that gets all packets of a compiled stream
-pub record IsAsScheduled (profile : ProfileName) (pid page : ℕ) (script : Script) (sets : List PlannedSet) (loads : List WriteLoad)
+pub record IsAsScheduled (profile : ProfileName) (pid page : ℕ) (script : Script) (sets : List PlannedSet)
+    (loads : List WriteLoad)
     (table : Timetable) (packets : List (List ℕ)) (anchor : ℕ) : Type 0 where
   -- the level at each slot is that of the schedule
   pub level : (slot : ℕ) (calls : List Call) → AreCallsBefore (slot + 1) profile pid page anchor 0 packets calls

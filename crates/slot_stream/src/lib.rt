@@ -1,0 +1,15 @@
+//! PES packets cut into pieces, and the transport packets of the pieces at their slots (ISO/IEC
+//! 13818-1, 2.4.3.2): null packets stand in all slots between.
+#![tactic(auto)]
+
+// A piece, and those of packets that stand one after the other.
+mod piece;
+mod pieces;
+
+// The packets of all slots, many written at a time.
+mod outgoing;
+mod stream;
+
+pub use piece::Piece;
+pub use pieces::push_units;
+pub use stream::{StreamFault, write_stream};
