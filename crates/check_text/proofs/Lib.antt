@@ -1,4 +1,5 @@
 pub mod CheckLaws
+pub mod PeakLaws
 pub mod ReadLaws
 pub mod SetLaws
 pub mod StepLaws

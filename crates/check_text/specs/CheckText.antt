@@ -2,12 +2,13 @@
 -- done, then the greatest level of the coded data buffer, and the first breach.
 use Rattle.std.specs.Prelude.{◌≡◌, ℕ, Bool, true, false, List, ◌++◌, codes, Option, Some, None}
 use Rattle.std.specs.List.{flat_map}
-use Rattle.buffer_model.specs.Calls.{first_breach_of, greatest}
+use Rattle.buffer_model.specs.Calls.{Call, first_breach_of, greatest}
 use Rattle.buffer_model.specs.declared.breach.Breach.{Breach}
 use Rattle.buffer_model.specs.declared.breach.Breach.TheVariants.{Coded, Late}
 use Rattle.command_text.specs.Lines.{line_end, then_number}
 use Rattle.decoder_model.specs.declared.set_end.SetEnd.{SetEnd}
 use Rattle.decoder_model.specs.declared.set_end.SetEnd.TheVariants.{Shown, Waiting, Broken, NotLater}
+use Rattle.stream_calls.specs.StreamCalls.{AreCallsOf}
 use Rattle.stream_calls.specs.ToldSets.{AreToldCalls, DoneSet, ToldCall, calls_told, told_sets}
 use Rattle.sub_base.specs.Pace.{pace_of}
 use Rattle.sub_base.specs.declared.pace.Pace.{Pace}
@@ -61,3 +62,10 @@ pub record IsCheckText (profile : Profile) (origin pid page : ℕ) (ended : Bool
   pub told : List ToldCall
   pub are : AreToldCalls profile pid page origin 0 ended packets told
   pub whole : text ≡ check_text ended (pace_of origin profile) told
+
+-- the greatest level of the coded data buffer over these packets, the first of them in slot 0 at the origin, in such a
+-- receiver; more packets may come
+pub record IsPeak (profile : Profile) (pid page origin : ℕ) (packets : List (List ℕ)) (peak : ℕ) : Type 0 where
+  pub calls : List Call
+  pub called : AreCallsOf profile pid page origin 0 false packets calls
+  pub peak_is : peak ≡ greatest (pace_of origin profile) calls

@@ -47,7 +47,7 @@ impl Check {
     ghost use Rattle.stream_syntax.specs.TransportPackets.{packet_fault};
     ghost use Rattle.sub_base.specs.Endpoints.{Supplied};
     ghost use Rattle.sub_base.specs.Pace.{IsSending};
-    ghost use Rattle.check_text.specs.CheckText.{IsCheckText};
+    ghost use Rattle.check_text.specs.CheckText.{IsCheckText, IsPeak};
     ghost use Rattle.check_text.specs.Checking.{HasChecked, IsSameCheck};
 
     /// A receiver of a profile with a step, for a PID and a page, whose lifted times begin at the
@@ -124,7 +124,7 @@ impl Check {
     }
 
     /// Takes packets, the first of that place, up to one that cannot be taken.
-    fn take_packets<R: Threads + Sync, G: BandGate + Sync, K: Sink>(
+    pub fn take_packets<R: Threads + Sync, G: BandGate + Sync, K: Sink>(
         &mut self,
         rt: &R,
         gate: &G,
@@ -203,6 +203,16 @@ impl Check {
             arrival,
         );
         Ok(())
+    }
+
+    /// The greatest level of the coded data buffer so far, in bytes.
+    pub fn peak(&self) -> u64
+        ensures { (packets : List (List ℕ)) (text : List ℕ) → HasChecked self.now packets text
+            → IsPeak self.now.receiving.showing.core.profile self.now.receiving.demux.pid
+            self.now.receiving.showing.core.page self.now.receiving.showing.core.anchor packets
+            result }
+    {
+        self.levels.peak()
     }
 
     /// The stream has ended: puts out the lines of the sets that are left, of the greatest level

@@ -144,7 +144,7 @@ impl<'a> Dump<'a> {
     }
 
     /// Takes packets, the first of that place, up to one that cannot be taken.
-    fn take_packets<R: Threads + Sync, G: BandGate + Sync, K: Sink>(
+    pub fn take_packets<R: Threads + Sync, G: BandGate + Sync, K: Sink>(
         &mut self,
         rt: &R,
         gate: &G,

@@ -4,6 +4,7 @@
 
 mod output;
 
+use command_line::{COMMANDS, command_table};
 use dvbsub_cmd::{Status, inputs, tell, top};
 use output::Output;
 use std::fs::File;
@@ -11,10 +12,6 @@ use std::process::ExitCode;
 use std::thread::Threads;
 use std::{env, io};
 use sub_base::{FileSink, FileSource, NoGate, NoMemory, Words};
-
-/// The commands, one a line.
-const COMMANDS: &str =
-    "compile PROFILE PID PAGE SCRIPT FONT OUT\nlist PID STREAM OUT\ndump PROFILE PID PAGE BANDS STREAM OUT TICK...\ncheck PROFILE ORIGIN PID PAGE STREAM OUT\nexpect SCRIPT FONT OUT TICK...";
 
 /// Why the words of the command line were not read.
 #[derive(Drop)]
@@ -104,7 +101,10 @@ fn finished(output: &mut Output<'_>, status: Status) -> Status {
 /// wrong. Answers the code.
 fn told(rt: &HostRuntime, status: Status) -> u8 {
     if let Status::Usage = status {
-        let _ = eprintln!(rt; "{COMMANDS}");
+        let _ = match command_table(rt.alloc()) {
+            Ok(table) => eprint!(rt; "{table}"),
+            Err(NoMemory) => eprintln!(rt; "{COMMANDS}"),
+        };
     }
     tell(status, &mut FileSink::make(Some(io::writer(rt)))).code()
 }

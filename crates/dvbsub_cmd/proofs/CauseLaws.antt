@@ -9,6 +9,7 @@ use Rattle.dvbsub_cmd.specs.CompileOutcome.{IsCompileCause, IsCompilable}
 use Rattle.dvbsub_cmd.specs.Completeness.{IsComplete, IsReadable, IsUntroubled}
 use Rattle.dvbsub_cmd.specs.Dumps.{dumps}
 use Rattle.dvbsub_cmd.specs.ExpectOutcome.{IsExpectCause, IsExpectable}
+use Rattle.dvbsub_cmd.specs.GenOutcome.{IsGenCause}
 use Rattle.dvbsub_cmd.specs.Listing.{lists}
 use Rattle.dvbsub_cmd.specs.Outcome.{HasCause, IsCausedBy, Tells}
 use Rattle.dvbsub_cmd.specs.ReadScript.{HasRightScript, IsInputCause}
@@ -102,6 +103,22 @@ stream_whole Told pid before now out_before out_now (status.InputTooLong which.S
 stream_whole Told pid before now out_before out_now (status.InputTooLong which.Out) cause written calm = absurd cause
 stream_whole Told pid before now out_before out_now (status.InputTooLong which.Notes) cause written calm = absurd cause
 
+gen_whole : (number : ℕ) (name : ProfileName) (before now : Received) (run : Status) → IsGenCause number name before now run → (HasRisen before.faults now.faults → ⊥) → IsWhole run
+gen_whole number name before now (status.Done cut) cause written = inl (cut, refl)
+gen_whole number name before now status.Usage cause written = absurd cause
+gen_whole number name before now (status.FontRefused fault) cause written = absurd cause
+gen_whole number name before now (status.ScriptRefused fault) cause written = absurd cause
+gen_whole number name before now (status.PlanRefused fault) cause written = absurd cause
+gen_whole number name before now (status.ScheduleRefused row fault) cause written = absurd cause
+gen_whole number name before now (status.StreamRefused packet fault) cause written = absurd cause
+gen_whole number name before now (status.ReadFault which) cause written = absurd cause
+gen_whole number name before now (status.WriteFault which.Out) cause written = absurd (written cause.3)
+gen_whole number name before now (status.WriteFault which.First) cause written = absurd cause
+gen_whole number name before now (status.WriteFault which.Second) cause written = absurd cause
+gen_whole number name before now (status.WriteFault which.Notes) cause written = absurd cause
+gen_whole number name before now status.Memory cause written = inr refl
+gen_whole number name before now (status.InputTooLong which) cause written = absurd cause
+
 -- each command
 run_whole : (words : List (List ℕ)) (command : Option Command) (before now : Seen) (notes_before notes_now : Received) (run : Status) → IsCausedBy words command before now run →
     IsUntroubled command before now notes_before notes_now → IsWhole run
@@ -113,6 +130,7 @@ run_whole words (Some (command.Dump profile pid page bands)) before now notes_be
 run_whole words (Some (command.Check profile origin pid page)) before now notes_before notes_now run cause calm =
     stream_whole (checks profile origin pid page) pid before.first now.first before.out now.out run cause calm.written calm.right
 run_whole words (Some (command.Expect has_font)) before now notes_before notes_now run cause calm = expect_whole has_font _ before now run cause calm.written calm.right
+run_whole words (Some (command.Gen number profile)) before now notes_before notes_now run cause calm = gen_whole number profile before.out now.out run cause.0 calm.written
 
 -- the line of the status is written where the notes do not fail
 told : (before now : Received) (run answer : Status) → Tells before now run answer → (HasRisen before.faults now.faults → ⊥) → IsWhole run → IsWhole answer

@@ -1,6 +1,6 @@
 -- What `check` tells is what was asked.
 use Rattle.std.proofs.Common.{◌≡◌, ◌∙◌, ℕ, Bool, List, subst}
-use Rattle.check_text.specs.CheckText.{IsCheckText}
+use Rattle.check_text.specs.CheckText.{IsCheckText, IsPeak}
 use Rattle.check_text.specs.Checking.{Checking, IsSameCheck}
 use Rattle.sub_base.specs.Profile.{profile_of}
 use Rattle.sub_base.specs.declared.profile.Profile.{Profile}
@@ -15,3 +15,13 @@ tells_as_asked name origin pid page made walked ended packets text same profile_
     (subst (λ (n : ℕ). IsCheckText walked.receiving.showing.core.profile n pid page ended packets text) (same.receiver.core.anchor ∙ origin_is)
     (subst (λ (n : ℕ). IsCheckText walked.receiving.showing.core.profile walked.receiving.showing.core.anchor n page ended packets text) (same.receiver.pid ∙ pid_is)
     (subst (λ (n : ℕ). IsCheckText walked.receiving.showing.core.profile walked.receiving.showing.core.anchor walked.receiving.demux.pid n ended packets text) (same.receiver.core.page ∙ page_is) is)))
+
+-- and so is the greatest level
+pub peak_as_asked : (name : ProfileName) (origin pid page : ℕ) (made walked : Checking) (packets : List (List ℕ)) (peak : ℕ) → IsSameCheck made walked → made.receiving.showing.core.profile ≡ profile_of name
+    → made.receiving.showing.core.anchor ≡ origin → made.receiving.demux.pid ≡ pid → made.receiving.showing.core.page ≡ page
+    → IsPeak walked.receiving.showing.core.profile walked.receiving.demux.pid walked.receiving.showing.core.page walked.receiving.showing.core.anchor packets peak → IsPeak (profile_of name) pid page origin packets peak
+peak_as_asked name origin pid page made walked packets peak same profile_is origin_is pid_is page_is is =
+    subst (λ (p : Profile). IsPeak p pid page origin packets peak) (same.receiver.core.profile ∙ profile_is)
+    (subst (λ (n : ℕ). IsPeak walked.receiving.showing.core.profile n page origin packets peak) (same.receiver.pid ∙ pid_is)
+    (subst (λ (n : ℕ). IsPeak walked.receiving.showing.core.profile walked.receiving.demux.pid n origin packets peak) (same.receiver.core.page ∙ page_is)
+    (subst (λ (n : ℕ). IsPeak walked.receiving.showing.core.profile walked.receiving.demux.pid walked.receiving.showing.core.page n packets peak) (same.receiver.core.anchor ∙ origin_is) is)))

@@ -6,10 +6,9 @@ use Rattle.sub_base.specs.Counts.{HasRisen, counted}
 use Rattle.sub_base.specs.Endpoints.{AppendsPrefix}
 use Rattle.packet_source.specs.Packets.{Gave, IsWithin, stream_length}
 use Rattle.packet_source.specs.declared.limits.TheConstants.{STREAM_LIMIT}
-use Rattle.packet_source.specs.declared.stream_end.StreamEnd.{StreamEnd}
 use Rattle.packet_source.specs.declared.stream_end.StreamEnd.TheVariants as stream
 use Rattle.dvbsub_cmd.specs.StreamOutcome.{IsStreamCause, IsFront, Telling}
-use Rattle.packet_walk.specs.Walking.{IsEnd, IsTold}
+use Rattle.packet_walk.specs.Walking.{IsTold}
 use Rattle.packet_walk.specs.declared.walk.Refused.{Refused}
 use Rattle.packet_walk.specs.declared.walk.WalkEnd.{WalkEnd}
 use Rattle.packet_walk.specs.declared.walk.WalkEnd.TheVariants as end

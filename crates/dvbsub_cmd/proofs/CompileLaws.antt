@@ -1,7 +1,6 @@
 -- The packets of a plan's sets, and the refusals of a schedule.
-use Rattle.std.proofs.Common.{◌≡◌, ◌∙◌, sym, ap, subst, ℕ, ◌<◌, ◌^◌, Option, List, [], ◌∷◌, length, get_or, map, All, arith}
+use Rattle.std.proofs.Common.{◌≡◌, ◌∙◌, sym, ap, subst, ℕ, ◌<◌, ◌^◌, Option, List, [], ◌∷◌, length, get_or, All, arith}
 use Rattle.std.specs.Io.KnownBytes.{Keeps}
-use Rattle.std.proofs.lemmas.List.{length-map}
 use Rattle.cue_list.specs.declared.script.Script.{Script}
 use Rattle.page_epoch.specs.Plan.{IsPlan}
 use Rattle.page_epoch.specs.Refusals.{IsCause as IsPlanCause}
@@ -24,13 +23,11 @@ use Rattle.sub_base.specs.declared.profile.Profile.{Profile}
 use Rattle.sub_base.specs.declared.profile.ProfileName.{ProfileName}
 use Rattle.shown_stream.specs.Compiled.{AreLoads, all_units, IsCompiledTo, IsPlanned}
 use Rattle.dvbsub_cmd.specs.CompileRefused.{IsPlanRefused, IsScheduleRefused}
-use Rattle.dvbsub_cmd.specs.PieceView.{plain}
 use Rattle.dvbsub_cmd.specs.Sending.{IsAmong, IsRefusal, IsScheduleRefusal, plan_refusal}
-use Rattle.shown_stream.specs.SlotStream.{all_pieces, slot_count, stream_of}
+use Rattle.slot_stream.specs.SlotStream.{Piece, all_pieces, slot_count, stream_of}
 use Rattle.dvbsub_cmd.specs.SetUnits.{AreWritten, AreCut}
 use Rattle.dvbsub_cmd.specs.declared.compile.SendFault.{SendFault}
 use Rattle.dvbsub_cmd.specs.declared.compile.SendFault.TheVariants as fault
-use Rattle.dvbsub_cmd.specs.declared.slot_stream.Piece.{Piece as Lent}
 use Rattle.shown_stream.proofs.CompiledPackets.{count_pieces}
 use Rattle.dvbsub_cmd.proofs.UnitLaws.{AllZip-at, AllZip-length, cut_many, written_cut}
 
@@ -61,10 +58,10 @@ pub loads_pair : (given : List WriteLoad) (lent : List (List ℕ)) (units : List
 loads_pair given lent units cut = (cut_many given lent units cut).0
 
 -- one slot a piece
-pub slots_pair : (given : List WriteLoad) (written : List (List ℕ)) (units : List (List (List ℕ))) (slots all : List ℕ) (pieces lent : List Lent) → all ≡ slots → lent ≡ pieces →
-    length slots ≡ first_packet given (length given) → AreCut given written units → map plain pieces ≡ all_pieces (all_units units) → length all ≡ length lent
+pub slots_pair : (given : List WriteLoad) (written : List (List ℕ)) (units : List (List (List ℕ))) (slots all : List ℕ) (pieces lent : List Piece) → all ≡ slots → lent ≡ pieces →
+    length slots ≡ first_packet given (length given) → AreCut given written units → pieces ≡ all_pieces (all_units units) → length all ≡ length lent
 slots_pair given written units slots all pieces lent all_is lent_is packets cut are =
-    ap length all_is ∙ packets ∙ count_pieces given units cut.sized ∙ ap length (sym are) ∙ length-map pieces plain ∙ ap length (sym lent_is)
+    ap length all_is ∙ packets ∙ count_pieces given units cut.sized ∙ ap length (sym are) ∙ ap length (sym lent_is)
 
 -- the set of a schedule's fault is one of the plan
 pub among : (script : Script) (sets : List PlannedSet) (loads given : List WriteLoad) (pace : Pace) (refused : ScheduleFault) → AreLoads script sets loads → given ≡ loads → IsCause given pace refused → IsAmong sets refused
@@ -74,7 +71,7 @@ among script sets loads given pace (schedule.Late set done pts) asked same cause
 among script sets loads given pace (schedule.SegmentFull set longest) asked same cause = omega (arith, AllZip-length (IsSetLoad script) sets loads asked, ap length same, cause.among)
 
 -- the sets of a plan, and what they ask
-planned_by : (name : ProfileName) (script : Script) (sets own : List PlannedSet) (loads given : List WriteLoad) (receiver : Profile) → receiver ≡ profile_of name → IsPlan script receiver own → sets ≡ own →
+pub planned_by : (name : ProfileName) (script : Script) (sets own : List PlannedSet) (loads given : List WriteLoad) (receiver : Profile) → receiver ≡ profile_of name → IsPlan script receiver own → sets ≡ own →
     AreLoads script sets loads → given ≡ loads → IsPlanned name script sets given
 planned_by name script sets own loads given receiver is_profile plan same_sets asked same_loads = record {
   plan = subst (λ (p : Profile). IsPlan script p sets) is_profile (subst (IsPlan script receiver) (sym same_sets) plan);
@@ -82,10 +79,10 @@ planned_by name script sets own loads given receiver is_profile plan same_sets a
 }
 
 -- the packets of the plan's sets in the slots of their schedule are those that the script is compiled to
-pub compiled : (name : ProfileName) (pid page : ℕ) (script : Script) (sets own : List PlannedSet) (loads given : List WriteLoad) (receiver : Profile) (table : Timetable) (written lent_bytes : List (List ℕ)) (units : List (List (List ℕ)))
-    (pieces lent : List Lent) (all : List ℕ) → receiver ≡ profile_of name → IsPlan script receiver own → sets ≡ own → AreLoads script sets loads → given ≡ loads → All IsLoad loads → AreWritten script page sets written units → AreCut given lent_bytes units →
+abbrev pub compiled : (name : ProfileName) (pid page : ℕ) (script : Script) (sets own : List PlannedSet) (loads given : List WriteLoad) (receiver : Profile) (table : Timetable) (written lent_bytes : List (List ℕ)) (units : List (List (List ℕ)))
+    (pieces lent : List Piece) (all : List ℕ) → receiver ≡ profile_of name → IsPlan script receiver own → sets ≡ own → AreLoads script sets loads → given ≡ loads → All IsLoad loads → AreWritten script page sets written units → AreCut given lent_bytes units →
     IsSchedule given (length given) (pace_of script.origin receiver) table → IsOnTime given (length given) (pace_of script.origin receiver) table →
-    map plain pieces ≡ all_pieces (all_units units) → lent ≡ pieces → all ≡ table.slots → IsCompiledTo name pid page script (stream_of pid (map plain lent) all)
+    pieces ≡ all_pieces (all_units units) → lent ≡ pieces → all ≡ table.slots → IsCompiledTo name pid page script (stream_of pid lent all)
 compiled name pid page script sets own loads given receiver table written lent_bytes units pieces lent all is_profile plan same_sets asked same_loads each w cut schedule on_time are lent_is all_is =
     record {
       sets = sets;
@@ -98,7 +95,7 @@ compiled name pid page script sets own loads given receiver table written lent_b
       table = table;
       schedule = subst (λ (p : Profile). IsSchedule given (length given) (pace_of script.origin p) table) is_profile schedule;
       on_time = subst (λ (p : Profile). IsOnTime given (length given) (pace_of script.origin p) table) is_profile on_time;
-      sent = ap (λ slots. stream_of pid (map plain lent) slots) all_is ∙ ap (λ own. stream_of pid (map plain own) table.slots) lent_is ∙ ap (λ own. stream_of pid own table.slots) are;
+      sent = ap (λ slots. stream_of pid lent slots) all_is ∙ ap (λ own. stream_of pid own table.slots) (lent_is ∙ are);
     }
 
 -- a refusal of the plan is one of the script
@@ -116,23 +113,23 @@ plan_refused name pid page script receiver before now faults_before faults_now r
 -- a refusal of the schedule is one of the script, at the set's record
 pub schedule_refused : (name : ProfileName) (pid page : ℕ) (script : Script) (sets own : List PlannedSet) (loads given : List WriteLoad) (receiver : Profile) (before now : Option (List ℕ)) (faults_before faults_now : ℕ)
     (refused : ScheduleFault) (answer : SendFault) → receiver ≡ profile_of name → IsPlan script receiver own → sets ≡ own → AreLoads script sets loads → given ≡ loads →
-    IsCause given (pace_of script.origin receiver) refused → IsScheduleRefusal sets refused answer → Keeps before now → IsRefusal name pid page script before now faults_before faults_now answer
-schedule_refused name pid page script sets own loads given receiver before now faults_before faults_now refused answer is_profile plan same_sets asked same_loads cause refusal keeps =
+    All IsLoad loads → IsCause given (pace_of script.origin receiver) refused → IsScheduleRefusal sets refused answer → Keeps before now → IsRefusal name pid page script before now faults_before faults_now answer
+schedule_refused name pid page script sets own loads given receiver before now faults_before faults_now refused answer is_profile plan same_sets asked same_loads all cause refusal keeps =
     let planned = planned_by name script sets own loads given receiver is_profile plan same_sets asked same_loads in
-    by_fault refused (subst (λ (p : Profile). IsCause given (pace_of script.origin p) refused) is_profile cause) refusal planned
+    by_fault refused (subst (λ (p : Profile). IsCause given (pace_of script.origin p) refused) is_profile cause) refusal planned (subst (All IsLoad) (sym same_loads) all)
   where
-    by_fault : (refused : ScheduleFault) → IsCause given (pace_of script.origin (profile_of name)) refused → IsScheduleRefusal sets refused answer → IsPlanned name script sets given →
+    by_fault : (refused : ScheduleFault) → IsCause given (pace_of script.origin (profile_of name)) refused → IsScheduleRefusal sets refused answer → IsPlanned name script sets given → All IsLoad given →
         IsRefusal name pid page script before now faults_before faults_now answer
-    by_fault schedule.Memory cause refusal planned = subst (λ (one : SendFault). IsRefusal name pid page script before now faults_before faults_now one) (sym refusal) keeps
-    by_fault (schedule.CodedFull set size) cause refusal planned =
+    by_fault schedule.Memory cause refusal planned each = subst (λ (one : SendFault). IsRefusal name pid page script before now faults_before faults_now one) (sym refusal) keeps
+    by_fault (schedule.CodedFull set size) cause refusal planned each =
         subst (λ (one : SendFault). IsRefusal name pid page script before now faults_before faults_now one) (sym refusal.2)
-        (record { sets = sets; loads = given; planned = planned; cause = cause; row_is = refusal.1 }, keeps)
-    by_fault (schedule.Late set done pts) cause refusal planned =
+        (record { sets = sets; loads = given; planned = planned; each = each; cause = cause; row_is = refusal.1 }, keeps)
+    by_fault (schedule.Late set done pts) cause refusal planned each =
         subst (λ (one : SendFault). IsRefusal name pid page script before now faults_before faults_now one) (sym refusal.2)
-        (record { sets = sets; loads = given; planned = planned; cause = cause; row_is = refusal.1 }, keeps)
-    by_fault (schedule.SegmentFull set longest) cause refusal planned =
+        (record { sets = sets; loads = given; planned = planned; each = each; cause = cause; row_is = refusal.1 }, keeps)
+    by_fault (schedule.SegmentFull set longest) cause refusal planned each =
         subst (λ (one : SendFault). IsRefusal name pid page script before now faults_before faults_now one) (sym refusal.2)
-        (record { sets = sets; loads = given; planned = planned; cause = cause; row_is = refusal.1 }, keeps)
+        (record { sets = sets; loads = given; planned = planned; each = each; cause = cause; row_is = refusal.1 }, keeps)
 
 -- a refusal, by what it is
 pub of_plan : (name : ProfileName) (pid page : ℕ) (script : Script) (before now : Option (List ℕ)) (faults_before faults_now : ℕ) (refused : PlanFault) (answer : SendFault) →

@@ -8,7 +8,7 @@ use Rattle.shown_stream.proofs.CompiledPackets.{packets_in, are_packets}
 use Rattle.shown_stream.proofs.CompiledShown.{compiled_entered}
 use Rattle.shown_stream.proofs.CompiledStays.{compiled_stays, compiled_scheduled}
 use Rattle.shown_stream.proofs.LostShown.{compiled_cut}
-use Rattle.shown_stream.proofs.SentPieces.{IsFree}
+use Rattle.slot_stream.proofs.SentPieces.{IsFree}
 use Rattle.sub_base.specs.declared.profile.ProfileName.{ProfileName}
 use Rattle.dvbsub_cmd.specs.Headline.{ShowsScript, OnDone, IsShownBy}
 use Rattle.dvbsub_cmd.specs.Outcome.{Tells, untold}
@@ -20,11 +20,11 @@ use Rattle.dvbsub_cmd.specs.declared.command.Command.TheVariants as command
 use Rattle.dvbsub_cmd.specs.declared.status.Status.{Status}
 use Rattle.dvbsub_cmd.specs.declared.status.Status.TheVariants as status
 
-is_free : (pid : ℕ) → pid < 8191 → IsFree pid
+pub is_free : (pid : ℕ) → pid < 8191 → IsFree pid
 is_free pid below = record { small = omega arith; no_null = λ same. omega (arith, same) }
 
 -- bytes that are the same are compiled from the same sets
-abbrev compiled_to : (profile : ProfileName) (pid page : ℕ) (script : Script) (bytes same : List ℕ) → bytes ≡ same → IsCompiledTo profile pid page script bytes → IsCompiledTo profile pid page script same
+abbrev pub compiled_to : (profile : ProfileName) (pid page : ℕ) (script : Script) (bytes same : List ℕ) → bytes ≡ same → IsCompiledTo profile pid page script bytes → IsCompiledTo profile pid page script same
 compiled_to profile pid page script bytes same is compiled = record {
   sets = compiled.sets;
   loads = compiled.loads;
@@ -66,6 +66,7 @@ untold_is_not_done (Some (command.List pid)) before now run = tt
 untold_is_not_done (Some (command.Dump profile pid page bands)) before now run = tt
 untold_is_not_done (Some (command.Check profile origin pid page)) before now run = tt
 untold_is_not_done (Some (command.Expect has_font)) before now run = tt
+untold_is_not_done (Some (command.Gen number profile)) before now run = tt
 untold_is_not_done (Some (command.Compile profile pid page has_font)) before now run = by run
   where
     by : (run : Status) → OnDone (untold run) (ShowsScript profile pid page has_font before now)

@@ -2,11 +2,9 @@ pub mod CauseLaws
 pub mod CloseLaws
 pub mod HeadlineLaws
 pub mod ListLaws
+pub mod MemoryLaws
 pub mod LoadLaws
 pub mod ListingLaws
-pub mod PieceLaws
-pub mod SlotLaws
-pub mod WordsLaws
 pub mod UnitLaws
 pub mod TickLaws
 pub mod CheckLaws
@@ -14,3 +12,11 @@ pub mod DumpLaws
 pub mod FinishLaws
 pub mod ExpectLaws
 pub mod CompileLaws
+pub mod EnterLaws
+pub mod FewPackets
+pub mod JoinedPackets
+pub mod EntryLaws
+pub mod GenLaws
+pub mod NeverRefused
+pub mod PutOutLaws
+pub mod ShownTexts

@@ -1,21 +1,19 @@
 -- The commands of the program.
-use Rattle.std.specs.Prelude.{◌≡◌, ℕ, ◌==◌, not, Bool, true, false, ◌&&◌, nat_lt, nat_le, if◌then◌else◌, List, [], ◌∷◌, length, drop, map, unwrap_or, slice_index, slice_index_or, Option, Some, None, ◌+◌, ◌<◌, ◌≤◌, codes}
+use Rattle.std.specs.Prelude.{◌≡◌, ℕ, ◌==◌, not, Bool, true, false, ◌&&◌, nat_lt, nat_le, if◌then◌else◌, List, [], ◌∷◌, length, drop, map, unwrap_or, slice_index_or, Option, Some, None, ◌+◌, ◌<◌, ◌≤◌, codes}
 use Rattle.std.specs.List.{list_all}
 use Rattle.std.specs.Option.{option_or}
 use Rattle.std.specs.Str.{bytes_eq}
 use Rattle.cue_list.specs.Cells.{◌>>=◌}
+use Rattle.command_line.specs.PlainWords.{is_plain}
 use Rattle.sub_base.specs.Number.{number_in}
 use Rattle.sub_base.specs.declared.profile.ProfileName.{ProfileName}
 use Rattle.sub_base.specs.declared.profile.ProfileName.TheVariants.{Sd, Hd, Wide, Large}
 use Rattle.shown_stream.specs.Compiled.{IsCompiledFor}
-use Rattle.dvbsub_cmd.specs.declared.command.TheConstants.{GREATEST_PAGE, GREATEST_PID, LATEST_ORIGIN, LATEST_TICK, LEAST_PID, MOST_BANDS}
+use Rattle.dvbsub_cmd.specs.GenText.{IsGeneratedFor}
+use Rattle.dvbsub_cmd.specs.declared.command.TheConstants.{GREATEST_PAGE, GREATEST_PID, LATEST_ORIGIN, LATEST_TICK, LEAST_PID, MOST_BANDS, MOST_GENERATED}
 use Rattle.dvbsub_cmd.specs.declared.command.Command.{Command}
 use Rattle.dvbsub_cmd.specs.declared.command.Command.TheVariants as command
 use Rattle.dvbsub_cmd.specs.declared.command.InputPlaces.{InputPlaces}
-
--- a word that has a byte, and does not begin with `-`
-abbrev pub is_plain : List ℕ → Bool
-is_plain word = nat_lt 0 (length word) && not (slice_index word 0 == 45)
 
 -- the word at that place
 abbrev pub word_at : List (List ℕ) → ℕ → List ℕ
@@ -111,9 +109,20 @@ check_of words = if (length words == 7) && has_word words 0 (codes "check") then
   page ← number_in 1 GREATEST_PAGE (word_at words 4)
   Some (command.Check profile origin pid page)) else None
 
+-- the profile of that name, of those for which scripts are generated
+abbrev pub generating_profile : List ℕ → Option ProfileName
+generating_profile word = if bytes_eq word (codes "sd") then Some Sd else if bytes_eq word (codes "hd") then Some Hd else None
+
+-- `gen N PROFILE OUT`
+abbrev pub gen_of : List (List ℕ) → Option Command
+gen_of words = if (length words == 4) && has_word words 0 (codes "gen") then (do
+  number ← number_in 1 MOST_GENERATED (word_at words 1)
+  profile ← generating_profile (word_at words 2)
+  Some (command.Gen number profile)) else None
+
 -- the command of these words, none of which is empty or begins with `-`
 abbrev pub named_command : List (List ℕ) → Option Command
-named_command words = option_or (compile_of words) (option_or (list_of words) (option_or (dump_of words) (option_or (check_of words) (expect_of words))))
+named_command words = option_or (compile_of words) (option_or (list_of words) (option_or (dump_of words) (option_or (check_of words) (option_or (expect_of words) (gen_of words)))))
 
 -- the command that the words are, if they are one: no word is empty or begins with `-`, and each number is in its range
 unfoldable pub command_of : List (List ℕ) → Option Command
@@ -132,12 +141,15 @@ places_of (Some (command.List pid)) = record { first = Some 2; second = None; ou
 places_of (Some (command.Dump profile pid page bands)) = record { first = Some 5; second = None; out = Some 6 }
 places_of (Some (command.Check profile origin pid page)) = record { first = Some 5; second = None; out = Some 6 }
 places_of (Some (command.Expect has_font)) = record { first = Some 1; second = font_place has_font 2; out = Some 3 }
+places_of (Some (command.Gen number profile)) = record { first = None; second = None; out = Some 3 }
 
 -- the numbers of a command are in their ranges: packets are sent with a PID of 13 bits that null packets do not have, for a profile
--- that scripts are compiled for, and so are levels measured; a stream begins at a tick of 33 bits; pictures are drawn in 1 to 64 bands, and the ticks rise
+-- that scripts are compiled for, and so are levels measured; a stream begins at a tick of 33 bits; pictures are drawn in 1 to 64 bands, and the ticks rise;
+-- a script is generated of 1 to 500 cues
 abbrev pub IsInRange : List (List ℕ) → Command → Type 0
 IsInRange words (command.Compile profile pid page has_font) = (pid < 8191) × IsCompiledFor profile
 IsInRange words (command.List pid) = Unit {0}
 IsInRange words (command.Dump profile pid page bands) = (1 ≤ bands) × (bands ≤ 64) × (are_rising None (drop 7 words) ≡ true)
 IsInRange words (command.Check profile origin pid page) = IsCompiledFor profile × (origin < 8589934592)
 IsInRange words (command.Expect has_font) = Unit {0}
+IsInRange words (command.Gen number profile) = (1 ≤ number) × (number ≤ 500) × IsGeneratedFor profile

@@ -1,11 +1,12 @@
 -- Why no packets of a script are sent.
-use Rattle.std.specs.Prelude.{◌≡◌, ℕ, List, slice_get, Some}
+use Rattle.std.specs.Prelude.{◌≡◌, ℕ, List, All, slice_get, Some}
 use Rattle.cue_list.specs.declared.script.Script.{Script}
 use Rattle.page_epoch.specs.Refusals.{IsCause as IsPlanCause}
 use Rattle.page_epoch.specs.declared.fault.PlanFault.{PlanFault}
 use Rattle.page_epoch.specs.declared.fault.PlanFault.TheVariants as plan
 use Rattle.page_epoch.specs.declared.planned_set.PlannedSet.{PlannedSet}
 use Rattle.schedule.specs.Refusals.{IsCause}
+use Rattle.schedule.specs.Slots.{IsLoad}
 use Rattle.sub_base.specs.Pace.{pace_of}
 use Rattle.schedule.specs.declared.fault.ScheduleFault.{ScheduleFault}
 use Rattle.schedule.specs.declared.fault.ScheduleFault.TheVariants as fault
@@ -34,10 +35,12 @@ IsRowOf sets (fault.CodedFull set size) row = IsRowAt sets set row
 IsRowOf sets (fault.Late set done pts) row = IsRowAt sets set row
 IsRowOf sets (fault.SegmentFull set longest) row = IsRowAt sets set row
 
--- the script has a plan, and the schedule of its sets is refused for this reason, at the set that the record brings
+-- the script has a plan, each set of which can be scheduled by itself, and the schedule of its sets is refused for this reason, at
+-- the set that the record brings
 pub record IsScheduleRefused (profile : ProfileName) (script : Script) (row : ℕ) (fault : ScheduleFault) : Type 0 where
   pub sets : List PlannedSet
   pub loads : List WriteLoad
   pub planned : IsPlanned profile script sets loads
+  pub each : All IsLoad loads
   pub cause : IsCause loads (pace_of script.origin (profile_of profile)) fault
   pub row_is : IsRowOf sets fault row

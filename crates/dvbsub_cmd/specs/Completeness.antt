@@ -17,7 +17,7 @@ pub record IsReadable (pid : ℕ) (before now : Supplied) : Type 0 where
   pub read : HasRisen before.faults now.faults → ⊥
   pub right : IsRightStream pid before now
 
--- the words are a command, and what it reads is whole, within its limits and right
+-- the words are a command, and what it reads is whole, within its limits and right; `gen` reads nothing
 abbrev pub IsRightInput : Option Command → Seen → Seen → Type 0
 IsRightInput None before now = ⊥
 IsRightInput (Some (command.Compile profile pid page has_font)) before now = IsCompilable profile has_font before now
@@ -25,6 +25,7 @@ IsRightInput (Some (command.List pid)) before now = IsReadable pid before.first 
 IsRightInput (Some (command.Dump profile pid page bands)) before now = IsReadable pid before.first now.first
 IsRightInput (Some (command.Check profile origin pid page)) before now = IsReadable pid before.first now.first
 IsRightInput (Some (command.Expect has_font)) before now = IsExpectable has_font before now
+IsRightInput (Some (command.Gen number profile)) before now = Unit {0}
 
 -- no count of faults rose, and what the command reads is right
 pub record IsUntroubled (command : Option Command) (before now : Seen) (notes_before notes_now : Received) : Type 0 where

@@ -49,3 +49,4 @@ IsShownBy (Some (command.List pid)) before now answer = Unit {0}
 IsShownBy (Some (command.Dump profile pid page bands)) before now answer = Unit {0}
 IsShownBy (Some (command.Check profile origin pid page)) before now answer = Unit {0}
 IsShownBy (Some (command.Expect has_font)) before now answer = Unit {0}
+IsShownBy (Some (command.Gen number profile)) before now answer = Unit {0}

@@ -10,13 +10,15 @@ pub mod ListLines
 pub mod ListText
 pub mod Listing
 pub mod Outcome
-pub mod PieceView
 pub mod Sending
 pub mod Seen
-pub mod SlotWalk
 pub mod StatusText
 pub mod StreamOutcome
 pub mod ReadScript
 pub mod Dumps
 pub mod ExpectOutcome
 pub mod SetUnits
+pub mod Entries
+pub mod GenOutcome
+pub mod GenText
+pub mod Generating

@@ -8,6 +8,7 @@ use Rattle.dvbsub_cmd.specs.CompileOutcome.{IsCompileCause}
 use Rattle.dvbsub_cmd.specs.Checks.{checks}
 use Rattle.dvbsub_cmd.specs.Dumps.{dumps}
 use Rattle.dvbsub_cmd.specs.ExpectOutcome.{IsExpectCause}
+use Rattle.dvbsub_cmd.specs.GenOutcome.{IsGenCause}
 use Rattle.dvbsub_cmd.specs.Listing.{lists}
 use Rattle.sub_base.specs.Endpoints.{Received, WroteNothing}
 use Rattle.dvbsub_cmd.specs.Seen.{Seen}
@@ -20,7 +21,7 @@ use Rattle.dvbsub_cmd.specs.declared.status.Status.TheVariants as status
 use Rattle.dvbsub_cmd.specs.declared.status.Which.TheVariants as which
 
 -- the cause of a status by the command, and what the output has received then: a wrong command line ends with the usage,
--- and nothing else does; it calls no source
+-- and nothing else does; it calls no source, and nor does `gen`
 abbrev pub IsCausedBy : List (List ℕ) → Option Command → Seen → Seen → Status → Type 0
 IsCausedBy words None before now answer = (answer ≡ status.Usage) × (now.first ≡ before.first) × WroteNothing before.out now.out
 IsCausedBy words (Some (command.Compile profile pid page has_font)) before now answer = IsCompileCause profile pid page has_font before now answer
@@ -30,6 +31,7 @@ IsCausedBy words (Some (command.Dump profile pid page bands)) before now answer 
 IsCausedBy words (Some (command.Check profile origin pid page)) before now answer =
     IsStreamCause (checks profile origin pid page) pid before.first now.first before.out now.out answer
 IsCausedBy words (Some (command.Expect has_font)) before now answer = IsExpectCause has_font (asked_ticks 4 words) before now answer
+IsCausedBy words (Some (command.Gen number profile)) before now answer = IsGenCause number profile before.out now.out answer × (now.first ≡ before.first)
 
 -- the cause of a status by the words
 abbrev pub IsCaused : List (List ℕ) → Seen → Seen → Status → Type 0
@@ -43,6 +45,7 @@ IsSecondKept (Some (command.List pid)) before now = now ≡ before
 IsSecondKept (Some (command.Dump profile pid page bands)) before now = now ≡ before
 IsSecondKept (Some (command.Check profile origin pid page)) before now = now ≡ before
 IsSecondKept (Some (command.Expect has_font)) before now = has_font ≡ false → now ≡ before
+IsSecondKept (Some (command.Gen number profile)) before now = now ≡ before
 
 -- the answer where the line of a status could not be written: what was done whole is a write fault of the notes
 abbrev pub untold : Status → Status

@@ -5,6 +5,7 @@ use Rattle.cue_list.specs.declared.script.Script.{Script}
 use Rattle.page_epoch.specs.declared.fault.PlanFault.{PlanFault}
 use Rattle.page_epoch.specs.declared.fault.PlanFault.TheVariants as plan
 use Rattle.page_epoch.specs.declared.planned_set.PlannedSet.{PlannedSet}
+use Rattle.schedule.specs.Slots.{Timetable}
 use Rattle.schedule.specs.declared.fault.ScheduleFault.{ScheduleFault}
 use Rattle.schedule.specs.declared.fault.ScheduleFault.TheVariants as schedule
 use Rattle.sub_base.specs.Counts.{HasRisen}
@@ -15,9 +16,13 @@ use Rattle.dvbsub_cmd.specs.CompileRefused.{IsPlanRefused, IsRowAt, IsScheduleRe
 use Rattle.dvbsub_cmd.specs.declared.compile.SendFault.{SendFault}
 use Rattle.dvbsub_cmd.specs.declared.compile.SendFault.TheVariants as fault
 
--- the packets of the script were written
-abbrev pub Sends : ProfileName → ℕ → ℕ → Script → Option (List ℕ) → Option (List ℕ) → Type 0
-Sends profile pid page script before now = (packets : List ℕ) × IsCompiledTo profile pid page script packets × Appends before now packets
+-- the packets of the script were written: those that it is compiled to, by these sets and slots
+pub record Sends (profile : ProfileName) (pid page : ℕ) (script : Script) (sets : List PlannedSet) (table : Timetable) (before now : Option (List ℕ)) : Type 0 where
+  pub packets : List ℕ
+  pub compiled : IsCompiledTo profile pid page script packets
+  pub same_sets : compiled.sets ≡ sets
+  pub same_table : compiled.table ≡ table
+  pub written : Appends before now packets
 
 -- why they were not all written, and what was
 abbrev pub IsRefusal : ProfileName → ℕ → ℕ → Script → Option (List ℕ) → Option (List ℕ) → ℕ → ℕ → SendFault → Type 0

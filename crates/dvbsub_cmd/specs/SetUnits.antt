@@ -17,11 +17,6 @@ pub record AreWritten (script : Script) (page : ℕ) (sets : List PlannedSet) (w
   pub sized : AreSized script sets units
   pub whole : map concat units ≡ written
 
--- bytes are cut into units of these lengths
-pub record AreUnitsOf (lengths bytes : List ℕ) (units : List (List ℕ)) : Type 0 where
-  pub whole : concat units ≡ bytes
-  pub sized : map length units ≡ lengths
-
 -- the bytes of each set are cut into units of the lengths that its load says
 pub record AreCut (loads : List WriteLoad) (written : List (List ℕ)) (units : List (List (List ℕ))) : Type 0 where
   pub whole : map concat units ≡ written

@@ -1,8 +1,8 @@
 ghost use Rattle.std.specs.Prelude.{◌≡◌, ◌<◌, ◌≤◌, length, drop, IfSome, None, true};
-ghost use Rattle.std.specs.List.{list_all};
 ghost use Rattle.std.specs.Option.{option_or};
-ghost use Rattle.dvbsub_cmd.specs.Command.{command_of as command_of_words, check_of as check_of_words, compile_of as compile_of_words, dump_of as dump_of_words, expect_of as expect_of_words, font_place as font_place_of, has_ticks as has_ticks_at, has_word as has_word_at, is_above as is_tick_above, is_plain as is_plain_word, list_of as list_of_words, named_command, names_font as is_font_named, places_of, reading_profile as any_profile_of_word, sending_profile as profile_of_word, are_rising as are_ticks_rising, IsInRange};
+ghost use Rattle.dvbsub_cmd.specs.Command.{command_of as command_of_words, check_of as check_of_words, compile_of as compile_of_words, dump_of as dump_of_words, expect_of as expect_of_words, font_place as font_place_of, gen_of as gen_of_words, generating_profile as small_profile_of_word, has_ticks as has_ticks_at, has_word as has_word_at, is_above as is_tick_above, list_of as list_of_words, named_command, names_font as is_font_named, places_of, reading_profile as any_profile_of_word, sending_profile as profile_of_word, are_rising as are_ticks_rising, IsInRange};
 
+use command_line::are_plain;
 use sub_base::{ProfileName, Words, number_in};
 
 /// The least PID that a command takes: those below are of tables (ISO/IEC 13818-1, table 2-3; EN 300 468, table 1).
@@ -25,6 +25,9 @@ pub const MOST_BANDS: u64 = 64;
 
 /// The most ticks that are asked for.
 const MOST_TICKS: usize = 1_000;
+
+/// The most cues of a script that is generated.
+pub const MOST_GENERATED: u64 = 500;
 
 /// How many words `dump` has before its ticks, and how many `expect`.
 pub const WORDS_OF_DUMP: usize = 7;
@@ -77,6 +80,13 @@ pub enum Command {
         /// Whether a font is named, the second source.
         has_font: bool,
     },
+    /// Generates a script, compiles it, receives its packets, and writes how large they are and where receivers enter.
+    Gen {
+        /// How many cues the script has, 1 to 500.
+        number: u64,
+        /// The receiver that the packets are made for.
+        profile: ProfileName,
+    },
 }
 
 /// Where the names of a command's files stand among the words, counted from 0.
@@ -126,6 +136,11 @@ pub fn inputs(words: &Words) -> InputPlaces
             second: font_place(has_font, 2),
             out: Some(3),
         },
+        Some(Command::Gen { .. }) => InputPlaces {
+            first: None,
+            second: None,
+            out: Some(3),
+        },
     }
 }
 
@@ -144,7 +159,8 @@ pub fn command_of(words: &Words) -> Option<Command>
     if are_plain(words) { named(words) } else { None }
 }
 
-fn named(words: &Words) -> Option<Command>
+/// The command that plain words are, if they are one.
+pub fn named(words: &Words) -> Option<Command>
     ensures command { result ≡ named_command words.now }
     ensures range { IfSome result (IsInRange words.now) }
 {
@@ -176,7 +192,8 @@ fn compile_of(words: &Words) -> Option<Command>
 fn list_or_others_of(words: &Words) -> Option<Command>
     ensures command { result ≡ option_or (list_of_words words.now)
         (option_or (dump_of_words words.now)
-        (option_or (check_of_words words.now) (expect_of_words words.now))) }
+        (option_or (check_of_words words.now)
+        (option_or (expect_of_words words.now) (gen_of_words words.now)))) }
     ensures range { IfSome result (IsInRange words.now) }
 {
     match list_of(words) {
@@ -187,22 +204,34 @@ fn list_or_others_of(words: &Words) -> Option<Command>
 
 fn dump_or_others_of(words: &Words) -> Option<Command>
     ensures command { result ≡ option_or (dump_of_words words.now)
-        (option_or (check_of_words words.now) (expect_of_words words.now)) }
+        (option_or (check_of_words words.now)
+        (option_or (expect_of_words words.now) (gen_of_words words.now))) }
     ensures range { IfSome result (IsInRange words.now) }
 {
     match dump_of(words) {
         Some(command) => Some(command),
-        None => check_or_expect_of(words),
+        None => check_or_others_of(words),
     }
 }
 
-fn check_or_expect_of(words: &Words) -> Option<Command>
-    ensures command { result ≡ option_or (check_of_words words.now) (expect_of_words words.now) }
+fn check_or_others_of(words: &Words) -> Option<Command>
+    ensures command { result ≡ option_or (check_of_words words.now)
+        (option_or (expect_of_words words.now) (gen_of_words words.now)) }
     ensures range { IfSome result (IsInRange words.now) }
 {
     match check_of(words) {
         Some(command) => Some(command),
-        None => expect_of(words),
+        None => expect_or_gen_of(words),
+    }
+}
+
+fn expect_or_gen_of(words: &Words) -> Option<Command>
+    ensures command { result ≡ option_or (expect_of_words words.now) (gen_of_words words.now) }
+    ensures range { IfSome result (IsInRange words.now) }
+{
+    match expect_of(words) {
+        Some(command) => Some(command),
+        None => gen_of(words),
     }
 }
 
@@ -304,6 +333,32 @@ fn expect_of(words: &Words) -> Option<Command>
     })
 }
 
+/// The command `gen N PROFILE OUT`.
+fn gen_of(words: &Words) -> Option<Command>
+    ensures command { result ≡ gen_of_words words.now }
+    ensures range { IfSome result (IsInRange words.now) }
+{
+    if words.count() != 4 || !has_word(words, 0, "gen") {
+        return None;
+    }
+    let number = number_in(words.word(1).as_bytes(), 1, MOST_GENERATED)?;
+    let profile = generating_profile(words.word(2))?;
+    Some(Command::Gen { number, profile })
+}
+
+/// The profile of that name, of those for which scripts are generated.
+fn generating_profile(word: &str) -> Option<ProfileName>
+    ensures { result ≡ small_profile_of_word word.now }
+{
+    if word == "sd" {
+        Some(ProfileName::Sd)
+    } else if word == "hd" {
+        Some(ProfileName::Hd)
+    } else {
+        None
+    }
+}
+
 /// Whether so many words come before 1 to 1,000 ticks that rise.
 fn has_ticks(words: &Words, place: usize) -> bool
     requires { place ≤ 7 }
@@ -346,23 +401,4 @@ fn has_word(words: &Words, place: usize, text: &str) -> bool
     ensures { result ≡ has_word_at words.now place text.now }
 {
     words.word(place) == text
-}
-
-/// Whether no word is empty or begins with `-`.
-fn are_plain(words: &Words) -> bool
-    ensures { result ≡ list_all is_plain_word words.now }
-{
-    for place in 0..words.count() {
-        if !is_plain(words.word(place).as_bytes()) {
-            return false;
-        }
-    }
-    true
-}
-
-fn is_plain(word: &[u8]) -> bool
-    ensures { result ≡ is_plain_word word.now }
-{
-    // There are no options, and none is to be taken for the name of a file.
-    !word.is_empty() && word[0] != b'-'
 }

@@ -1,4 +1,4 @@
-ghost use Rattle.std.specs.Prelude.{◌≡◌, ◌<◌, false, IfErr, OnOk, length};
+ghost use Rattle.std.specs.Prelude.{◌≡◌, ◌<◌, false, IfErr, IfOk, length};
 ghost use Rattle.shown_stream.specs.Compiled.{IsCompiledFor};
 ghost use Rattle.dvbsub_cmd.specs.CompileRefused.{IsRowAt};
 ghost use Rattle.dvbsub_cmd.specs.CompileOutcome.{IsCompileCause};
@@ -8,13 +8,13 @@ ghost use Rattle.dvbsub_cmd.specs.Seen.{seen};
 
 use crate::loads::loads_of;
 use crate::read_script::read_script;
-use crate::slot_stream::{StreamFault, write_stream};
 use crate::status::{Status, Which};
 use crate::units::{pieces_of, units_of};
 use cue_list::Script;
 use page_epoch::{Plan, PlanFault, PlannedSet};
 use schedule::{Schedule, ScheduleFault};
 use set_coder::KeptBlocks;
+use slot_stream::{StreamFault, write_stream};
 use std::alloc::Global;
 use sub_base::{NoMemory, Profile, ProfileName, Sink, Source};
 
@@ -45,7 +45,7 @@ pub fn compile<A: Source, B: Source, K: Sink>(
         Err(status) => return status,
     };
     match send(alloc, profile, pid, page, &script, out) {
-        Ok(()) => Status::Done { cut: 0 },
+        Ok(_) => Status::Done { cut: 0 },
         Err(SendFault::Memory) => Status::Memory,
         Err(SendFault::Plan(fault)) => Status::PlanRefused(fault),
         Err(SendFault::Schedule { row, fault }) => Status::ScheduleRefused { row, fault },
@@ -66,18 +66,27 @@ pub enum SendFault {
     Write,
 }
 
+/// The display sets of a script whose packets were written, and the slots of these.
+#[derive(Drop)]
+pub struct Sent {
+    /// The sets of the script's plan.
+    pub plan: Plan,
+    /// The slots of the packets of each set.
+    pub schedule: Schedule,
+}
+
 /// Writes the packets of a script, all memory taken before the first byte.
-fn send<K: Sink>(
+pub fn send<K: Sink>(
     alloc: Global,
     profile: ProfileName,
     pid: u16,
     page: u16,
     script: &Script,
     out: &mut K,
-) -> Result<(), SendFault>
+) -> Result<Sent, SendFault>
     requires pid { pid < 8191 }
     requires profile { IsCompiledFor profile }
-    ensures sent { OnOk result (Sends profile pid page script.now (K.received out.old).written (K.received out.new).written) }
+    ensures sent { IfOk result (λ sent. Sends profile pid page script.now sent.plan.sets sent.schedule (K.received out.old).written (K.received out.new).written) }
     ensures refused { IfErr result (IsRefusal profile pid page script.now (K.received out.old).written (K.received out.new).written (K.received out.old).faults (K.received out.new).faults) }
 {
     let receiver = Profile::of(profile);
@@ -106,7 +115,7 @@ fn send<K: Sink>(
     };
     // Every refusal lies before the first byte.
     match write_stream(alloc, out, pid, pieces.as_slice(), schedule.all_slots()) {
-        Ok(()) => Ok(()),
+        Ok(()) => Ok(Sent { plan, schedule }),
         Err(StreamFault::Memory) => Err(SendFault::Memory),
         Err(StreamFault::Write) => Err(SendFault::Write),
     }

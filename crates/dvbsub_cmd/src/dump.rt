@@ -1,8 +1,7 @@
-ghost use Rattle.std.specs.Prelude.{◌≤◌};
-ghost use Rattle.std.specs.List.Sorted.{IsStrictlyIncreasing};
+ghost use Rattle.std.specs.Prelude.{◌≡◌, ◌≤◌, None, drop, true};
 ghost use Rattle.dump_text.specs.Dumping.{HasDumped};
 ghost use Rattle.dvbsub_cmd.specs.Closing.{Finishes};
-ghost use Rattle.dvbsub_cmd.specs.Command.{asked_ticks};
+ghost use Rattle.dvbsub_cmd.specs.Command.{are_rising as are_ticks_rising, asked_ticks};
 ghost use Rattle.dvbsub_cmd.specs.Dumps.{dump_tells, dumps};
 ghost use Rattle.dvbsub_cmd.specs.StreamOutcome.{IsStreamCause};
 
@@ -34,7 +33,7 @@ pub fn dump<R: Threads + Sync, A: Source, K: Sink, G: BandGate + Sync>(
 ) -> Status
     requires some { 1 ≤ bands }
     requires few { bands ≤ 64 }
-    requires rising { IsStrictlyIncreasing (asked_ticks 7 words.now) }
+    requires rising { are_ticks_rising None (drop 7 words.now) ≡ true }
     ensures { IsStreamCause (dumps profile pid page (asked_ticks 7 words.now)) pid
         (A.supplied stream.old)
         (A.supplied stream.new)

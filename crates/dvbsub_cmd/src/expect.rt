@@ -58,14 +58,14 @@ pub fn expect<A: Source, B: Source, K: Sink>(
 }
 
 /// A plane of the script's display.
-fn plane_of(alloc: Global, script: &Script) -> Result<Vec<Colour>, AllocError>
+pub fn plane_of(alloc: Global, script: &Script) -> Result<Vec<Colour>, AllocError>
     ensures { IfOk result (λ plane. vec_len plane ≡ script.now.width * script.now.height) }
 {
     vec![in alloc; CLEAR; usize::from(script.width) * usize::from(script.height)]
 }
 
 /// Puts out the texts of the authored pictures at the ticks that are asked for.
-fn put_pictures<K: Sink>(
+pub fn put_pictures<K: Sink>(
     out: &mut K,
     buffer: &mut TextBuffer,
     script: &Script,

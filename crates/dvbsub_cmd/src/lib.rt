@@ -4,19 +4,25 @@
 // The words of a command, and how it ended.
 mod command;
 mod kind_names;
+mod read_command;
 mod status;
 mod ticks;
 
-// `compile`: a script, its loads, units, pieces and slots.
+// `compile`: a script, its loads, and the PES packets of its sets.
 mod compile;
 mod loads;
-mod pieces;
 mod read_script;
-mod slot_stream;
 mod units;
 
 // `expect`: the authored pictures.
 mod expect;
+
+// `gen`: a script that is made from a number, its packets in memory, and what a receiver shows of them.
+mod compare;
+mod entries;
+mod gen_lines;
+mod gen_text;
+mod generated;
 
 // How a command ends that reads a stream.
 mod closing;
@@ -47,7 +53,11 @@ mod dump_tests;
 #[cfg(test)]
 mod entered_tests;
 #[cfg(test)]
+mod gen_tests;
+#[cfg(test)]
 mod list_tests;
+#[cfg(test)]
+mod loss_tests;
 #[cfg(test)]
 mod set_tests;
 #[cfg(test)]

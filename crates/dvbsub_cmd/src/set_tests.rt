@@ -143,12 +143,12 @@ fn line_at(text: &str, place: usize) -> Option<&str> {
 }
 
 /// The tick at which the cue at a place starts: a second from one to the next.
-fn start_of(place: u64) -> u64 {
+pub(crate) fn start_of(place: u64) -> u64 {
     place.saturating_mul(90_000).saturating_add(90_000)
 }
 
 /// A script of seventeen cues, one after another.
-fn seventeen_cues(alloc: Global) -> Result<String, Fail> {
+pub(crate) fn seventeen_cues(alloc: Global) -> Result<String, Fail> {
     let mut script = String::from_str(
         alloc,
         "origin,0\ndisplay,4,2\nrefresh,5\nepoch,90000\nregion,0,0,0,4,2,8,0\npicture,a,8,4,2,0102020203030303\n",

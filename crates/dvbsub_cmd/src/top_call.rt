@@ -1,19 +1,22 @@
-ghost use Rattle.dvbsub_cmd.specs.Command.{command_of as command_of_words};
+ghost use Rattle.std.specs.Prelude.{◌≡◌, IfSome};
+ghost use Rattle.dvbsub_cmd.specs.Command.{command_of as command_of_words, IsInRange};
 ghost use Rattle.dvbsub_cmd.specs.Completeness.{IsComplete};
 ghost use Rattle.dvbsub_cmd.specs.Headline.{IsShownBy};
 ghost use Rattle.dvbsub_cmd.specs.Seen.{seen};
 ghost use Rattle.dvbsub_cmd.specs.Outcome.{HasCause, IsCaused, IsSecondKept, Tells};
 
 use crate::check::check;
-use crate::command::{Command, command_of};
+use crate::command::Command;
 use crate::compile::compile;
 use crate::dump::dump;
 use crate::expect::expect;
+use crate::gen_text::write_gen_text;
 use crate::list::list;
+use crate::read_command::read_command;
 use crate::status::{Status, Which, status_line};
 use std::alloc::Global;
 use std::thread::Threads;
-use sub_base::{BandGate, Sink, Source, Words, write_whole};
+use sub_base::{BandGate, NoMemory, Sink, Source, Words, write_whole};
 
 /// Carries out the command that the words are: reads its sources, writes its output to `out`, and tells how it
 /// ended, by its answer and by one line to `notes`.
@@ -76,7 +79,8 @@ pub fn tell<N: Sink>(status: Status, notes: &mut N) -> Status
     }
 }
 
-/// Carries out the command without telling how it ended.
+/// Reads the command from the words and carries it out, without telling how it ended.
+#[tactic(auto, using(crate::proofs::MemoryLaws::memory_caused, crate::proofs::MemoryLaws::memory_shown, crate::proofs::MemoryLaws::second_kept))]
 fn run<R, A, B, K, G>(
     rt: &R,
     alloc: Global,
@@ -102,7 +106,42 @@ where
         result }
     ensures second { IsSecondKept (command_of_words words.now) second.old second.new }
 {
-    match command_of(words) {
+    match read_command(alloc, words) {
+        Ok(command) => carry_out(rt, alloc, command, words, first, second, out, gate),
+        Err(NoMemory) => Status::Memory,
+    }
+}
+
+/// Carries out the command that the words are, if they are one.
+fn carry_out<R, A, B, K, G>(
+    rt: &R,
+    alloc: Global,
+    command: Option<Command>,
+    words: &Words,
+    first: &mut A,
+    second: &mut B,
+    out: &mut K,
+    gate: &G,
+) -> Status
+where
+    R: Threads + Sync,
+    A: Source,
+    B: Source,
+    K: Sink,
+    G: BandGate + Sync,
+    requires command { command ≡ command_of_words words.now }
+    requires range { IfSome command (IsInRange words.now) }
+    ensures cause { IsCaused words.now
+        (seen (A.supplied first.old) (B.supplied second.old) (K.received out.old))
+        (seen (A.supplied first.new) (B.supplied second.new) (K.received out.new))
+        result }
+    ensures shown { IsShownBy (command_of_words words.now)
+        (seen (A.supplied first.old) (B.supplied second.old) (K.received out.old))
+        (seen (A.supplied first.new) (B.supplied second.new) (K.received out.new))
+        result }
+    ensures second { IsSecondKept (command_of_words words.now) second.old second.new }
+{
+    match command {
         None => Status::Usage,
         Some(
             Command::Compile {
@@ -132,5 +171,8 @@ where
             },
         ) => check(rt, alloc, profile, origin, pid, page, first, out, gate),
         Some(Command::Expect { has_font }) => expect(alloc, words, has_font, first, second, out),
+        Some(Command::Gen { number, profile }) => write_gen_text(
+            rt, alloc, number, profile, out, gate,
+        ),
     }
 }

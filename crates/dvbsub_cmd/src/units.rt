@@ -5,15 +5,13 @@ ghost use Rattle.set_coder.specs.KeptBlocks.{AreCoded};
 ghost use Rattle.set_coder.specs.SetSegments.{AreSetPackets};
 ghost use Rattle.set_coder.specs.SetSizes.{AreUnitSizes, FitsPackets};
 ghost use Rattle.shown_stream.specs.Compiled.{all_units};
-ghost use Rattle.shown_stream.specs.SlotStream.{IsPiece, all_pieces};
-ghost use Rattle.dvbsub_cmd.specs.PieceView.{plain};
+ghost use Rattle.slot_stream.specs.SlotStream.{IsPiece, all_pieces};
 ghost use Rattle.dvbsub_cmd.specs.SetUnits.{AreCut, AreWritten};
 
-use crate::pieces::push_units;
-use crate::slot_stream::Piece;
 use cue_list::Script;
 use page_epoch::PlannedSet;
 use set_coder::KeptBlocks;
+use slot_stream::{Piece, push_units};
 use std::alloc::Global;
 use sub_base::{Items, NoMemory, WriteLoad};
 
@@ -67,8 +65,9 @@ pub fn pieces_of<'a>(
 ) -> Result<Vec<Piece<'a>>, NoMemory>
     requires many { length loads.now ≡ length written.now }
     requires cut { (units : List (List (List ℕ))) × AreCut loads.now written.now units }
-    ensures pieces { IfOk result (λ pieces. (units : List (List (List ℕ))) → AreCut loads.now written.now units → map plain pieces.items ≡ all_pieces (all_units units)) }
-    ensures each { IfOk result (λ pieces. All (λ piece. IsPiece (plain piece)) pieces.items) }
+    ensures pieces { IfOk result (λ pieces. (units : List (List (List ℕ)))
+        → AreCut loads.now written.now units → pieces.items ≡ all_pieces (all_units units)) }
+    ensures each { IfOk result (λ pieces. All IsPiece pieces.items) }
 {
     let mut pieces = Vec::new(alloc);
     for i in 0..written.len() {

@@ -6,7 +6,7 @@ use Rattle.dvbsub_cmd.proofs.compile.compile.Goals as goal
 pub returns-in-Ok-send-clause-cause : goal.returns-in-Ok-send-clause-cause
 returns-in-Ok-send-clause-cause g c =
     let sent = c.in-Ok-send.ensures.sent in
-    (sent.0, record { script = c.in-Ok.script; reads = c.in-Ok.ensures.reads; compiled = sent.1 }, sent.2, refl)
+    (sent.packets, record { script = c.in-Ok.script; reads = c.in-Ok.ensures.reads; compiled = sent.compiled }, sent.written, refl)
 
 pub returns-in-Err-Plan-clause-cause : goal.returns-in-Err-Plan-clause-cause
 returns-in-Err-Plan-clause-cause g c =
@@ -26,4 +26,4 @@ returns-clause-cause g c =
 pub returns-in-Ok-send-clause-shown : goal.returns-in-Ok-send-clause-shown
 returns-in-Ok-send-clause-shown g c =
     let sent = c.in-Ok-send.ensures.sent in
-    shows_script c.args.profile c.args.pid c.args.page c.args.has_font _ _ c.in-Ok.script sent.0 c.requires.pid c.requires.profile c.in-Ok.ensures.reads sent.1 sent.2
+    shows_script c.args.profile c.args.pid c.args.page c.args.has_font _ _ c.in-Ok.script sent.packets c.requires.pid c.requires.profile c.in-Ok.ensures.reads sent.compiled sent.written

@@ -1,4 +1,4 @@
-use Rattle.std.proofs.Common.{◌≡◌, ◌∙◌, ◌<◌, ℕ, List, drop, sym, subst}
+use Rattle.std.proofs.Common.{◌∙◌, ◌<◌, ℕ, List, None, drop, sym, subst}
 use Rattle.std.specs.List.Sorted.{IsStrictlyIncreasing}
 use Rattle.dump_text.specs.DumpText.{anchor_of}
 use Rattle.packet_walk.proofs.EndLaws.{end_told}
@@ -8,14 +8,15 @@ use Rattle.dvbsub_cmd.specs.Dumps.{dump_tells, dumps}
 use Rattle.dvbsub_cmd.specs.StreamOutcome.{IsStreamCause}
 use Rattle.dvbsub_cmd.proofs.CloseLaws.{closed}
 use Rattle.dvbsub_cmd.proofs.DumpLaws.{tells_as_asked}
-use Rattle.dvbsub_cmd.proofs.TickLaws.{early_anchor}
+use Rattle.dvbsub_cmd.proofs.TickLaws.{early_anchor, rising_ticks}
 use Rattle.dvbsub_cmd.proofs.dump.dump.Goals as goal
 
 pub make-requires-clause-asked : goal.make-requires-clause-asked
 make-requires-clause-asked g c = record {
   some = c.requires.some;
   few = c.requires.few;
-  rising = subst IsStrictlyIncreasing (sym (c.as_slice-ticks.ensures.value ∙ c.in-Ok.ensures)) c.requires.rising;
+  rising = subst IsStrictlyIncreasing (sym (c.as_slice-ticks.ensures.value ∙ c.in-Ok.ensures))
+      (rising_ticks None (drop 7 c.args.words.now) c.requires.rising);
 }
 
 pub make-requires-clause-anchor : goal.make-requires-clause-anchor

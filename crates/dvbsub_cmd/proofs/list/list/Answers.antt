@@ -1,4 +1,4 @@
-use Rattle.std.proofs.Common.{◌≡◌, ◌∙◌, ℕ, List, subst}
+use Rattle.std.proofs.Common.{ℕ, subst}
 use Rattle.packet_walk.proofs.EndLaws.{end_told}
 use Rattle.dvbsub_cmd.specs.Listing.{IsListed, lists}
 use Rattle.dvbsub_cmd.specs.ListText.{IsListText}

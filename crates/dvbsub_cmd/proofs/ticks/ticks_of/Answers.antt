@@ -1,5 +1,5 @@
 use Rattle.std.proofs.Common.{◌∙◌, ◌++◌, ◌∷◌, [], ℕ, List, ap, sym, arith}
-use Rattle.dvbsub_cmd.proofs.TickLaws.{at_word, ticks_more}
+use Rattle.dvbsub_cmd.proofs.TickLaws.{ticks_more}
 use Rattle.dvbsub_cmd.proofs.ticks.ticks_of.Goals as goal
 
 pub loop-place-preserved : goal.loop-place-preserved

@@ -1,5 +1,5 @@
 use Rattle.std.proofs.Common.{◌<◌, ◌++◌, [], List, length, get_or, sym, ap, ◌∙◌, arith}
-use Rattle.shown_stream.specs.SlotStream.{Piece, all_pieces}
+use Rattle.slot_stream.specs.SlotStream.{Piece, all_pieces}
 use Rattle.dvbsub_cmd.proofs.UnitLaws.{all_pieces-more, cut_many, lent_units, units_at}
 use Rattle.dvbsub_cmd.proofs.units.pieces_of.Goals as goal
 

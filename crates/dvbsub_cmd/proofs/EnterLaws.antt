@@ -1,0 +1,98 @@
+-- From the entry set on, the pictures of a generated script are shown.
+use Rattle.std.proofs.Common.{◌≡◌, ◌∙◌, ℕ, zero, suc, ◌<◌, ◌≤◌, List, [], ◌∷◌, length, drop, get_or, length-drop, Option, Some, None, refl, sym, ap, subst, arith}
+use Rattle.std.specs.Prelude.{slice_get}
+use Rattle.std.specs.List.{AllByRecursion}
+use Rattle.std.specs.List.Sorted.{IsStrictlyIncreasing}
+use Rattle.std.proofs.lemmas.List.{get_or-drop, length-map}
+use Rattle.std.proofs.lemmas.List.Elements.{All-drop, All-from_recursion}
+use Rattle.std.proofs.lemmas.Option.{slice_get_within}
+use Rattle.cue_list.specs.declared.script.Script.{Script}
+use Rattle.decoder_model.specs.Streams.{SentSet, entry_set}
+use Rattle.page_epoch.specs.declared.planned_set.PlannedSet.{PlannedSet}
+use Rattle.shown_stream.proofs.EnteredTimes.{drop_found, drop_rises}
+use Rattle.shown_stream.proofs.PlannedOrder.{all_above}
+use Rattle.shown_stream.proofs.PlannedTimes.{pts_of}
+use Rattle.shown_stream.specs.SentSets.{sent_set, sent_sets}
+use Rattle.shown_stream.specs.Shows.{Shows, ShowsFrom, authored_view}
+use Rattle.stream_syntax.specs.TransportPackets.{packet_fault}
+use Rattle.sub_base.specs.Profile.{profile_of}
+use Rattle.sub_base.specs.declared.profile.ProfileName.{ProfileName}
+use Rattle.dvbsub_cmd.specs.Entries.{HasEntry}
+use Rattle.dvbsub_cmd.specs.GenText.{entry_time, generated_page, generated_pid}
+use Rattle.dvbsub_cmd.specs.Generating.{AreOf, AreShown, AreTakable, AreTold}
+use Rattle.dvbsub_cmd.specs.declared.generated.Generated.{Generated}
+
+-- the packets behind some are taken as well
+pub takable_behind : (packets : List (List ℕ)) (missed : ℕ) → AreTakable packets → AreTakable (drop missed packets)
+takable_behind packets missed are = record {
+  few = let all = are.few in omega (arith, length-drop missed packets);
+  passed = All-drop (λ packet. packet_fault generated_pid packet ≡ None) missed packets are.passed;
+}
+
+-- ---- times
+
+drop_pts : (n : ℕ) (sets : List PlannedSet) → drop n (pts_of sets) ≡ pts_of (drop n sets)
+drop_pts zero sets = refl
+drop_pts (suc n) [] = refl
+drop_pts (suc n) (set ∷ sets) = drop_pts n sets
+
+module _ (times : List ℕ) (sets : List PlannedSet) (times_are : times ≡ pts_of sets) (number : ℕ) (set : PlannedSet) (found : slice_get sets number ≡ Some set) where
+  -- the times from that of a set on
+  times_behind : drop number times ≡ pts_of (set ∷ drop (suc number) sets)
+  times_behind = ap (drop number) times_are ∙ drop_pts number sets ∙ ap pts_of (drop_found number sets set found)
+
+  pub time_inside : number < length times
+  time_inside = let inside = slice_get_within sets number set found in omega (arith, ap (λ (t : List ℕ). length t) times_are, length-map sets (λ (s : PlannedSet). s.pts))
+
+  pub told_behind : AreTold times → AreTold (drop number times)
+  told_behind told = record {
+    rising = subst IsStrictlyIncreasing (sym (ap (drop number) times_are ∙ drop_pts number sets)) (drop_rises number sets (subst IsStrictlyIncreasing times_are told.rising));
+    early = All-drop (λ tick. tick ≤ 4294967296) number times told.early;
+  }
+
+  later_times : AreTold times → AllByRecursion (λ tick. set.pts ≤ tick) (drop number times)
+  later_times told =
+      let rising : IsStrictlyIncreasing (pts_of (set ∷ drop (suc number) sets)) = subst IsStrictlyIncreasing times_behind (told_behind told).rising in
+      subst (AllByRecursion (λ tick. set.pts ≤ tick)) (sym times_behind) (omega arith, all_above set.pts (pts_of (drop (suc number) sets)) rising)
+
+-- ---- pictures
+
+shown_late : (name : ProfileName) (script : Script) (packets : List (List ℕ)) (entry : SentSet) (ticks : List ℕ)
+    → ((tick : ℕ) → ShowsFrom (profile_of name) generated_pid generated_page 0 packets (Some entry) tick (authored_view script tick)) → AllByRecursion (λ tick. entry.time ≤ tick) ticks
+    → AllByRecursion (λ tick. Shows (profile_of name) generated_pid generated_page 0 packets tick (authored_view script tick)) ticks
+shown_late name script packets entry [] shows late = tt
+shown_late name script packets entry (tick ∷ ticks) shows late =
+    let is = shows tick in
+    (record { shown = is.shown; is_shown = is.is_shown; agrees = is.from_entry.1 late.0 }, shown_late name script packets entry ticks shows late.1)
+
+module _ (name : ProfileName) (made : Generated) (packets : List (List ℕ)) (times : List ℕ) (of : AreOf name made packets times) (missed number : ℕ)
+    (entry : HasEntry missed made.sent.schedule made.sent.plan.sets (Some number)) where
+  pub entry_inside : number < length times
+  entry_inside = time_inside times made.sent.plan.sets of.times_are number entry.0 entry.1
+
+  pub entry_told : AreTold (drop number times)
+  entry_told = told_behind times made.sent.plan.sets of.times_are number entry.0 entry.1 of.told
+
+  pub entry_shown : AreShown name made.script (drop missed packets) (drop number times)
+  entry_shown =
+      let sent : SentSet = sent_set made.sent.schedule number entry.0 in
+      All-from_recursion (λ tick. Shows (profile_of name) generated_pid generated_page 0 (drop missed packets) tick (authored_view made.script tick)) (drop number times)
+      (shown_late name made.script (drop missed packets) sent (drop number times)
+      (λ tick. subst (λ (one : Option SentSet). ShowsFrom (profile_of name) generated_pid generated_page 0 (drop missed packets) one tick (authored_view made.script tick)) entry.2 (of.shown missed tick))
+      (later_times times made.sent.plan.sets of.times_are number entry.0 entry.1 of.told))
+
+  -- the first of these is the time of the entry set
+  pub entry_first : slice_get (drop number times) 0 ≡ entry_time (entry_set missed (sent_sets made.sent.schedule made.sent.plan.sets))
+  entry_first =
+      ap (λ (ticks : List ℕ). slice_get ticks 0) (times_behind times made.sent.plan.sets of.times_are number entry.0 entry.1) ∙ sym (ap entry_time entry.2)
+
+  -- it is the one at the set's place
+  pub entry_is : entry_time (entry_set missed (sent_sets made.sent.schedule made.sent.plan.sets)) ≡ Some (get_or times number 0)
+  entry_is =
+      let first : get_or (drop number times) 0 0 ≡ entry.0.pts = ap (λ (ticks : List ℕ). get_or ticks 0 0) (times_behind times made.sent.plan.sets of.times_are number entry.0 entry.1) in
+      let same : get_or times number 0 ≡ get_or (drop number times) 0 0 = sym (get_or-drop number times 0 0 ∙ ap (λ (n : ℕ). get_or times n 0) (omega arith)) in
+      ap entry_time entry.2 ∙ ap (λ (time : ℕ). Some time) (sym (same ∙ first))
+
+-- no receiver enters
+pub no_entry_is : (missed : ℕ) (made : Generated) → HasEntry missed made.sent.schedule made.sent.plan.sets None → entry_time (entry_set missed (sent_sets made.sent.schedule made.sent.plan.sets)) ≡ None
+no_entry_is missed made none = ap entry_time none

@@ -1,6 +1,0 @@
-use Rattle.std.proofs.Common.{◌*◌, arith}
-use Rattle.dvbsub_cmd.proofs.PieceLaws.{chunk_is}
-use Rattle.dvbsub_cmd.proofs.pieces.chunk.Goals as goal
-
-pub returns-clause-chunk : goal.returns-clause-chunk
-returns-clause-chunk c = chunk_is c.args.unit.now (184 * c.args.number) c.min-end.result (omega arith) c.min-end.ensures
