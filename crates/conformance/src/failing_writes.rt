@@ -1,0 +1,173 @@
+use crate::failing::{each_note_fails, each_write_fails};
+use crate::first_run::*;
+use crate::running::{Edges, Wanted, done, ends_as, reading, run, sound};
+use std::alloc::Global;
+use std::process::Abort;
+use std::test::Fail;
+use std::thread::Threads;
+
+/// Over the first run's stream: each write fails in turn, with a byte a call, a few, and all at once.
+fn each_stream_write_fails<R: Threads + Sync + Abort>(
+    rt: &R,
+    alloc: Global,
+    line: &str,
+    whole: &str,
+) -> Result<(), Fail> {
+    let stream = stream(alloc)?;
+    let asked = reading(line, stream.as_slice());
+    for most in [1, 7, 100_000] {
+        each_write_fails(rt, alloc, &asked, most, whole.as_bytes())?;
+    }
+    Ok(())
+}
+
+#[test]
+fn each_write_of_a_list_fails(rt: HostRuntime) -> Result<(), Fail> {
+    each_stream_write_fails(&rt, rt.alloc(), LIST, BOTH_LINES)
+}
+
+#[test]
+fn each_write_of_a_dump_fails(rt: HostRuntime) -> Result<(), Fail> {
+    each_stream_write_fails(&rt, rt.alloc(), DUMP, PICTURES)
+}
+
+#[test]
+fn each_write_of_a_check_fails(rt: HostRuntime) -> Result<(), Fail> {
+    each_stream_write_fails(&rt, rt.alloc(), CHECK, BOTH_CHECKED)
+}
+
+#[test]
+fn each_write_of_compiled_packets_fails(rt: HostRuntime) -> Result<(), Fail> {
+    let alloc = rt.alloc();
+    let stream = stream(alloc)?;
+    let asked = reading(COMPILE, SCRIPT.as_bytes());
+    for most in [1, 7, 100_000] {
+        each_write_fails(&rt, alloc, &asked, most, stream.as_slice())?;
+    }
+    Ok(())
+}
+
+#[test]
+fn each_write_of_authored_pictures_fails(rt: HostRuntime) -> Result<(), Fail> {
+    let asked = reading(EXPECT, SCRIPT.as_bytes());
+    for most in [1, 7, 100_000] {
+        each_write_fails(&rt, rt.alloc(), &asked, most, PICTURES.as_bytes())?;
+    }
+    Ok(())
+}
+
+/// A cue of forty seconds, whose nine sets stand in slots up to 4,596.
+const FORTY_SECONDS: &str =
+    "origin,0\ndisplay,4,2\nrefresh,5\nepoch,90000\nregion,0,0,0,4,2,8,0\npicture,a,8,4,2,0102020203030303\nplace,90000,3690000,0,0,0,solid,a\n";
+
+/// Its packets go out in many pieces; whichever fails, no later one follows.
+#[test]
+fn each_write_of_many_packets_fails(rt: HostRuntime) -> Result<(), Fail> {
+    let alloc = rt.alloc();
+    let asked = reading(COMPILE, FORTY_SECONDS.as_bytes());
+    let sent = run(&rt, alloc, &asked, sound(100_000))?;
+    let packets = sent.out.written();
+    assert_eq!(rt; packets.len(), 4_597 * 188);
+    each_write_fails(&rt, alloc, &asked, 36_096, packets)
+}
+
+/// A byte a call both ways.
+fn goes_byte_by_byte<R: Threads + Sync + Abort>(
+    rt: &R,
+    alloc: Global,
+    line: &str,
+    first: &[u8],
+    whole: &[u8],
+) -> Result<(), Fail> {
+    ends_as(rt, alloc, &reading(line, first), sound(1), done(whole))
+}
+
+#[test]
+fn scripts_go_byte_by_byte(rt: HostRuntime) -> Result<(), Fail> {
+    let alloc = rt.alloc();
+    let script = SCRIPT.as_bytes();
+    let stream = stream(alloc)?;
+    goes_byte_by_byte(&rt, alloc, COMPILE, script, stream.as_slice())?;
+    goes_byte_by_byte(&rt, alloc, EXPECT, script, PICTURES.as_bytes())
+}
+
+#[test]
+fn streams_go_byte_by_byte(rt: HostRuntime) -> Result<(), Fail> {
+    let alloc = rt.alloc();
+    let stream = stream(alloc)?;
+    let stream = stream.as_slice();
+    goes_byte_by_byte(&rt, alloc, LIST, stream, BOTH_LINES.as_bytes())?;
+    goes_byte_by_byte(&rt, alloc, DUMP, stream, PICTURES.as_bytes())?;
+    goes_byte_by_byte(&rt, alloc, CHECK, stream, BOTH_CHECKED.as_bytes())
+}
+
+/// The line of a command that is done fails: nobody could know that it is, so that is a failure.
+fn is_done_untold<R: Threads + Sync + Abort>(
+    rt: &R,
+    alloc: Global,
+    line: &str,
+    first: &[u8],
+    whole: &[u8],
+) -> Result<(), Fail> {
+    let wanted = Wanted {
+        code: 6,
+        ..done(whole)
+    };
+    each_note_fails(rt, alloc, &reading(line, first), wanted)
+}
+
+#[test]
+fn commands_that_are_done_are_not_told(rt: HostRuntime) -> Result<(), Fail> {
+    let alloc = rt.alloc();
+    let stream = stream(alloc)?;
+    let packets = stream.as_slice();
+    let script = SCRIPT.as_bytes();
+    is_done_untold(&rt, alloc, COMPILE, script, packets)?;
+    is_done_untold(&rt, alloc, EXPECT, script, PICTURES.as_bytes())?;
+    is_done_untold(&rt, alloc, LIST, packets, BOTH_LINES.as_bytes())?;
+    is_done_untold(&rt, alloc, DUMP, packets, PICTURES.as_bytes())?;
+    is_done_untold(&rt, alloc, CHECK, packets, BOTH_CHECKED.as_bytes())
+}
+
+/// Any other status stays where its line cannot be written.
+#[test]
+fn refusals_stay_where_they_are_not_told(rt: HostRuntime) -> Result<(), Fail> {
+    let refused = |code, note| Wanted {
+        code,
+        note,
+        out: &[],
+    };
+    let rows = [
+        (reading("list", &[]), refused(2, "usage\n")),
+        (reading(COMPILE, b"origin"), refused(3, "script 1 Count\n")),
+        (reading(EXPECT, b"origin,0"), refused(3, "script 2 Order\n")),
+        (reading(LIST, &[0; 188]), refused(4, "stream 0 NoSync\n")),
+        (reading(DUMP, &[1; 376]), refused(4, "stream 0 NoSync\n")),
+        (reading(CHECK, &[2; 200]), refused(4, "stream 0 NoSync\n")),
+    ];
+    for (asked, wanted) in rows {
+        each_note_fails(&rt, rt.alloc(), &asked, wanted)?;
+    }
+    Ok(())
+}
+
+/// The output fails, and then its line too: the first failure is told.
+#[test]
+fn both_sinks_fail(rt: HostRuntime) -> Result<(), Fail> {
+    let alloc = rt.alloc();
+    let stream = stream(alloc)?;
+    for line in [LIST, DUMP, CHECK] {
+        let edges = Edges {
+            bad_write: 1,
+            bad_note: 7,
+            ..sound(1)
+        };
+        let wanted = Wanted {
+            code: 6,
+            note: "write ",
+            out: &[],
+        };
+        ends_as(&rt, alloc, &reading(line, stream.as_slice()), edges, wanted)?;
+    }
+    Ok(())
+}

@@ -1,0 +1,82 @@
+use crate::streams::packet_of;
+use std::alloc::Global;
+use std::test::Fail;
+
+/// One cue of one picture of 8 bits, from 90000 to 180000.
+pub(crate) const SCRIPT: &str =
+    "origin,0\ndisplay,4,2\nrefresh,5\nepoch,90000\nregion,0,0,0,4,2,8,0\npicture,a,8,4,2,0102020203030303\nplace,90000,180000,0,0,0,solid,a\n";
+
+pub(crate) const COMPILE: &str = "compile sd 256 1 script.csv none out.ts";
+
+pub(crate) const EXPECT: &str = "expect script.csv none out.txt 90000 180000";
+
+pub(crate) const LIST: &str = "list 256 in.ts out.txt";
+
+pub(crate) const DUMP: &str = "dump sd 256 1 2 in.ts out.txt 90000 180000";
+
+pub(crate) const CHECK: &str = "check sd 0 256 1 in.ts out.txt";
+
+/// The script's first set, which ends its packet.
+#[rattlefmt::skip]
+pub(crate) const FIRST_UNIT: [u8; 98] = [
+    0x00, 0x00, 0x01, 0xBD, 0x00, 0x5C, 0x84, 0x80, 0x05, 0x21, 0x00, 0x05, 0xBF, 0x21, 0x20, 0x00,
+    0x0F, 0x14, 0x00, 0x01, 0x00, 0x05, 0x07, 0x00, 0x03, 0x00, 0x01, 0x0F, 0x10, 0x00, 0x01, 0x00,
+    0x08, 0x0C, 0x0B, 0x00, 0xFF, 0x00, 0x00, 0x00, 0x00, 0x0F, 0x11, 0x00, 0x01, 0x00, 0x10, 0x00,
+    0x0F, 0x00, 0x04, 0x00, 0x02, 0x6F, 0x00, 0x00, 0x03, 0x00, 0x00, 0x00, 0x00, 0xF0, 0x00, 0x0F,
+    0x13, 0x00, 0x01, 0x00, 0x16, 0x00, 0x00, 0x01, 0x00, 0x08, 0x00, 0x07, 0x12, 0x01, 0x00, 0x83,
+    0x02, 0x00, 0x00, 0xF0, 0x12, 0x00, 0x84, 0x03, 0x00, 0x00, 0xF0, 0x0F, 0x80, 0x00, 0x01, 0x00,
+    0x00, 0xFF,
+];
+
+/// Its second set: a page without regions.
+#[rattlefmt::skip]
+pub(crate) const SECOND_UNIT: [u8; 31] = [
+    0x00, 0x00, 0x01, 0xBD, 0x00, 0x19, 0x84, 0x80, 0x05, 0x21, 0x00, 0x0B, 0x7E, 0x41, 0x20, 0x00,
+    0x0F, 0x10, 0x00, 0x01, 0x00, 0x02, 0x0C, 0x13, 0x0F, 0x80, 0x00, 0x01, 0x00, 0x00, 0xFF,
+];
+
+/// The two packets that the script is compiled to.
+pub(crate) fn stream(alloc: Global) -> Result<Vec<u8>, Fail> {
+    let first = packet_of(&[0x47, 0x41, 0x00, 0x30, 0x55, 0x00], &FIRST_UNIT);
+    let second = packet_of(&[0x47, 0x41, 0x00, 0x31, 0x98, 0x00], &SECOND_UNIT);
+    let mut stream = Vec::from_slice(alloc, &first)?;
+    stream.extend_from_slice(&second)?;
+    Ok(stream)
+}
+
+/// What is shown at both ticks.
+pub(crate) const PICTURES: &str =
+    "picture 90000 4 2\n1*51F05AC0 3*912236C0\n4*D29210C0\npicture 180000 clear\n";
+
+/// What is shown at the first tick alone.
+pub(crate) const PICTURE: &str = "picture 90000 4 2\n1*51F05AC0 3*912236C0\n4*D29210C0\n";
+
+pub(crate) const CLEAR_PICTURES: &str = "picture 90000 clear\npicture 180000 clear\n";
+
+/// The lines of the first packet.
+pub(crate) const FIRST_LINES: &str =
+    "unit 0 pts 90000 length 98\nsegment 2 14 1 5\nsegment 13 10 1 8\nsegment 27 11 1 16\nsegment 49 13 1 22\nsegment 77 80 1 0\n";
+
+/// The lines of both.
+pub(crate) const BOTH_LINES: &str =
+    "unit 0 pts 90000 length 98\nsegment 2 14 1 5\nsegment 13 10 1 8\nsegment 27 11 1 16\nsegment 49 13 1 22\nsegment 77 80 1 0\nunit 1 pts 180000 length 31\nsegment 2 10 1 2\nsegment 10 80 1 0\n";
+
+/// The line of the first set.
+pub(crate) const FIRST_SET: &str = "set 90000 shown 98 99\n";
+
+/// The lines of both.
+pub(crate) const BOTH_SETS: &str = "set 90000 shown 98 99\nset 180000 shown 31 90031\n";
+
+/// All that is told of the first packet alone, and of both.
+pub(crate) const FIRST_CHECKED: &str = "set 90000 shown 98 99\npeak 98\nbreach none\n";
+
+pub(crate) const BOTH_CHECKED: &str =
+    "set 90000 shown 98 99\nset 180000 shown 31 90031\npeak 98\nbreach none\n";
+
+/// A font of one letter.
+pub(crate) const FONT: &str =
+    "STARTFONT 2.1\nFONTBOUNDINGBOX 3 4 0 -1\nSTARTCHAR A\nENCODING 65\nDWIDTH 3 0\nBBX 2 3 0 0\nBITMAP\n40\nC0\n40\nENDCHAR\nENDFONT\n";
+
+pub(crate) const COMPILE_WITH_FONT: &str = "compile sd 256 1 script.csv font.bdf out.ts";
+
+pub(crate) const EXPECT_WITH_FONT: &str = "expect script.csv font.bdf out.txt 90000 180000";

@@ -1,0 +1,49 @@
+//! Tables of vectors over the commands: hostile input, and every call that fails. There is no code here but tests; each
+//! expected value was worked out by hand, or is reckoned here from the rules of docs/FORMATS.md.
+#![tactic(auto)]
+
+// Carrying out a command over sources and sinks that fail where a test wants it.
+#[cfg(test)]
+mod running;
+
+// A source without content, however long.
+#[cfg(test)]
+mod counting;
+
+// The first run: two packets of one cue, and what each command tells of them.
+#[cfg(test)]
+mod first_run;
+
+// Units and packets made here.
+#[cfg(test)]
+mod streams;
+
+// Every read and every write fails in turn, and every growth of memory may.
+#[cfg(test)]
+mod failing;
+#[cfg(test)]
+mod failing_reads;
+#[cfg(test)]
+mod failing_writes;
+#[cfg(test)]
+mod refused_growth;
+
+// Inputs that end too early, have another byte, or are too long.
+#[cfg(test)]
+mod changed_bytes;
+#[cfg(test)]
+mod long_inputs;
+#[cfg(test)]
+mod script_prefixes;
+#[cfg(test)]
+mod stream_prefixes;
+
+// Streams that no encoder writes.
+#[cfg(test)]
+mod adaptation;
+#[cfg(test)]
+mod hostile_calls;
+#[cfg(test)]
+mod hostile_sets;
+#[cfg(test)]
+mod hostile_times;

@@ -1,0 +1,147 @@
+ghost use Rattle.std.specs.Prelude.{◌≤◌};
+
+use dvbsub_cmd::top;
+use std::alloc::Global;
+use std::process::Abort;
+use std::test::Fail;
+use std::thread::Threads;
+use sub_base::{MemSink, MemSource, NoGate, Sink, Source, Words};
+
+/// A command, and what its first and its second source hold.
+#[derive(Clone, Copy)]
+pub(crate) struct Asked<'a> {
+    pub line: &'a str,
+    pub first: &'a [u8],
+    pub second: &'a [u8],
+}
+
+/// A command that reads one source.
+pub(crate) fn reading<'a>(line: &'a str, first: &'a [u8]) -> Asked<'a> {
+    Asked {
+        line,
+        first,
+        second: &[],
+    }
+}
+
+/// How a command's sources and sinks behave: how many bytes a read gives and a write takes at most, and the number of the one
+/// call that fails, counted from 1; 0 for none.
+#[derive(Clone, Copy)]
+pub(crate) struct Edges {
+    pub most_read: usize,
+    pub most_written: usize,
+    pub bad_read: u64,
+    pub bad_font_read: u64,
+    pub bad_write: u64,
+    pub bad_note: u64,
+}
+
+/// Nothing fails, and at most so many bytes go with a call.
+pub(crate) fn sound(most: usize) -> Edges {
+    Edges {
+        most_read: most,
+        most_written: most,
+        bad_read: 0,
+        bad_font_read: 0,
+        bad_write: 0,
+        bad_note: 0,
+    }
+}
+
+/// How a command ended: its code, its output, and the line that tells its status.
+#[derive(Drop)]
+pub(crate) struct Ended {
+    pub code: u8,
+    pub out: MemSink,
+    pub notes: MemSink,
+}
+
+fn words_of(alloc: Global, line: &str) -> Result<Words, Fail> {
+    let mut words = Words::make(alloc);
+    for word in line.split(' ') {
+        words.push(word)?;
+    }
+    Ok(words)
+}
+
+/// Carries out a command.
+pub(crate) fn run<R: Threads + Sync>(
+    rt: &R,
+    alloc: Global,
+    asked: &Asked<'_>,
+    edges: Edges,
+) -> Result<Ended, Fail> {
+    let mut first = source_of(alloc, asked.first, edges.most_read, edges.bad_read)?;
+    let mut second = source_of(alloc, asked.second, edges.most_read, edges.bad_font_read)?;
+    run_over(rt, alloc, asked.line, &mut first, &mut second, edges)
+}
+
+fn source_of(alloc: Global, bytes: &[u8], most: usize, bad_read: u64) -> Result<MemSource, Fail> {
+    let bytes = Vec::from_slice(alloc, bytes)?;
+    let fails = vec![in alloc; bad_read]?;
+    Ok(MemSource::make(alloc, bytes, most.max(1), fails))
+}
+
+fn sink_of(alloc: Global, most: usize, bad_write: u64) -> Result<MemSink, Fail> {
+    let fails = vec![in alloc; bad_write]?;
+    Ok(MemSink::make(alloc, most.max(1), fails))
+}
+
+/// Carries out a command over any sources.
+pub(crate) fn run_over<R: Threads + Sync, A: Source, B: Source>(
+    rt: &R,
+    alloc: Global,
+    line: &str,
+    first: &mut A,
+    second: &mut B,
+    edges: Edges,
+) -> Result<Ended, Fail> {
+    let words = words_of(alloc, line)?;
+    let mut out = sink_of(alloc, edges.most_written, edges.bad_write)?;
+    let mut notes = sink_of(alloc, edges.most_written, edges.bad_note)?;
+    let status = top(
+        rt, alloc, &words, first, second, &mut out, &mut notes, &NoGate,
+    );
+    Ok(Ended {
+        code: status.code(),
+        out,
+        notes,
+    })
+}
+
+/// How a command has to end.
+#[derive(Clone, Copy)]
+pub(crate) struct Wanted<'a> {
+    pub code: u8,
+    pub note: &'a str,
+    pub out: &'a [u8],
+}
+
+/// The command is done, and has put out these bytes.
+pub(crate) fn done(out: &[u8]) -> Wanted<'_> {
+    Wanted {
+        code: 0,
+        note: "done\n",
+        out,
+    }
+}
+
+/// Carries out a command; it ends as is wanted.
+pub(crate) fn ends_as<R: Threads + Sync + Abort>(
+    rt: &R,
+    alloc: Global,
+    asked: &Asked<'_>,
+    edges: Edges,
+    wanted: Wanted<'_>,
+) -> Result<(), Fail> {
+    let ended = run(rt, alloc, asked, edges)?;
+    is_as(rt, &ended, wanted)
+}
+
+/// A command ended as is wanted.
+pub(crate) fn is_as<R: Abort>(rt: &R, ended: &Ended, wanted: Wanted<'_>) -> Result<(), Fail> {
+    assert_eq!(rt; ended.notes.written(), wanted.note.as_bytes());
+    assert_eq!(rt; ended.code, wanted.code);
+    assert_eq!(rt; ended.out.written(), wanted.out);
+    Ok(())
+}
