@@ -23,18 +23,18 @@ pub record IsEnteredRightly (profile : ProfileName) (pid page : ℕ) (script : S
     (table : Timetable) (packets : List (List ℕ)) (missed : ℕ) : Type 0 where
   pub shown : (anchor : ℕ) → IsAnchorOf (times_from missed (sent_sets table sets)) anchor → (tick : ℕ)
       → ShowsFrom (profile_of profile) pid page anchor (entered_at missed packets)
-          (entry_set missed (sent_sets table sets)) tick (authored_view script tick)
+      (entry_set missed (sent_sets table sets)) tick (authored_view script tick)
   pub kept : (anchor : ℕ) → IsAnchorOf (times_from missed (sent_sets table sets)) anchor
       → (past : List (Delivery Reading))
       → HasReceived (profile_of profile) pid page true (entered_at missed packets) past
       → (number : ℕ) (set : PlannedSet) → slice_get sets number ≡ Some set
-          → is_from missed (sent_set table number set) ≡ true
+      → is_from missed (sent_set table number set) ≡ true
       → IsKept (profile_of profile) anchor (entry_set missed (sent_sets table sets)) past set
   pub held : (anchor : ℕ) → IsAnchorOf (times_from missed (sent_sets table sets)) anchor
       → (past : List (Delivery Reading))
       → HasReceived (profile_of profile) pid page true (entered_at missed packets) past
       → HoldsWhole script (profile_of profile) anchor sets (λ number set. is_from missed (sent_set table number set)
-          ≡ true) past
+      ≡ true) past
 
 -- a receiver of the profile, for a PID and a page, that gets these packets of a compiled stream, between two neighbouring payload
 -- packets of which at most 14 are lost, with any anchor that suits the sets of which packets come. At each tick up to which, from some
@@ -48,4 +48,4 @@ pub record IsCutRightly (profile : ProfileName) (pid page : ℕ) (script : Scrip
   pub held : (anchor : ℕ) → IsAnchorOf (times_received sendings (sent_sets table sets)) anchor
       → (past : List (Delivery Reading)) → HasReceived (profile_of profile) pid page true received past
       → HoldsWhole script (profile_of profile) anchor sets
-          (λ number set. IsReceived sendings (sent_set table number set)) past
+      (λ number set. IsReceived sendings (sent_set table number set)) past

@@ -36,6 +36,6 @@ abbrev pub HoldsWhole : Script → Profile → ℕ → List PlannedSet → (ℕ 
 HoldsWhole script profile anchor sets ComesWhole past =
     (later before : List (Delivery Reading)) (delivery : Delivery Reading) → past ≡ later ++ delivery ∷ before
     → (front back : List PlannedSet) (set : PlannedSet) → sets ≡ front ++ set ∷ back → ComesWhole (length front) set
-        → lifted_time anchor before delivery ≡ Some set.pts
+    → lifted_time anchor before delivery ≡ Some set.pts
     → (known : List (List Content)) → known_epoch profile anchor (delivery ∷ before) ≡ Some known
-        → HoldsSet script (reverse front) set known
+    → HoldsSet script (reverse front) set known

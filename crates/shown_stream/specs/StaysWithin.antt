@@ -44,7 +44,7 @@ pub record StaysWithin (profile : ProfileName) (pid page : ℕ) (script : Script
   -- each set of which no packet is missing is decoded by its time
   pub decoded : (calls : List Call) → AreCallsBefore (length packets) profile pid page anchor missed packets calls
       → (number : ℕ) (set : PlannedSet) → slice_get sets number ≡ Some set
-          → is_from missed (sent_set table number set) ≡ true
+      → is_from missed (sent_set table number set) ≡ true
       → IsDecodedBy (done_sets (sent_pace profile script) calls) set.pts
   -- the end of the stream gives no call more
   pub ended : (calls : List Call)
