@@ -1,7 +1,7 @@
 #!/usr/bin/env bash
-# Lists a stream of which one packet in eight is of the PID, and reads the same file by `cat`: bytes and seconds of each, and
-# megabytes per second. Each unit has 16 packets and a page, a region and 16 other segments. The first argument is the size
-# of the stream in megabytes, 256 where there is none.
+# Lists a stream of which one packet in eight is of the PID, and reads the same file by `cat`: the best of 30 runs of each, and
+# the speed of `list` beside that of `cat`, by processor time. Each unit has 16 packets and a page, a region and 16 other
+# segments. The first argument is the size of the stream in megabytes, 256 where there is none.
 set -e
 cd "$(dirname "${BASH_SOURCE[0]}")/.."
 mkdir -p bench/out
@@ -37,18 +37,18 @@ with open(path, "wb") as stream:
         place += 128
         number += 1
 PYTHON
-measure() {
-    local start stop
-    start=$(date +%s.%N)
-    "${@:2}"
-    stop=$(date +%s.%N)
-    awk -v name="$1" -v bytes="$(stat -c %s bench/out/stream.ts)" -v start="$start" -v stop="$stop" \
-        'BEGIN { printf "%s: %d bytes, %.2f seconds, %.0f megabytes a second\n", name, bytes, stop - start, bytes / (stop - start) / 1e6 }'
+best() {
+    local name=$1 processor clock
+    read -r _ processor clock _ < <(python3 bench/best.py 30 "${@:2}")
+    echo "$name $(stat -c %s bench/out/stream.ts) $processor $clock" |
+        awk '{ printf "%s: %d bytes, %.1f ms of processor time, %.1f ms by the clock, %.0f megabytes a second\n", $1, $2, 1000 * $3, 1000 * $4, $2 / $4 / 1e6 }'
+    spent[$name]=$processor
 }
-read_all() { cat bench/out/stream.ts >/dev/null; }
-read_all
-measure cat read_all
-measure list ./dvbsub list 256 bench/out/stream.ts bench/out/list.txt
+declare -A spent
+cat bench/out/stream.ts >/dev/null
+best cat cat bench/out/stream.ts
+best list ./crates/dvbsub/out/dvbsub list 256 bench/out/stream.ts bench/out/list.txt
+awk -v cat="${spent[cat]}" -v list="${spent[list]}" 'BEGIN { printf "list: %.2f of cat\n", cat / list }'
 head -n 4 bench/out/list.txt
 wc -l bench/out/list.txt
 rm bench/out/stream.ts bench/out/list.txt

@@ -4,15 +4,21 @@
     python3 checks/long_lines.py                 how many there are, by file
     python3 checks/long_lines.py --break FILE..  breaks them at an operator of the least depth
 
-A broken line goes on four columns further in. Imports and comments stay as they are. A file whose lines were broken is
-to be read again: the place that is found is the one of least depth, and not always the one that reads best.
+A broken line goes on four columns further in. A paragraph of comments with a long line is wrapped anew. Imports, and lines
+with texts, stay as they are. Columns are counted in bytes. A file whose lines were broken is to be read again: the place that is
+found is the one of least depth, and not always the one that reads best.
 """
 import glob
+import re
 import sys
+import textwrap
 
 OPENING, CLOSING = "([{", ")]}"
-# The operators before which a line may be broken, those that bind least first.
-OPERATORS = [[" → ", " × ", " ⊎ "], [" ∙ ", " && ", " ++ "], [" ≡ ", " ≤ ", " < "]]
+# Before what a line may be broken, what binds least first.
+OPERATORS = [[" → ", " × ", " ⊎ "], [" then ", " else "], [" || "], [" && "], [" ∙ ", " ++ ", " ∷ "], [" ≡ ", " ≤ ", " < "]]
+SUMS = [" + ", " +ℤ ", " -ℤ "]
+# Behind these no line is broken.
+OPEN_WORDS = ("record", "if", "then", "else", "pub", "abbrev", "unfoldable", "using", "Type", "λ", "let", "ensures", "requires")
 INDENT = 4
 
 
@@ -20,8 +26,13 @@ def limit_of(path):
     return 100 if path.endswith(".rt") else 120
 
 
+def columns(line):
+    """How long a line is, by the bytes of its characters."""
+    return len(line.encode())
+
+
 def is_left_alone(line):
-    return line.lstrip().startswith(("use ", "ghost use ", "--", "//"))
+    return line.lstrip().startswith(("use ", "ghost use ", "--", "//", "#[")) or '"' in line
 
 
 def depths(line):
@@ -36,59 +47,91 @@ def depths(line):
     return found
 
 
-def at_operator(line, limit, start):
-    """The last place of least depth before an operator, of those that bind least."""
-    depth = depths(line)
-    for operators in OPERATORS:
-        places = []
-        for rank, operator in enumerate(operators):
+def is_between_words(line, place):
+    """Whether a line may be broken at a space where no operator stands."""
+    word = line[:place].split()[-1]
+    after = line[place + 1 : place + 2]
+    return line[place] == " " and after not in ")=:→×⊎{}<≤≡+-*/" and word[-1] not in "=:→×⊎,(<≤≡+-*/.∷" and word not in OPEN_WORDS and line[place + 1 :] != "where"
+
+
+def best_place(line, limit, start):
+    """The place of least depth: before an operator that binds least, else between two words; the last such one."""
+    depth, places = depths(line), []
+    for rank, operators in enumerate(OPERATORS + [SUMS]):
+        for operator in operators:
             place = line.find(operator, start + 9)
             while place != -1 and place <= limit:
                 places.append((depth[place], rank, -place))
                 place = line.find(operator, place + 1)
-        if places:
-            return min(places)
-    return None
-
-
-def between_words(line, limit, start):
-    """The last place of least depth between two words, where no operator stands."""
-    depth, places = depths(line), []
-    for place in range(start + 8, min(limit, len(line))):
-        before, after = line[place - 1], line[place + 1 : place + 2]
-        if line[place] == " " and after not in ")=:→×⊎{}" and before not in "=:→×⊎,(" and line[place - 4 : place] != "Type":
-            places.append((depth[place], -place))
-    return -min(places)[1] if places else None
+    for place in range(start + 9, min(limit, len(line) - 1) + 1):
+        if is_between_words(line, place):
+            places.append((depth[place], len(OPERATORS) + 1, -place))
+    return min(places) if places else None
 
 
 def broken(line, limit):
     """The line as several lines."""
-    if len(line) <= limit or is_left_alone(line):
+    if columns(line) <= limit or is_left_alone(line):
         return [line]
     further = " " * (len(line) - len(line.lstrip(" ")) + INDENT)
     lines, rest = [], line
-    while len(rest) > limit:
+    most = limit
+    while columns(rest) > most:
         start = len(rest) - len(rest.lstrip(" "))
-        operator = at_operator(rest, limit, start)
+        limit = most + len(rest[:most]) - columns(rest[:most])
+        best = best_place(rest, limit, start)
         equals = rest.find(" = ", start)
         if not lines and -1 < equals < limit and depths(rest)[equals] == 0 and (
-            operator is None or operator[0] > 0 or len(rest) - equals <= limit - len(further)
+            best is None or best[:2] > (0, 0) or len(rest) - equals <= limit - len(further)
         ):
             lines.append(rest[: equals + 2])
             rest = further + rest[equals + 3 :]
             continue
-        place = -operator[2] if operator else between_words(rest, limit, start)
-        if place is None:
+        if best is None:
             break
-        lines.append(rest[:place].rstrip())
-        rest = further + rest[place + 1 :].lstrip(" ")
+        lines.append(rest[: -best[2]].rstrip())
+        rest = further + rest[1 - best[2] :].lstrip(" ")
     return lines + [rest]
+
+
+def comment_of(line):
+    """The indentation and the marker of a line of prose in a comment, and the prose; none of other lines."""
+    found = re.match(r"( *(?:///|//!|//|--) )(?! |- |\||`|[0-9]+\. |#)(.*)$", line)
+    return found.groups() if found else None
+
+
+def wrapped(lines, limit):
+    """The lines, with each paragraph of comments that has a long line wrapped anew."""
+    result, paragraph = [], []
+    for line in lines + [""]:
+        comment = comment_of(line)
+        if paragraph and (comment is None or comment[0] != paragraph[0][0]):
+            prose = [head + text for head, text in paragraph]
+            if any(len(text) > limit for text in prose):
+                head = paragraph[0][0]
+                words = " ".join(text for _, text in paragraph)
+                prose = textwrap.wrap(
+                    words,
+                    limit,
+                    initial_indent=head,
+                    subsequent_indent=head,
+                    break_long_words=False,
+                    break_on_hyphens=False,
+                )
+            result += prose
+            paragraph = []
+        if comment is None:
+            result.append(line)
+        else:
+            paragraph.append(comment)
+    return result[:-1]
 
 
 def count_long(path):
     limit = limit_of(path)
     with open(path) as file:
-        return sum(len(line.rstrip("\n")) > limit and not is_left_alone(line) for line in file)
+        lines = [line.rstrip("\n") for line in file]
+    return sum(columns(line) > limit and (comment_of(line) is not None or not is_left_alone(line)) for line in lines)
 
 
 def main(arguments):
@@ -96,8 +139,10 @@ def main(arguments):
         for path in arguments[1:]:
             with open(path) as file:
                 lines = file.read().split("\n")
+            limit = limit_of(path)
+            lines = [part for line in wrapped(lines, limit) for part in broken(line, limit)]
             with open(path, "w") as file:
-                file.write("\n".join(part for line in lines for part in broken(line, limit_of(path))))
+                file.write("\n".join(lines))
         return
     total = 0
     for path in sorted(glob.glob("crates/*/src/*.rt") + glob.glob("crates/*/specs/**/*.antt", recursive=True)):

@@ -1,24 +1,29 @@
-"""Refuses each growth of memory in turn, in the tests of the library crates.
+"""Refuses growths of memory one after the other, in the tests of the library crates.
 
-    python3 checks/refused_growth.py [CRATE[=FIRST-LAST]]...
+    python3 checks/refused_growth.py [--all] [--jobs N] [CRATE[=FIRST-LAST]]...
 
-For each N from 1 on, `rt try CRATE --test --fail-alloc N` runs each test of the crate with its Nth allocation refused. Each public call
-that takes memory is called in such a test (docs/CALLS.md names them), so that each of its growths is refused in some run. A test may
-pass, end with the error of the call, or find the answer for want of memory where it wanted another one. A fault, a test that does not end,
-and any other answer is printed: there must be none. A crate is done with the first N at which every test passes, as no test takes
-memory so often, or with its last N; without a range it goes up to 40. With no words all crates with tests are taken, lowest first.
+For numbers N from 1 on, `rt try CRATE --test --fail-alloc N` runs each test of the crate, in a process of its own, with its Nth allocation
+refused. Each public call that takes memory is called in such a test (docs/CALLS.md names them). A test may pass, end with the error of the
+call, or find the answer for want of memory where it wanted another one. A fault, a test that does not end, and any other answer is
+printed: there must be none. A crate is done with the first N at which every test passes, as no test takes memory so often.
 
-Each run makes the tests anew, without proving anything: 10 to 60 seconds on four processors. So far it was run for `sub_base` at allocation
-2: four tests had the refusal, three ended with the error of the call and one with `WriteFailed` of a sink that could not grow.
+Each run makes the tests anew, without proving anything, in 30 to 90 processor seconds, so not every number is tried: the first eight, in
+which the calls of the lower crates take what they take, and then each that is a third greater than the one before. With --all each number
+is tried. CRATE=FIRST-LAST tries these numbers of a crate. N crates are tried at a time, four if left out; with no words all crates with
+tests are taken, lowest first.
 """
 
 import os
 import re
 import subprocess
 import sys
+from concurrent.futures import ThreadPoolExecutor
 
 HERE = os.path.dirname(os.path.dirname(os.path.abspath(__file__)))
-MOST = 40
+MOST = 4096
+
+# So many numbers are tried one by one.
+FIRST = 8
 
 # How a test that was handed the refusal may end: by the error itself, or by an answer that was compared with another one.
 WANT = re.compile(r"Memory|AllocFailed|AllocError|WriteFailed|WriteFault|\[109, 101, 109, 111, 114, 121, 10\]|memory")
@@ -45,7 +50,7 @@ def outcomes(crate, number):
     text = done.stdout.decode(errors="replace")
     parts = re.split(r"^test (?!result)", text, flags=re.MULTILINE)[1:]
     if not parts:
-        sys.exit(f"{crate}: {text}")
+        raise RuntimeError(f"{crate}: {text}")
     for part in parts:
         head, _, told = part.partition("\n")
         name, _, end = head.partition(" ... ")
@@ -61,10 +66,18 @@ def is_right(end, told):
     return "assertion" in told and "SIGABRT" in told and bool(WANT.search(told))
 
 
-def check(crate, first, last):
-    """How many runs of tests there were, and those that ended otherwise than they may."""
-    runs, bad = 0, []
-    for number in range(first, last + 1):
+def numbers(first, last, every):
+    """The numbers that are tried: each, or behind the first ones each that is a third greater than the one before."""
+    number = first
+    while number <= last:
+        yield number
+        number += 1 if every or number < FIRST else max(1, number // 3)
+
+
+def check(crate, tried):
+    """How many runs of tests there were, the last number, and the tests that ended otherwise than they may."""
+    runs, bad, number = 0, [], 0
+    for number in tried:
         all_pass = True
         for name, end, told in outcomes(crate, number):
             runs += 1
@@ -72,19 +85,28 @@ def check(crate, first, last):
             if not is_right(end, told):
                 bad.append(f"{crate} {name}, allocation {number}: {end} {told}")
         if all_pass:
-            return number, runs, bad
-    return last, runs, bad
+            break
+    return f"{crate}: up to allocation {number}, {runs} runs of tests, {len(bad)} wrong", bad
+
+
+def asked(words):
+    """The crates that are asked for, each with the numbers that are tried."""
+    every = "--all" in words
+    named = [word for place, word in enumerate(words) if not word.startswith("--") and words[place - 1 : place] != ["--jobs"]]
+    for word in named or list(crates()):
+        crate, _, span = word.partition("=")
+        first, _, last = span.partition("-")
+        yield crate, list(numbers(int(first or 1), int(last or first or MOST), every or bool(span)))
 
 
 def main(words):
+    jobs = int(words[words.index("--jobs") + 1]) if "--jobs" in words else 4
     total = 0
-    for word in words or list(crates()):
-        crate, _, span = word.partition("=")
-        first, _, last = span.partition("-")
-        number, runs, bad = check(crate, int(first or 1), int(last or first or MOST))
-        print(f"{crate}: up to allocation {number}, {runs} runs of tests, {len(bad)} wrong", flush=True)
-        print("".join(f"    {line}\n" for line in bad), end="", flush=True)
-        total += len(bad)
+    with ThreadPoolExecutor(max_workers=jobs) as workers:
+        for line, bad in workers.map(lambda pair: check(*pair), asked(words)):
+            print(line, flush=True)
+            print("".join(f"    {told}\n" for told in bad), end="", flush=True)
+            total += len(bad)
     return 1 if total else 0
 
 

@@ -1,12 +1,13 @@
 """Runs the whole program under valgrind over hostile input, and over files that cannot be read or written.
 
-    python3 checks/valgrind.py [--all]
+    python3 checks/valgrind.py [--all] [--jobs N]
 
 The program is that of the repository, or the one that the variable DVBSUB names. Each case is a command over files that are made here:
 scripts and fonts that end too early, streams that end too early or have another byte, streams that no encoder writes, inputs that are
 too long, folders in the place of files, and outputs on a full device. A case passes where valgrind finds no error and no lost memory,
 and the program ends with the code and the line that the rules of docs/FORMATS.md give. With --all each prefix of a script, a font and
-a stream is taken, and each byte of a stream is changed; without it every 23rd. It has not been run over the whole set yet.
+a stream is taken, and each byte of a stream is changed; without it every 23rd, so that there are 343 cases. N cases run at a time, four
+if left out.
 """
 
 import os
@@ -16,9 +17,14 @@ import tempfile
 from concurrent.futures import ThreadPoolExecutor
 
 HERE = os.path.dirname(os.path.dirname(os.path.abspath(__file__)))
-PROGRAM = os.environ.get("DVBSUB", os.path.join(HERE, "dvbsub"))
+
+# The program itself, and not the script that makes it: valgrind would look at the shell.
+PROGRAM = os.environ.get("DVBSUB", os.path.join(HERE, "crates", "dvbsub", "out", "dvbsub"))
 VALGRIND = ["valgrind", "--quiet", "--error-exitcode=99", "--leak-check=full", "--errors-for-leak-kinds=definite,possible"]
 FOUND = 99
+
+# The seconds in which a case has to end.
+SECONDS = 900
 
 SCRIPT = (
     "origin,0\ndisplay,4,2\nrefresh,5\nepoch,90000\nregion,0,0,0,4,2,8,0\n"
@@ -159,8 +165,12 @@ def run(folder, number, case):
                 file.write(content)
         names.append(path)
     command = [PROGRAM, *words, *names] + ([out or os.path.join(base, "out")] if inputs else []) + ticks
-    done = subprocess.run(VALGRIND + command, stdout=subprocess.PIPE, stderr=subprocess.PIPE, check=False)
-    subprocess.run(["rm", "-rf", base], check=False)
+    try:
+        done = subprocess.run(VALGRIND + command, stdout=subprocess.PIPE, stderr=subprocess.PIPE, timeout=SECONDS, check=False)
+    except subprocess.TimeoutExpired:
+        return f"{name}: no end in {SECONDS} seconds"
+    finally:
+        subprocess.run(["rm", "-rf", base], check=False)
     told = done.stdout.decode().strip()
     if done.returncode == FOUND:
         return f"{name}: valgrind: {done.stderr.decode()[:2000]}"
@@ -171,13 +181,19 @@ def run(folder, number, case):
     return None
 
 
+def make_program():
+    """Makes the program, where it is that of the repository."""
+    if not os.environ.get("DVBSUB"):
+        subprocess.run([os.path.join(HERE, "dvbsub")], stdout=subprocess.DEVNULL, stderr=subprocess.DEVNULL, check=False)
+
+
 def main(words):
     step = 1 if "--all" in words else 23
-    if not os.environ.get("DVBSUB"):
-        subprocess.run([PROGRAM], stdout=subprocess.DEVNULL, stderr=subprocess.DEVNULL, check=False)
+    jobs = int(words[words.index("--jobs") + 1]) if "--jobs" in words else 4
+    make_program()
     cases = [case for name, stream in hostile_streams(step) for case in stream_cases(name, stream)]
     cases += list(script_cases(step)) + list(sink_cases())
-    with tempfile.TemporaryDirectory() as folder, ThreadPoolExecutor(max_workers=2) as workers:
+    with tempfile.TemporaryDirectory() as folder, ThreadPoolExecutor(max_workers=jobs) as workers:
         results = list(workers.map(lambda pair: run(folder, *pair), enumerate(cases)))
     bad = [result for result in results if result]
     print("".join(f"    {result}\n" for result in bad), end="")
