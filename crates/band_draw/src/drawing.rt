@@ -1,4 +1,5 @@
-//! Drawing in bands: each worker has some rows of the plane for itself, and all read one scene, which nobody changes meanwhile.
+//! Drawing in bands: each worker has some rows of the plane for itself, and all read one scene,
+//! which nobody changes meanwhile.
 
 ghost use Rattle.std.specs.Prelude.{◌≡◌, ◌<◌, ◌≤◌, ◌*◌, ◌^◌, ◌/◌, length};
 ghost use Rattle.page_core.specs.Rows.{picture_in};
@@ -9,9 +10,10 @@ use std::thread;
 use std::thread::Threads;
 use sub_base::{BandGate, Colour};
 
-/// Makes the plane the picture of the scene, the colours of which stand row by row. It is drawn in `bands` bands, 1 to 64, at
-/// the same time: each has the height divided by `bands`, rounded up, rows, the last one perhaps fewer, and bands without rows
-/// are left out. Each band enters the gate once with its number, from 0, before it is drawn.
+/// Makes the plane the picture of the scene, the colours of which stand row by row. It is drawn in
+/// `bands` bands, 1 to 64, at the same time: each has the height divided by `bands`, rounded up,
+/// rows, the last one perhaps fewer, and bands without rows are left out. Each band enters the gate
+/// once with its number, from 0, before it is drawn.
 pub fn draw<R: Threads + Sync, G: BandGate + Sync>(
     rt: &R,
     scene: &Scene<'_>,
@@ -34,7 +36,8 @@ pub fn draw<R: Threads + Sync, G: BandGate + Sync>(
         plane,
         size,
         &|start: usize, part: &mut [Colour]|
-            requires { IsBand scene.now start (length part.now) × (0 < size) × (start < 2 ^ 32 * size) }
+            requires { IsBand scene.now start (length part.now) × (0 < size)
+                × (start < 2 ^ 32 * size) }
             ensures { IsPart scene.entry.now start (length part.entry.now) part.exit.now }
         {
             gate.enter(band_at(start, size));

@@ -1,7 +1,9 @@
 pub mod SettingLaws
 pub mod DrawingLaws
 pub mod LineLaws
-pub mod StateLaws
+pub mod PastLaws
+pub mod EncodedLaws
 pub mod StepLaws
 pub mod ValueLaws
 pub mod ReadLaws
+pub mod AnswerLaws

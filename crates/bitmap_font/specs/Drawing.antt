@@ -1,3 +1,4 @@
+-- How glyphs are drawn on a picture: each set pixel that lies in it has the ink.
 use Rattle.std.specs.Prelude.{◌≡◌, ℕ, ◌+◌, ◌*◌, ◌<◌, ℤ, pos, ◌+ℤ◌, ◌⊎◌, true, List, slice_index}
 use Rattle.bitmap_font.specs.Font.{GlyphValue, is_set}
 
@@ -5,7 +6,8 @@ use Rattle.bitmap_font.specs.Font.{GlyphValue, is_set}
 pub record PaintsWhere (P : ℕ → ℕ → Type 0) (width height ink : ℕ) (old new : List ℕ) : Type 0 where
   pub each : (column row : ℕ) → column < width → row < height →
       (P column row × (slice_index new (row * width + column) ≡ ink))
-      ⊎ ((P column row → ⊥) × (slice_index new (row * width + column) ≡ slice_index old (row * width + column)))
+      ⊎ ((P column row → ⊥)
+      × (slice_index new (row * width + column) ≡ slice_index old (row * width + column)))
 
 -- one of the first `most` pixels of a row of a glyph, which begins at the column `left` of the row y
 pub record IsInkOfRow (glyph : GlyphValue) (glyph_row : ℕ) (left : ℤ) (y most column row : ℕ) : Type 0 where

@@ -1,4 +1,6 @@
+-- What a font and its glyphs are.
 use Rattle.std.specs.Prelude.{◌≡◌, ◌==◌, ℕ, ◌+◌, ◌-◌, ◌*◌, ◌/◌, ◌%◌, ◌^◌, ◌<◌, ◌≤◌, ℤ, pos, neg_ℤ, ◌≤ℤ◌, Bool, List, length, Option, Some, find, slice_get, slice_index, option_and_then}
+use Rattle.bitmap_font.specs.declared.bounds.BoundingBox.{BoundingBox}
 
 -- a glyph: its character, how far it moves the pen, its sides in pixels, the offsets of its lower left corner from the
 -- pen on the base line, to the right and upwards, and its rows from the top, each in whole bytes, a bit a pixel, the
@@ -12,13 +14,26 @@ pub record GlyphValue : Type 0 where
   pub bottom : ℤ
   pub bytes : List ℕ
 
+-- the glyph with a box
+abbrev pub glyph_with : ℕ → ℕ → BoundingBox → List ℕ → GlyphValue
+glyph_with character advance shape bytes = record {
+  character = character;
+  advance = advance;
+  width = shape.width;
+  height = shape.height;
+  left = shape.left;
+  bottom = shape.bottom;
+  bytes = bytes;
+}
+
 -- the bytes of a row
 abbrev pub row_bytes : ℕ → ℕ
 row_bytes width = (width + 7) / 8
 
 -- whether the pixel in a column of a row is set
 abbrev pub is_set : GlyphValue → ℕ → ℕ → Bool
-is_set glyph column row = slice_index glyph.bytes (row * row_bytes glyph.width + column / 8) / 2 ^ (7 - column % 8) % 2 == 1
+is_set glyph column row =
+    slice_index glyph.bytes (row * row_bytes glyph.width + column / 8) / 2 ^ (7 - column % 8) % 2 == 1
 
 -- an offset of a font or of a glyph
 pub record IsOffset (offset : ℤ) : Type 0 where
@@ -41,6 +56,16 @@ pub record FontValue : Type 0 where
   pub left : ℤ
   pub bottom : ℤ
   pub glyphs : List GlyphValue
+
+-- the font with a box
+abbrev pub font_with : BoundingBox → List GlyphValue → FontValue
+font_with bounds glyphs = record {
+  width = bounds.width;
+  height = bounds.height;
+  left = bounds.left;
+  bottom = bounds.bottom;
+  glyphs = glyphs;
+}
 
 pub record IsFontValue (font : FontValue) : Type 0 where
   pub wide : (1 ≤ font.width) × (font.width ≤ 256)

@@ -1,10 +1,10 @@
 pub mod Font
 pub mod Setting
-pub mod Layout
 pub mod Drawing
 pub mod Words
 pub mod Values
+pub mod Past
+pub mod LineFaults
 pub mod Reading
-pub mod State
-pub mod Reader
 pub mod Refusal
+pub mod Private

@@ -1,3 +1,4 @@
+-- How a text is set: its lines, the pen, and which pixels are inked.
 use Rattle.std.specs.Prelude.{◌≡◌, ◌≢◌, ◌==◌, if◌then◌else◌, ℕ, ◌+◌, ◌*◌, ◌<◌, ◌≤◌, pos, ◌+ℤ◌, ◌-ℤ◌, ◌⊎◌, true, List, [], ◌∷◌, ◌++◌, length, reverse, sum_by, count_by, max, Option, Some, None, slice_index, slice_index_or, IsSome, ⊤}
 use Rattle.std.specs.Option.{option_map_or}
 use Rattle.sub_base.specs.declared.depth.Depth.{Depth}
@@ -75,11 +76,15 @@ pub record IsInkedBy (font : FontValue) (drawn : Drawn) (column row : ℕ) : Typ
   pub down : glyph_row < drawn.glyph.height
   pub set : is_set drawn.glyph glyph_column glyph_row ≡ true
   pub at_column : pos column ≡ (pos drawn.pen +ℤ drawn.glyph.left) +ℤ pos glyph_column
-  pub at_row : pos row ≡ ((pos (drawn.line * font.height) +ℤ (pos font.height +ℤ font.bottom)) -ℤ (pos drawn.glyph.height +ℤ drawn.glyph.bottom)) +ℤ pos glyph_row
+  pub at_row : pos row
+      ≡ ((pos (drawn.line * font.height) +ℤ (pos font.height +ℤ font.bottom))
+      -ℤ (pos drawn.glyph.height +ℤ drawn.glyph.bottom)) +ℤ pos glyph_row
 
 -- some glyph has ink in a column of a row
 abbrev pub IsInked : FontValue → List Drawn → ℕ → ℕ → Type 0
-IsInked font drawn column row = (k : ℕ) × (glyph : Drawn) × (k < length drawn) × (slice_index_or drawn k glyph ≡ glyph) × IsInkedBy font glyph column row
+IsInked font drawn column row =
+    (k : ℕ) × (glyph : Drawn) × (k < length drawn) × (slice_index_or drawn k glyph ≡ glyph)
+    × IsInkedBy font glyph column row
 
 -- the places of a picture where some glyph has ink have one code, and all others another
 abbrev pub IsDrawn : FontValue → List Drawn → ℕ → ℕ → Picture → Type 0
@@ -95,8 +100,10 @@ pub record HasSides (width height : ℕ) (depth : Depth) (picture : Picture) : T
 
 -- the picture of a text: as wide as its widest line, each line as high as the box, the set pixels of its glyphs in one
 -- code and all else in the other; what lies outside is left out
-pub record IsSetting (font : FontValue) (characters : List ℕ) (ink paper : ℕ) (depth : Depth) (picture : Picture) : Type 0 where
-  pub sides : HasSides (widest_line font (reverse characters)) ((line_after (reverse characters) + 1) * font.height) depth picture
+pub record IsSetting (font : FontValue) (characters : List ℕ) (ink paper : ℕ) (depth : Depth)
+    (picture : Picture) : Type 0 where
+  pub sides : HasSides (widest_line font (reverse characters)) ((line_after (reverse characters) + 1) * font.height)
+      depth picture
   pub drawn : IsDrawn font (drawn_glyphs font (reverse characters)) ink paper picture
 
 -- a text whose picture has room

@@ -1,10 +1,9 @@
+-- What the words of a line say; the first of them stands at place 0.
 use Rattle.std.specs.Prelude.{◌==◌, ◌&&◌, ◌||◌, if◌then◌else◌, ℕ, ◌+◌, ◌-◌, ◌*◌, ◌≤◌, ℤ, pos, negsuc, nat_abs, Bool, List, length, map, Option, Some, None, is_some, nat_lt, nat_le, slice_index, option_map, option_and_then, unwrap_or}
 use Rattle.std.specs.List.{list_all, range_with_len}
 use Rattle.bitmap_font.specs.declared.bounds.BoundingBox.{BoundingBox}
 use Rattle.bitmap_font.specs.Font.{row_bytes, IsOffset}
 use Rattle.bitmap_font.specs.Words.{number_within}
-
--- What the words of a line say; the first of them stands at place 0.
 
 -- a box: its sides, from the least to 256, and its offsets
 abbrev pub box_of : ℕ → List (List ℕ) → Option BoundingBox
@@ -56,7 +55,8 @@ is_row width line = (length line == 2 * row_bytes width) && list_all (λ byte. i
 -- the bytes that the first 2n digits of a line spell
 abbrev pub bytes_from : List ℕ → ℕ → List ℕ
 bytes_from line n =
-    map (λ k. unwrap_or (digit_of (slice_index line (2 * k))) 0 * 16 + unwrap_or (digit_of (slice_index line (2 * k + 1))) 0)
+    map (λ k. unwrap_or (digit_of (slice_index line (2 * k))) 0 * 16
+    + unwrap_or (digit_of (slice_index line (2 * k + 1))) 0)
     (range_with_len 0 n)
 
 abbrev pub bytes_of_row : ℕ → List ℕ → List ℕ

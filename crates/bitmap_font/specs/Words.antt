@@ -1,3 +1,4 @@
+-- The words of a line, what its first one means, and the numbers that words spell.
 use Rattle.std.specs.Prelude.{◌==◌, ◌&&◌, if◌then◌else◌, ℕ, ◌+◌, ◌-◌, ◌*◌, ℤ, pos, neg_ℤ, Bool, List, [], ◌∷◌, length, Option, Some, None, filter, fold, min, negsuc, nat_le, nat_lt, int_le, slice_get, slice_index_or, option_and_then, codes, bytes_eq}
 use Rattle.std.specs.List.{slice_split, list_all}
 use Rattle.bitmap_font.specs.declared.keyword.Keyword.{Keyword}
@@ -50,7 +51,8 @@ abbrev pub within : ℤ → ℤ → ℤ → Option ℤ
 within low high number = if int_le low number && int_le number high then Some number else None
 
 abbrev pub number_within : List (List ℕ) → ℕ → ℤ → ℤ → Option ℤ
-number_within line_words place low high = option_and_then (within low high) (option_and_then number_of (slice_get line_words place))
+number_within line_words place low high =
+    option_and_then (within low high) (option_and_then number_of (slice_get line_words place))
 
 -- a number, but no more than a bound past all that are allowed
 abbrev pub capped : ℤ → ℤ

@@ -3,7 +3,7 @@ ghost use Rattle.bitmap_font.specs.Drawing.{PaintsWhere, IsInkOfRow, IsInkOfGlyp
 
 use crate::glyph::Glyph;
 
-// The column or row of a picture, where it lies within the picture's side.
+/// The column or row of a picture, where it lies within the picture's side.
 fn place_within(side: u16, place: i32) -> Option<u16>
     ensures outside { IfNone result ((k : ℕ) → k < side → pos k ≢ place) }
     ensures inside { IfSome result (λ k. (k < side) × (pos k ≡ place)) }
@@ -16,13 +16,16 @@ fn place_within(side: u16, place: i32) -> Option<u16>
     }
 }
 
-// Draws a row of a glyph from the column `left` of the row `y` on; what lies outside the picture is left out.
+/// Draws a row of a glyph from the column `left` of the row `y` on; what lies outside the picture
+/// is left out.
 fn draw_row(codes: &mut [u8], width: u16, y: u16, glyph: &Glyph, glyph_row: u16, left: i32, ink: u8)
     requires within { y * width + width ≤ length codes.old }
     requires row { glyph_row < glyph.now.height }
     requires left_low { negsuc 65535 ≤ℤ left }
     requires left_high { left ≤ℤ pos 65535 }
-    ensures { (height : ℕ) → PaintsWhere (IsInkOfRow glyph.now glyph_row left y glyph.now.width) width height ink codes.old codes.new }
+    ensures { (height : ℕ)
+        → PaintsWhere (IsInkOfRow glyph.now glyph_row left y glyph.now.width) width height ink
+        codes.old codes.new }
 {
     for glyph_column in 0..glyph.width() {
         if glyph.is_set(glyph_column, glyph_row) {
@@ -33,8 +36,8 @@ fn draw_row(codes: &mut [u8], width: u16, y: u16, glyph: &Glyph, glyph_row: u16,
     }
 }
 
-/// Draws a glyph with its upper left corner at the column `left` of the row `top`; what lies outside the picture is
-/// left out.
+/// Draws a glyph with its upper left corner at the column `left` of the row `top`; what lies
+/// outside the picture is left out.
 pub(crate) fn draw_glyph(
     codes: &mut [u8],
     width: u16,
@@ -49,7 +52,8 @@ pub(crate) fn draw_glyph(
     requires left_high { left ≤ℤ pos 65535 }
     requires top_low { negsuc 65535 ≤ℤ top }
     requires top_high { top ≤ℤ pos 65535 }
-    ensures { PaintsWhere (IsInkOfGlyph glyph.now left top glyph.now.height) width height ink codes.old codes.new }
+    ensures { PaintsWhere (IsInkOfGlyph glyph.now left top glyph.now.height) width height ink
+        codes.old codes.new }
 {
     for glyph_row in 0..glyph.height() {
         if let Some(y) = place_within(height, top + i32::from(glyph_row)) {

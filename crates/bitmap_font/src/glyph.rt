@@ -1,70 +1,42 @@
 ghost use Rattle.std.specs.Prelude.{◌≡◌, ◌<◌, ◌*◌, length, pos, negsuc, ◌+ℤ◌, ◌≤ℤ◌};
-ghost use Rattle.bitmap_font.specs.Font.{IsGlyph, is_set, row_bytes};
+ghost use Rattle.bitmap_font.specs.Font.{IsGlyph, glyph_with, is_set, row_bytes};
 ghost use Rattle.bitmap_font.specs.Values.{IsBox};
 
 use crate::bounds::BoundingBox;
 use std::marker::Model;
 
-/// The glyph of a character: how far it moves the pen, its sides in pixels, the offsets of its lower left corner from
-/// the pen, and its rows from the top in whole bytes, a bit a pixel.
+/// The glyph of a character: how far it moves the pen, its sides in pixels, the offsets of its
+/// lower left corner from the pen, and its rows from the top in whole bytes, a bit a pixel.
 #[derive(Drop)]
 pub(crate) struct Glyph {
     character: char,
     advance: u8,
-    width: u16,
-    height: u16,
-    left: i16,
-    bottom: i16,
+    shape: BoundingBox,
     bytes: Vec<u8>,
 }
 
 impl Model for Glyph {
-    ghost use Rattle.bitmap_font.specs.Font.{GlyphValue, IsGlyph};
+    ghost use Rattle.bitmap_font.specs.Font.{GlyphValue, IsGlyph, glyph_with};
 
     ghost Value = { GlyphValue };
 
-    ghost view = { λ glyph. record {
-      character = glyph.character;
-      advance = glyph.advance;
-      width = glyph.width;
-      height = glyph.height;
-      left = glyph.left;
-      bottom = glyph.bottom;
-      bytes = glyph.bytes.items;
-    } };
+    ghost view = { λ glyph. glyph_with glyph.character glyph.advance glyph.shape
+        glyph.bytes.items };
 
-    ghost invariant = { λ glyph. IsGlyph (record {
-      character = glyph.character;
-      advance = glyph.advance;
-      width = glyph.width;
-      height = glyph.height;
-      left = glyph.left;
-      bottom = glyph.bottom;
-      bytes = glyph.bytes.items;
-    }) };
+    ghost invariant = { λ glyph. IsGlyph
+        (glyph_with glyph.character glyph.advance glyph.shape glyph.bytes.items) };
 }
 
 impl Glyph {
     pub(crate) fn new(character: char, advance: u8, shape: BoundingBox, bytes: Vec<u8>) -> Glyph
         requires shape { IsBox 0 shape }
         requires whole { length bytes.items ≡ shape.height * row_bytes shape.width }
-        ensures { result ≡ record {
-          character = character;
-          advance = advance;
-          width = shape.width;
-          height = shape.height;
-          left = shape.left;
-          bottom = shape.bottom;
-          bytes = bytes.items;
-        } }
+        ensures { result ≡ glyph_with character advance shape bytes.items }
     {
         Glyph {
             character,
             advance,
-            width: shape.width,
-            height: shape.height,
-            left: shape.left,
-            bottom: shape.bottom,
+            shape,
             bytes,
         }
     }
@@ -85,21 +57,21 @@ impl Glyph {
         ensures value { result ≡ self.now.width }
         ensures glyph { IsGlyph self.now }
     {
-        self.width
+        self.shape.width
     }
 
     pub(crate) fn height(&self) -> u16
         ensures value { result ≡ self.now.height }
         ensures glyph { IsGlyph self.now }
     {
-        self.height
+        self.shape.height
     }
 
     pub(crate) fn left(&self) -> i16
         ensures value { result ≡ self.now.left }
         ensures glyph { IsGlyph self.now }
     {
-        self.left
+        self.shape.left
     }
 
     /// How far the glyph's top lies above the base line.
@@ -108,7 +80,7 @@ impl Glyph {
         ensures low { negsuc 1023 ≤ℤ result }
         ensures high { result ≤ℤ pos 1023 }
     {
-        i32::from(self.height) + i32::from(self.bottom)
+        i32::from(self.shape.height) + i32::from(self.shape.bottom)
     }
 
     /// Whether the pixel in a column of a row is set.
@@ -117,7 +89,7 @@ impl Glyph {
         requires down { row < self.now.height }
         ensures { result ≡ is_set self.now column row }
     {
-        let row_bytes = (usize::from(self.width) + 7) / 8;
+        let row_bytes = (usize::from(self.shape.width) + 7) / 8;
         let byte = self.bytes[usize::from(row) * row_bytes + usize::from(column / 8)];
         // The first pixel of a byte is its highest bit.
         (byte >> (7 - column % 8)) % 2 == 1

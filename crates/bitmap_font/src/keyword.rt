@@ -1,6 +1,6 @@
 ghost use Rattle.std.specs.Prelude.{◌≡◌, slice_get, option_map};
 ghost use Rattle.bitmap_font.specs.Words.{keyword_of, keyword_of_word, words};
-ghost use Rattle.bitmap_font.specs.Reading.{is_known};
+ghost use Rattle.bitmap_font.specs.LineFaults.{is_known};
 
 use crate::words::Words;
 

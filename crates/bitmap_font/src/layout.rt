@@ -3,7 +3,8 @@ ghost use Rattle.bitmap_font.specs.Font.{IsOffset};
 
 use crate::glyph::Glyph;
 
-/// A glyph that is to be drawn: where the pen stands, in pixels, and the number of its line, from 0.
+/// A glyph that is to be drawn: where the pen stands, in pixels, and the number of its line, from
+/// 0.
 #[derive(Drop)]
 pub(crate) struct PlacedGlyph<'a> {
     pub(crate) glyph: &'a Glyph,
@@ -31,19 +32,22 @@ impl PlacedGlyph<'_> {
         self.pen as i32 + i32::from(self.glyph.left())
     }
 
-    /// The row of the glyph's top, which may lie outside the picture, with boxes of this height and lower offset.
+    /// The row of the glyph's top, which may lie outside the picture, with boxes of this height and
+    /// lower offset.
     pub(crate) fn top(&self, height: u16, bottom: i16) -> i32
         requires line { self.now.line * height ≤ 1080 }
         requires box_height { height ≤ 256 }
         requires box_bottom { IsOffset bottom }
-        ensures value { result ≡ (pos (self.now.line * height) +ℤ (pos height +ℤ bottom)) -ℤ (pos self.now.glyph.now.height +ℤ self.now.glyph.now.bottom) }
+        ensures value { result
+            ≡ (pos (self.now.line * height) +ℤ (pos height +ℤ bottom))
+            -ℤ (pos self.now.glyph.now.height +ℤ self.now.glyph.now.bottom) }
         ensures low { negsuc 65535 ≤ℤ result }
         ensures high { result ≤ℤ pos 65535 }
     {
         self.base_line(height, bottom) - self.glyph.ascent()
     }
 
-    // The row on which the line stands.
+    /// The row on which the line stands.
     fn base_line(&self, height: u16, bottom: i16) -> i32
         requires line { self.now.line * height ≤ 1080 }
         requires box_height { height ≤ 256 }

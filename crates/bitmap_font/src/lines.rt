@@ -4,8 +4,8 @@ ghost use Rattle.std.specs.Str.Lines.{lines, strip_carriage_return};
 
 use std::marker::Model;
 
-/// The lines of a text, without their ends, a line feed or a carriage return and a line feed: seen as the list of those
-/// that are left.
+/// The lines of a text, without their ends, a line feed or a carriage return and a line feed: seen
+/// as the list of those that are left.
 #[derive(Drop)]
 pub(crate) struct Lines<'a> {
     rest: &'a [u8],
@@ -47,7 +47,7 @@ impl<'a> Iterator for Lines<'a> {
     }
 }
 
-// The first line of a text, and what follows it.
+/// The first line of a text, and what follows it.
 fn first_line(text: &[u8]) -> (&[u8], &[u8])
     requires { 0 < length text.now }
     ensures { lines text.now ≡ result.0.now ∷ lines result.1.now }
@@ -60,7 +60,7 @@ fn first_line(text: &[u8]) -> (&[u8], &[u8])
     }
 }
 
-// How many bytes a text has before its first line feed.
+/// How many bytes a text has before its first line feed.
 fn line_len(text: &[u8]) -> usize
     ensures within { result ≤ length text.now }
     ensures before { (k : ℕ) → k < result → slice_index text.now k ≢ 10 }
@@ -74,6 +74,7 @@ fn line_len(text: &[u8]) -> usize
     text.len()
 }
 
+/// The line, without a carriage return at its end.
 fn without_carriage_return(line: &[u8]) -> &[u8]
     ensures { result.now ≡ strip_carriage_return line.now }
 {

@@ -1,11 +1,12 @@
 ghost use Rattle.std.specs.Prelude.{◌≡◌, ◌==◌, ◌++◌, ◌∷◌, [], true, false, find, None, Some, if◌then◌else◌, ◌<◌, ◌≤◌, option_map, OnOk, IsSome, IfOk, IfErr, IfSome, IfNone, IsOkUnless, option_to_list};
 ghost use Rattle.std.specs.Ordering.{nat_cmp};
 ghost use Rattle.std.specs.BTreeMap.{get};
-ghost use Rattle.bitmap_font.specs.Font.{Indexes, row_bytes};
+ghost use Rattle.bitmap_font.specs.Font.{Indexes, font_with, row_bytes};
 ghost use Rattle.bitmap_font.specs.declared.keyword.Keyword.TheVariants.{FontBoundingBox, StartProperties, StartChar, Encoding, Dwidth, Bbx, Bitmap, EndChar, EndFont};
-ghost use Rattle.bitmap_font.specs.Reader.{IsDraft, IsReader, draft_of, IsTaken, IsLineFault, place_fault, state_of};
-ghost use Rattle.bitmap_font.specs.Reading.{line_of};
-ghost use Rattle.bitmap_font.specs.State.{first_state, fault_by, step, ends_by, due, finished, row_fault_by, with_row, width_of};
+ghost use Rattle.bitmap_font.specs.Private.Reader.{IsDraft, IsReader, draft_of, IsTaken, IsLineFault, past_of};
+ghost use Rattle.bitmap_font.specs.Past.{line_of};
+ghost use Rattle.bitmap_font.specs.LineFaults.{ends_by, fault_by, is_row_due, place_fault, row_fault, width_of};
+ghost use Rattle.bitmap_font.specs.Private.Steps.{finished, first_past, step, with_row};
 ghost use Rattle.bitmap_font.specs.Values.{IsBox, is_row};
 
 use crate::bounds::BoundingBox;
@@ -25,7 +26,7 @@ pub(crate) struct Draft {
     advance: Option<u8>,
     shape: Option<BoundingBox>,
     bitmap: bool,
-    // The rows of the bitmap that are still to come.
+    /// The rows of the bitmap that are still to come.
     left: u16,
     bytes: Vec<u8>,
 }
@@ -47,7 +48,7 @@ impl Reader {
     /// After the first line.
     pub(crate) fn new(alloc: Global) -> Reader
         ensures reader { IsReader result }
-        ensures value { state_of result ≡ first_state }
+        ensures value { past_of result ≡ first_past }
     {
         Reader {
             properties: false,
@@ -63,10 +64,13 @@ impl Reader {
     pub(crate) fn take(&mut self, text: &[u8]) -> Result<bool, LineFault>
         requires { IsReader self.old }
         ensures reader { OnOk result (IsReader self.new) }
-        ensures right { OnOk result (fault_by (state_of self.old) (line_of text.now) ≡ None) }
-        ensures next { OnOk result (state_of self.new ≡ step (state_of self.old) (line_of text.now)) }
-        ensures end { IfOk result (λ ended. ended ≡ ends_by (state_of self.old) (line_of text.now)) }
-        ensures refused { IfErr result (IsLineFault (fault_by (state_of self.old) (line_of text.now))) }
+        ensures right { OnOk result (fault_by (past_of self.old) (line_of text.now) ≡ None) }
+        ensures next { OnOk result
+            (past_of self.new ≡ step (past_of self.old) (line_of text.now)) }
+        ensures end { IfOk result
+            (λ ended. ended ≡ ends_by (past_of self.old) (line_of text.now)) }
+        ensures refused { IfErr result
+            (IsLineFault (fault_by (past_of self.old) (line_of text.now))) }
     {
         let keyword = keyword_of(text);
         if self.properties {
@@ -81,9 +85,9 @@ impl Reader {
         Ok(matches!(keyword, Keyword::EndFont))
     }
 
-    // Whether the next line is a row of a bitmap.
+    /// Whether the next line is a row of a bitmap.
     fn is_row_due(&self) -> bool
-        ensures { result ≡ due (state_of self.now).draft }
+        ensures { result ≡ is_row_due (past_of self.now).glyph }
     {
         match &self.draft {
             None => false,
@@ -91,12 +95,13 @@ impl Reader {
         }
     }
 
-    // Takes a line where no row is due.
+    /// Takes a line where no row is due.
     fn take_in_place(&mut self, keyword: Keyword, text: &[u8]) -> Result<(), LineFault>
         requires reader { IsReader self.old }
-        requires whole { due (state_of self.old).draft ≡ false }
+        requires whole { is_row_due (past_of self.old).glyph ≡ false }
         ensures taken { IfOk result (λ _. IsTaken keyword text.now self.old self.new) }
-        ensures refused { IfErr result (IsLineFault (place_fault (state_of self.old) keyword text.now)) }
+        ensures refused { IfErr result
+            (IsLineFault (place_fault (past_of self.old) keyword text.now)) }
     {
         match keyword {
             Keyword::FontBoundingBox => self.give_bounds(text),
@@ -116,13 +121,8 @@ impl Reader {
     pub(crate) fn finish(self) -> Option<Font>
         requires { IsReader self }
         ensures none { IfNone result (self.bounds ≡ None) }
-        ensures some { IfSome result (λ font. IfSome self.bounds (λ bounds. font ≡ record {
-          width = bounds.width;
-          height = bounds.height;
-          left = bounds.left;
-          bottom = bounds.bottom;
-          glyphs = self.glyphs.items;
-        })) }
+        ensures some { IfSome result
+            (λ font. IfSome self.bounds (λ bounds. font ≡ font_with bounds self.glyphs.items)) }
     {
         let bounds = self.bounds?;
         Some(Font::new(bounds, self.glyphs, self.places))
@@ -131,7 +131,8 @@ impl Reader {
     fn give_bounds(&mut self, text: &[u8]) -> Result<(), LineFault>
         requires { IsReader self.old }
         ensures taken { IfOk result (λ _. IsTaken FontBoundingBox text.now self.old self.new) }
-        ensures refused { IfErr result (IsLineFault (place_fault (state_of self.old) FontBoundingBox text.now)) }
+        ensures refused { IfErr result
+            (IsLineFault (place_fault (past_of self.old) FontBoundingBox text.now)) }
     {
         if self.bounds.is_some() || self.started > 0 {
             return Err(LineFault::Wrong(FontKind::NotBdf));
@@ -146,7 +147,8 @@ impl Reader {
     fn begin_properties(&mut self, text: &[u8]) -> Result<(), LineFault>
         requires { IsReader self.old }
         ensures taken { IfOk result (λ _. IsTaken StartProperties text.now self.old self.new) }
-        ensures refused { IfErr result (IsLineFault (place_fault (state_of self.old) StartProperties text.now)) }
+        ensures refused { IfErr result
+            (IsLineFault (place_fault (past_of self.old) StartProperties text.now)) }
     {
         if self.draft.is_some() {
             return Err(LineFault::Wrong(FontKind::NotBdf));
@@ -158,7 +160,8 @@ impl Reader {
     fn begin_glyph(&mut self, text: &[u8]) -> Result<(), LineFault>
         requires { IsReader self.old }
         ensures taken { IfOk result (λ _. IsTaken StartChar text.now self.old self.new) }
-        ensures refused { IfErr result (IsLineFault (place_fault (state_of self.old) StartChar text.now)) }
+        ensures refused { IfErr result
+            (IsLineFault (place_fault (past_of self.old) StartChar text.now)) }
     {
         if self.draft.is_some() || self.bounds.is_none() {
             return Err(LineFault::Wrong(FontKind::NotBdf));
@@ -181,7 +184,8 @@ impl Reader {
     fn give_encoding(&mut self, text: &[u8]) -> Result<(), LineFault>
         requires { IsReader self.old }
         ensures taken { IfOk result (λ _. IsTaken Encoding text.now self.old self.new) }
-        ensures refused { IfErr result (IsLineFault (place_fault (state_of self.old) Encoding text.now)) }
+        ensures refused { IfErr result
+            (IsLineFault (place_fault (past_of self.old) Encoding text.now)) }
     {
         let Some(draft) = self.draft.take() else {
             return Err(LineFault::Wrong(FontKind::NotBdf));
@@ -207,7 +211,8 @@ impl Reader {
     fn give_advance(&mut self, text: &[u8]) -> Result<(), LineFault>
         requires { IsReader self.old }
         ensures taken { IfOk result (λ _. IsTaken Dwidth text.now self.old self.new) }
-        ensures refused { IfErr result (IsLineFault (place_fault (state_of self.old) Dwidth text.now)) }
+        ensures refused { IfErr result
+            (IsLineFault (place_fault (past_of self.old) Dwidth text.now)) }
     {
         let Some(draft) = self.draft.take() else {
             return Err(LineFault::Wrong(FontKind::NotBdf));
@@ -228,7 +233,8 @@ impl Reader {
     fn give_shape(&mut self, text: &[u8]) -> Result<(), LineFault>
         requires { IsReader self.old }
         ensures taken { IfOk result (λ _. IsTaken Bbx text.now self.old self.new) }
-        ensures refused { IfErr result (IsLineFault (place_fault (state_of self.old) Bbx text.now)) }
+        ensures refused { IfErr result
+            (IsLineFault (place_fault (past_of self.old) Bbx text.now)) }
     {
         let Some(draft) = self.draft.take() else {
             return Err(LineFault::Wrong(FontKind::NotBdf));
@@ -249,7 +255,8 @@ impl Reader {
     fn begin_bitmap(&mut self, text: &[u8]) -> Result<(), LineFault>
         requires { IsReader self.old }
         ensures taken { IfOk result (λ _. IsTaken Bitmap text.now self.old self.new) }
-        ensures refused { IfErr result (IsLineFault (place_fault (state_of self.old) Bitmap text.now)) }
+        ensures refused { IfErr result
+            (IsLineFault (place_fault (past_of self.old) Bitmap text.now)) }
     {
         let Some(draft) = self.draft.take() else {
             return Err(LineFault::Wrong(FontKind::NotBdf));
@@ -270,9 +277,10 @@ impl Reader {
 
     fn end_glyph(&mut self, text: &[u8]) -> Result<(), LineFault>
         requires reader { IsReader self.old }
-        requires whole { due (state_of self.old).draft ≡ false }
+        requires whole { is_row_due (past_of self.old).glyph ≡ false }
         ensures taken { IfOk result (λ _. IsTaken EndChar text.now self.old self.new) }
-        ensures refused { IfErr result (IsLineFault (place_fault (state_of self.old) EndChar text.now)) }
+        ensures refused { IfErr result
+            (IsLineFault (place_fault (past_of self.old) EndChar text.now)) }
     {
         let Some(draft) = self.draft.take() else {
             return Err(LineFault::Wrong(FontKind::NotBdf));
@@ -291,7 +299,8 @@ impl Reader {
         requires { IsReader self.now }
         ensures taken { OnOk result (IsTaken EndFont text.now self.now self.now) }
         ensures bounds { OnOk result (IsSome self.now.bounds) }
-        ensures refused { IfErr result (IsLineFault (place_fault (state_of self.now) EndFont text.now)) }
+        ensures refused { IfErr result
+            (IsLineFault (place_fault (past_of self.now) EndFont text.now)) }
     {
         // Only the clauses read it: they speak of a line's text for each keyword alike.
         let _ = text;
@@ -301,14 +310,24 @@ impl Reader {
         Ok(())
     }
 
-    // Takes a row of the bitmap of the glyph in hand.
+    /// Takes a row of the bitmap of the glyph in hand.
     fn add_row(&mut self, keyword: Keyword, text: &[u8]) -> Result<(), LineFault>
         requires reader { IsReader self.old }
-        requires due { due (state_of self.old).draft ≡ true }
+        requires due { is_row_due (past_of self.old).glyph ≡ true }
         ensures reader { OnOk result (IsReader self.new) }
-        ensures right { OnOk result (row_fault_by (state_of self.old).draft (record { keyword = keyword; text = text.now }) ≡ None) }
-        ensures next { OnOk result (state_of self.new ≡ record (state_of self.old) { draft = option_map (with_row text.now) (state_of self.old).draft }) }
-        ensures refused { IfErr result (IsLineFault (row_fault_by (state_of self.old).draft (record { keyword = keyword; text = text.now }))) }
+        ensures right { OnOk result
+            (row_fault (past_of self.old).glyph (record { keyword = keyword; text = text.now })
+            ≡ None) }
+        ensures next { OnOk result
+            (past_of self.new
+            ≡ record (past_of self.old) {
+              glyph = option_map (with_row text.now)
+                  (past_of self.old).glyph;
+            }) }
+        ensures refused { IfErr result
+            (IsLineFault
+            (row_fault (past_of self.old).glyph
+            (record { keyword = keyword; text = text.now }))) }
     {
         let Some(draft) = self.draft.take() else {
             return Err(LineFault::Wrong(FontKind::NotBdf));
@@ -322,7 +341,7 @@ impl Reader {
 }
 
 impl Draft {
-    // The bytes of a row of the bitmap.
+    /// The bytes of a row of the bitmap.
     fn row_bytes(&self) -> usize
         requires { IfSome self.now.shape (IsBox 0) }
         ensures value { result ≡ row_bytes (width_of (draft_of self.now)) }
@@ -334,15 +353,18 @@ impl Draft {
         }
     }
 
-    // The glyph with one more row of its bitmap.
+    /// The glyph with one more row of its bitmap.
     fn with_row(self, text: &[u8]) -> Result<Draft, LineFault>
         requires draft { IsDraft self }
         requires due { 0 < self.left }
         ensures draft { IfOk result IsDraft }
         ensures right { OnOk result (is_row (width_of (draft_of self)) text.now ≡ true) }
-        ensures next { IfOk result (λ draft. draft_of draft ≡ with_row text.now (draft_of self)) }
+        ensures next { IfOk result
+            (λ draft. draft_of draft ≡ with_row text.now (draft_of self)) }
         ensures encoding { IfOk result (λ draft. draft.encoding ≡ self.encoding) }
-        ensures refused { IfErr result (IsLineFault (if is_row (width_of (draft_of self)) text.now then None else Some FontKind.BadRow)) }
+        ensures refused { IfErr result
+            (IsLineFault
+            (if is_row (width_of (draft_of self)) text.now then None else Some FontKind.BadRow)) }
     {
         if !values::is_row(text, self.row_bytes()) {
             return Err(LineFault::Wrong(FontKind::BadRow));
@@ -360,7 +382,7 @@ impl Draft {
     }
 }
 
-// The glyph of whole lines, where it has a character.
+/// The glyph of whole lines, where it has a character.
 fn glyph_of(draft: Draft) -> Option<Glyph>
     requires draft { IsDraft draft }
     requires bitmap { draft.bitmap ≡ true }
@@ -374,7 +396,7 @@ fn glyph_of(draft: Draft) -> Option<Glyph>
     Some(Glyph::new(character, advance, shape, draft.bytes))
 }
 
-// Appends a glyph, and notes its place.
+/// Appends a glyph, and notes its place.
 fn keep(
     glyphs: &mut Vec<Glyph>,
     places: &mut BTreeMap<char, usize>,

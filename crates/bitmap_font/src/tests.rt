@@ -4,8 +4,18 @@ use std::process::Abort;
 use std::test::Fail;
 use sub_base::Depth;
 
-const SMALL: &[u8] =
-    b"STARTFONT 2.1\nFONTBOUNDINGBOX 3 4 0 -1\nSTARTCHAR A\nENCODING 65\nDWIDTH 3 0\nBBX 2 3 0 0\nBITMAP\n40\nC0\n40\nENDCHAR\nENDFONT\n";
+const SMALL: &[u8] = b"STARTFONT 2.1\n\
+      FONTBOUNDINGBOX 3 4 0 -1\n\
+      STARTCHAR A\n\
+      ENCODING 65\n\
+      DWIDTH 3 0\n\
+      BBX 2 3 0 0\n\
+      BITMAP\n\
+      40\n\
+      C0\n\
+      40\n\
+      ENDCHAR\n\
+      ENDFONT\n";
 
 fn fault(alloc: Global, bytes: &[u8]) -> Option<FontFault> {
     Font::read(alloc, bytes).err()
@@ -109,8 +119,13 @@ fn refuses_fonts_at_their_first_wrong_line(rt: HostRuntime) -> Result<(), Fail> 
         4,
         FontKind::NotBdf,
     );
-    let head =
-        b"STARTFONT\nFONTBOUNDINGBOX 9 9 0 0\nSTARTCHAR A\nENCODING 65\nDWIDTH 9 x\nBBX 9 1 0 0\nBITMAP\n";
+    let head = b"STARTFONT\n\
+          FONTBOUNDINGBOX 9 9 0 0\n\
+          STARTCHAR A\n\
+          ENCODING 65\n\
+          DWIDTH 9 x\n\
+          BBX 9 1 0 0\n\
+          BITMAP\n";
     for (row, kind) in [
         (b"ff8".as_slice(), FontKind::BadRow),
         (b"ff80 ".as_slice(), FontKind::BadRow),

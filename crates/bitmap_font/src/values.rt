@@ -7,7 +7,7 @@ use crate::bounds::BoundingBox;
 use crate::keyword::word_at;
 use std::alloc::AllocError;
 
-// More than any number that a line may have.
+/// More than any number that a line may have.
 const TOO_MUCH: u32 = 2_000_000;
 
 /// What the words of a line say of a box: its sides, from the least to 256, and its offsets.
@@ -51,7 +51,7 @@ pub(crate) fn encoding_of(line: &[u8]) -> Option<Option<char>>
     }
 }
 
-// The number of the word at a place, where it lies between two bounds.
+/// The number of the word at a place, where it lies between two bounds.
 fn number_at(line: &[u8], place: usize, low: i32, high: i32) -> Option<i32>
     requires low { negsuc 1999998 ≤ℤ low }
     requires high { high ≤ℤ pos 1999999 }
@@ -67,7 +67,7 @@ fn number_at(line: &[u8], place: usize, low: i32, high: i32) -> Option<i32>
     }
 }
 
-// The number that a word spells, but no more than `TOO_MUCH` and no less than its opposite.
+/// The number that a word spells, but no more than `TOO_MUCH` and no less than its opposite.
 fn number_of(word: &[u8]) -> Option<i32>
     ensures { result ≡ option_map capped (number_of word.now) }
 {
@@ -83,10 +83,12 @@ fn number_of(word: &[u8]) -> Option<i32>
     }
 }
 
-// The number that digits spell, but no more than `TOO_MUCH`.
+/// The number that digits spell, but no more than `TOO_MUCH`.
 fn magnitude_of(digits: &[u8]) -> Option<u32>
     ensures none { IfNone result (are_digits digits.now ≡ false) }
-    ensures some { IfSome result (λ number. (are_digits digits.now ≡ true) × (number ≡ min (value_of digits.now) 2000000)) }
+    ensures some { IfSome result
+        (λ number. (are_digits digits.now ≡ true)
+        × (number ≡ min (value_of digits.now) 2000000)) }
 {
     if digits.is_empty() {
         return None;
@@ -105,13 +107,15 @@ fn magnitude_of(digits: &[u8]) -> Option<u32>
 /// Whether a line is a row of a bitmap: two hexadecimal digits for each byte.
 pub(crate) fn is_row(line: &[u8], row_bytes: usize) -> bool
     requires { row_bytes ≤ 32 }
-    ensures value { result ≡ ((length line.now == 2 * row_bytes) && list_all (λ byte. is_some (digit_of byte)) line.now) }
+    ensures value { result
+        ≡ ((length line.now == 2 * row_bytes)
+        && list_all (λ byte. is_some (digit_of byte)) line.now) }
     ensures digits { result ≡ true → length line.now ≡ 2 * row_bytes }
 {
     line.len() == 2 * row_bytes && are_hexadecimal(line)
 }
 
-// Whether all bytes are hexadecimal digits.
+/// Whether all bytes are hexadecimal digits.
 fn are_hexadecimal(line: &[u8]) -> bool
     ensures { result ≡ list_all (λ byte. is_some (digit_of byte)) line.now }
 {
@@ -120,7 +124,8 @@ fn are_hexadecimal(line: &[u8]) -> bool
 
 /// Appends the bytes of a row.
 pub(crate) fn push_row(bytes: &mut Vec<u8>, line: &[u8]) -> Result<(), AllocError>
-    ensures { IfOk result (λ _. bytes.new.items ≡ bytes.old.items ++ bytes_from line.now (length line.now / 2)) }
+    ensures { IfOk result
+        (λ _. bytes.new.items ≡ bytes.old.items ++ bytes_from line.now (length line.now / 2)) }
 {
     for place in 0..line.len() / 2 {
         let high = digit_of(line[2 * place]).unwrap_or(0);
@@ -130,7 +135,7 @@ pub(crate) fn push_row(bytes: &mut Vec<u8>, line: &[u8]) -> Result<(), AllocErro
     Ok(())
 }
 
-// The value of a hexadecimal digit.
+/// The value of a hexadecimal digit.
 fn digit_of(byte: u8) -> Option<u8>
     ensures value { result ≡ digit_of byte }
     ensures small { IfSome result (λ digit. digit < 16) }

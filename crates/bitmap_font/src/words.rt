@@ -42,9 +42,10 @@ impl<'a> Iterator for Words<'a> {
     }
 }
 
-// The first word of a line, and what follows it.
+/// The first word of a line, and what follows it.
 fn first_word(line: &[u8]) -> Option<(&[u8], &[u8])>
-    ensures { MatchOption result (words line.now ≡ []) (λ parts. words line.now ≡ parts.0.now ∷ words parts.1.now) }
+    ensures { MatchOption result (words line.now ≡ [])
+        (λ parts. words line.now ≡ parts.0.now ∷ words parts.1.now) }
 {
     let (_, line) = line.split_at(leading_spaces(line));
     if line.is_empty() {
@@ -54,7 +55,7 @@ fn first_word(line: &[u8]) -> Option<(&[u8], &[u8])>
     }
 }
 
-// How many spaces a line begins with.
+/// How many spaces a line begins with.
 fn leading_spaces(line: &[u8]) -> usize
     ensures within { result ≤ length line.now }
     ensures before { (k : ℕ) → k < result → slice_index line.now k ≡ 32 }
@@ -68,7 +69,7 @@ fn leading_spaces(line: &[u8]) -> usize
     line.len()
 }
 
-// How many bytes a line has before its first space.
+/// How many bytes a line has before its first space.
 fn word_len(line: &[u8]) -> usize
     ensures within { result ≤ length line.now }
     ensures before { (k : ℕ) → k < result → slice_index line.now k ≢ 32 }

@@ -5,6 +5,7 @@ use Rattle.buffer_model.specs.declared.breach.Breach.{Breach}
 use Rattle.buffer_model.specs.declared.breach.Breach.TheVariants.{Coded, Late}
 use Rattle.sub_base.specs.declared.pace.Pace.{Pace}
 use Rattle.sub_base.specs.Pace.{tick_of, done_tick, left_by}
+use Rattle.std.specs.Option.{option_or}
 
 -- what happens at a receiver: a packet arrives in a slot with that many bytes, the bytes since the last set or drop are
 -- a whole set, or they are dropped
@@ -56,11 +57,6 @@ left pace tick (Dropped ∷ past) = unassigned past + left pace tick past
 abbrev pub level_at : Pace → ℕ → ℕ → List Call → ℕ
 level_at pace slot bytes past = (arrived past + bytes) - left pace (tick_of pace slot) past
 
--- what was found before, and else this
-abbrev pub first_of : {X : Type 0} → Option X → Option X → Option X
-first_of (Some x) later = Some x
-first_of None later = later
-
 -- the level, where it is over the coded data buffer
 abbrev pub over : ℕ → ℕ → Option ℕ
 over coded level = if nat_lt coded level then Some level else None
@@ -68,7 +64,8 @@ over coded level = if nat_lt coded level then Some level else None
 -- the first of all levels that is over the coded data buffer
 abbrev pub breaching : Pace → List Call → Option ℕ
 breaching pace [] = None
-breaching pace (Arrived slot bytes ∷ past) = first_of (breaching pace past) (over pace.coded (level_at pace slot bytes past))
+breaching pace (Arrived slot bytes ∷ past) =
+    option_or (breaching pace past) (over pace.coded (level_at pace slot bytes past))
 breaching pace (SetWhole load ∷ past) = breaching pace past
 breaching pace (Dropped ∷ past) = breaching pace past
 
@@ -84,7 +81,8 @@ raised None peak level = max peak level
 -- the greatest level that is measured; after a breach it is the breaching level, since all before are within the buffer
 abbrev pub greatest : Pace → List Call → ℕ
 greatest pace [] = 0
-greatest pace (Arrived slot bytes ∷ past) = raised (breaching pace past) (greatest pace past) (level_at pace slot bytes past)
+greatest pace (Arrived slot bytes ∷ past) =
+    raised (breaching pace past) (greatest pace past) (level_at pace slot bytes past)
 greatest pace (SetWhole load ∷ past) = greatest pace past
 greatest pace (Dropped ∷ past) = greatest pace past
 
@@ -100,6 +98,9 @@ late_breach done shown = if nat_lt shown done then Some (Late done shown) else N
 -- the first breach, in the order of what happened
 abbrev pub first_breach_of : Pace → List Call → Option Breach
 first_breach_of pace [] = None
-first_breach_of pace (Arrived slot bytes ∷ past) = first_of (first_breach_of pace past) (coded_breach pace.coded slot (breaching pace past) (level_at pace slot bytes past))
-first_breach_of pace (SetWhole load ∷ past) = first_of (first_breach_of pace past) (late_breach (done_of pace load past) load.pts)
+first_breach_of pace (Arrived slot bytes ∷ past) =
+    option_or (first_breach_of pace past)
+    (coded_breach pace.coded slot (breaching pace past) (level_at pace slot bytes past))
+first_breach_of pace (SetWhole load ∷ past) =
+    option_or (first_breach_of pace past) (late_breach (done_of pace load past) load.pts)
 first_breach_of pace (Dropped ∷ past) = first_breach_of pace past

@@ -36,7 +36,8 @@ pub record IsMeter (meter : Meter) : Type 0 where
   pub shown : meter.shown < 2 ^ 62
   pub some : All (λ set. 1 ≤ set.bytes) meter.waiting
   pub bytes : sum_by (λ set. set.bytes) meter.waiting ≤ MOST_WAITING
-  pub level : (meter.full ≡ None → meter.pending + held (tick_of meter.pace meter.last) meter.waiting ≤ meter.pace.coded)
+  pub level : (meter.full ≡ None
+      → meter.pending + held (tick_of meter.pace meter.last) meter.waiting ≤ meter.pace.coded)
 
 -- the meter is that of this past
 pub record Stands (past : List Call) (meter : Meter) : Type 0 where

@@ -31,14 +31,36 @@ impl Model for Levels {
 
     ghost Value = { Meter };
 
-    ghost view = { λ l. record { pace = l.pace; waiting = l.waiting.items; pending = l.pending; last = l.last; next = l.next; shown = l.shown; peak = l.peak; full = l.full; breach = l.breach } };
+    ghost view = { λ l. record {
+      pace = l.pace;
+      waiting = l.waiting.items;
+      pending = l.pending;
+      last = l.last;
+      next = l.next;
+      shown = l.shown;
+      peak = l.peak;
+      full = l.full;
+      breach = l.breach;
+    } };
 
-    ghost invariant = { λ l. IsMeter (record { pace = l.pace; waiting = l.waiting.items; pending = l.pending; last = l.last; next = l.next; shown = l.shown; peak = l.peak; full = l.full; breach = l.breach }) × (MOST_WAITING ≤ vec_capacity l.waiting) };
+    ghost invariant = { λ l. IsMeter
+        (record {
+          pace = l.pace;
+          waiting = l.waiting.items;
+          pending = l.pending;
+          last = l.last;
+          next = l.next;
+          shown = l.shown;
+          peak = l.peak;
+          full = l.full;
+          breach = l.breach;
+        })
+        × (MOST_WAITING ≤ vec_capacity l.waiting) };
 }
 
 impl Levels {
-    /// An empty buffer of a profile with a step, whose slot 0 is at the origin, a tick of 90 kHz. All memory is taken
-    /// here: 4 MiB.
+    /// An empty buffer of a profile with a step, whose slot 0 is at the origin, a tick of 90 kHz.
+    /// All memory is taken here: 4 MiB.
     pub fn make(alloc: Global, profile: &Profile, origin: u64) -> Result<Levels, NoMemory>
         requires profile { IsSending profile.now }
         requires origin { origin < 2 ^ 62 }
@@ -59,14 +81,16 @@ impl Levels {
         })
     }
 
-    /// A packet arrives in that slot, with that many bytes. Answers the level there, or after a breach of the coded
-    /// data buffer the breaching level.
+    /// A packet arrives in that slot, with that many bytes. Answers the level there, or after a
+    /// breach of the coded data buffer the breaching level.
     pub fn arrive(&mut self, slot: u64, bytes: u64) -> u64
         requires after { self.old.next ≤ slot }
         requires slot { slot < 2 ^ 50 }
         requires bytes { bytes ≤ 65536 }
-        ensures stands { (past : List Call) → Stands past self.old → Stands (Arrived slot bytes ∷ past) self.new }
-        ensures level { (past : List Call) → Stands past self.old → result ≡ measured self.old.pace slot bytes past }
+        ensures stands { (past : List Call) → Stands past self.old
+            → Stands (Arrived slot bytes ∷ past) self.new }
+        ensures level { (past : List Call) → Stands past self.old
+            → result ≡ measured self.old.pace slot bytes past }
         ensures next { self.new.next ≡ slot + 1 }
         ensures pace { self.new.pace ≡ self.old.pace }
     {
@@ -88,14 +112,16 @@ impl Levels {
         }
     }
 
-    /// The bytes that arrived since the last set or drop are this set. Answers the tick at which it is done; then they
-    /// leave.
+    /// The bytes that arrived since the last set or drop are this set. Answers the tick at which it
+    /// is done; then they leave.
     pub fn set_whole(&mut self, load: SetLoad) -> u64
         requires pts { load.pts < 2 ^ 62 }
         requires size { load.size < 2 ^ 62 }
         requires painted { load.painted < 2 ^ 62 }
-        ensures stands { (past : List Call) → Stands past self.old → Stands (SetWhole load ∷ past) self.new }
-        ensures done { (past : List Call) → Stands past self.old → result ≡ done_of self.old.pace load past }
+        ensures stands { (past : List Call) → Stands past self.old
+            → Stands (SetWhole load ∷ past) self.new }
+        ensures done { (past : List Call) → Stands past self.old
+            → result ≡ done_of self.old.pace load past }
         ensures next { self.new.next ≡ self.old.next }
         ensures pace { self.new.pace ≡ self.old.pace }
     {
@@ -118,7 +144,8 @@ impl Levels {
 
     /// The bytes that arrived since the last set or drop leave now.
     pub fn drop_unit(&mut self)
-        ensures stands { (past : List Call) → Stands past self.old → Stands (Dropped ∷ past) self.new }
+        ensures stands { (past : List Call) → Stands past self.old
+            → Stands (Dropped ∷ past) self.new }
         ensures next { self.new.next ≡ self.old.next }
         ensures pace { self.new.pace ≡ self.old.pace }
     {
@@ -135,14 +162,16 @@ impl Levels {
 
     /// The greatest level. After a breach of the coded data buffer it is the breaching level.
     pub fn peak(&self) -> u64
-        ensures { (past : List Call) → Stands past self.now → result ≡ greatest self.now.pace past }
+        ensures { (past : List Call) → Stands past self.now
+            → result ≡ greatest self.now.pace past }
     {
         self.peak
     }
 
     /// The first breach, in the order of the calls.
     pub fn first_breach(&self) -> Option<Breach>
-        ensures { (past : List Call) → Stands past self.now → result ≡ first_breach_of self.now.pace past }
+        ensures { (past : List Call) → Stands past self.now
+            → result ≡ first_breach_of self.now.pace past }
     {
         self.breach
     }

@@ -1,5 +1,5 @@
-//! The levels of a receiver's coded data buffer, and the ticks at which its display sets are done, for any packets
-//! that arrive.
+//! The levels of a receiver's coded data buffer, and the ticks at which its display sets are done,
+//! for any packets that arrive.
 #![tactic(auto)]
 
 // What a call answers, and the sets that wait.

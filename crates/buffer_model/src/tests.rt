@@ -2,7 +2,8 @@ use crate::{Breach, Levels};
 use std::test::Fail;
 use sub_base::{Profile, ProfileName, SetLoad};
 
-/// A set of 20,000 bytes leaves where it is done, at the tick of slot 29; a packet that does not fit is a breach.
+/// A set of 20,000 bytes leaves where it is done, at the tick of slot 29; a packet that does not
+/// fit is a breach.
 #[test]
 fn set_leaves_when_done(rt: HostRuntime) -> Result<(), Fail> {
     let mut levels = Levels::make(rt.alloc(), &Profile::of(ProfileName::Sd), 0)?;

@@ -2,8 +2,9 @@ ghost use Rattle.std.specs.Prelude.{◌≡◌, ℕ, ◌+◌, ◌≤◌, All, sum
 ghost use Rattle.buffer_model.specs.declared.waiting.TheConstants.{MOST_WAITING};
 ghost use Rattle.buffer_model.specs.Meters.{held as held_bytes, held_of};
 
-/// More sets than can wait in the coded data buffer of any profile with a step: each has at least one of its bytes, and
-/// the largest has 262,144. A meter keeps room for so many, 16 bytes for each.
+/// More sets than can wait in the coded data buffer of any profile with a step: each has at least
+/// one of its bytes, and the largest has 262,144. A meter keeps room for so many, 16 bytes for
+/// each.
 pub const MOST_WAITING: usize = 262_144;
 
 /// A set that is whole and may wait in the buffer until it is done.
@@ -37,7 +38,8 @@ fn forget_done(waiting: &mut Vec<Waiting>, tick: u64)
     waiting.retain(|set| set.done > tick);
 }
 
-/// At that tick, with the sets that are done by it forgotten, a set of that many bytes waits until it is done.
+/// At that tick, with the sets that are done by it forgotten, a set of that many bytes waits until
+/// it is done.
 pub fn hold(waiting: &mut Vec<Waiting>, tick: u64, done: u64, bytes: u64)
     requires room { MOST_WAITING ≤ vec_capacity waiting.old }
     requires some { All (λ set. 1 ≤ set.bytes) waiting.old.items }
@@ -45,7 +47,10 @@ pub fn hold(waiting: &mut Vec<Waiting>, tick: u64, done: u64, bytes: u64)
     ensures room { MOST_WAITING ≤ vec_capacity waiting.new }
     ensures some { All (λ set. 1 ≤ set.bytes) waiting.new.items }
     ensures bytes { sum_by (λ set. set.bytes) waiting.new.items ≤ MOST_WAITING }
-    ensures held { (later : ℕ) → tick ≤ later → held_bytes later waiting.new.items ≡ held_bytes later waiting.old.items + held_of later (record { done = done; bytes = bytes }) }
+    ensures held { (later : ℕ) → tick ≤ later
+        → held_bytes later waiting.new.items
+        ≡ held_bytes later waiting.old.items
+        + held_of later (record { done = done; bytes = bytes }) }
 {
     forget_done(waiting, tick);
     // Each set that waits has a byte in the buffer, so that the room for them is enough.

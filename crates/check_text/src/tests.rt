@@ -32,8 +32,12 @@ const FILLED: [u8; 47] = [
 
 /// The second packet is lost. The sets have 64, 31, 23 and again 64 bytes, and a slot 705 ticks;
 /// the third set has no page, and the last one an earlier time than the others.
-const ALL_ENDS: &str =
-    "set 90000 shown 64 65\nset 180000 waiting 31 90031\nset 270000 broken 23 180023\nset 45000 notlater 64 2115\npeak 118\nbreach none\n";
+const ALL_ENDS: &str = "set 90000 shown 64 65\n\
+     set 180000 waiting 31 90031\n\
+     set 270000 broken 23 180023\n\
+     set 45000 notlater 64 2115\n\
+     peak 118\n\
+     breach none\n";
 
 /// The first set is whole at slot 0, by the unit of another time at slot 2.
 const BEFORE: &str = "set 90000 shown 25 25\nset 180000 shown 64 90065\npeak 64\nbreach none\n";

@@ -1,5 +1,5 @@
-//! The words of a command line: which of them are plain words, what `clap` finds in them, and the table of commands that
-//! a wrong command line is answered with.
+//! The words of a command line: which of them are plain words, what `clap` finds in them, and the
+//! table of commands that a wrong command line is answered with.
 #![tactic(auto)]
 
 // Which words are plain.

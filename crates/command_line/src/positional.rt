@@ -15,8 +15,8 @@ use sub_base::{NoMemory, Words};
 /// What the argument of all words is called.
 const WORD: &str = "word";
 
-/// The words that `clap` finds in plain words: all of them, in their order. Nothing but want of memory stands
-/// in its way.
+/// The words that `clap` finds in plain words: all of them, in their order. Nothing but want of
+/// memory stands in its way.
 pub fn positional_words(alloc: Global, words: &Words) -> Result<Words, NoMemory>
     requires plain { list_all is_plain_word words.now ≡ true }
     ensures { IfOk result (λ found. found ≡ words.now) }
@@ -36,8 +36,8 @@ pub fn positional_words(alloc: Global, words: &Words) -> Result<Words, NoMemory>
     }
 }
 
-/// The command line as `clap` knows it: one argument of any number of words, without flags. Its help is the table of
-/// commands.
+/// The command line as `clap` knows it: one argument of any number of words, without flags. Its
+/// help is the table of commands.
 pub(crate) fn one_argument_command<'a>(alloc: Global) -> Result<Command<'a>, AllocError>
     ensures { IfOk result (λ command. app_of command ≡ one_argument) }
 {

@@ -12,7 +12,8 @@ fn words_of(alloc: Global, line: &str) -> Result<Words, Fail> {
     Ok(words)
 }
 
-/// Whether plain words are all found again, in their order. With ample memory nothing else may happen.
+/// Whether plain words are all found again, in their order. With ample memory nothing else may
+/// happen.
 fn are_found(alloc: Global, words: &Words) -> Result<bool, Fail> {
     if !are_plain(words) {
         return Ok(false);

@@ -15,7 +15,8 @@ pub record ColourRun : Type 0 where
 
 -- two colours are the same in all four parts
 abbrev pub is_same_colour : Colour → Colour → Bool
-is_same_colour first second = (first.y == second.y) && (first.cr == second.cr) && (first.cb == second.cb) && (first.t == second.t)
+is_same_colour first second =
+    (first.y == second.y) && (first.cr == second.cr) && (first.cb == second.cb) && (first.t == second.t)
 
 -- a place before a row's runs: it is the first of a run of its own colour, or stands alone
 abbrev pub with_place : Colour → List ColourRun → List ColourRun

@@ -19,9 +19,11 @@ pub record Buffered : Type 0 where
 -- front of the text, and its count of faults rose
 pub record IsPutOut (start now : Received) (buffer : Buffered) (text : List ℕ) : Type 0 where
   pub sent : buffer.failed ≡ false → Sent start.written now.written buffer.waits text
-  pub front : buffer.failed ≡ true → AppendsPrefix start.written now.written text × HasRisen start.faults now.faults
+  pub front : buffer.failed ≡ true → AppendsPrefix start.written now.written text
+      × HasRisen start.faults now.faults
   pub kept : start.faults ≤ now.faults
 
 -- this text was put out behind all that was put out before
 pub record PutsOut (before now : Received) (old new : Buffered) (text : List ℕ) : Type 0 where
-  pub extends : (start : Received) (told : List ℕ) → IsPutOut start before old told → IsPutOut start now new (told ++ text)
+  pub extends : (start : Received) (told : List ℕ) → IsPutOut start before old told
+      → IsPutOut start now new (told ++ text)

@@ -36,6 +36,13 @@ impl Line {
         }
     }
 
+    /// Takes all bytes away, so that the line can be used again.
+    pub fn clear(&mut self)
+        ensures { self.new ≡ [] }
+    {
+        self.length = 0;
+    }
+
     /// A line that begins with the text.
     pub fn of(text: &str) -> Line
         requires { length text.now ≤ 60 }
@@ -85,7 +92,7 @@ impl Line {
         ensures line { self.new ≡ self.old ++ then_number number }
         ensures short { length self.new ≤ length self.old + 21 }
     {
-        self.push_text(" ");
+        self.push_byte(b' ');
         self.push_number(number);
     }
 

@@ -54,7 +54,8 @@ fn put_rows<K: Sink>(
     ensures { PutsOut
         (K.received sink.old)
         (K.received sink.new)
-        buffer.old buffer.new (flat_map (λ y. row_line (plane_row width plane.now y)) (range_with_len 0 height)) }
+        buffer.old buffer.new
+        (flat_map (λ y. row_line (plane_row width plane.now y)) (range_with_len 0 height)) }
 {
     for y in 0..height {
         put_row(sink, buffer, row_at(plane, width, y));
@@ -100,7 +101,9 @@ fn first_run(row: &[Colour]) -> usize
     requires { 1 ≤ length row.now }
     ensures some { 1 ≤ result }
     ensures within { result ≤ length row.now }
-    ensures run { runs_of row.now ≡ record { length = result; colour = slice_index_or row.now 0 clear } ∷ runs_of (drop result row.now) }
+    ensures run { runs_of row.now
+        ≡ record { length = result; colour = slice_index_or row.now 0 clear }
+        ∷ runs_of (drop result row.now) }
 {
     let first = row[0];
     for (place, colour) in row.iter().enumerate() {

@@ -61,7 +61,8 @@ impl TextBuffer {
     /// Puts the text at the end.
     fn push(&mut self, text: &[u8])
         requires { length self.old.waits + length text.now ≤ 65536 }
-        ensures { self.new ≡ record { waits = self.old.waits ++ text.now; failed = self.old.failed } }
+        ensures { self.new
+            ≡ record { waits = self.old.waits ++ text.now; failed = self.old.failed } }
     {
         let end = self.filled + text.len();
         self.bytes[self.filled..end].copy_from_slice(text);
@@ -109,7 +110,8 @@ pub fn put<K: Sink>(sink: &mut K, buffer: &mut TextBuffer, text: &[u8])
 fn append(buffer: &mut TextBuffer, text: &[u8])
     requires { buffer.old.failed ≡ false → length buffer.old.waits + length text.now ≤ 65536 }
     ensures failed { buffer.new.failed ≡ buffer.old.failed }
-    ensures waits { buffer.old.failed ≡ false → buffer.new.waits ≡ buffer.old.waits ++ text.now }
+    ensures waits { buffer.old.failed ≡ false
+        → buffer.new.waits ≡ buffer.old.waits ++ text.now }
 {
     if !buffer.has_failed() {
         buffer.push(text);

@@ -1,7 +1,7 @@
 use Rattle.std.proofs.Common.{◌≡◌, refl, sym, ℕ, ◌+◌, ◌<◌, ◌≤◌, ◌≢◌, List, [], ◌∷◌, ◌++◌, length, get_or, set, length-append, arith}
 use Rattle.std.proofs.lemmas.List.{length-set}
 use Rattle.std.proofs.lemmas.List.Sums.{sum_by-set}
-use Rattle.comp_pool.specs.Links.{list_at, IsRing, IsLinked, appended}
+use Rattle.comp_pool.specs.Private.Links.{list_at, IsRing, IsLinked, appended}
 use Rattle.comp_pool.proofs.Chains.{Puts, Before, kept, put_last, apart, back_is, off_end, Nodes-append}
 use Rattle.comp_pool.proofs.Moves.{IsWithout, Puts-set, Before-below, Before-off, at_changed, inside-set}
 

@@ -3,11 +3,11 @@ use Rattle.std.proofs.lemmas.List.{length-map, get_or_default, get_or-map as map
 use Rattle.std.proofs.Math.ListN.{get_or-map}
 use Rattle.std.proofs.lemmas.Bool.{ne_eqb, eq-eqb, cases_eq}
 use Rattle.comp_pool.specs.declared.node.NodeId.{NodeId}
-use Rattle.comp_pool.specs.Links.{Chain, AllNodes, lists_of, list_at, IsLinked, dropping, removed, appended}
+use Rattle.comp_pool.specs.Private.Links.{Chain, AllNodes, lists_of, list_at, IsLinked, dropping, removed, appended}
 use Rattle.comp_pool.specs.Pool.{PoolOf, list_of, nodes_of, IsInList}
 use Rattle.comp_pool.specs.Places.{first_of, behind}
 use Rattle.comp_pool.specs.Changes.{pushed, unlinked, with_item, replaced}
-use Rattle.comp_pool.specs.View.{pairs, pool_of, pool_of_lists}
+use Rattle.comp_pool.specs.Private.View.{pairs, pool_of, pool_of_lists}
 use Rattle.comp_pool.proofs.Chains.{Off, Apart, Split-from_Contains, Chain-split, Nodes-split, Apart-split, apart, dropping-split}
 use Rattle.comp_pool.proofs.Moves.{detached, node_of}
 use Rattle.comp_pool.proofs.Lists.{lists_of-is}

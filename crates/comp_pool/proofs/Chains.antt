@@ -1,6 +1,6 @@
 use Rattle.std.proofs.Common.{◌≡◌, ◌∙◌, refl, sym, ap, subst, inl, inr, ℕ, zero, suc, ◌<◌, ◌≤◌, ◌≢◌, ◌⊎◌, true, false, ltb, eqb, List, [], ◌∷◌, ◌++◌, length, get_or, Contains, length-append, append_assoc, arith}
 use Rattle.std.proofs.lemmas.Bool.{cases_eq, le-ltb, lt-ltb, ne_eqb, eq-eqb}
-use Rattle.comp_pool.specs.Links.{Chain, AllNodes, walk, dropping}
+use Rattle.comp_pool.specs.Private.Links.{Chain, AllNodes, walk, dropping}
 
 -- n is none of xs
 abbrev pub Off : ℕ → List ℕ → Type 0

@@ -1,6 +1,6 @@
 use Rattle.std.proofs.Common.{◌≡◌, ◌∙◌, sym, subst, inl, inr, ℕ, ◌+◌, ◌-◌, ◌<◌, ◌≤◌, ◌⊎◌, List, [], ◌∷◌, length, get_or, arith}
 use Rattle.std.proofs.lemmas.Bool.{cases_lt}
-use Rattle.comp_pool.specs.Links.{Chain, AllNodes, IsLinked, IsClosed, IsLast, list_at, next_when_free, back_when_free}
+use Rattle.comp_pool.specs.Private.Links.{Chain, AllNodes, IsLinked, IsClosed, IsLast, list_at, next_when_free, back_when_free}
 use Rattle.comp_pool.proofs.Making.{next_other, back_other}
 
 -- Ends that are linked with themselves again, when a pool is reset.

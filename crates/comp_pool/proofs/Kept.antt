@@ -1,7 +1,7 @@
 use Rattle.std.proofs.Common.{◌≡◌, ◌∙◌, sym, ap, subst, ℕ, ◌<◌, List, length, arith}
-use Rattle.comp_pool.specs.Links.{lists_of}
+use Rattle.comp_pool.specs.Private.Links.{lists_of}
 use Rattle.comp_pool.specs.Pool.{PoolOf, NoneTwice, node_count}
-use Rattle.comp_pool.specs.View.{IsKept, pool_of}
+use Rattle.comp_pool.specs.Private.View.{IsKept, pool_of}
 use Rattle.comp_pool.proofs.Making.{pool_whole}
 use Rattle.comp_pool.proofs.Twice.{none_twice}
 

@@ -6,8 +6,8 @@ use Rattle.std.proofs.lemmas.List.FromFn.{length-range_with_len}
 use Rattle.std.proofs.lemmas.List.Sums.{sum_by-cons}
 use Rattle.std.proofs.lemmas.List.Folds.{sum_by-replicate}
 use Rattle.comp_pool.specs.declared.node.NodeId.{NodeId}
-use Rattle.comp_pool.specs.Links.{Chain, AllNodes, list_at, IsRing, IsLinked, next_when_free, back_when_free}
-use Rattle.comp_pool.specs.View.{pairs, pool_of, pool_of_lists}
+use Rattle.comp_pool.specs.Private.Links.{Chain, AllNodes, list_at, IsRing, IsLinked, next_when_free, back_when_free}
+use Rattle.comp_pool.specs.Private.View.{pairs, pool_of, pool_of_lists}
 use Rattle.comp_pool.proofs.Lists.{lists_of-is}
 
 made_chain : (f g : ℕ → ℕ) (count a j m : ℕ) → j + m ≡ count → f a ≡ j → g j ≡ a → ((k : ℕ) → k < count → f k ≡ k + 1) →

@@ -2,7 +2,7 @@ use Rattle.std.proofs.Common.{◌≡◌, ◌∙◌, refl, sym, ap, subst, inl, i
 use Rattle.std.proofs.lemmas.Bool.{cases_eq}
 use Rattle.std.proofs.lemmas.List.{length-set, get_or-set_same, get_or-set_other}
 use Rattle.std.proofs.lemmas.List.Sums.{sum_by-set}
-use Rattle.comp_pool.specs.Links.{Chain, AllNodes, list_at, IsRing, IsLinked, dropping, removed}
+use Rattle.comp_pool.specs.Private.Links.{Chain, AllNodes, list_at, IsRing, IsLinked, dropping, removed}
 use Rattle.comp_pool.proofs.Chains.{Off, Apart, Puts, Split, Before, the_end, a_node, kept, taken_out, apart, elsewhere, back_is, next_is, off_end, Chain-split, Nodes-split, Nodes-append, Split-node, Split-from_Contains, Before-left, Before-right, Off-append, dropping-split, Apart-split}
 
 -- the state in which node n was taken out of its list and put into none

@@ -1,9 +1,9 @@
 use Rattle.std.proofs.Common.{◌≡◌, ◌∙◌, sym, ap, subst, ℕ, ◌+◌, ◌-◌, ◌<◌, ◌≤◌, List, length, get_or, set, Contains, arith}
 use Rattle.std.proofs.lemmas.List.{length-set}
-use Rattle.comp_pool.specs.Links.{lists_of, list_at, IsLinked, moved}
+use Rattle.comp_pool.specs.Private.Links.{lists_of, list_at, IsLinked, moved}
 use Rattle.comp_pool.specs.Pool.{PoolOf, IsInSomeList}
 use Rattle.comp_pool.specs.Changes.{pushed}
-use Rattle.comp_pool.specs.View.{IsKept, pool_of}
+use Rattle.comp_pool.specs.Private.View.{IsKept, pool_of}
 use Rattle.comp_pool.proofs.Lists.{again}
 use Rattle.comp_pool.proofs.Views.{Ahead, named}
 use Rattle.comp_pool.proofs.Calls.{pushed_pool, free_ahead, Contains-ahead, empty-ahead, length-pool, Contains-pool, IsInList-within}

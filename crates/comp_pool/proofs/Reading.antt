@@ -1,7 +1,7 @@
 use Rattle.std.proofs.Common.{◌≡◌, sym, subst, ℕ, ◌<◌, List, length}
 use Rattle.comp_pool.specs.declared.node.NodeId.{NodeId}
 use Rattle.comp_pool.specs.Pool.{PoolOf, IsInSomeList}
-use Rattle.comp_pool.specs.View.{IsKept, pool_of}
+use Rattle.comp_pool.specs.Private.View.{IsKept, pool_of}
 use Rattle.comp_pool.proofs.Calls.{IsInList-below}
 
 -- a node in some list has its links and its item

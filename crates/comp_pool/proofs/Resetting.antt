@@ -1,8 +1,8 @@
 use Rattle.std.proofs.Common.{◌≡◌, ◌∙◌, sym, ap, ℕ, ◌-◌, ◌<◌, List, length, get_or, arith}
-use Rattle.comp_pool.specs.Links.{lists_of, next_when_free, back_when_free, IsLinked}
+use Rattle.comp_pool.specs.Private.Links.{lists_of, next_when_free, back_when_free, IsLinked}
 use Rattle.comp_pool.specs.Pool.{PoolOf, empty_pool}
 use Rattle.comp_pool.specs.Changes.{emptied}
-use Rattle.comp_pool.specs.View.{IsKept, pool_of}
+use Rattle.comp_pool.specs.Private.View.{IsKept, pool_of}
 use Rattle.comp_pool.proofs.Lists.{again}
 use Rattle.comp_pool.proofs.Making.{free_lists, made, made_pool, length-lists}
 use Rattle.comp_pool.proofs.Kept.{Follows, follows, a_list, node_count_kept}

@@ -3,7 +3,7 @@ use Rattle.std.specs.Prelude.{slice_get}
 use Rattle.comp_pool.specs.declared.node.NodeId.{NodeId}
 use Rattle.comp_pool.specs.Pool.{PoolOf, NoneTwice, list_of}
 use Rattle.comp_pool.specs.Changes.{pushed, unlinked}
-use Rattle.comp_pool.specs.Sample.{HasIndex}
+use Rattle.comp_pool.specs.Private.Sample.{HasIndex}
 use Rattle.comp_pool.proofs.ItemLaws.{item_pushed, item_after_push, item_after_unlink}
 use Rattle.comp_pool.proofs.NodeLaws.{one_item}
 

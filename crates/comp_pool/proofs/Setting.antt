@@ -1,10 +1,10 @@
 use Rattle.std.proofs.Common.{◌≡◌, ◌∙◌, ℕ, ◌<◌, List, length, set, arith}
 use Rattle.std.proofs.lemmas.List.{length-set}
 use Rattle.comp_pool.specs.declared.node.NodeId.{NodeId}
-use Rattle.comp_pool.specs.Links.{lists_of}
+use Rattle.comp_pool.specs.Private.Links.{lists_of}
 use Rattle.comp_pool.specs.Pool.{PoolOf, IsInSomeList}
 use Rattle.comp_pool.specs.Changes.{replaced}
-use Rattle.comp_pool.specs.View.{IsKept, pool_of}
+use Rattle.comp_pool.specs.Private.View.{IsKept, pool_of}
 use Rattle.comp_pool.proofs.Calls.{replaced_view}
 use Rattle.comp_pool.proofs.Kept.{Follows, follows}
 use Rattle.comp_pool.proofs.Reading.{is_one}

@@ -5,9 +5,9 @@ use Rattle.std.proofs.lemmas.List.{length-map, get_or_default}
 use Rattle.std.proofs.lemmas.Option.{slice_get_within, get_or_from_slice_get}
 use Rattle.std.proofs.lemmas.Bool.{cases_eq}
 use Rattle.comp_pool.specs.declared.node.NodeId.{NodeId}
-use Rattle.comp_pool.specs.Links.{Chain, AllNodes, lists_of, list_at, IsLinked}
+use Rattle.comp_pool.specs.Private.Links.{Chain, AllNodes, lists_of, list_at, IsLinked}
 use Rattle.comp_pool.specs.Pool.{nodes_of, list_of, IsAt, NoneTwice}
-use Rattle.comp_pool.specs.View.{pool_of, pool_of_lists}
+use Rattle.comp_pool.specs.Private.View.{pool_of, pool_of_lists}
 use Rattle.comp_pool.proofs.Chains.{Off, Apart, Split-at, Chain-split, Nodes-split, apart, elsewhere}
 use Rattle.comp_pool.proofs.Views.{list_of-pool, named, nodes-pairs}
 use Rattle.comp_pool.proofs.Calls.{index-within}

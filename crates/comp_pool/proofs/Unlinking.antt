@@ -1,9 +1,9 @@
 use Rattle.std.proofs.Common.{◌≡◌, ◌∙◌, sym, ap, subst, ℕ, ◌+◌, ◌<◌, List, length, Contains, arith}
 use Rattle.comp_pool.specs.declared.node.NodeId.{NodeId}
-use Rattle.comp_pool.specs.Links.{lists_of, list_at, IsLinked, moved}
+use Rattle.comp_pool.specs.Private.Links.{lists_of, list_at, IsLinked, moved}
 use Rattle.comp_pool.specs.Pool.{PoolOf, IsInList}
 use Rattle.comp_pool.specs.Changes.{unlinked}
-use Rattle.comp_pool.specs.View.{IsKept, pool_of}
+use Rattle.comp_pool.specs.Private.View.{IsKept, pool_of}
 use Rattle.comp_pool.proofs.Lists.{again}
 use Rattle.comp_pool.proofs.Calls.{unlinked_pool, Contains-pool, IsInList-within, IsInList-below}
 use Rattle.comp_pool.proofs.Kept.{Follows, follows}

@@ -2,10 +2,10 @@ use Rattle.std.proofs.Common.{◌≡◌, ◌∙◌, refl, sym, ap, ℕ, zero, su
 use Rattle.std.proofs.lemmas.List.{map-set, map-append, get_or-set_same, get_or-set_other, length_push}
 use Rattle.std.proofs.Math.ListN.{get_or-map}
 use Rattle.comp_pool.specs.declared.node.NodeId.{NodeId}
-use Rattle.comp_pool.specs.Links.{Chain, AllNodes, list_at, dropping, removed, appended}
+use Rattle.comp_pool.specs.Private.Links.{Chain, AllNodes, list_at, dropping, removed, appended}
 use Rattle.comp_pool.specs.Pool.{list_of, nodes_of}
 use Rattle.comp_pool.specs.Changes.{without, pushed, unlinked}
-use Rattle.comp_pool.specs.View.{pairs, pool_of_lists}
+use Rattle.comp_pool.specs.Private.View.{pairs, pool_of_lists}
 use Rattle.comp_pool.proofs.Chains.{Off}
 
 -- what the link forward from the near end of a chain says: past the nodes where the chain is empty, else its first node

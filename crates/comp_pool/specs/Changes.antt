@@ -23,7 +23,8 @@ with_item node item p = if is_node p.0 node then (p.0, item) else p
 
 -- this item at the node, wherever it is
 abbrev pub replaced : {T : Type 0} → NodeId → T → PoolOf T → PoolOf T
-replaced node item pool = record { lists = map (λ pairs. map (with_item node item) pairs) pool.lists; free = pool.free }
+replaced node item pool =
+    record { lists = map (λ pairs. map (with_item node item) pairs) pool.lists; free = pool.free }
 
 -- list l is empty, and its nodes are free
 abbrev pub cleared : {T : Type 0} → ℕ → PoolOf T → PoolOf T

@@ -30,7 +30,8 @@ IsAt pool l i node = slice_get (nodes_of (list_of pool l)) i ≡ Some node
 
 -- no node is there twice: wherever the same node is found, it is the same list and index
 abbrev pub NoneTwice : {T : Type 0} → PoolOf T → Type 0
-NoneTwice pool = (l k i j : ℕ) (node : NodeId) → IsAt pool l i node → IsAt pool k j node → (l ≡ k) × (i ≡ j)
+NoneTwice pool =
+    (l k i j : ℕ) (node : NodeId) → IsAt pool l i node → IsAt pool k j node → (l ≡ k) × (i ≡ j)
 
 -- how many nodes the pool has, in lists or free
 abbrev pub node_count : {T : Type 0} → PoolOf T → ℕ

@@ -1,7 +1,8 @@
-//! The composition memory of a receiver: a fixed array of nodes that are in doubly linked lists or free.
+//! The composition memory of a receiver: a fixed array of nodes that are in doubly linked lists or
+//! free.
 //!
-//! All memory is taken when a pool is made. Putting an item at the end of a list and taking any one out cost the same
-//! however long the lists are, and nothing moves.
+//! All memory is taken when a pool is made. Putting an item at the end of a list and taking any one
+//! out cost the same however long the lists are, and nothing moves.
 #![tactic(auto)]
 
 mod fault;

@@ -10,8 +10,8 @@ use std::alloc::Global;
 use std::marker::Model;
 use sub_base::NoMemory;
 
-/// A fixed array of nodes, each with an item, in a fixed number of doubly linked lists, numbered from 0. Contracts see the
-/// lists, as pairs of a node and its item, and the number of free nodes.
+/// A fixed array of nodes, each with an item, in a fixed number of doubly linked lists, numbered
+/// from 0. Contracts see the lists, as pairs of a node and its item, and the number of free nodes.
 #[derive(Drop)]
 pub struct Pool<T: Copy> {
     count: u32,
@@ -26,7 +26,7 @@ pub struct Pool<T: Copy> {
 impl<T: Copy> Model for Pool<T> {
     ghost use Rattle.std.specs.Prelude.{length};
     ghost use Rattle.comp_pool.specs.Pool.{PoolOf};
-    ghost use Rattle.comp_pool.specs.View.{IsKept, pool_of};
+    ghost use Rattle.comp_pool.specs.Private.View.{IsKept, pool_of};
 
     ghost Value = { PoolOf T };
 
@@ -36,8 +36,8 @@ impl<T: Copy> Model for Pool<T> {
 }
 
 impl<T: Copy> Pool<T> {
-    /// A pool of so many nodes and lists: all lists are empty, and all nodes free. `filler` is what the nodes hold until
-    /// items are pushed; no call answers it. The only call that takes memory.
+    /// A pool of so many nodes and lists: all lists are empty, and all nodes free. `filler` is what
+    /// the nodes hold until items are pushed; no call answers it. The only call that takes memory.
     pub fn make(alloc: Global, nodes: u32, lists: u32, filler: T) -> Result<Pool<T>, NoMemory>
         ensures empty { IfOk result (λ pool. pool ≡ empty_pool lists nodes) }
         ensures distinct { IfOk result (λ pool. NoneTwice pool) }
@@ -58,8 +58,8 @@ impl<T: Copy> Pool<T> {
         })
     }
 
-    /// Puts an item at the end of a list, in a node that was free. `Full` exactly where no node is free; nothing is changed
-    /// then.
+    /// Puts an item at the end of a list, in a node that was free. `Full` exactly where no node is
+    /// free; nothing is changed then.
     pub fn push_back(&mut self, list: u32, item: T) -> Result<NodeId, Full>
         requires { list < length self.old.lists }
         ensures pushed { IfOk result (λ node. self.new ≡ pushed list (node, item) self.old) }
@@ -87,7 +87,8 @@ impl<T: Copy> Pool<T> {
         Ok(NodeId { number })
     }
 
-    /// Takes a node out of the list that it is in, and answers its item. The others keep their order.
+    /// Takes a node out of the list that it is in, and answers its item. The others keep their
+    /// order.
     pub fn unlink(&mut self, list: u32, node: NodeId) -> T
         requires { IsInList self.old list node }
         ensures unlinked { self.new ≡ unlinked list node self.old }
@@ -155,7 +156,8 @@ impl<T: Copy> Pool<T> {
     /// The node behind a node in its list. `None` exactly behind the last one.
     pub fn next(&self, node: NodeId) -> Option<NodeId>
         requires { IsInSomeList self.now node }
-        ensures { (list : ℕ) → IsInList self.now list node → result ≡ behind node (list_of self.now list) }
+        ensures { (list : ℕ) → IsInList self.now list node
+            → result ≡ behind node (list_of self.now list) }
     {
         let next = at(&self.nexts, node.number as usize);
         if next < self.count as usize {
@@ -170,7 +172,8 @@ impl<T: Copy> Pool<T> {
     /// The item of a node.
     pub fn item(&self, node: NodeId) -> T
         requires { IsInSomeList self.now node }
-        ensures { (list : ℕ) → IsInList self.now list node → Contains (list_of self.now list) (node, result) }
+        ensures { (list : ℕ) → IsInList self.now list node
+            → Contains (list_of self.now list) (node, result) }
     {
         let _ = &self.count; // The invariant is wanted before the index.
         let index = node.number as usize;

@@ -1,6 +1,6 @@
 ghost use Rattle.std.specs.Prelude.{◌≡◌, ◌≢◌, ℕ, ◌*◌, ◌<◌, ◌≤◌, length, map, IfOk};
 ghost use Rattle.comp_pool.specs.Pool.{list_of, NoneTwice};
-ghost use Rattle.comp_pool.specs.Sample.{HasIndex};
+ghost use Rattle.comp_pool.specs.Private.Sample.{HasIndex};
 
 use super::*;
 use std::alloc::{AllocError, Global};
@@ -109,7 +109,8 @@ fn take_out(rt: &impl Abort, pool: &mut Pool<u32>, nodes: &[NodeId], index: u32)
     requires node { index < length nodes.now }
     requires index { HasIndex pool.old nodes.now index }
     requires distinct { NoneTwice pool.old }
-    ensures others { (k : ℕ) → k ≢ index → HasIndex pool.old nodes.now k → HasIndex pool.new nodes.now k }
+    ensures others { (k : ℕ) → k ≢ index → HasIndex pool.old nodes.now k
+        → HasIndex pool.new nodes.now k }
     ensures distinct { NoneTwice pool.new }
 {
     let item = pool.unlink(0, nodes[index as usize]);
@@ -140,8 +141,8 @@ fn take_even(rt: &impl Abort, pool: &mut Pool<u32>, nodes: &[NodeId], half: u32)
     }
 }
 
-/// Four million nodes in one list, of which the odd ones are taken out from the front and the even ones from the back:
-/// a body that searches the list, or moves its items, takes hours.
+/// Four million nodes in one list, of which the odd ones are taken out from the front and the even
+/// ones from the back: a body that searches the list, or moves its items, takes hours.
 #[test]
 fn many_nodes_in_any_order(rt: HostRuntime) -> Result<(), Fail> {
     let mut pool = Pool::make(rt.alloc(), 4_000_000, 1, 0u32)?;

@@ -6,7 +6,8 @@ use std::process::Abort;
 use std::test::Fail;
 use std::thread::Threads;
 
-/// The encoder's unit behind an adaptation field of that length, with what the packet has no room for in a second one.
+/// The encoder's unit behind an adaptation field of that length, with what the packet has no room
+/// for in a second one.
 fn stream_of(alloc: Global, field: u8) -> Result<Vec<u8>, Fail> {
     let room = 183usize.saturating_sub(field as usize);
     let mut payload = [0xFF; 183];
@@ -31,8 +32,8 @@ fn lines_of(alloc: Global, number: usize) -> Result<String, Fail> {
     Ok(text)
 }
 
-/// The set of the unit is done 85 ticks behind its last packet. Of a packet that has the whole unit all bytes arrive, those
-/// behind the unit as well.
+/// The set of the unit is done 85 ticks behind its last packet. Of a packet that has the whole unit
+/// all bytes arrive, those behind the unit as well.
 fn checked_of(alloc: Global, number: usize, room: usize) -> Result<String, Fail> {
     let done = number.saturating_mul(705).saturating_add(85);
     let peak = room.max(84);

@@ -101,7 +101,8 @@ fn count_of(text: &str, word: &str) -> usize {
     count
 }
 
-/// The command is done, or refuses the first packet that cannot be taken; its text is whole, or ends behind a whole part.
+/// The command is done, or refuses the first packet that cannot be taken; its text is whole, or
+/// ends behind a whole part.
 fn is_answered<R: Threads + Sync + Abort>(
     rt: &R,
     alloc: Global,

@@ -1,17 +1,22 @@
-ghost use Rattle.std.specs.Prelude.{None, ◌≤◌, ◌<◌};
+ghost use Rattle.std.specs.Prelude.{None, ◌≡◌, ◌≤◌, ◌<◌};
 
 use sub_base::{ReadFailed, Source};
 
-/// A source of so many bytes, each the same. It counts them and holds none, and tells nothing of what is left.
+/// A source of so many bytes, each the same. It counts them and holds none, and tells nothing of
+/// what is left. No call of it fails.
 #[derive(Drop)]
-pub(crate) struct Counting {
+pub struct Counting {
     left: u64,
     byte: u8,
     given: u64,
 }
 
 impl Counting {
-    pub(crate) fn new(left: u64, byte: u8) -> Counting {
+    /// A source that gives so many bytes.
+    pub fn new(left: u64, byte: u8) -> Counting
+        ensures none_given { result.given ≡ 0 }
+        ensures all_left { result.left ≡ left }
+    {
         Counting {
             left,
             byte,

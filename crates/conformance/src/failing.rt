@@ -19,8 +19,8 @@ fn text_of<'a>(came: usize, texts: [&'a str; 3]) -> &'a str {
     }
 }
 
-/// Each read of the first source fails in turn. What is put out are the texts of the packets before it; where none of the
-/// reads fails, all of the output.
+/// Each read of the first source fails in turn. What is put out are the texts of the packets before
+/// it; where none of the reads fails, all of the output.
 pub(crate) fn each_read_fails<R: Threads + Sync + Abort>(
     rt: &R,
     alloc: Global,
@@ -78,8 +78,8 @@ fn font_read_at(most: usize, read: usize) -> Edges {
     }
 }
 
-/// Each write of the output fails in turn. The bytes of the writes before it are there, and no others; where none of the writes
-/// fails, all of them.
+/// Each write of the output fails in turn. The bytes of the writes before it are there, and no
+/// others; where none of the writes fails, all of them.
 pub(crate) fn each_write_fails<R: Threads + Sync + Abort>(
     rt: &R,
     alloc: Global,
@@ -107,7 +107,8 @@ fn write_at(most: usize, write: usize) -> Edges {
     }
 }
 
-/// Each write of the status' line fails in turn, a byte a call. What is put out stays, and the code is as is wanted.
+/// Each write of the status' line fails in turn, a byte a call. What is put out stays, and the code
+/// is as is wanted.
 pub(crate) fn each_note_fails<R: Threads + Sync + Abort>(
     rt: &R,
     alloc: Global,

@@ -15,7 +15,8 @@ fn with_font(line: &str) -> Asked<'_> {
     }
 }
 
-/// Over the first run's stream: each read fails in turn, with a byte a call, a few, a packet, and all at once.
+/// Over the first run's stream: each read fails in turn, with a byte a call, a few, a packet, and
+/// all at once.
 fn each_stream_read_fails<R: Threads + Sync + Abort>(
     rt: &R,
     alloc: Global,

@@ -6,7 +6,8 @@ use std::process::Abort;
 use std::test::Fail;
 use std::thread::Threads;
 
-/// Over the first run's stream: each write fails in turn, with a byte a call, a few, and all at once.
+/// Over the first run's stream: each write fails in turn, with a byte a call, a few, and all at
+/// once.
 fn each_stream_write_fails<R: Threads + Sync + Abort>(
     rt: &R,
     alloc: Global,
@@ -57,8 +58,13 @@ fn each_write_of_authored_pictures_fails(rt: HostRuntime) -> Result<(), Fail> {
 }
 
 /// A cue of forty seconds, whose nine sets stand in slots up to 4,596.
-const FORTY_SECONDS: &str =
-    "origin,0\ndisplay,4,2\nrefresh,5\nepoch,90000\nregion,0,0,0,4,2,8,0\npicture,a,8,4,2,0102020203030303\nplace,90000,3690000,0,0,0,solid,a\n";
+const FORTY_SECONDS: &str = "origin,0\n\
+     display,4,2\n\
+     refresh,5\n\
+     epoch,90000\n\
+     region,0,0,0,4,2,8,0\n\
+     picture,a,8,4,2,0102020203030303\n\
+     place,90000,3690000,0,0,0,solid,a\n";
 
 /// Its packets go out in many pieces; whichever fails, no later one follows.
 #[test]

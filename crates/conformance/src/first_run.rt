@@ -3,8 +3,13 @@ use std::alloc::Global;
 use std::test::Fail;
 
 /// One cue of one picture of 8 bits, from 90000 to 180000.
-pub(crate) const SCRIPT: &str =
-    "origin,0\ndisplay,4,2\nrefresh,5\nepoch,90000\nregion,0,0,0,4,2,8,0\npicture,a,8,4,2,0102020203030303\nplace,90000,180000,0,0,0,solid,a\n";
+pub(crate) const SCRIPT: &str = "origin,0\n\
+     display,4,2\n\
+     refresh,5\n\
+     epoch,90000\n\
+     region,0,0,0,4,2,8,0\n\
+     picture,a,8,4,2,0102020203030303\n\
+     place,90000,180000,0,0,0,solid,a\n";
 
 pub(crate) const COMPILE: &str = "compile sd 256 1 script.csv none out.ts";
 
@@ -54,12 +59,23 @@ pub(crate) const PICTURE: &str = "picture 90000 4 2\n1*51F05AC0 3*912236C0\n4*D2
 pub(crate) const CLEAR_PICTURES: &str = "picture 90000 clear\npicture 180000 clear\n";
 
 /// The lines of the first packet.
-pub(crate) const FIRST_LINES: &str =
-    "unit 0 pts 90000 length 98\nsegment 2 14 1 5\nsegment 13 10 1 8\nsegment 27 11 1 16\nsegment 49 13 1 22\nsegment 77 80 1 0\n";
+pub(crate) const FIRST_LINES: &str = "unit 0 pts 90000 length 98\n\
+     segment 2 14 1 5\n\
+     segment 13 10 1 8\n\
+     segment 27 11 1 16\n\
+     segment 49 13 1 22\n\
+     segment 77 80 1 0\n";
 
 /// The lines of both.
-pub(crate) const BOTH_LINES: &str =
-    "unit 0 pts 90000 length 98\nsegment 2 14 1 5\nsegment 13 10 1 8\nsegment 27 11 1 16\nsegment 49 13 1 22\nsegment 77 80 1 0\nunit 1 pts 180000 length 31\nsegment 2 10 1 2\nsegment 10 80 1 0\n";
+pub(crate) const BOTH_LINES: &str = "unit 0 pts 90000 length 98\n\
+     segment 2 14 1 5\n\
+     segment 13 10 1 8\n\
+     segment 27 11 1 16\n\
+     segment 49 13 1 22\n\
+     segment 77 80 1 0\n\
+     unit 1 pts 180000 length 31\n\
+     segment 2 10 1 2\n\
+     segment 10 80 1 0\n";
 
 /// The line of the first set.
 pub(crate) const FIRST_SET: &str = "set 90000 shown 98 99\n";
@@ -74,8 +90,18 @@ pub(crate) const BOTH_CHECKED: &str =
     "set 90000 shown 98 99\nset 180000 shown 31 90031\npeak 98\nbreach none\n";
 
 /// A font of one letter.
-pub(crate) const FONT: &str =
-    "STARTFONT 2.1\nFONTBOUNDINGBOX 3 4 0 -1\nSTARTCHAR A\nENCODING 65\nDWIDTH 3 0\nBBX 2 3 0 0\nBITMAP\n40\nC0\n40\nENDCHAR\nENDFONT\n";
+pub(crate) const FONT: &str = "STARTFONT 2.1\n\
+     FONTBOUNDINGBOX 3 4 0 -1\n\
+     STARTCHAR A\n\
+     ENCODING 65\n\
+     DWIDTH 3 0\n\
+     BBX 2 3 0 0\n\
+     BITMAP\n\
+     40\n\
+     C0\n\
+     40\n\
+     ENDCHAR\n\
+     ENDFONT\n";
 
 pub(crate) const COMPILE_WITH_FONT: &str = "compile sd 256 1 script.csv font.bdf out.ts";
 

@@ -29,8 +29,8 @@ fn pages(alloc: Global, count: u32, step: u32) -> Result<Vec<u8>, Fail> {
     Ok(sent.stream)
 }
 
-/// One set goes on for 4,000 units. With the 3,073rd it has more segments than the coded data buffer has bytes: 24,584. Before,
-/// as the 984th comes, the buffer has 25 bytes of each.
+/// One set goes on for 4,000 units. With the 3,073rd it has more segments than the coded data
+/// buffer has bytes: 24,584. Before, as the 984th comes, the buffer has 25 bytes of each.
 #[test]
 fn a_set_that_never_ends(rt: HostRuntime) -> Result<(), Fail> {
     let alloc = rt.alloc();
@@ -48,7 +48,8 @@ fn a_set_that_never_ends(rt: HostRuntime) -> Result<(), Fail> {
     ends_as(&rt, alloc, &reading(DUMP, stream), sound(10_000), shown)
 }
 
-/// Just as many segments as the buffer has bytes are a set that the end of the stream makes ready. Its page is there twice.
+/// Just as many segments as the buffer has bytes are a set that the end of the stream makes ready.
+/// Its page is there twice.
 #[test]
 fn a_set_as_long_as_the_buffer(rt: HostRuntime) -> Result<(), Fail> {
     let alloc = rt.alloc();
@@ -58,8 +59,8 @@ fn a_set_as_long_as_the_buffer(rt: HostRuntime) -> Result<(), Fail> {
     ends_as(&rt, alloc, &asked, sound(10_000), done(checked))
 }
 
-/// No set has an end, and each is made ready by the next one; the last by the end of the stream. A set is done 25 ticks after
-/// its last packet came, or the one before it was shown.
+/// No set has an end, and each is made ready by the next one; the last by the end of the stream. A
+/// set is done 25 ticks after its last packet came, or the one before it was shown.
 fn open_sets(alloc: Global, count: u32, step: u32) -> Result<String, Fail> {
     let mut text = String::new(alloc);
     let mut pts = 90_000u64;
@@ -81,7 +82,8 @@ fn sets_without_an_end(rt: HostRuntime) -> Result<(), Fail> {
     let alloc = rt.alloc();
     let stream = pages(alloc, 100, 705)?;
     let mut text = open_sets(alloc, 100, 705)?;
-    // The first one leaves the buffer at once. All others wait for the time of the set before them, which is behind the last packet.
+    // The first one leaves the buffer at once. All others wait for the time of the set before them,
+    // which is behind the last packet.
     text.push_str("peak 2475\nbreach none\n")?;
     let asked = reading(CHECK, stream.as_slice());
     ends_as(&rt, alloc, &asked, sound(10_000), done(text.as_bytes()))
@@ -100,7 +102,8 @@ fn put_regions(segments: &mut Vec<u8>, first: u32, count: u32) -> Result<(), Fai
     Ok(())
 }
 
-/// 65,535 regions in 17 units of one time: 4,095 in each, of 357 packets, and 15 in the last, of two.
+/// 65,535 regions in 17 units of one time: 4,095 in each, of 357 packets, and 15 in the last, of
+/// two.
 fn regions(alloc: Global) -> Result<Vec<u8>, Fail> {
     let mut sent = Sent::new(Vec::new(alloc));
     let mut unit = Vec::new(alloc);
@@ -148,8 +151,8 @@ fn sixty_five_thousand_regions_are_listed(rt: HostRuntime) -> Result<(), Fail> {
     ends_as(&rt, alloc, &asked, sound(100_000), done(text.as_bytes()))
 }
 
-/// With the fifth unit the set has more segments than the largest buffer has bytes. The buffer is full with the last packet of
-/// the fourth unit: the level is then four units of 65,537 bytes.
+/// With the fifth unit the set has more segments than the largest buffer has bytes. The buffer is
+/// full with the last packet of the fourth unit: the level is then four units of 65,537 bytes.
 #[test]
 fn sixty_five_thousand_regions_are_checked(rt: HostRuntime) -> Result<(), Fail> {
     let alloc = rt.alloc();
@@ -191,7 +194,8 @@ fn a_region_that_comes_twice(rt: HostRuntime) -> Result<(), Fail> {
     ends_as(&rt, alloc, &asked, sound(100_000), done(checked))
 }
 
-/// A set in a unit of 65,541 bytes, the greatest length of a PES packet: a page, 65,504 bytes of stuffing in a segment, and the end.
+/// A set in a unit of 65,541 bytes, the greatest length of a PES packet: a page, 65,504 bytes of
+/// stuffing in a segment, and the end.
 fn greatest_unit(alloc: Global) -> Result<Vec<u8>, Fail> {
     let mut segments = Vec::from_slice(alloc, &OPEN)?;
     segments.extend_from_slice(&[0x0F, 0xFF, 0x00, 0x01, 0xFF, 0xE0])?;
@@ -204,7 +208,8 @@ fn greatest_unit(alloc: Global) -> Result<Vec<u8>, Fail> {
     Ok(sent.stream)
 }
 
-/// It is 357 packets long. The largest receivers take it; for `sd` it is too long, of which its first packet tells.
+/// It is 357 packets long. The largest receivers take it; for `sd` it is too long, of which its
+/// first packet tells.
 #[test]
 fn a_unit_of_the_greatest_length(rt: HostRuntime) -> Result<(), Fail> {
     let alloc = rt.alloc();
@@ -213,7 +218,10 @@ fn a_unit_of_the_greatest_length(rt: HostRuntime) -> Result<(), Fail> {
     let rows: [(&str, &str); 3] = [
         (
             LIST,
-            "unit 356 pts 180000 length 65541\nsegment 2 10 1 2\nsegment 10 FF 1 65504\nsegment 65520 80 1 0\n",
+            "unit 356 pts 180000 length 65541\n\
+             segment 2 10 1 2\n\
+             segment 10 FF 1 65504\n\
+             segment 65520 80 1 0\n",
         ),
         (
             CHECK_LARGE,

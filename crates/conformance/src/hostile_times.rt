@@ -13,7 +13,8 @@ fn one_unit_often(alloc: Global, count: u32) -> Result<Vec<u8>, Fail> {
     Ok(sent.stream)
 }
 
-/// One set comes of a thousand units of one time: the others are behind its end, and their bytes leave as they have come.
+/// One set comes of a thousand units of one time: the others are behind its end, and their bytes
+/// leave as they have come.
 #[test]
 fn one_time_a_thousand_times(rt: HostRuntime) -> Result<(), Fail> {
     let alloc = rt.alloc();
@@ -43,7 +44,8 @@ fn times_back(alloc: Global, count: u32) -> Result<Vec<u8>, Fail> {
     Ok(sent.stream)
 }
 
-/// The first set alone is kept. Each other one is told with the tick of its packet, as it is dropped then.
+/// The first set alone is kept. Each other one is told with the tick of its packet, as it is
+/// dropped then.
 #[test]
 fn times_that_go_back(rt: HostRuntime) -> Result<(), Fail> {
     let alloc = rt.alloc();
@@ -68,7 +70,13 @@ fn start_of(number: u64) -> u64 {
 fn cues_in_turn(alloc: Global, count: u64) -> Result<String, Fail> {
     let mut script = String::from_str(
         alloc,
-        "origin,0\ndisplay,4,1\nrefresh,60\nepoch,90000\nregion,0,0,0,4,1,4,0\npicture,a,4,4,1,2222\npicture,b,4,4,1,1134\n",
+        "origin,0\n\
+         display,4,1\n\
+         refresh,60\n\
+         epoch,90000\n\
+         region,0,0,0,4,1,4,0\n\
+         picture,a,4,4,1,2222\n\
+         picture,b,4,4,1,1134\n",
     )?;
     for number in 0..count {
         let name = if number % 2 == 0 { "a" } else { "b" };

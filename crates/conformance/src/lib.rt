@@ -1,14 +1,16 @@
-//! Tables of vectors over the commands: hostile input, and every call that fails. There is no code here but tests; each
-//! expected value was worked out by hand, or is reckoned here from the rules of docs/FORMATS.md.
+//! Tables of vectors over the commands: hostile input, and every call that fails. There is no code
+//! here but tests, and a source for them; each expected value was worked out by hand, or is
+//! reckoned here from the rules of docs/FORMATS.md.
 #![tactic(auto)]
+
+// A source without content, however long.
+mod counting;
+
+pub use counting::Counting;
 
 // Carrying out a command over sources and sinks that fail where a test wants it.
 #[cfg(test)]
 mod running;
-
-// A source without content, however long.
-#[cfg(test)]
-mod counting;
 
 // The first run: two packets of one cue, and what each command tells of them.
 #[cfg(test)]

@@ -24,8 +24,8 @@ pub(crate) fn reading<'a>(line: &'a str, first: &'a [u8]) -> Asked<'a> {
     }
 }
 
-/// How a command's sources and sinks behave: how many bytes a read gives and a write takes at most, and the number of the one
-/// call that fails, counted from 1; 0 for none.
+/// How a command's sources and sinks behave: how many bytes a read gives and a write takes at most,
+/// and the number of the one call that fails, counted from 1; 0 for none.
 #[derive(Clone, Copy)]
 pub(crate) struct Edges {
     pub most_read: usize,

@@ -5,8 +5,8 @@ use std::process::Abort;
 use std::test::Fail;
 use std::thread::Threads;
 
-/// The first run's script in pieces. Where it ends with any character of a piece it is answered with this line; where the line
-/// is empty it is valid, and compiled to so many bytes.
+/// The first run's script in pieces. Where it ends with any character of a piece it is answered
+/// with this line; where the line is empty it is valid, and compiled to so many bytes.
 const PIECES: [(&str, &str, usize); 29] = [
     ("origi", "script 1 Unknown\n", 0),
     ("n", "script 1 Count\n", 0),

@@ -13,8 +13,8 @@ fn done_line(alloc: Global, cut: usize) -> Result<String, Fail> {
     Ok(format!(in alloc; "done cut {cut}\n")?)
 }
 
-/// The first so many bytes of the first run's stream: the command is done with the packets that are whole, of which it puts out
-/// these texts.
+/// The first so many bytes of the first run's stream: the command is done with the packets that are
+/// whole, of which it puts out these texts.
 fn prefix_is_told<R: Threads + Sync + Abort>(
     rt: &R,
     alloc: Global,

@@ -12,7 +12,8 @@ pub(crate) fn packet_of(head: &[u8], bytes: &[u8]) -> [u8; 188] {
     packet
 }
 
-/// A packet of PID 256 with a piece of a unit, of at most 184 bytes, behind an adaptation field where there is room for one.
+/// A packet of PID 256 with a piece of a unit, of at most 184 bytes, behind an adaptation field
+/// where there is room for one.
 pub(crate) fn piece_packet(starts: bool, counter: u8, piece: &[u8]) -> [u8; 188] {
     let pid_high = if starts { 0x41 } else { 0x01 };
     let control: u8 = if piece.len() < 184 { 0x30 } else { 0x10 };
@@ -59,7 +60,8 @@ pub(crate) fn time_bytes(pts: u64) -> [u8; 5] {
     ]
 }
 
-/// A PES packet of these segments, put into `unit`: 17 bytes and theirs, of which there are at most 65,524.
+/// A PES packet of these segments, put into `unit`: 17 bytes and theirs, of which there are at most
+/// 65,524.
 pub(crate) fn put_unit(unit: &mut Vec<u8>, pts: u64, segments: &[u8]) -> Result<(), Fail> {
     let length = (segments.len() % 65_536) as u32 + 11;
     let [high, low] = [(length / 256 % 256) as u8, (length % 256) as u8];
@@ -84,8 +86,11 @@ pub(crate) const ENCODER_UNIT: [u8; 84] = [
 ];
 
 /// The lines of its segments.
-pub(crate) const ENCODER_LINES: &str =
-    "segment 2 10 1 8\nsegment 16 11 1 16\nsegment 38 FF 1 2\nsegment 46 13 1 11\nsegment 63 80 1 0\n";
+pub(crate) const ENCODER_LINES: &str = "segment 2 10 1 8\n\
+     segment 16 11 1 16\n\
+     segment 38 FF 1 2\n\
+     segment 46 13 1 11\n\
+     segment 63 80 1 0\n";
 
 /// Its segments.
 pub(crate) fn encoder_segments() -> &'static [u8] {

@@ -12,9 +12,9 @@ use Rattle.cue_list.specs.Past.{Past, area, with_last, region_with, head_by, cue
 use Rattle.cue_list.specs.RowFaults.{regions_of}
 use Rattle.cue_list.specs.RowValues.{placing_in}
 use Rattle.cue_list.specs.Rows.{Row}
-use Rattle.cue_list.specs.State.{area_of, with_cue, cue_next}
+use Rattle.cue_list.specs.Private.State.{area_of, with_cue, cue_next}
 use Rattle.cue_list.specs.TextSizes.{text_head}
-use Rattle.cue_list.specs.Ticks.{near_with}
+use Rattle.cue_list.specs.Private.Ticks.{near_with}
 
 -- what a cue's record brings, by the record's cells
 pub cue-next : (font : FontValue) (past : Past) (number : ℕ) (cells : Row) (placing : PlaceRow) (text : List ℕ) (head : PictureHead)

@@ -20,7 +20,7 @@ use Rattle.cue_list.specs.RowFaults.{starts_before, lasts_past, lies_on, share_r
 use Rattle.cue_list.specs.RowValues.{region_in, colour_in}
 use Rattle.cue_list.specs.Rows.{Row}
 use Rattle.cue_list.specs.Sound.{IsTick, IsRegion, AreApart, IsColourRow, Follows}
-use Rattle.cue_list.specs.State.{with_region, with_colour, with_cue}
+use Rattle.cue_list.specs.Private.State.{with_region, with_colour, with_cue}
 use Rattle.cue_list.proofs.FactLaws.{passed, both-false, number-range}
 use Rattle.cue_list.proofs.TicksApartLaws.{Member, Member-append, Member-at}
 

@@ -15,7 +15,7 @@ use Rattle.cue_list.specs.declared.row_values.PlaceRow.{PlaceRow}
 use Rattle.cue_list.specs.declared.row_kind.RowKind.{RowKind}
 use Rattle.cue_list.specs.CellFaults.{first_of, fails, value_of, number_fault, cells_fault}
 use Rattle.cue_list.specs.Past.{Past, is_close, region_with}
-use Rattle.cue_list.specs.RowFaults.{fault_with, shape_fault, is_misplaced, is_full, kind_fault, epoch_fault, region_fault, colour_fault, span_fault, placed_fault, place_fault, cue_fault, set_fault, text_fault, glyph_fault, starts_before, lasts_past, lies_on, share_row, is_early, lies_in, are_too_many, regions_of, head_at}
+use Rattle.cue_list.specs.RowFaults.{fault_with, shape_fault, is_misplaced, is_full, kind_fault, epoch_fault, region_fault, colour_fault, span_fault, placed_fault, place_fault, cue_fault, set_fault, text_fault, glyph_fault, starts_before, lasts_past, lies_on, share_row, is_early, has_room_at, are_too_many, regions_of, head_at}
 use Rattle.cue_list.specs.Rows.{Row}
 use Rattle.cue_list.specs.TextSizes.{text_head, missing_glyph}
 
@@ -122,7 +122,7 @@ span-right past start end h =
 -- a right place or cue: its region, and its picture's depth and sides
 pub record IsRightPlacing (past : Past) (placing : PlaceRow) (region : Region) (head : PictureHead) : Type 0 where
   pub found : region_with placing.region (regions_of past.epoch) ≡ Some region
-  pub inside : lies_in region placing.x placing.y head ≡ true
+  pub inside : has_room_at region placing.x placing.y head ≡ true
   pub shallow : bits_of head.depth ≤ bits_of region.depth
   pub span : IsRightSpan past placing.start placing.end
 
@@ -135,7 +135,7 @@ placed-right past placing None head is h = absurd (let never : Some faults.NoReg
 placed-right past placing (Some region) None is h = absurd (let never : Some faults.NoPicture ≡ None = h in cc)
 placed-right past placing (Some region) (Some head) is h =
     let first = right (nat_lt (bits_of region.depth) (bits_of head.depth)) faults.CodeRange _ h in
-    let second = right (not (lies_in region placing.x placing.y head)) faults.CueOutside _ first.1 in
+    let second = right (not (has_room_at region placing.x placing.y head)) faults.CueOutside _ first.1 in
     let third = passed (span_fault past placing.start placing.end) [] second.1 in
     (region, head, refl, record { found = is; inside = not-false _ second.0; shallow = not-deeper _ _ first.0; span = span-right past placing.start placing.end third.0 })
 
@@ -155,10 +155,10 @@ set-right font past placing ink paper characters (Some region) is h =
     let third = passed (text_fault past placing region head) [] second.1 in
     let after_span : List (Option ScriptKind) = fails (are_too_many past head) faults.TooMany ∷ [] in
     let after_inside : List (Option ScriptKind) = span_fault past placing.start placing.end ∷ after_span in
-    let outside : Bool = nat_lt 1920 head.width || nat_lt 1080 head.height || not (lies_in region placing.x placing.y head) in
+    let outside : Bool = nat_lt 1920 head.width || nat_lt 1080 head.height || not (has_room_at region placing.x placing.y head) in
     let wide = right (head.width == 0) faults.Range (fails outside faults.CueOutside ∷ after_inside) third.0 in
     let inside = right outside faults.CueOutside after_inside wide.1 in
-    let lies = not-false (lies_in region placing.x placing.y head) (both-false (nat_lt 1920 head.width || nat_lt 1080 head.height) (not (lies_in region placing.x placing.y head)) inside.0).1 in
+    let lies = not-false (has_room_at region placing.x placing.y head) (both-false (nat_lt 1920 head.width || nat_lt 1080 head.height) (not (has_room_at region placing.x placing.y head)) inside.0).1 in
     let span = passed (span_fault past placing.start placing.end) after_span inside.1 in
     let few = right (are_too_many past head) faults.TooMany [] span.1 in
     let same : bits_of head.depth ≤ bits_of region.depth = omega arith in

@@ -5,6 +5,7 @@ use Rattle.std.specs.Option.{option_map_or}
 use Rattle.std.specs.Str.{IsUtf8}
 use Rattle.std.proofs.lemmas.Bool.Decides.{nat_tests}
 use Rattle.std.proofs.lemmas.Str.{encodes-chars, encodes-IsAscii, chars-IsAscii}
+use Rattle.std.proofs.lemmas.Bool.{eq-eqb, eqb-true}
 use Rattle.sub_base.specs.declared.depth.Depth.{Depth}
 use Rattle.sub_base.specs.declared.depth.Depth.TheVariants.{Two, Four, Eight}
 use Rattle.cue_list.specs.declared.fault.ScriptKind.{ScriptKind}
@@ -86,12 +87,6 @@ digits_by Two text = digits_two text
 digits_by Four text = digits_all Four (λ digit. refl) text
 digits_by Eight text = digits_all Eight (λ digit. refl) text
 
-same-count : (a b : ℕ) → (a == b) ≡ true → a ≡ b
-same-count a b h = grind (arith, nat_tests)
-
-count-same : (a b : ℕ) → a ≡ b → (a == b) ≡ true
-count-same a b h = grind (arith, nat_tests)
-
 both-are : (a b : Bool) → a ≡ true → b ≡ false → (a && not b) ≡ true
 both-are true b h k = ap not k
 both-are false b h k = absurd (let never : false ≡ true = h in cc)
@@ -107,7 +102,7 @@ right-digits head text utf8 right =
     let passed = three-pass _ _ _ _ _ _ right in
     let all : list_all is_hex (chars text) ≡ true = not-false _ passed.1 in
     let same : chars text ≡ text = chars-hex text utf8 all in (
-      ap length (sym same) ∙ same-count _ _ (not-false _ passed.0),
+      ap length (sym same) ∙ eqb-true _ _ (not-false _ passed.0),
       sym (digits_by head.depth text) ∙ ap (λ (t : List ℕ). list_all is_hex t && not (list_any (is_large head.depth) t)) (sym same) ∙ both-are _ _ all passed.2,
     )
 
@@ -117,6 +112,6 @@ unfolding codes_fault
 digits-right head text count digits =
     let parts = both-true (list_all is_hex text) (not (list_any (is_large head.depth) text)) (digits_by head.depth text ∙ digits) in
     let same : chars text ≡ text = hex-chars text parts.0 in
-    let one : (length text == digits_of head.depth * area head) ≡ true = count-same _ _ count in
+    let one : (length text == digits_of head.depth * area head) ≡ true = eq-eqb _ _ count in
     let small : list_any (is_large head.depth) text ≡ false = not-true _ parts.1 in
     rw (same, one, parts.0, small) refl

@@ -1,3 +1,4 @@
+pub mod AnswerLaws
 pub mod CodesLaws
 pub mod CueLaws
 pub mod EpochLaws

@@ -11,7 +11,7 @@ use Rattle.cue_list.specs.Records.{Record, is}
 use Rattle.cue_list.specs.RowFaults.{regions_of}
 use Rattle.cue_list.specs.RowValues.{region_in, colour_in, head_in}
 use Rattle.cue_list.specs.Rows.{Row}
-use Rattle.cue_list.specs.State.{next_with, with_region, with_colour, with_cue, area_of}
+use Rattle.cue_list.specs.Private.State.{next_with, with_region, with_colour, with_cue, area_of}
 
 abbrev pub row_with : RowKind → ℕ → Row → Record
 row_with kind number cells = record { number = number; kind = kind; cells = cells }

@@ -15,13 +15,13 @@ use Rattle.cue_list.specs.declared.row_kind.RowKind.{RowKind}
 use Rattle.cue_list.specs.declared.row_kind.RowKind.TheVariants as kinds
 use Rattle.cue_list.specs.CellFaults.{first_of, fails}
 use Rattle.cue_list.specs.Drawn.{Brings}
-use Rattle.cue_list.specs.HasRead.{HasRead}
+use Rattle.cue_list.specs.Private.HasRead.{HasRead}
 use Rattle.cue_list.specs.Past.{Past, looking_back, last_epoch, regions_in}
 use Rattle.cue_list.specs.Records.{Record, records_of, records_from as numbered, record_of, records_before, record_at}
 use Rattle.cue_list.specs.RowFaults.{fault_with, fault_of, is_misplaced, regions_of}
 use Rattle.cue_list.specs.Rows.{Row, rows_of}
 use Rattle.cue_list.specs.ScriptRows.{AreRight, AreDrawn, IsRefused}
-use Rattle.cue_list.specs.State.{IsReader, past_of, next_with}
+use Rattle.cue_list.specs.Private.State.{IsReader, past_of, next_with}
 use Rattle.cue_list.proofs.PastLaws.{looking-back-more, regions-last}
 
 -- ---- lists

@@ -71,8 +71,8 @@ covers_or_beside pictures cue x y =
     by_sides p.width p.height
   where
     by_sides : (w h : ℕ) →
-        ((nat_le cue.x x && nat_lt x (cue.x + w) && nat_le cue.y y && nat_lt y (cue.y + h) ≡ true) × (cue.x ≤ x) × (x < cue.x + w) × (cue.y ≤ y) × (y < cue.y + h))
-        ⊎ ((nat_le cue.x x && nat_lt x (cue.x + w) && nat_le cue.y y && nat_lt y (cue.y + h) ≡ false) × ((x < cue.x) ⊎ (cue.x + w ≤ x) ⊎ (y < cue.y) ⊎ (cue.y + h ≤ y)))
+        (((nat_le cue.x x && (nat_lt x (cue.x + w) && (nat_le cue.y y && nat_lt y (cue.y + h)))) ≡ true) × (cue.x ≤ x) × (x < cue.x + w) × (cue.y ≤ y) × (y < cue.y + h))
+        ⊎ (((nat_le cue.x x && (nat_lt x (cue.x + w) && (nat_le cue.y y && nat_lt y (cue.y + h)))) ≡ false) × ((x < cue.x) ⊎ (cue.x + w ≤ x) ⊎ (y < cue.y) ⊎ (cue.y + h ≤ y)))
     by_sides w h =
         elim (lt_or_le x cue.x) [
           | inl left ↦ inr (grind (arith, nat_tests), inl left)

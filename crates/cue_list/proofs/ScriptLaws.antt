@@ -19,7 +19,7 @@ use Rattle.cue_list.specs.declared.row_kind.RowKind.TheVariants as kinds
 use Rattle.cue_list.specs.Drawn.{Brings}
 use Rattle.cue_list.specs.CellFaults.{fails, is_text_row}
 use Rattle.cue_list.specs.declared.fault.ScriptKind.TheVariants as faults
-use Rattle.cue_list.specs.HasRead.{HasRead}
+use Rattle.cue_list.specs.Private.HasRead.{HasRead}
 use Rattle.cue_list.specs.Past.{Past, area, is_close, looking_back, last_epoch, ticks_by, ticks_in, with_last, regions_in}
 use Rattle.cue_list.specs.Records.{Record, cells_of, records_of, records_before, record_at}
 use Rattle.cue_list.specs.RowFaults.{fault_with, fault_of, shape_fault}
@@ -28,7 +28,7 @@ use Rattle.cue_list.specs.Rows.{Row}
 use Rattle.cue_list.specs.ScriptRows.{AreRight, AreDrawn, Lists, IsScript}
 use Rattle.cue_list.specs.Authored.{picture_at_place}
 use Rattle.cue_list.specs.Sound.{IsSound, IsEpoch, IsCue, IsColourRow, IsRegion, Follows, ticks_of}
-use Rattle.cue_list.specs.State.{IsReader, past_of, head_of, next_with}
+use Rattle.cue_list.specs.Private.State.{IsReader, past_of, head_of, next_with}
 use Rattle.cue_list.proofs.EpochLaws.{IsEpochOf, IsCueOf}
 use Rattle.cue_list.proofs.FactLaws.{IsRightRow-from, passed, right}
 use Rattle.cue_list.proofs.PastLaws.{row_with, looking-back-more}

@@ -14,7 +14,7 @@ use Rattle.cue_list.specs.CellFaults.{first_of}
 use Rattle.cue_list.specs.Past.{Past}
 use Rattle.cue_list.specs.RowFaults.{glyph_fault, text_fault}
 use Rattle.cue_list.specs.Setting.{row_fault_of}
-use Rattle.cue_list.specs.State.{head_of, IsRowFault}
+use Rattle.cue_list.specs.Private.State.{head_of, IsRowFault}
 use Rattle.cue_list.specs.TextSizes.{text_head, missing_glyph}
 
 -- a search finds the first element that passes

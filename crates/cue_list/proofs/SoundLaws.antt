@@ -11,7 +11,7 @@ use Rattle.cue_list.specs.declared.row_values.PictureHead.{PictureHead}
 use Rattle.cue_list.specs.Past.{with_last, is_close}
 use Rattle.cue_list.specs.RowFaults.{starts_before, lasts_past}
 use Rattle.cue_list.specs.Sound.{IsTick, Follows, ticks_of, ticks_of_cue}
-use Rattle.cue_list.specs.State.{with_colour, with_cue}
+use Rattle.cue_list.specs.Private.State.{with_colour, with_cue}
 use Rattle.cue_list.proofs.EpochLaws.{IsEpochOf, epoch-heads, epoch-new, follows-last, follows-later}
 use Rattle.cue_list.proofs.TicksApartLaws.{Member, Member-append, Member-at, AreApartTicks, AreApartTicks-more}
 

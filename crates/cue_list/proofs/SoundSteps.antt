@@ -13,11 +13,11 @@ use Rattle.cue_list.specs.declared.row_kind.RowKind.TheVariants as kinds
 use Rattle.cue_list.specs.CellFaults.{value_at, number_fault, placing_cells, place_cells, cue_cells, epoch_cells, display_cells, refresh_cells}
 use Rattle.cue_list.specs.Cells.{cell_at}
 use Rattle.cue_list.specs.Past.{Past, is_close, region_with, head_by, cue_by, cue_with, with_last}
-use Rattle.cue_list.specs.RowFaults.{is_used, share_row, lies_in, is_early, head_at, regions_of}
+use Rattle.cue_list.specs.RowFaults.{is_used, share_row, has_room_at, is_early, head_at, regions_of}
 use Rattle.cue_list.specs.RowValues.{region_in, colour_in, head_in, placing_in, is_through}
 use Rattle.cue_list.specs.Rows.{Row}
 use Rattle.cue_list.specs.Sound.{IsTick}
-use Rattle.cue_list.specs.State.{next_with, with_region, with_colour, with_cue}
+use Rattle.cue_list.specs.Private.State.{next_with, with_region, with_colour, with_cue}
 use Rattle.cue_list.specs.TextSizes.{text_head}
 use Rattle.cue_list.proofs.FactLaws.{IsRightRow, IsRightPlacing, passed, both-false, number-range, epoch-right, region-right, colour-right, place-right, cue-right}
 use Rattle.cue_list.proofs.EpochLaws.{IsCueOf, epoch-region, epoch-colour, epoch-cue, region-cells, colour-row, tick-range, get-last}
@@ -69,7 +69,7 @@ named-place : (o : Option ℕ) (heads : List PictureHead) (head : PictureHead) �
 named-place None heads head h = absurd (let never : None ≡ Some head = h in cc)
 named-place (Some k) heads head h = (k, refl, h)
 
-inside-region : (region : Region) (x y : ℕ) (head : PictureHead) → lies_in region x y head ≡ true → (x + head.width ≤ region.width) × (y + head.height ≤ region.height)
+inside-region : (region : Region) (x y : ℕ) (head : PictureHead) → has_room_at region x y head ≡ true → (x + head.width ≤ region.width) × (y + head.height ≤ region.height)
 inside-region region x y head h = (grind (arith, nat_tests), grind (arith, nat_tests))
 
 placing-ticks : (origin : ℕ) (cells : Row) → placing_cells origin cells ≡ None → IsTick origin (placing_in cells).start × IsTick origin (placing_in cells).end

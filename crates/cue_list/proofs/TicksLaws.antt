@@ -1,7 +1,7 @@
 use Rattle.std.proofs.Common.{◌≡◌, ◌∙◌, refl, sym, ap, ℕ, ◌+◌, ◌-◌, ◌==◌, Bool, true, false, ◌||◌, if◌then◌else◌, Option, Some, None, arith}
 use Rattle.std.proofs.lemmas.Bool.Decides.{nat_tests}
 use Rattle.cue_list.specs.Past.{is_close}
-use Rattle.cue_list.specs.Ticks.{span_of, is_close_to, is_near_by, near_with, AreSpans}
+use Rattle.cue_list.specs.Private.Ticks.{span_of, is_close_to, is_near_by, near_with, AreSpans}
 
 -- one slot, where a tick that is not close replaces one
 kept : (e s : Bool) → (e ≡ true → s ≡ true → ⊥) → (if e then false else s) ≡ s

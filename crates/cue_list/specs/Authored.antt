@@ -1,9 +1,9 @@
 -- What a script shows: the cues that are live at a tick, the code and the colour at a place, and the whole picture.
-use Rattle.std.specs.Prelude.{ℕ, ◌+◌, ◌-◌, ◌==◌, nat_le, nat_lt, not, Bool, ◌&&◌, if◌then◌else◌, List, [], ◌∷◌, map, filter, find, reverse, Option, Some, None, slice_index_or}
+use Rattle.std.specs.Prelude.{ℕ, ◌-◌, ◌==◌, nat_le, nat_lt, not, Bool, ◌&&◌, if◌then◌else◌, List, [], ◌∷◌, map, filter, find, reverse, Option, Some, None, slice_index_or}
 use Rattle.std.specs.List.{flat_map, range_with_len}
 use Rattle.sub_base.specs.Colour.{clear, default_of}
-use Rattle.sub_base.specs.Depth.{bits_of}
-use Rattle.sub_base.specs.Picture.{Picture, picture_of, code_at}
+use Rattle.sub_base.specs.Depth.{is_same_depth}
+use Rattle.sub_base.specs.Picture.{Picture, picture_of, code_at, is_inside}
 use Rattle.sub_base.specs.declared.colour.Colour.{Colour}
 use Rattle.sub_base.specs.declared.depth.Depth.{Depth}
 use Rattle.sub_base.specs.declared.depth.Depth.TheVariants.{Two}
@@ -39,8 +39,8 @@ code_of pictures cue x y = code_at (picture_at_place pictures cue.picture) (x - 
 -- the cue's picture covers a place of its region
 abbrev pub covers : List Picture → Cue → ℕ → ℕ → Bool
 covers pictures cue x y =
-    nat_le cue.x x && nat_lt x (cue.x + (picture_at_place pictures cue.picture).width)
-    && nat_le cue.y y && nat_lt y (cue.y + (picture_at_place pictures cue.picture).height)
+    is_inside cue.x cue.y (picture_at_place pictures cue.picture).width
+    (picture_at_place pictures cue.picture).height x y
 
 -- a cue shows its own code at a place: it covers it, and is not see-through with code 1 there
 abbrev pub shows : List Picture → Cue → ℕ → ℕ → Bool
@@ -60,7 +60,7 @@ authored_code pictures live x y = code_shown pictures x y (find (λ cue. shows p
 -- a row sets that entry of a CLUT at that depth, by a tick
 abbrev pub sets_entry : ℕ → Depth → ℕ → ℕ → ColourRow → Bool
 sets_entry clut depth entry tick row =
-    (row.clut == clut) && (bits_of row.depth == bits_of depth) && (row.entry == entry) && nat_le row.tick tick
+    (row.clut == clut) && is_same_depth row.depth depth && (row.entry == entry) && nat_le row.tick tick
 
 -- of two rows the one with the later tick, and of equal ticks the second
 abbrev pub later_row : ColourRow → Option ColourRow → ColourRow
@@ -86,13 +86,15 @@ authored_colour colours clut depth entry tick =
 
 -- a place of the display lies in a region
 abbrev pub lies_in : ℕ → ℕ → Region → Bool
-lies_in x y region = nat_le region.x x && nat_lt x (region.x + region.width) && nat_le region.y y && nat_lt y (region.y + region.height)
+lies_in x y region = is_inside region.x region.y region.width region.height x y
 
 -- the colour at a place of a region with these live cues: clear where there are none
 abbrev pub colour_with : List Picture → List ColourRow → Region → ℕ → List Cue → ℕ → ℕ → Colour
 colour_with pictures colours region tick [] x y = clear
 colour_with pictures colours region tick (cue ∷ cues) x y =
-    authored_colour colours region.clut region.depth (authored_code pictures (cue ∷ cues) (x - region.x) (y - region.y)) tick
+    authored_colour colours region.clut region.depth
+    (authored_code pictures (cue ∷ cues) (x - region.x) (y - region.y))
+    tick
 
 -- the colour at a place of the display that lies in a region, or in none
 abbrev pub colour_in : List Picture → Epoch → ℕ → ℕ → ℕ → Option Region → Colour

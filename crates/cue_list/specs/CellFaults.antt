@@ -1,9 +1,9 @@
 -- What is wrong with the cells of a record, from the left.
-use Rattle.std.specs.Prelude.{ℕ, ◌+◌, ◌==◌, nat_le, Bool, ◌&&◌, ◌||◌, not, if◌then◌else◌, List, [], ◌∷◌, Option, Some, None, Result, Ok, Err, codes}
+use Rattle.std.specs.Prelude.{ℕ, ◌+◌, ◌==◌, nat_le, Bool, ◌&&◌, ◌||◌, not, if◌then◌else◌, List, [], ◌∷◌, Option, Some, None, Result, Ok, Err, codes, ◌-◌}
 use Rattle.std.specs.Str.{bytes_eq, is_utf8}
 use Rattle.std.specs.List.{list_all}
 use Rattle.sub_base.specs.Number.{is_number, value_from}
-use Rattle.cue_list.specs.declared.limits.TheConstants.{LATEST_ORIGIN, LONGEST_SCRIPT, MOST_DIGITS}
+use Rattle.cue_list.specs.declared.limits.TheConstants.{LATEST_ORIGIN, LONGEST_SCRIPT, MOST_DIGITS, MOST_HEIGHT, MOST_WIDTH}
 use Rattle.cue_list.specs.declared.fault.ScriptKind.{ScriptKind}
 use Rattle.cue_list.specs.declared.fault.ScriptKind.TheVariants as faults
 use Rattle.cue_list.specs.declared.row_kind.RowKind.{RowKind}
@@ -65,8 +65,8 @@ origin_cells row = number_fault 0 LATEST_ORIGIN (cell_at row 1)
 -- `display`, W, H
 unfoldable pub display_cells : Row → Option ScriptKind
 display_cells row = first_of (
-    number_fault 1 1920 (cell_at row 1)
-    ∷ number_fault 1 1080 (cell_at row 2)
+    number_fault 1 MOST_WIDTH (cell_at row 1)
+    ∷ number_fault 1 MOST_HEIGHT (cell_at row 2)
     ∷ [])
 
 -- `refresh`, seconds
@@ -81,10 +81,10 @@ epoch_cells origin row = tick_fault origin (cell_at row 1)
 unfoldable pub region_cells : Row → Option ScriptKind
 region_cells row = first_of (
     number_fault 0 255 (cell_at row 1)
-    ∷ number_fault 0 1919 (cell_at row 2)
-    ∷ number_fault 0 1079 (cell_at row 3)
-    ∷ number_fault 1 1920 (cell_at row 4)
-    ∷ number_fault 1 1080 (cell_at row 5)
+    ∷ number_fault 0 (MOST_WIDTH - 1) (cell_at row 2)
+    ∷ number_fault 0 (MOST_HEIGHT - 1) (cell_at row 3)
+    ∷ number_fault 1 MOST_WIDTH (cell_at row 4)
+    ∷ number_fault 1 MOST_HEIGHT (cell_at row 5)
     ∷ depth_fault (cell_at row 6)
     ∷ number_fault 0 255 (cell_at row 7)
     ∷ [])
@@ -106,8 +106,8 @@ colour_cells origin row = first_of (
 unfoldable pub picture_cells : Row → Option ScriptKind
 picture_cells row = first_of (
     depth_fault (cell_at row 2)
-    ∷ number_fault 1 1920 (cell_at row 3)
-    ∷ number_fault 1 1080 (cell_at row 4)
+    ∷ number_fault 1 MOST_WIDTH (cell_at row 3)
+    ∷ number_fault 1 MOST_HEIGHT (cell_at row 4)
     ∷ [])
 
 -- START, END, REGION, X, Y of a place or a cue
@@ -116,8 +116,8 @@ placing_cells origin row = first_of (
     tick_fault origin (cell_at row 1)
     ∷ tick_fault origin (cell_at row 2)
     ∷ number_fault 0 255 (cell_at row 3)
-    ∷ number_fault 0 1919 (cell_at row 4)
-    ∷ number_fault 0 1079 (cell_at row 5)
+    ∷ number_fault 0 (MOST_WIDTH - 1) (cell_at row 4)
+    ∷ number_fault 0 (MOST_HEIGHT - 1) (cell_at row 5)
     ∷ [])
 
 -- `place`, START, END, REGION, X, Y, MODE, NAME

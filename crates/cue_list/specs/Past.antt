@@ -34,7 +34,8 @@ listed item (row ∷ earlier) = with_last (listed item earlier) (item earlier ro
 -- what the records since the last epoch's own record list
 abbrev pub listed_since : {A : Type 0} → (List Record → Record → Option A) → List Record → List A
 listed_since item [] = []
-listed_since item (row ∷ earlier) = if is kinds.Epoch row then [] else with_last (listed_since item earlier) (item earlier row)
+listed_since item (row ∷ earlier) =
+    if is kinds.Epoch row then [] else with_last (listed_since item earlier) (item earlier row)
 
 -- how many records are of that kind
 abbrev pub how_many : (RowKind → Bool) → List Record → ℕ
@@ -77,7 +78,8 @@ ticks_in earlier = flat_map (λ row. ticks_by row.kind row.cells) earlier
 -- two ticks differ by 1 to 3,600
 abbrev pub is_close : ℕ → ℕ → Bool
 is_close first second =
-    (nat_lt first second && nat_le second (first + CLOSE_TICKS)) || (nat_lt second first && nat_le first (second + CLOSE_TICKS))
+    (nat_lt first second && nat_le second (first + CLOSE_TICKS))
+    || (nat_lt second first && nat_le first (second + CLOSE_TICKS))
 
 -- ---- pictures
 
@@ -88,7 +90,9 @@ region_with id regions = find (λ region. region.id == id) regions
 -- the depth and the sides of the picture that a record brings: its own, or its text's at its region's depth
 abbrev pub head_by : FontValue → List Region → RowKind → Row → Option PictureHead
 head_by font regions kinds.Picture cells = Some (head_in cells)
-head_by font regions kinds.Cue cells = option_map (λ region. text_head font region.depth (chars (cell_at cells 8))) (region_with (value_at cells 3) regions)
+head_by font regions kinds.Cue cells =
+    option_map (λ region. text_head font region.depth (chars (cell_at cells 8)))
+    (region_with (value_at cells 3) regions)
 head_by font regions _ cells = None
 
 -- the depths and sides of the pictures
@@ -107,7 +111,8 @@ codes_in font earlier = sum_by area (heads_in font earlier)
 abbrev pub place_named : FontValue → List Record → List ℕ → Option ℕ
 place_named font [] name = None
 place_named font (row ∷ earlier) name =
-    if is kinds.Picture row && bytes_eq name (cell_at row.cells 1) then Some (length (heads_in font earlier)) else place_named font earlier name
+    if is kinds.Picture row && bytes_eq name (cell_at row.cells 1) then Some (length (heads_in font earlier))
+    else place_named font earlier name
 
 -- ---- cues and epochs
 
@@ -126,14 +131,17 @@ cue_with number cells picture see_through = record {
 
 -- the cue that a record brings: of the last picture of that name before it, or of its own text
 abbrev pub cue_by : (List ℕ → Option ℕ) → ℕ → RowKind → ℕ → Row → Option Cue
-cue_by named count kinds.Place number cells = option_map (λ place. cue_with number cells place (is_through cells)) (named (cell_at cells 7))
+cue_by named count kinds.Place number cells =
+    option_map (λ place. cue_with number cells place (is_through cells)) (named (cell_at cells 7))
 cue_by named count kinds.Cue number cells = Some (cue_with number cells count false)
 cue_by named count _ number cells = None
 
 -- the cues since the last epoch's record
 abbrev pub cues_in : FontValue → List Record → List Cue
 cues_in font earlier =
-    listed_since (λ before row. cue_by (place_named font before) (length (heads_in font before)) row.kind row.number row.cells) earlier
+    listed_since
+    (λ before row. cue_by (place_named font before) (length (heads_in font before)) row.kind row.number row.cells)
+    earlier
 
 -- the epoch of a record, with what the records since it list
 abbrev pub epoch_of : FontValue → List Record → Record → Epoch
@@ -153,7 +161,8 @@ last_epoch font earlier = option_map (epoch_of font earlier) (find (is kinds.Epo
 abbrev pub ended_epochs : FontValue → List Record → List Epoch
 ended_epochs font [] = []
 ended_epochs font (row ∷ earlier) =
-    if is kinds.Epoch row then with_last (ended_epochs font earlier) (last_epoch font earlier) else ended_epochs font earlier
+    if is kinds.Epoch row then with_last (ended_epochs font earlier) (last_epoch font earlier)
+    else ended_epochs font earlier
 
 -- ---- all of it
 

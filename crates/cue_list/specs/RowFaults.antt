@@ -1,4 +1,5 @@
--- What is wrong with a record, by what is found by looking back over the records before it: the first of its tests that fails.
+-- What is wrong with a record, by what is found by looking back over the records before it: the first of its tests that
+-- fails.
 use Rattle.std.specs.Prelude.{ℕ, ◌+◌, ◌*◌, ◌==◌, nat_lt, nat_le, not, Bool, true, false, ◌&&◌, ◌||◌, if◌then◌else◌, List, [], ◌∷◌, length, chars, Option, Some, None, is_some, slice_get}
 use Rattle.std.specs.List.{list_any, list_all}
 use Rattle.std.specs.Option.{option_map_or}
@@ -6,7 +7,7 @@ use Rattle.sub_base.specs.Depth.{bits_of, code_count}
 use Rattle.sub_base.specs.declared.depth.Depth.{Depth}
 use Rattle.sub_base.specs.declared.depth.Depth.TheVariants.{Two, Four, Eight}
 use Rattle.bitmap_font.specs.Font.{FontValue}
-use Rattle.cue_list.specs.declared.limits.TheConstants.{LONGEST_CUE, LONGEST_NAME, MOST_CODES, MOST_COLOURS, MOST_CUES, MOST_EPOCHS, MOST_PICTURES, MOST_REGIONS}
+use Rattle.cue_list.specs.declared.limits.TheConstants.{LONGEST_CUE, LONGEST_NAME, MOST_CODES, MOST_COLOURS, MOST_CUES, MOST_EPOCHS, MOST_HEIGHT, MOST_PICTURES, MOST_REGIONS, MOST_WIDTH}
 use Rattle.cue_list.specs.declared.epoch.ColourRow.{ColourRow}
 use Rattle.cue_list.specs.declared.epoch.Epoch.{Epoch}
 use Rattle.cue_list.specs.declared.epoch.Region.{Region}
@@ -79,7 +80,8 @@ starts_before tick (Some epoch) = nat_lt epoch.start tick
 -- a cue of the last epoch ends after that tick, or a colour of it does not lie before it
 abbrev pub lasts_past : ℕ → Option Epoch → Bool
 lasts_past tick None = false
-lasts_past tick (Some epoch) = list_any (λ cue. nat_lt tick cue.end) epoch.cues || list_any (λ row. nat_le tick row.tick) epoch.colours
+lasts_past tick (Some epoch) =
+    list_any (λ cue. nat_lt tick cue.end) epoch.cues || list_any (λ row. nat_le tick row.tick) epoch.colours
 
 -- a new epoch's start
 unfoldable pub epoch_fault : Past → ℕ → Option ScriptKind
@@ -154,8 +156,8 @@ picture_fault past head cells = first_of (
 -- ---- places and cues
 
 -- a picture lies inside a region at a place
-abbrev pub lies_in : Region → ℕ → ℕ → PictureHead → Bool
-lies_in region x y head = nat_le (x + head.width) region.width && nat_le (y + head.height) region.height
+abbrev pub has_room_at : Region → ℕ → ℕ → PictureHead → Bool
+has_room_at region x y head = nat_le (x + head.width) region.width && nat_le (y + head.height) region.height
 
 -- a span of ticks in an epoch
 unfoldable pub span_fault : Past → ℕ → ℕ → Option ScriptKind
@@ -172,7 +174,7 @@ placed_fault past placing None head = Some faults.NoRegion
 placed_fault past placing (Some region) None = Some faults.NoPicture
 placed_fault past placing (Some region) (Some head) = first_of (
     fails (nat_lt (bits_of region.depth) (bits_of head.depth)) faults.CodeRange
-    ∷ fails (not (lies_in region placing.x placing.y head)) faults.CueOutside
+    ∷ fails (not (has_room_at region placing.x placing.y head)) faults.CueOutside
     ∷ span_fault past placing.start placing.end
     ∷ [])
 
@@ -183,7 +185,8 @@ head_at heads (Some place) = slice_get heads place
 
 unfoldable pub place_fault : Past → PlaceRow → List ℕ → Option ScriptKind
 place_fault past placing name =
-    placed_fault past placing (region_with placing.region (regions_of past.epoch)) (head_at past.heads (past.named name))
+    placed_fault past placing (region_with placing.region (regions_of past.epoch))
+    (head_at past.heads (past.named name))
 
 -- the character that has no glyph, where there is one
 abbrev pub glyph_fault : Option ℕ → Option ScriptKind
@@ -194,12 +197,15 @@ glyph_fault (Some character) = Some (faults.Glyph character)
 abbrev pub text_fault : Past → PlaceRow → Region → PictureHead → Option ScriptKind
 text_fault past placing region head = first_of (
     fails (head.width == 0) faults.Range
-    ∷ fails (nat_lt 1920 head.width || nat_lt 1080 head.height || not (lies_in region placing.x placing.y head)) faults.CueOutside
+    ∷ fails (nat_lt MOST_WIDTH head.width || nat_lt MOST_HEIGHT head.height
+    || not (has_room_at region placing.x placing.y head))
+    faults.CueOutside
     ∷ span_fault past placing.start placing.end
     ∷ fails (are_too_many past head) faults.TooMany
     ∷ [])
 
-abbrev pub set_fault : FontValue → Past → PlaceRow → ℕ → ℕ → List ℕ → Option Region → Option ScriptKind
+abbrev pub set_fault : FontValue → Past → PlaceRow → ℕ → ℕ → List ℕ → Option Region
+    → Option ScriptKind
 set_fault font past placing ink paper characters None = Some faults.NoRegion
 set_fault font past placing ink paper characters (Some region) = first_of (
     fails (not (nat_lt ink (code_count region.depth) && nat_lt paper (code_count region.depth))) faults.CodeRange
@@ -220,7 +226,8 @@ kind_fault font past kinds.Region number cells = region_fault past (region_in ce
 kind_fault font past kinds.Colour number cells = colour_fault past (colour_in number cells)
 kind_fault font past kinds.Picture number cells = picture_fault past (head_in cells) cells
 kind_fault font past kinds.Place number cells = place_fault past (placing_in cells) (cell_at cells 7)
-kind_fault font past kinds.Cue number cells = cue_fault font past (placing_in cells) (value_at cells 6) (value_at cells 7) (chars (cell_at cells 8))
+kind_fault font past kinds.Cue number cells =
+    cue_fault font past (placing_in cells) (value_at cells 6) (value_at cells 7) (chars (cell_at cells 8))
 kind_fault font past _ number cells = None
 
 -- a first cell that names no kind

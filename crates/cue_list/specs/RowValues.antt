@@ -45,7 +45,14 @@ head_in row = record { depth = depth_with (value_at row 2); width = value_at row
 
 -- `place` or `cue`: START, END, REGION, X, Y
 unfoldable pub placing_in : Row → PlaceRow
-placing_in row = record { start = value_at row 1; end = value_at row 2; region = value_at row 3; x = value_at row 4; y = value_at row 5 }
+placing_in row =
+    record {
+      start = value_at row 1;
+      end = value_at row 2;
+      region = value_at row 3;
+      x = value_at row 4;
+      y = value_at row 5;
+    }
 
 -- the mode of a `place`
 abbrev pub is_through : Row → Bool

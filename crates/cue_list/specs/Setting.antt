@@ -22,7 +22,8 @@ row_fault_of set.Empty = Wrong faults.Range
 row_fault_of set.TooWide = Wrong faults.CueOutside
 
 -- the picture of a cue's text, at its region's depth
-pub record IsTextPicture (font : FontValue) (regions : List Region) (id ink paper : ℕ) (characters : List ℕ) (picture : Picture) : Type 0 where
+pub record IsTextPicture (font : FontValue) (regions : List Region) (id ink paper : ℕ) (characters : List ℕ)
+    (picture : Picture) : Type 0 where
   pub region : Region
   pub found : region_with id regions ≡ Some region
   pub set : IsSetting font characters ink paper region.depth picture
@@ -31,5 +32,6 @@ pub record IsTextPicture (font : FontValue) (regions : List Region) (id ink pape
 -- a cue's record adds the picture of its text
 pub record IsTextOf (font : FontValue) (regions : List Region) (cells : Row) (old new : List Picture) : Type 0 where
   pub picture : Picture
-  pub set : IsTextPicture font regions (value_at cells 3) (value_at cells 6) (value_at cells 7) (chars (cell_at cells 8)) picture
+  pub set : IsTextPicture font regions (value_at cells 3) (value_at cells 6) (value_at cells 7)
+      (chars (cell_at cells 8)) picture
   pub added : new ≡ old ++ picture ∷ []

@@ -4,12 +4,13 @@ use Rattle.std.specs.List.{flat_map}
 use Rattle.sub_base.specs.Colour.{shown_of}
 use Rattle.sub_base.specs.Depth.{bits_of, code_count}
 use Rattle.sub_base.specs.Picture.{Picture, IsPicture}
-use Rattle.cue_list.specs.declared.limits.TheConstants.{CLOSE_TICKS, LATEST_ORIGIN, LONGEST_CUE, LONGEST_SCRIPT, MOST_CODES, MOST_COLOURS, MOST_CUES, MOST_EPOCHS, MOST_PICTURES, MOST_REGIONS}
+use Rattle.cue_list.specs.declared.limits.TheConstants.{CLOSE_TICKS, LATEST_ORIGIN, LONGEST_CUE, LONGEST_SCRIPT, MOST_CODES, MOST_COLOURS, MOST_CUES, MOST_EPOCHS, MOST_HEIGHT, MOST_PICTURES, MOST_REGIONS, MOST_WIDTH}
 use Rattle.cue_list.specs.declared.epoch.Epoch.{Epoch}
 use Rattle.cue_list.specs.declared.epoch.Region.{Region}
 use Rattle.cue_list.specs.declared.epoch.ColourRow.{ColourRow}
 use Rattle.cue_list.specs.declared.epoch.Cue.{Cue}
 use Rattle.cue_list.specs.Authored.{picture_at_place}
+use Rattle.sub_base.specs.declared.pace.TheConstants.{SECOND}
 
 -- a tick lies from the origin on, at most 3,240,000,000 ticks after it
 pub record IsTick (origin tick : ℕ) : Type 0 where
@@ -50,7 +51,8 @@ pub record FitsRegion (region : Region) (x y : ℕ) (picture : Picture) : Type 0
   pub down : y + picture.height ≤ region.height
   pub shallow : bits_of picture.depth ≤ bits_of region.depth
 
--- a cue shows a picture of the script inside a region of its epoch, for at most 54,000,000 ticks from the epoch's start on
+-- a cue shows a picture of the script inside a region of its epoch, for at most 54,000,000 ticks from the epoch's start
+-- on
 pub record IsCue (origin start : ℕ) (regions : List Region) (pictures : List Picture) (cue : Cue) : Type 0 where
   pub starts : IsTick origin cue.start
   pub ends : IsTick origin cue.end
@@ -89,10 +91,10 @@ pub record Follows (earlier later : Epoch) : Type 0 where
 -- a script's display, refresh, epochs and pictures are right, and within the limits
 pub record IsSound (origin width height refresh : ℕ) (epochs : List Epoch) (pictures : List Picture) : Type 0 where
   pub early : origin ≤ LATEST_ORIGIN
-  pub wide : (1 ≤ width) × (width ≤ 1920)
-  pub high : (1 ≤ height) × (height ≤ 1080)
+  pub wide : (1 ≤ width) × (width ≤ MOST_WIDTH)
+  pub high : (1 ≤ height) × (height ≤ MOST_HEIGHT)
   pub seconds : ℕ
-  pub whole : refresh ≡ 90000 * seconds
+  pub whole : refresh ≡ SECOND * seconds
   pub often : (1 ≤ seconds) × (seconds ≤ 60)
   pub some_epoch : 1 ≤ length epochs
   pub few_epochs : length epochs ≤ MOST_EPOCHS

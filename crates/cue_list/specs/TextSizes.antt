@@ -15,4 +15,5 @@ text_head font depth characters = record {
 
 -- the first character that needs a glyph and has none
 unfoldable pub missing_glyph : FontValue → List ℕ → Option ℕ
-missing_glyph font characters = find (λ character. not (character == 10) && not (is_some (glyph_of font character))) characters
+missing_glyph font characters =
+    find (λ character. not (character == 10) && not (is_some (glyph_of font character))) characters

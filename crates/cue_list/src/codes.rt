@@ -7,8 +7,9 @@ ghost use Rattle.cue_list.specs.RowFaults.{digits_of};
 use crate::hex::digit_value;
 use sub_base::Depth;
 
-/// Puts the codes of a text in their places, one hexadecimal digit a code, two at 8 bits, and says whether the text has
-/// no character but digits of that depth. All of it is walked either way, so that no code is waited for.
+/// Puts the codes of a text in their places, one hexadecimal digit a code, two at 8 bits, and says
+/// whether the text has no character but digits of that depth. All of it is walked either way, so
+/// that no code is waited for.
 pub(crate) fn put_codes(depth: Depth, text: &[u8], codes: &mut [u8]) -> bool
     requires { length text.now ≡ digits_of depth * length codes.old }
     ensures digits { result ≡ are_digits depth text.now }
@@ -37,7 +38,8 @@ fn put_single_codes(limit: u8, text: &[u8], codes: &mut [u8]) -> bool
     for place in 0..codes.len() {
         let value = digit_value(text[place]);
         codes[place] = value;
-        // No way out at the first such character: a loop without one needs no branch, and nearly every picture is valid.
+        // No way out at the first such character: a loop without one needs no branch, and nearly
+        // every picture is valid.
         right &= value < limit;
     }
     right
@@ -55,7 +57,8 @@ fn put_double_codes(text: &[u8], codes: &mut [u8]) -> bool
     for place in 0..codes.len() {
         let high = digit_value(text[2 * place]);
         let low = digit_value(text[2 * place + 1]);
-        // A character that is no digit is 255. What it makes here is not used, but has to fit a byte.
+        // A character that is no digit is 255. What it makes here is not used, but has to fit a
+        // byte.
         codes[place] = high % 16 * 16 + low % 16;
         right &= high < 16;
         right &= low < 16;

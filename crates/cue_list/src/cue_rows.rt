@@ -1,4 +1,4 @@
-ghost use Rattle.cue_list.specs.declared.limits.TheConstants.{MOST_CODES, MOST_CUES};
+ghost use Rattle.cue_list.specs.declared.limits.TheConstants.{MOST_CODES, MOST_CUES, MOST_HEIGHT, MOST_WIDTH};
 ghost use Rattle.std.specs.Prelude.{◌≡◌, ◌≤◌, ◌<◌, ◌+◌, ◌^◌, ◌∷◌, [], ◌++◌, true, false, None, Some, chars, length, map, option_map, IfNone, IfSome, OnOk, IfOk, IfErr};
 ghost use Rattle.csv.specs.Records.{fields_of};
 ghost use Rattle.cue_list.specs.CellFaults.{first_of, is_text_row, value_at, place_cells as place_cells_of, cue_cells as cue_cells_of};
@@ -6,10 +6,10 @@ ghost use Rattle.cue_list.specs.Cells.{cell_at};
 ghost use Rattle.cue_list.specs.Past.{area as area_of_head, region_with as region_with_of, is_close};
 ghost use Rattle.cue_list.specs.RowFaults.{place_fault as place_fault_of, placed_fault as placed_fault_of, head_at as head_at_of, cue_fault as cue_fault_of, text_fault as text_fault_of, regions_of};
 ghost use Rattle.cue_list.specs.RowValues.{placing_in};
-ghost use Rattle.cue_list.specs.State.{IsReader, past_of, head_of as head_of_picture, IsTaken, IsRowFault, place_next, cue_next};
+ghost use Rattle.cue_list.specs.Private.State.{IsReader, past_of, head_of as head_of_picture, IsTaken, IsRowFault, place_next, cue_next};
 ghost use Rattle.cue_list.specs.Setting.{IsTextPicture, IsTextOf};
 ghost use Rattle.cue_list.specs.TextSizes.{text_head};
-ghost use Rattle.cue_list.specs.Ticks.{near_by};
+ghost use Rattle.cue_list.specs.Private.Ticks.{near_by};
 
 use crate::epoch::{Cue, Region};
 use crate::fault::ScriptKind;
@@ -17,7 +17,7 @@ use crate::reader::Reader;
 use crate::row_cells::{CueCells, cue_cells, place_cells};
 use crate::row_fault::RowFault;
 use crate::row_steps::add_cue;
-use crate::row_tests::{area, lies_in, region_with};
+use crate::row_tests::{area, region_with};
 use crate::row_values::{PictureHead, PlaceRow};
 use crate::setting::head_of;
 use crate::texts::text_cell;
@@ -58,11 +58,12 @@ impl Reader {
         let Some(head) = head else {
             return Some(ScriptKind::NoPicture);
         };
-        // A map table gives the codes of a shallower picture in a deeper region; there is none the other way.
+        // A map table gives the codes of a shallower picture in a deeper region; there is none the
+        // other way.
         if region.depth.bits() < head.depth.bits() {
             return Some(ScriptKind::CodeRange);
         }
-        if !lies_in(region, placing.x, placing.y, head) {
+        if !region.has_room_at(placing.x, placing.y, head) {
             return Some(ScriptKind::CueOutside);
         }
         self.span_fault(placing.start, placing.end)
@@ -74,9 +75,19 @@ impl Reader {
         requires reader { IsReader self.old }
         requires text { is_text_row (fields_of row.now) ≡ true }
         requires few { self.old.cues < MOST_CUES }
-        ensures taken { OnOk result (IsTaken (first_of (place_cells_of self.old.origin (fields_of row.now) ∷ place_fault_of (past_of self.old) (placing_in (fields_of row.now)) (cell_at (fields_of row.now) 7) ∷ [])) (place_next (past_of self.old) number (fields_of row.now)) self.new) }
+        ensures taken { OnOk result
+            (IsTaken (first_of
+            (place_cells_of self.old.origin (fields_of row.now)
+            ∷ place_fault_of (past_of self.old) (placing_in (fields_of row.now))
+            (cell_at (fields_of row.now) 7) ∷ []))
+            (place_next (past_of self.old) number (fields_of row.now)) self.new) }
         ensures pictures { self.new.pictures ≡ self.old.pictures }
-        ensures refused { IfErr result (IsRowFault (first_of (place_cells_of self.old.origin (fields_of row.now) ∷ place_fault_of (past_of self.old) (placing_in (fields_of row.now)) (cell_at (fields_of row.now) 7) ∷ []))) }
+        ensures refused { IfErr result
+            (IsRowFault
+            (first_of
+            (place_cells_of self.old.origin (fields_of row.now)
+            ∷ place_fault_of (past_of self.old) (placing_in (fields_of row.now))
+            (cell_at (fields_of row.now) 7) ∷ []))) }
     {
         let place = place_cells(row, self.origin)?;
         let found = self.names.place(text_cell(row, 7));
@@ -101,8 +112,8 @@ impl Reader {
     fn text_fault(&self, placing: PlaceRow, region: Region, head: PictureHead) -> Option<ScriptKind>
         requires start { placing.start < 2 ^ 62 }
         requires end { placing.end < 2 ^ 62 }
-        requires wide { (1 ≤ head.width) × (head.width ≤ 1920) }
-        requires high { head.height ≤ 1080 }
+        requires wide { (1 ≤ head.width) × (head.width ≤ MOST_WIDTH) }
+        requires high { head.height ≤ MOST_HEIGHT }
         requires few { self.now.codes ≤ MOST_CODES }
         ensures fault { result ≡ text_fault_of (past_of self.now) placing region head }
         ensures start { IfNone result (near_by self.now.ticks placing.start ≡ false) }
@@ -110,7 +121,7 @@ impl Reader {
         ensures apart { IfNone result (is_close placing.start placing.end ≡ false) }
         ensures room { IfNone result (self.now.codes + area_of_head head ≤ MOST_CODES) }
     {
-        if !lies_in(region, placing.x, placing.y, head) {
+        if !region.has_room_at(placing.x, placing.y, head) {
             return Some(ScriptKind::CueOutside);
         }
         if let Some(kind) = self.span_fault(placing.start, placing.end) {
@@ -128,14 +139,25 @@ impl Reader {
         requires start { cue.placing.start < 2 ^ 62 }
         requires end { cue.placing.end < 2 ^ 62 }
         requires few { self.now.codes ≤ MOST_CODES }
-        ensures right { OnOk result (cue_fault_of font.now (past_of self.now) cue.placing cue.ink cue.paper (chars text.now) ≡ None) }
-        ensures set { IfOk result (IsTextPicture font.now (regions_of self.now.epoch) cue.placing.region cue.ink cue.paper (chars text.now)) }
-        ensures head { IfOk result (λ picture. option_map (λ region. text_head font.now region.depth (chars text.now)) (region_with_of cue.placing.region (regions_of self.now.epoch)) ≡ Some (head_of_picture picture)) }
+        ensures right { OnOk result
+            (cue_fault_of font.now (past_of self.now) cue.placing cue.ink cue.paper (chars text.now)
+            ≡ None) }
+        ensures set { IfOk result
+            (IsTextPicture font.now (regions_of self.now.epoch) cue.placing.region cue.ink cue.paper
+            (chars text.now)) }
+        ensures head { IfOk result
+            (λ picture. option_map (λ region. text_head font.now region.depth (chars text.now))
+            (region_with_of cue.placing.region (regions_of self.now.epoch))
+            ≡ Some (head_of_picture picture)) }
         ensures start { OnOk result (near_by self.now.ticks cue.placing.start ≡ false) }
         ensures end { OnOk result (near_by self.now.ticks cue.placing.end ≡ false) }
         ensures apart { OnOk result (is_close cue.placing.start cue.placing.end ≡ false) }
-        ensures room { IfOk result (λ picture. self.now.codes + area_of_head (head_of_picture picture) ≤ MOST_CODES) }
-        ensures refused { IfErr result (IsRowFault (cue_fault_of font.now (past_of self.now) cue.placing cue.ink cue.paper (chars text.now))) }
+        ensures room { IfOk result
+            (λ picture. self.now.codes + area_of_head (head_of_picture picture) ≤ MOST_CODES) }
+        ensures refused { IfErr result
+            (IsRowFault
+            (cue_fault_of font.now (past_of self.now) cue.placing cue.ink cue.paper
+            (chars text.now))) }
     {
         let Some(region) = region_with(self.regions(), cue.placing.region) else {
             return Err(RowFault::Wrong(ScriptKind::NoRegion));
@@ -165,9 +187,23 @@ impl Reader {
         requires reader { IsReader self.old }
         requires text { is_text_row (fields_of row.now) ≡ true }
         requires few { self.old.cues < MOST_CUES }
-        ensures taken { OnOk result (IsTaken (first_of (cue_cells_of self.old.origin (fields_of row.now) ∷ cue_fault_of font.now (past_of self.old) (placing_in (fields_of row.now)) (value_at (fields_of row.now) 6) (value_at (fields_of row.now) 7) (chars (cell_at (fields_of row.now) 8)) ∷ [])) (cue_next font.now (past_of self.old) number (fields_of row.now)) self.new) }
-        ensures set { OnOk result (IsTextOf font.now (regions_of self.old.epoch) (fields_of row.now) self.old.pictures.items self.new.pictures.items) }
-        ensures refused { IfErr result (IsRowFault (first_of (cue_cells_of self.old.origin (fields_of row.now) ∷ cue_fault_of font.now (past_of self.old) (placing_in (fields_of row.now)) (value_at (fields_of row.now) 6) (value_at (fields_of row.now) 7) (chars (cell_at (fields_of row.now) 8)) ∷ []))) }
+        ensures taken { OnOk result
+            (IsTaken (first_of
+            (cue_cells_of self.old.origin (fields_of row.now)
+            ∷ cue_fault_of font.now (past_of self.old) (placing_in (fields_of row.now))
+            (value_at (fields_of row.now) 6) (value_at (fields_of row.now) 7)
+            (chars (cell_at (fields_of row.now) 8)) ∷ []))
+            (cue_next font.now (past_of self.old) number (fields_of row.now)) self.new) }
+        ensures set { OnOk result
+            (IsTextOf font.now (regions_of self.old.epoch) (fields_of row.now)
+            self.old.pictures.items self.new.pictures.items) }
+        ensures refused { IfErr result
+            (IsRowFault
+            (first_of
+            (cue_cells_of self.old.origin (fields_of row.now)
+            ∷ cue_fault_of font.now (past_of self.old) (placing_in (fields_of row.now))
+            (value_at (fields_of row.now) 6) (value_at (fields_of row.now) 7)
+            (chars (cell_at (fields_of row.now) 8)) ∷ []))) }
     {
         let cue = cue_cells(row, self.origin)?;
         let picture = self.cue_picture(font, cue, text_cell(row, 8))?;
@@ -187,7 +223,17 @@ impl Reader {
 
 /// The cue that is placed so, with the picture at that place of the list.
 fn cue_with(placing: PlaceRow, number: u64, picture: u32, see_through: bool) -> Cue
-    ensures { result ≡ record { start = placing.start; end = placing.end; row = number; region = placing.region; x = placing.x; y = placing.y; picture = picture; see_through = see_through } }
+    ensures { result
+        ≡ record {
+          start = placing.start;
+          end = placing.end;
+          row = number;
+          region = placing.region;
+          x = placing.x;
+          y = placing.y;
+          picture = picture;
+          see_through = see_through;
+        } }
 {
     Cue {
         start: placing.start,

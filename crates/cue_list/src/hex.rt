@@ -14,7 +14,8 @@ pub(crate) fn hex_value(digit: char) -> Option<u8>
     }
 }
 
-/// The same for a byte, and 255 where it is no such digit. There is no branch in it: digits come in any order.
+/// The same for a byte, and 255 where it is no such digit. There is no branch in it: digits come in
+/// any order.
 #[inline(always)]
 pub(crate) fn digit_value(digit: u8) -> u8
     ensures { result ≡ unwrap_or (hex_value_of digit) 255 }

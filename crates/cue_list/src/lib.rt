@@ -1,4 +1,5 @@
-//! Cue scripts: records of CSV that list the epochs, regions, colours, pictures and cues of a programme.
+//! Cue scripts: records of CSV that list the epochs, regions, colours, pictures and cues of a
+//! programme.
 //!
 //! `Script::read` reads a whole script. Each record is tested by those before it; the first faulty one is
 //! refused by the first of its tests that fails. `picture_at` draws what a script shows at a tick.
@@ -44,7 +45,8 @@ pub use epoch::{ColourRow, Cue, Epoch, Region};
 pub use fault::{ScriptFault, ScriptKind};
 pub use limits::{
     CLOSE_TICKS, LATEST_ORIGIN, LONGEST_CUE, LONGEST_NAME, LONGEST_SCRIPT, MOST_CODES,
-    MOST_COLOURS, MOST_CUES, MOST_DIGITS, MOST_EPOCHS, MOST_PICTURES, MOST_REGIONS,
+    MOST_COLOURS, MOST_CUES, MOST_DIGITS, MOST_EPOCHS, MOST_HEIGHT, MOST_PICTURES, MOST_REGIONS,
+    MOST_WIDTH,
 };
 pub use painting::picture_at;
 pub use script::Script;

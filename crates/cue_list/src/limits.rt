@@ -4,11 +4,18 @@ pub const LATEST_ORIGIN: u64 = 8_589_934_591;
 /// How many ticks after the origin a tick may lie: ten hours.
 pub const LONGEST_SCRIPT: u64 = 3_240_000_000;
 
-/// How many ticks two ticks of a script lie apart at the least, where they differ, less one.
+/// Two ticks of a script lie more ticks apart than these, where they differ; and so does a refresh
+/// and the next tick that a record names.
 pub const CLOSE_TICKS: u64 = 3_600;
 
 /// How many ticks a place or a cue lasts at the most: ten minutes.
 pub const LONGEST_CUE: u64 = 54_000_000;
+
+/// How many columns a display, a region and a picture have at the most.
+pub const MOST_WIDTH: u16 = 1_920;
+
+/// How many rows a display, a region and a picture have at the most.
+pub const MOST_HEIGHT: u16 = 1_080;
 
 /// How many digits a number has at the most.
 pub const MOST_DIGITS: usize = 11;

@@ -1,6 +1,6 @@
 ghost use Rattle.std.specs.Prelude.{◌≡◌, ℕ, List, None, OnOk, IfErr};
-ghost use Rattle.cue_list.specs.State.{IsRowFault};
-ghost use Rattle.cue_list.specs.Names.{place_by, named_with};
+ghost use Rattle.cue_list.specs.Private.State.{IsRowFault};
+ghost use Rattle.cue_list.specs.Private.Names.{place_by, named_with};
 
 use crate::row_fault::RowFault;
 use std::alloc::Global;
@@ -31,7 +31,8 @@ impl Names {
     /// Notes the place of a picture of that name.
     pub(crate) fn add(&mut self, alloc: Global, name: &str, place: u32) -> Result<(), RowFault>
         ensures memory { IfErr result (IsRowFault None) }
-        ensures added { OnOk result (place_by self.new ≡ named_with name.now place (place_by self.old)) }
+        ensures added { OnOk result
+            (place_by self.new ≡ named_with name.now place (place_by self.old)) }
     {
         let name = String::from_str(alloc, name)?;
         // A later picture of the same name serves for the records behind it.

@@ -10,10 +10,14 @@ use crate::script::Script;
 use indexed_picture::Indexed;
 use sub_base::{CLEAR, Colour, Depth, default_colour};
 
-/// Makes the plane the authored picture of a script at a tick: its colours by rows, from the top and from the left.
+/// Makes the plane the authored picture of a script at a tick: its colours by rows, from the top
+/// and from the left.
 pub fn picture_at(script: &Script, tick: u64, plane: &mut [Colour])
     requires { length plane.old ≡ script.now.width * script.now.height }
-    ensures { plane.new ≡ authored_picture script.now.width script.now.height script.now.epochs script.now.pictures tick }
+    ensures { plane.new
+        ≡ authored_picture script.now.width script.now.height script.now.epochs
+        script.now.pictures
+        tick }
 {
     clear_plane(plane);
     if let Some(epoch) = epoch_at(script.epochs.as_slice(), tick) {
@@ -31,8 +35,10 @@ fn paint_regions(
 )
     requires plane { length plane.old ≡ script.now.width * script.now.height }
     requires blank { IsBlank plane.old }
-    requires regions { ArePaintable script.now.width script.now.height script.now.pictures epoch.now.cues regions.now }
-    ensures { ShowsRegions script.now.pictures epoch.now regions.now tick script.now.width script.now.height plane.new }
+    requires regions { ArePaintable script.now.width script.now.height script.now.pictures
+        epoch.now.cues regions.now }
+    ensures { ShowsRegions script.now.pictures epoch.now regions.now tick script.now.width
+        script.now.height plane.new }
 {
     for region in regions {
         paint_region(plane, script, epoch, *region, tick);
@@ -80,8 +86,8 @@ fn is_live_in(cue: &Cue, region: u8, tick: u64) -> bool
     cue.region == region && cue.is_live_at(tick)
 }
 
-/// The colours of all entries of a CLUT at a depth, by a tick. Of rows that set the same entry, the one with the latest
-/// tick counts, and among equal ticks the last.
+/// The colours of all entries of a CLUT at a depth, by a tick. Of rows that set the same entry, the
+/// one with the latest tick counts, and among equal ticks the last.
 fn entries_at(colours: &[ColourRow], clut: u8, depth: Depth, tick: u64) -> [Colour; 256]
     ensures { AreEntriesBy colours.now clut depth tick result }
 {
@@ -111,9 +117,17 @@ fn no_ticks() -> [u64; 256]
 
 /// Gives an entry the colour of a row, but where a row with a later tick has given it one.
 fn put_row(entries: &mut [Colour; 256], ticks: &mut [u64; 256], row: &ColourRow)
-    ensures same { (entry : ℕ) → (row.now.entry ≡ entry → ⊥) → (colour_of entries.new entry ≡ colour_of entries.old entry) × (slice_index ticks.new entry ≡ slice_index ticks.old entry) }
-    ensures put { (entry : ℕ) → row.now.entry ≡ entry → slice_index ticks.old entry ≤ row.now.tick → (colour_of entries.new entry ≡ row.now.colour) × (slice_index ticks.new entry ≡ row.now.tick) }
-    ensures kept { (entry : ℕ) → row.now.entry ≡ entry → row.now.tick < slice_index ticks.old entry → (colour_of entries.new entry ≡ colour_of entries.old entry) × (slice_index ticks.new entry ≡ slice_index ticks.old entry) }
+    ensures same { (entry : ℕ) → (row.now.entry ≡ entry → ⊥)
+        → (colour_of entries.new entry ≡ colour_of entries.old entry)
+        × (slice_index ticks.new entry ≡ slice_index ticks.old entry) }
+    ensures put { (entry : ℕ) → row.now.entry ≡ entry
+        → slice_index ticks.old entry ≤ row.now.tick
+        → (colour_of entries.new entry ≡ row.now.colour)
+        × (slice_index ticks.new entry ≡ row.now.tick) }
+    ensures kept { (entry : ℕ) → row.now.entry ≡ entry
+        → row.now.tick < slice_index ticks.old entry
+        → (colour_of entries.new entry ≡ colour_of entries.old entry)
+        × (slice_index ticks.new entry ≡ slice_index ticks.old entry) }
 {
     let entry = usize::from(row.entry);
     // Rows are in the script's order, so that of equal ticks the later row counts.
@@ -139,7 +153,8 @@ fn paint_region(plane: &mut [Colour], script: &Script, epoch: &Epoch, region: Re
     requires across { region.x + region.width ≤ script.now.width }
     requires down { region.y + region.height ≤ script.now.height }
     requires cues { AreCuesOf script.now.pictures region epoch.now.cues }
-    ensures { PaintsRegion script.now.pictures epoch.now region tick script.now.width script.now.height plane.old plane.new }
+    ensures { PaintsRegion script.now.pictures epoch.now region tick script.now.width
+        script.now.height plane.old plane.new }
 {
     let cues = epoch.cues.as_slice();
     // Such a region is not on the page, and the video is seen there.
@@ -164,8 +179,11 @@ fn paint_live_cues(
     requires across { region.x + region.width ≤ script.now.width }
     requires down { region.y + region.height ≤ script.now.height }
     requires cues { AreCuesOf script.now.pictures region cues.now }
-    ensures { (before : List Colour) → HasLive script.now.pictures entries.now region [] script.now.width script.now.height before plane.old
-        → HasLive script.now.pictures entries.now region (live_cues cues.now region.id tick) script.now.width script.now.height before plane.new }
+    ensures { (before : List Colour)
+        → HasLive script.now.pictures entries.now region [] script.now.width script.now.height
+        before plane.old
+        → HasLive script.now.pictures entries.now region (live_cues cues.now region.id tick)
+        script.now.width script.now.height before plane.new }
 {
     for cue in cues {
         if is_live_in(cue, region.id, tick) {
@@ -193,7 +211,10 @@ fn paint_cue(
     requires across { region.x + region.width ≤ script.now.width }
     requires down { region.y + region.height ≤ script.now.height }
     requires fits { FitsIn script.now.pictures region cue.now }
-    ensures { PaintsRows entries.now (picture_at_place script.now.pictures cue.now.picture) (region.x + cue.now.x) (region.y + cue.now.y) cue.now.see_through script.now.width script.now.height (picture_at_place script.now.pictures cue.now.picture).height plane.old plane.new }
+    ensures { PaintsRows entries.now (picture_at_place script.now.pictures cue.now.picture)
+        (region.x + cue.now.x) (region.y + cue.now.y) cue.now.see_through script.now.width
+        script.now.height (picture_at_place script.now.pictures cue.now.picture).height plane.old
+        plane.new }
 {
     let picture = &script.pictures.as_slice()[cue.picture as usize];
     let left = usize::from(region.x) + usize::from(cue.x);
@@ -221,7 +242,9 @@ fn paint_rows(
 )
     requires across { left + picture.now.width ≤ width }
     requires down { (top + picture.now.height) * width ≤ length plane.old }
-    ensures { (height : ℕ) → PaintsRows entries.now picture.now left top see_through width height picture.now.height plane.old plane.new }
+    ensures { (height : ℕ)
+        → PaintsRows entries.now picture.now left top see_through width height picture.now.height
+        plane.old plane.new }
 {
     for row in 0..picture.height() {
         let start = (top + usize::from(row)) * width + left;
@@ -241,7 +264,8 @@ fn paint_row(
     ensures { SetsRow entries.now codes.now start see_through plane.old plane.new }
 {
     for (place, code) in codes.iter().enumerate() {
-        // The non-modifying colour of EN 300 743 is code 1 as the picture has it, before any map table.
+        // The non-modifying colour of EN 300 743 is code 1 as the picture has it, before any map
+        // table.
         if !(see_through && *code == 1) {
             plane[start + place] = entries[usize::from(*code)];
         }
@@ -252,7 +276,8 @@ fn paint_row(
 fn fill_rows(plane: &mut [Colour], width: u16, region: Region, colour: Colour)
     requires across { region.x + region.width ≤ width }
     requires down { (region.y + region.height) * width ≤ length plane.old }
-    ensures { (height : ℕ) → FillsRows colour region width height region.height plane.old plane.new }
+    ensures { (height : ℕ)
+        → FillsRows colour region width height region.height plane.old plane.new }
 {
     for row in 0..region.height {
         let start = (usize::from(region.y) + usize::from(row)) * usize::from(width)

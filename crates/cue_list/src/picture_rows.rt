@@ -8,7 +8,7 @@ ghost use Rattle.cue_list.specs.Codes.{codes_of};
 ghost use Rattle.cue_list.specs.Past.{area as area_of_head};
 ghost use Rattle.cue_list.specs.RowFaults.{picture_fault as picture_fault_of, codes_fault as codes_fault_of, is_name as is_name_of};
 ghost use Rattle.cue_list.specs.RowValues.{head_in};
-ghost use Rattle.cue_list.specs.State.{IsReader, past_of, IsTaken, IsRowFault, picture_next};
+ghost use Rattle.cue_list.specs.Private.State.{IsReader, past_of, IsTaken, IsRowFault, picture_next};
 ghost use Rattle.cue_list.specs.Drawn.{IsPictureOf, IsPictureWith};
 
 use crate::cells::cell;
@@ -38,10 +38,12 @@ impl Reader {
         requires few { self.now.codes ≤ MOST_CODES }
         requires wide { 1 ≤ head.width }
         requires high { 1 ≤ head.height }
-        ensures right { OnOk result (picture_fault_of (past_of self.now) head (fields_of row.now) ≡ None) }
+        ensures right { OnOk result
+            (picture_fault_of (past_of self.now) head (fields_of row.now) ≡ None) }
         ensures drawn { IfOk result (IsPictureWith head (cell_at (fields_of row.now) 5)) }
         ensures room { OnOk result (self.now.codes + area_of_head head ≤ MOST_CODES) }
-        ensures refused { IfErr result (IsRowFault (picture_fault_of (past_of self.now) head (fields_of row.now))) }
+        ensures refused { IfErr result
+            (IsRowFault (picture_fault_of (past_of self.now) head (fields_of row.now))) }
     {
         if !is_name(cell(row, 1)) {
             return Err(RowFault::Wrong(ScriptKind::Range));
@@ -58,9 +60,21 @@ impl Reader {
         requires reader { IsReader self.old }
         requires text { is_text_row (fields_of row.now) ≡ true }
         requires few { self.old.named < MOST_PICTURES }
-        ensures taken { OnOk result (IsTaken (first_of (picture_cells_of (fields_of row.now) ∷ picture_fault_of (past_of self.old) (head_in (fields_of row.now)) (fields_of row.now) ∷ [])) (picture_next (past_of self.old) (fields_of row.now)) self.new) }
-        ensures drawn { OnOk result (IsPictureOf (fields_of row.now) self.old.pictures.items self.new.pictures.items) }
-        ensures refused { IfErr result (IsRowFault (first_of (picture_cells_of (fields_of row.now) ∷ picture_fault_of (past_of self.old) (head_in (fields_of row.now)) (fields_of row.now) ∷ []))) }
+        ensures taken { OnOk result
+            (IsTaken (first_of
+            (picture_cells_of (fields_of row.now)
+            ∷ picture_fault_of (past_of self.old) (head_in (fields_of row.now))
+            (fields_of row.now)
+            ∷ [])) (picture_next (past_of self.old) (fields_of row.now)) self.new) }
+        ensures drawn { OnOk result
+            (IsPictureOf (fields_of row.now) self.old.pictures.items self.new.pictures.items) }
+        ensures refused { IfErr result
+            (IsRowFault
+            (first_of
+            (picture_cells_of (fields_of row.now)
+            ∷ picture_fault_of (past_of self.old) (head_in (fields_of row.now))
+            (fields_of row.now)
+            ∷ []))) }
     {
         let head = picture_cells(row)?;
         let picture = self.picture_in(alloc, head, row)?;
@@ -78,23 +92,29 @@ fn picture_of(alloc: Global, head: PictureHead, row: &ByteRecord) -> Result<Inde
     requires text { is_text_row (fields_of row.now) ≡ true }
     requires wide { 1 ≤ head.width }
     requires high { 1 ≤ head.height }
-    ensures right { OnOk result (codes_fault_of head (chars (cell_at (fields_of row.now) 5)) ≡ None) }
+    ensures right { OnOk result
+        (codes_fault_of head (chars (cell_at (fields_of row.now) 5)) ≡ None) }
     ensures drawn { IfOk result (IsPictureWith head (cell_at (fields_of row.now) 5)) }
-    ensures refused { IfErr result (IsRowFault (codes_fault_of head (chars (cell_at (fields_of row.now) 5)))) }
+    ensures refused { IfErr result
+        (IsRowFault (codes_fault_of head (chars (cell_at (fields_of row.now) 5)))) }
 {
     let codes = read_codes(alloc, head, row)?;
     Ok(Indexed::of_codes(head.width, head.height, head.depth, codes))
 }
 
-/// The codes that stand in a record, one for each pixel. A text of as many digits as are wanted is walked once; only
-/// one that is refused is walked again, for its fault.
+/// The codes that stand in a record, one for each pixel. A text of as many digits as are wanted is
+/// walked once; only one that is refused is walked again, for its fault.
 fn read_codes(alloc: Global, head: PictureHead, row: &ByteRecord) -> Result<Vec<u8>, RowFault>
     requires { is_text_row (fields_of row.now) ≡ true }
-    ensures right { OnOk result (codes_fault_of head (chars (cell_at (fields_of row.now) 5)) ≡ None) }
-    ensures read { IfOk result (λ codes. codes_of head.depth (cell_at (fields_of row.now) 5) ≡ Some codes.items) }
+    ensures right { OnOk result
+        (codes_fault_of head (chars (cell_at (fields_of row.now) 5)) ≡ None) }
+    ensures read { IfOk result
+        (λ codes. codes_of head.depth (cell_at (fields_of row.now) 5) ≡ Some codes.items) }
     ensures count { IfOk result (λ codes. length codes.items ≡ head.width * head.height) }
-    ensures range { IfOk result (λ codes. All (λ code. code < code_count head.depth) codes.items) }
-    ensures refused { IfErr result (IsRowFault (codes_fault_of head (chars (cell_at (fields_of row.now) 5)))) }
+    ensures range { IfOk result
+        (λ codes. All (λ code. code < code_count head.depth) codes.items) }
+    ensures refused { IfErr result
+        (IsRowFault (codes_fault_of head (chars (cell_at (fields_of row.now) 5)))) }
 {
     let text = cell(row, 5);
     if text.len() as u64 == digits(head.depth) * area(head) {

@@ -1,7 +1,8 @@
-ghost use Rattle.std.specs.Prelude.{◌≡◌, ◌+◌, ◌<◌, ◌^◌, [], true, length, is_some, IfOk, IfErr};
-ghost use Rattle.cue_list.specs.HasRead.{HasRead};
+ghost use Rattle.std.specs.Prelude.{◌≡◌, ◌≢◌, ◌+◌, ◌<◌, ◌^◌, ℕ, List, [], true, length, is_some, IfOk, IfErr, IsOkUnless};
+ghost use Rattle.cue_list.specs.Private.HasRead.{HasRead};
 ghost use Rattle.cue_list.specs.Records.{records_of};
-ghost use Rattle.cue_list.specs.ScriptRows.{IsScriptFault};
+ghost use Rattle.cue_list.specs.ScriptRows.{IsRefusal, IsScriptFault};
+ghost use Rattle.sub_base.specs.Picture.{Picture};
 ghost use Rattle.std.specs.Prelude.{Err, None};
 ghost use Rattle.cue_list.specs.declared.fault.ScriptKind.TheVariants.{Order};
 ghost use Rattle.cue_list.specs.declared.fault.ScriptFault.TheVariants.{Memory, Refused};
@@ -18,32 +19,58 @@ use crate::script::Script;
 use bitmap_font::Font;
 use csv::ByteRecord;
 use std::alloc::Global;
-use sub_base::{Items, NoMemory};
-
-/// The ticks of a second.
-const SECOND: u64 = 90_000;
+use sub_base::{Items, NoMemory, SECOND};
 
 impl Script {
-    /// Reads a cue script: CSV without a header, in records that are tested one after another, each by those before it. The
-    /// texts of cues are set in `font`. The first faulty record is refused, by the first of its tests that fails; a script
-    /// in which no epoch starts is refused at the record after its last.
+    /// Reads a cue script: CSV without a header, in records that are tested one after another, each
+    /// by those before it. The texts of cues are set in `font`. The first faulty record is refused,
+    /// by the first of its tests that fails; a script in which no epoch starts is refused at the
+    /// record after its last.
+    #[tactic(auto, using(crate::proofs::AnswerLaws::every_script))]
     pub fn read(alloc: Global, bytes: &[u8], font: &Font) -> Result<Script, ScriptFault>
-        ensures script { IfOk result (λ script. IsScript bytes.now font.now script.origin script.width script.height script.refresh script.epochs script.pictures) }
-        ensures sound { IfOk result (λ script. IsSound script.origin script.width script.height script.refresh script.epochs script.pictures) }
+        ensures script { IfOk result
+            (λ script. IsScript bytes.now font.now script.origin script.width script.height
+            script.refresh script.epochs script.pictures) }
+        ensures sound { IfOk result
+            (λ script. IsSound script.origin script.width script.height script.refresh
+            script.epochs
+            script.pictures) }
         ensures refused { IfErr result (IsScriptFault bytes.now font.now) }
+
+        // But for want of memory each script is read, and each faulty file is refused, for its one
+        // fault.
+        ensures every_script { (origin width height refresh : ℕ) (epochs : List Epoch)
+            (pictures : List Picture)
+            → IsScript bytes.now font.now origin width height refresh epochs pictures
+            → IsOkUnless result Memory }
+        ensures every_fault { (fault : ScriptFault) → IsScriptFault bytes.now font.now fault
+            → fault ≢ Memory → IsRefusal fault result }
     {
-        let reader = read_records(alloc, bytes, font)?;
-        let refresh = SECOND * reader.seconds;
-        let epochs = epochs_of(reader.ended, reader.epoch)?;
-        Ok(Script {
-            origin: reader.origin,
-            width: reader.width,
-            height: reader.height,
-            refresh,
-            epochs: Items::new(alloc, epochs),
-            pictures: Items::new(alloc, reader.pictures),
-        })
+        script_of(alloc, bytes, font)
     }
+}
+
+/// The same, of all its records.
+fn script_of(alloc: Global, bytes: &[u8], font: &Font) -> Result<Script, ScriptFault>
+    ensures script { IfOk result
+        (λ script. IsScript bytes.now font.now script.origin script.width script.height
+        script.refresh script.epochs script.pictures) }
+    ensures sound { IfOk result
+        (λ script. IsSound script.origin script.width script.height script.refresh script.epochs
+        script.pictures) }
+    ensures refused { IfErr result (IsScriptFault bytes.now font.now) }
+{
+    let reader = read_records(alloc, bytes, font)?;
+    let refresh = SECOND * reader.seconds;
+    let epochs = epochs_of(reader.ended, reader.epoch)?;
+    Ok(Script {
+        origin: reader.origin,
+        width: reader.width,
+        height: reader.height,
+        refresh,
+        epochs: Items::new(alloc, epochs),
+        pictures: Items::new(alloc, reader.pictures),
+    })
 }
 
 /// The epochs, with the last one.
@@ -91,7 +118,8 @@ fn whole(reader: Reader) -> Result<Reader, ScriptFault>
     requires { reader.rows + 1 < 2 ^ 64 }
     ensures read { IfOk result (λ whole. whole ≡ reader) }
     ensures epoch { IfOk result (λ whole. is_some whole.epoch ≡ true) }
-    ensures none { IfErr result (λ fault. (reader.epoch ≡ None) × (fault ≡ Refused (reader.rows + 1) Order)) }
+    ensures none { IfErr result
+        (λ fault. (reader.epoch ≡ None) × (fault ≡ Refused (reader.rows + 1) Order)) }
 {
     if reader.epoch.is_none() {
         return Err(ScriptFault::Refused {

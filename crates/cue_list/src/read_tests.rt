@@ -6,8 +6,18 @@ use std::process::Abort;
 use std::test::Fail;
 use sub_base::CLEAR;
 
-const FONT: &[u8] =
-    b"STARTFONT 2.1\nFONTBOUNDINGBOX 3 4 0 -1\nSTARTCHAR A\nENCODING 65\nDWIDTH 3 0\nBBX 2 3 0 0\nBITMAP\n40\nC0\n40\nENDCHAR\nENDFONT\n";
+const FONT: &[u8] = b"STARTFONT 2.1\n\
+      FONTBOUNDINGBOX 3 4 0 -1\n\
+      STARTCHAR A\n\
+      ENCODING 65\n\
+      DWIDTH 3 0\n\
+      BBX 2 3 0 0\n\
+      BITMAP\n\
+      40\n\
+      C0\n\
+      40\n\
+      ENDCHAR\n\
+      ENDFONT\n";
 
 const HEAD: &str = "origin,0\ndisplay,40,30\nrefresh,5\n";
 
@@ -294,12 +304,17 @@ fn wrong_scripts_are_refused_at_their_first_wrong_record(rt: HostRuntime) -> Res
     Ok(())
 }
 
-/// Scripts without a faulty record: what follows the head, and how many epochs, pictures and cues there are.
+/// Scripts without a faulty record: what follows the head, and how many epochs, pictures and cues
+/// there are.
 const RIGHT: [(&str, usize, usize, usize); 6] = [
     ("epoch,90000\n", 1, 0, 0),
     ("epoch,90000\nepoch,93601\n", 2, 0, 0),
     (
-        "epoch,90000\r\nregion,0,0,0,20,20,4,0\r\n\r\npicture,a,4,2,1,3f\r\nplace,93601,180000,0,18,19,solid,a",
+        "epoch,90000\r\n\
+         region,0,0,0,20,20,4,0\r\n\
+         \r\n\
+         picture,a,4,2,1,3f\r\n\
+         place,93601,180000,0,18,19,solid,a",
         1,
         1,
         1,
@@ -311,7 +326,11 @@ const RIGHT: [(&str, usize, usize, usize); 6] = [
         1,
     ),
     (
-        "epoch,90000\nregion,0,0,0,20,20,4,0\ncolour,180000,0,4,15,0,1,1,1\ncolour,180000,0,4,15,1,1,1,1\nepoch,183601\n",
+        "epoch,90000\n\
+         region,0,0,0,20,20,4,0\n\
+         colour,180000,0,4,15,0,1,1,1\n\
+         colour,180000,0,4,15,1,1,1,1\n\
+         epoch,183601\n",
         2,
         0,
         0,
@@ -353,8 +372,16 @@ fn right_scripts_are_read(rt: HostRuntime) -> Result<(), Fail> {
 fn a_cue_shows_the_last_picture_of_a_name_before_it(rt: HostRuntime) -> Result<(), Fail> {
     let alloc = rt.alloc();
     let font = Font::empty(alloc);
-    let text =
-        b"origin,7\ndisplay,40,30\nrefresh,5\nepoch,90000\nregion,3,0,0,20,20,4,9\npicture,a,4,1,1,3\npicture,a,4,2,1,3F\nplace,90000,180000,3,1,2,through,a\npicture,a,2,1,1,3\ncolour,90000,9,4,1,0,1,2,3\n";
+    let text = b"origin,7\n\
+          display,40,30\n\
+          refresh,5\n\
+          epoch,90000\n\
+          region,3,0,0,20,20,4,9\n\
+          picture,a,4,1,1,3\n\
+          picture,a,4,2,1,3F\n\
+          place,90000,180000,3,1,2,through,a\n\
+          picture,a,2,1,1,3\n\
+          colour,90000,9,4,1,0,1,2,3\n";
     let Ok(script) = Script::read(alloc, text, &font) else {
         panic!(&rt; "the script is right");
     };

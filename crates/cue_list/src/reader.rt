@@ -1,7 +1,7 @@
 ghost use Rattle.std.specs.Prelude.{◌≡◌, []};
 ghost use Rattle.bitmap_font.specs.Font.{FontValue};
 ghost use Rattle.cue_list.specs.Past.{looking_back};
-ghost use Rattle.cue_list.specs.State.{IsReader, past_of};
+ghost use Rattle.cue_list.specs.Private.State.{IsReader, past_of};
 
 use crate::epoch::Epoch;
 use crate::names::Names;

@@ -1,5 +1,6 @@
-ghost use Rattle.std.specs.Prelude.{◌≡◌, ◌≤◌, ◌+◌, IfOk};
+ghost use Rattle.std.specs.Prelude.{◌≡◌, ◌≤◌, ◌+◌, IfOk, ◌-◌};
 ghost use Rattle.csv.specs.Records.{fields_of};
+ghost use Rattle.cue_list.specs.declared.limits.TheConstants.{MOST_HEIGHT, MOST_WIDTH};
 ghost use Rattle.cue_list.specs.CellFaults.{fault_in, number_fault, depth_fault, mode_fault, value_of, value_at, origin_cells as origin_cells_of, display_cells as display_cells_of, refresh_cells as refresh_cells_of, epoch_cells as epoch_cells_of, region_cells as region_cells_of, colour_cells as colour_cells_of, picture_cells as picture_cells_of, placing_cells as placing_cells_of, place_cells as place_cells_of, cue_cells as cue_cells_of};
 ghost use Rattle.cue_list.specs.Cells.{cell_at};
 ghost use Rattle.cue_list.specs.RowValues.{depth_with, region_in, colour_in, head_in, placing_in, is_through};
@@ -9,7 +10,7 @@ ghost use Rattle.std.specs.Prelude.{codes};
 use crate::cells::{cell, is_text};
 use crate::epoch::{ColourRow, Region};
 use crate::fault::ScriptKind;
-use crate::limits::{LATEST_ORIGIN, LONGEST_SCRIPT, MOST_DIGITS};
+use crate::limits::{LATEST_ORIGIN, LONGEST_SCRIPT, MOST_DIGITS, MOST_HEIGHT, MOST_WIDTH};
 use crate::row_values::{DisplayRow, PictureHead, PlaceRow};
 use csv::ByteRecord;
 use sub_base::{Colour, Depth, decimal_number};
@@ -135,11 +136,13 @@ pub fn display_cells(row: &ByteRecord) -> Result<DisplayRow, ScriptKind>
     ensures fault { fault_in result ≡ display_cells_of (fields_of row.now) }
     ensures width { IfOk result (λ display. display.width ≡ value_at (fields_of row.now) 1) }
     ensures height { IfOk result (λ display. display.height ≡ value_at (fields_of row.now) 2) }
-    ensures wide { IfOk result (λ display. (1 ≤ display.width) × (display.width ≤ 1920)) }
-    ensures high { IfOk result (λ display. (1 ≤ display.height) × (display.height ≤ 1080)) }
+    ensures wide { IfOk result
+        (λ display. (1 ≤ display.width) × (display.width ≤ MOST_WIDTH)) }
+    ensures high { IfOk result
+        (λ display. (1 ≤ display.height) × (display.height ≤ MOST_HEIGHT)) }
 {
-    let width = short_cell(cell(row, 1), 1, 1_920)?;
-    let height = short_cell(cell(row, 2), 1, 1_080)?;
+    let width = short_cell(cell(row, 1), 1, MOST_WIDTH)?;
+    let height = short_cell(cell(row, 2), 1, MOST_HEIGHT)?;
     Ok(DisplayRow { width, height })
 }
 
@@ -171,13 +174,16 @@ pub fn region_cells(row: &ByteRecord) -> Result<Region, ScriptKind>
     ensures fault { fault_in result ≡ region_cells_of (fields_of row.now) }
     ensures value { IfOk result (λ region. region ≡ region_in (fields_of row.now)) }
     ensures sides { IfOk result (λ region. (1 ≤ region.width) × (1 ≤ region.height)) }
-    ensures most { IfOk result (λ region. (region.x ≤ 1919) × (region.y ≤ 1079) × (region.width ≤ 1920) × (region.height ≤ 1080)) }
+    ensures most { IfOk result
+        (λ region. (region.x ≤ MOST_WIDTH - 1) × (region.y ≤ MOST_HEIGHT - 1)
+        × (region.width ≤ MOST_WIDTH)
+        × (region.height ≤ MOST_HEIGHT)) }
 {
     let id = byte_cell(cell(row, 1))?;
-    let x = short_cell(cell(row, 2), 0, 1_919)?;
-    let y = short_cell(cell(row, 3), 0, 1_079)?;
-    let width = short_cell(cell(row, 4), 1, 1_920)?;
-    let height = short_cell(cell(row, 5), 1, 1_080)?;
+    let x = short_cell(cell(row, 2), 0, MOST_WIDTH - 1)?;
+    let y = short_cell(cell(row, 3), 0, MOST_HEIGHT - 1)?;
+    let width = short_cell(cell(row, 4), 1, MOST_WIDTH)?;
+    let height = short_cell(cell(row, 5), 1, MOST_HEIGHT)?;
     let depth = depth_cell(cell(row, 6))?;
     let clut = byte_cell(cell(row, 7))?;
     Ok(Region {
@@ -208,7 +214,8 @@ pub fn colour_cells(row: &ByteRecord, origin: u64, number: u64) -> Result<Colour
     let cr = byte_cell(cell(row, 6))?;
     let cb = byte_cell(cell(row, 7))?;
     let t = byte_cell(cell(row, 8))?;
-    // A receiver takes a luminance of 0 as clear: kept so, a colour is the same in the script and on the display.
+    // A receiver takes a luminance of 0 as clear: kept so, a colour is the same in the script and
+    // on the display.
     let colour = Colour { y, cr, cb, t }.shown();
     Ok(ColourRow {
         tick,
@@ -225,12 +232,12 @@ pub fn colour_cells(row: &ByteRecord, origin: u64, number: u64) -> Result<Colour
 pub fn picture_cells(row: &ByteRecord) -> Result<PictureHead, ScriptKind>
     ensures fault { fault_in result ≡ picture_cells_of (fields_of row.now) }
     ensures value { IfOk result (λ head. head ≡ head_in (fields_of row.now)) }
-    ensures wide { IfOk result (λ head. (1 ≤ head.width) × (head.width ≤ 1920)) }
-    ensures high { IfOk result (λ head. (1 ≤ head.height) × (head.height ≤ 1080)) }
+    ensures wide { IfOk result (λ head. (1 ≤ head.width) × (head.width ≤ MOST_WIDTH)) }
+    ensures high { IfOk result (λ head. (1 ≤ head.height) × (head.height ≤ MOST_HEIGHT)) }
 {
     let depth = depth_cell(cell(row, 2))?;
-    let width = short_cell(cell(row, 3), 1, 1_920)?;
-    let height = short_cell(cell(row, 4), 1, 1_080)?;
+    let width = short_cell(cell(row, 3), 1, MOST_WIDTH)?;
+    let height = short_cell(cell(row, 4), 1, MOST_HEIGHT)?;
     Ok(PictureHead {
         depth,
         width,
@@ -244,15 +251,18 @@ fn placing_cells(row: &ByteRecord, origin: u64) -> Result<PlaceRow, ScriptKind>
     requires { origin ≤ LATEST_ORIGIN }
     ensures fault { fault_in result ≡ placing_cells_of origin (fields_of row.now) }
     ensures value { IfOk result (λ placing. placing ≡ placing_in (fields_of row.now)) }
-    ensures start { IfOk result (λ placing. (origin ≤ placing.start) × (placing.start ≤ origin + LONGEST_SCRIPT)) }
-    ensures end { IfOk result (λ placing. (origin ≤ placing.end) × (placing.end ≤ origin + LONGEST_SCRIPT)) }
-    ensures corner { IfOk result (λ placing. (placing.x ≤ 1919) × (placing.y ≤ 1079)) }
+    ensures start { IfOk result
+        (λ placing. (origin ≤ placing.start) × (placing.start ≤ origin + LONGEST_SCRIPT)) }
+    ensures end { IfOk result
+        (λ placing. (origin ≤ placing.end) × (placing.end ≤ origin + LONGEST_SCRIPT)) }
+    ensures corner { IfOk result
+        (λ placing. (placing.x ≤ MOST_WIDTH - 1) × (placing.y ≤ MOST_HEIGHT - 1)) }
 {
     let start = tick_cell(cell(row, 1), origin)?;
     let end = tick_cell(cell(row, 2), origin)?;
     let region = byte_cell(cell(row, 3))?;
-    let x = short_cell(cell(row, 4), 0, 1_919)?;
-    let y = short_cell(cell(row, 5), 0, 1_079)?;
+    let x = short_cell(cell(row, 4), 0, MOST_WIDTH - 1)?;
+    let y = short_cell(cell(row, 5), 0, MOST_HEIGHT - 1)?;
     Ok(PlaceRow {
         start,
         end,
@@ -269,9 +279,14 @@ pub fn place_cells(row: &ByteRecord, origin: u64) -> Result<PlaceCells, ScriptKi
     ensures fault { fault_in result ≡ place_cells_of origin (fields_of row.now) }
     ensures placing { IfOk result (λ place. place.placing ≡ placing_in (fields_of row.now)) }
     ensures mode { IfOk result (λ place. place.see_through ≡ is_through (fields_of row.now)) }
-    ensures start { IfOk result (λ place. (origin ≤ place.placing.start) × (place.placing.start ≤ origin + LONGEST_SCRIPT)) }
-    ensures end { IfOk result (λ place. (origin ≤ place.placing.end) × (place.placing.end ≤ origin + LONGEST_SCRIPT)) }
-    ensures corner { IfOk result (λ place. (place.placing.x ≤ 1919) × (place.placing.y ≤ 1079)) }
+    ensures start { IfOk result
+        (λ place. (origin ≤ place.placing.start)
+        × (place.placing.start ≤ origin + LONGEST_SCRIPT)) }
+    ensures end { IfOk result
+        (λ place. (origin ≤ place.placing.end)
+        × (place.placing.end ≤ origin + LONGEST_SCRIPT)) }
+    ensures corner { IfOk result
+        (λ place. (place.placing.x ≤ MOST_WIDTH - 1) × (place.placing.y ≤ MOST_HEIGHT - 1)) }
 {
     let placing = placing_cells(row, origin)?;
     let see_through = mode_cell(cell(row, 6))?;
@@ -289,9 +304,13 @@ pub fn cue_cells(row: &ByteRecord, origin: u64) -> Result<CueCells, ScriptKind>
     ensures placing { IfOk result (λ cue. cue.placing ≡ placing_in (fields_of row.now)) }
     ensures ink { IfOk result (λ cue. cue.ink ≡ value_at (fields_of row.now) 6) }
     ensures paper { IfOk result (λ cue. cue.paper ≡ value_at (fields_of row.now) 7) }
-    ensures start { IfOk result (λ cue. (origin ≤ cue.placing.start) × (cue.placing.start ≤ origin + LONGEST_SCRIPT)) }
-    ensures end { IfOk result (λ cue. (origin ≤ cue.placing.end) × (cue.placing.end ≤ origin + LONGEST_SCRIPT)) }
-    ensures corner { IfOk result (λ cue. (cue.placing.x ≤ 1919) × (cue.placing.y ≤ 1079)) }
+    ensures start { IfOk result
+        (λ cue. (origin ≤ cue.placing.start)
+        × (cue.placing.start ≤ origin + LONGEST_SCRIPT)) }
+    ensures end { IfOk result
+        (λ cue. (origin ≤ cue.placing.end) × (cue.placing.end ≤ origin + LONGEST_SCRIPT)) }
+    ensures corner { IfOk result
+        (λ cue. (cue.placing.x ≤ MOST_WIDTH - 1) × (cue.placing.y ≤ MOST_HEIGHT - 1)) }
 {
     let placing = placing_cells(row, origin)?;
     let ink = byte_cell(cell(row, 6))?;

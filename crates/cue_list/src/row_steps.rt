@@ -4,7 +4,7 @@ ghost use Rattle.csv.specs.Records.{fields_of};
 ghost use Rattle.cue_list.specs.CellFaults.{first_of, value_at, origin_cells as origin_cells_of, display_cells as display_cells_of, refresh_cells as refresh_cells_of, epoch_cells as epoch_cells_of, region_cells as region_cells_of, colour_cells as colour_cells_of};
 ghost use Rattle.cue_list.specs.RowFaults.{epoch_fault as epoch_fault_of, region_fault as region_fault_of, colour_fault as colour_fault_of};
 ghost use Rattle.cue_list.specs.RowValues.{region_in, colour_in};
-ghost use Rattle.cue_list.specs.State.{IsReader, past_of, IsTaken, IsRowFault, origin_next, display_next, refresh_next, epoch_next, region_next, colour_next, with_region, with_colour, with_cue};
+ghost use Rattle.cue_list.specs.Private.State.{IsReader, past_of, IsTaken, IsRowFault, origin_next, display_next, refresh_next, epoch_next, region_next, colour_next, with_region, with_colour, with_cue};
 ghost use Rattle.std.specs.Prelude.{Some};
 
 use crate::epoch::{ColourRow, Cue, Epoch, Region};
@@ -21,9 +21,12 @@ impl Reader {
     /// Takes the tick from which packets are sent.
     pub(crate) fn take_origin(&mut self, row: &ByteRecord) -> Result<(), RowFault>
         requires { IsReader self.old }
-        ensures taken { OnOk result (IsTaken (first_of (origin_cells_of (fields_of row.now) ∷ None ∷ [])) (origin_next (past_of self.old) (fields_of row.now)) self.new) }
+        ensures taken { OnOk result
+            (IsTaken (first_of (origin_cells_of (fields_of row.now) ∷ None ∷ []))
+            (origin_next (past_of self.old) (fields_of row.now)) self.new) }
         ensures pictures { self.new.pictures ≡ self.old.pictures }
-        ensures refused { IfErr result (IsRowFault (first_of (origin_cells_of (fields_of row.now) ∷ None ∷ []))) }
+        ensures refused { IfErr result
+            (IsRowFault (first_of (origin_cells_of (fields_of row.now) ∷ None ∷ []))) }
     {
         self.origin = origin_cells(row)?;
         Ok(())
@@ -32,9 +35,12 @@ impl Reader {
     /// Takes the sides of the display.
     pub(crate) fn take_display(&mut self, row: &ByteRecord) -> Result<(), RowFault>
         requires { IsReader self.old }
-        ensures taken { OnOk result (IsTaken (first_of (display_cells_of (fields_of row.now) ∷ None ∷ [])) (display_next (past_of self.old) (fields_of row.now)) self.new) }
+        ensures taken { OnOk result
+            (IsTaken (first_of (display_cells_of (fields_of row.now) ∷ None ∷ []))
+            (display_next (past_of self.old) (fields_of row.now)) self.new) }
         ensures pictures { self.new.pictures ≡ self.old.pictures }
-        ensures refused { IfErr result (IsRowFault (first_of (display_cells_of (fields_of row.now) ∷ None ∷ []))) }
+        ensures refused { IfErr result
+            (IsRowFault (first_of (display_cells_of (fields_of row.now) ∷ None ∷ []))) }
     {
         let display = display_cells(row)?;
         self.width = display.width;
@@ -45,9 +51,12 @@ impl Reader {
     /// Takes the seconds from one refresh to the next.
     pub(crate) fn take_refresh(&mut self, row: &ByteRecord) -> Result<(), RowFault>
         requires { IsReader self.old }
-        ensures taken { OnOk result (IsTaken (first_of (refresh_cells_of (fields_of row.now) ∷ None ∷ [])) (refresh_next (past_of self.old) (fields_of row.now)) self.new) }
+        ensures taken { OnOk result
+            (IsTaken (first_of (refresh_cells_of (fields_of row.now) ∷ None ∷ []))
+            (refresh_next (past_of self.old) (fields_of row.now)) self.new) }
         ensures pictures { self.new.pictures ≡ self.old.pictures }
-        ensures refused { IfErr result (IsRowFault (first_of (refresh_cells_of (fields_of row.now) ∷ None ∷ []))) }
+        ensures refused { IfErr result
+            (IsRowFault (first_of (refresh_cells_of (fields_of row.now) ∷ None ∷ []))) }
     {
         self.seconds = refresh_cells(row)?;
         Ok(())
@@ -61,9 +70,17 @@ impl Reader {
         row: &ByteRecord,
     ) -> Result<(), RowFault>
         requires { IsReader self.old }
-        ensures taken { OnOk result (IsTaken (first_of (epoch_cells_of self.old.origin (fields_of row.now) ∷ epoch_fault_of (past_of self.old) (value_at (fields_of row.now) 1) ∷ [])) (epoch_next (past_of self.old) number (fields_of row.now)) self.new) }
+        ensures taken { OnOk result
+            (IsTaken (first_of
+            (epoch_cells_of self.old.origin (fields_of row.now)
+            ∷ epoch_fault_of (past_of self.old) (value_at (fields_of row.now) 1) ∷ []))
+            (epoch_next (past_of self.old) number (fields_of row.now)) self.new) }
         ensures pictures { self.new.pictures ≡ self.old.pictures }
-        ensures refused { IfErr result (IsRowFault (first_of (epoch_cells_of self.old.origin (fields_of row.now) ∷ epoch_fault_of (past_of self.old) (value_at (fields_of row.now) 1) ∷ []))) }
+        ensures refused { IfErr result
+            (IsRowFault
+            (first_of
+            (epoch_cells_of self.old.origin (fields_of row.now)
+            ∷ epoch_fault_of (past_of self.old) (value_at (fields_of row.now) 1) ∷ []))) }
     {
         let start = epoch_cells(row, self.origin)?;
         if let Some(kind) = self.epoch_fault(start) {
@@ -86,9 +103,17 @@ impl Reader {
     /// Takes a region of the last epoch.
     pub(crate) fn take_region(&mut self, row: &ByteRecord) -> Result<(), RowFault>
         requires { IsReader self.old }
-        ensures taken { OnOk result (IsTaken (first_of (region_cells_of (fields_of row.now) ∷ region_fault_of (past_of self.old) (region_in (fields_of row.now)) ∷ [])) (region_next (past_of self.old) (fields_of row.now)) self.new) }
+        ensures taken { OnOk result
+            (IsTaken (first_of
+            (region_cells_of (fields_of row.now)
+            ∷ region_fault_of (past_of self.old) (region_in (fields_of row.now)) ∷ []))
+            (region_next (past_of self.old) (fields_of row.now)) self.new) }
         ensures pictures { self.new.pictures ≡ self.old.pictures }
-        ensures refused { IfErr result (IsRowFault (first_of (region_cells_of (fields_of row.now) ∷ region_fault_of (past_of self.old) (region_in (fields_of row.now)) ∷ []))) }
+        ensures refused { IfErr result
+            (IsRowFault
+            (first_of
+            (region_cells_of (fields_of row.now)
+            ∷ region_fault_of (past_of self.old) (region_in (fields_of row.now)) ∷ []))) }
     {
         let region = region_cells(row)?;
         if let Some(kind) = self.region_fault(region) {
@@ -102,9 +127,18 @@ impl Reader {
     pub(crate) fn take_colour(&mut self, number: u64, row: &ByteRecord) -> Result<(), RowFault>
         requires reader { IsReader self.old }
         requires few { self.old.colours < MOST_COLOURS }
-        ensures taken { OnOk result (IsTaken (first_of (colour_cells_of self.old.origin (fields_of row.now) ∷ colour_fault_of (past_of self.old) (colour_in number (fields_of row.now)) ∷ [])) (colour_next (past_of self.old) number (fields_of row.now)) self.new) }
+        ensures taken { OnOk result
+            (IsTaken (first_of
+            (colour_cells_of self.old.origin (fields_of row.now)
+            ∷ colour_fault_of (past_of self.old) (colour_in number (fields_of row.now)) ∷ []))
+            (colour_next (past_of self.old) number (fields_of row.now)) self.new) }
         ensures pictures { self.new.pictures ≡ self.old.pictures }
-        ensures refused { IfErr result (IsRowFault (first_of (colour_cells_of self.old.origin (fields_of row.now) ∷ colour_fault_of (past_of self.old) (colour_in number (fields_of row.now)) ∷ []))) }
+        ensures refused { IfErr result
+            (IsRowFault
+            (first_of
+            (colour_cells_of self.old.origin (fields_of row.now)
+            ∷ colour_fault_of (past_of self.old) (colour_in number (fields_of row.now))
+            ∷ []))) }
     {
         let colour = colour_cells(row, self.origin, number)?;
         if let Some(kind) = self.colour_fault(colour) {

@@ -1,9 +1,9 @@
 ghost use Rattle.std.specs.Prelude.{◌≡◌, ◌<◌, ◌≤◌, ◌^◌, ◌+◌, length, false, IfNone};
 ghost use Rattle.std.specs.List.{list_any};
 ghost use Rattle.cue_list.specs.Past.{region_with as region_with_of, area as area_of_head, is_close as is_close_of};
-ghost use Rattle.cue_list.specs.RowFaults.{is_misplaced as is_misplaced_of, is_full as is_full_of, is_used as is_used_of, epoch_count, regions_of, starts_before, lasts_past, is_early as is_early_of, lies_on as lies_on_of, share_row as share_row_of, lies_in as lies_in_of, are_too_many as are_too_many_of, epoch_fault as epoch_fault_of, region_fault as region_fault_of, colour_fault as colour_fault_of, span_fault as span_fault_of, placed_fault as placed_fault_of};
-ghost use Rattle.cue_list.specs.State.{IsReader, past_of};
-ghost use Rattle.cue_list.specs.Ticks.{near_by};
+ghost use Rattle.cue_list.specs.RowFaults.{is_misplaced as is_misplaced_of, is_full as is_full_of, is_used as is_used_of, epoch_count, regions_of, starts_before, lasts_past, is_early as is_early_of, share_row, are_too_many as are_too_many_of, epoch_fault as epoch_fault_of, region_fault as region_fault_of, colour_fault as colour_fault_of, span_fault as span_fault_of, placed_fault as placed_fault_of};
+ghost use Rattle.cue_list.specs.Private.State.{IsReader, past_of};
+ghost use Rattle.cue_list.specs.Private.Ticks.{near_by};
 ghost use Rattle.std.specs.Prelude.{nat_lt, nat_le};
 
 use crate::epoch::{ColourRow, Cue, Region};
@@ -110,7 +110,8 @@ impl Reader {
         match &self.epoch {
             None => false,
             Some(epoch) => {
-                // A cue may end where the next epoch starts, but a colour at that tick would belong to the next one.
+                // A cue may end where the next epoch starts, but a colour at that tick would belong
+                // to the next one.
                 any_ends_after(epoch.cues.as_slice(), tick)
                     || any_from(epoch.colours.as_slice(), tick)
             }
@@ -126,7 +127,7 @@ impl Reader {
         if region_with(regions, region.id).is_some() {
             return Some(ScriptKind::DoubleRegion);
         }
-        if !lies_on(self.width, self.height, region) {
+        if !region.lies_on(self.width, self.height) {
             return Some(ScriptKind::RegionOutside);
         }
         if any_shares_row(regions, region) {
@@ -230,32 +231,7 @@ pub(crate) fn region_with(regions: &[Region], id: u8) -> Option<Region>
 }
 
 fn any_shares_row(regions: &[Region], region: Region) -> bool
-    ensures { result ≡ list_any (share_row_of region) regions.now }
+    ensures { result ≡ list_any (share_row region) regions.now }
 {
-    regions.iter().any(|other| share_row(region, *other))
-}
-
-/// Whether two regions share a row of the display.
-fn share_row(first: Region, second: Region) -> bool
-    ensures { result ≡ share_row_of first second }
-{
-    // In 32 bits, as the sum of a place and a side may pass 16.
-    u32::from(first.y) < u32::from(second.y) + u32::from(second.height)
-        && u32::from(second.y) < u32::from(first.y) + u32::from(first.height)
-}
-
-/// Whether a region lies on a display of these sides.
-fn lies_on(width: u16, height: u16, region: Region) -> bool
-    ensures { result ≡ lies_on_of width height region }
-{
-    u32::from(region.x) + u32::from(region.width) <= u32::from(width)
-        && u32::from(region.y) + u32::from(region.height) <= u32::from(height)
-}
-
-/// Whether a picture lies inside a region at a place.
-pub(crate) fn lies_in(region: Region, x: u16, y: u16, head: PictureHead) -> bool
-    ensures { result ≡ lies_in_of region x y head }
-{
-    u32::from(x) + u32::from(head.width) <= u32::from(region.width)
-        && u32::from(y) + u32::from(head.height) <= u32::from(region.height)
+    regions.iter().any(|other| region.shares_row_with(other))
 }

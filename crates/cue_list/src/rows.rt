@@ -17,12 +17,14 @@ pub(crate) fn reader_of(alloc: Global, text: &[u8]) -> Reader<&[u8]>
         .from_reader(alloc, text)
 }
 
-/// Reads the next record, and answers whether there was one. Want of memory is the one error: the text is in memory,
-/// and a record may have any number of cells of any bytes.
+/// Reads the next record, and answers whether there was one. Want of memory is the one error: the
+/// text is in memory, and a record may have any number of cells of any bytes.
 pub(crate) fn next_row(reader: &mut Reader<&[u8]>, row: &mut ByteRecord) -> Result<bool, NoMemory>
     requires { IsReadable unread reader.old }
     ensures readable { IfOk result (λ found. found ≡ true → IsReadable unread reader.new) }
-    ensures row { IfOk result (λ found. rows_left unread reader.old ≡ (if found then fields_of row.new ∷ rows_left unread reader.new else [])) }
+    ensures row { IfOk result
+        (λ found. rows_left unread reader.old
+        ≡ (if found then fields_of row.new ∷ rows_left unread reader.new else [])) }
 {
     let found = match reader.read_byte_record(row) {
         Ok(found) => found,

@@ -4,8 +4,8 @@ use crate::epoch::Epoch;
 use indexed_picture::Indexed;
 use sub_base::Items;
 
-/// A cue script: the subtitles of a programme. Its values pass every test of a script's records, so whoever has one
-/// tests nothing again.
+/// A cue script: the subtitles of a programme. Its values pass every test of a script's records, so
+/// whoever has one tests nothing again.
 #[derive(Drop)]
 pub struct Script {
     /// The tick from which packets are sent: that of slot 0.

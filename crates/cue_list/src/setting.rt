@@ -2,9 +2,10 @@ ghost use Rattle.std.specs.Prelude.{◌≡◌, ◌≤◌, ◌<◌, ◌∷◌, []
 ghost use Rattle.bitmap_font.specs.Setting.{IsSetting};
 ghost use Rattle.sub_base.specs.Depth.{code_count};
 ghost use Rattle.sub_base.specs.Picture.{IsPicture};
+ghost use Rattle.cue_list.specs.declared.limits.TheConstants.{MOST_HEIGHT, MOST_WIDTH};
 ghost use Rattle.cue_list.specs.RowFaults.{text_fault, glyph_fault};
 ghost use Rattle.cue_list.specs.CellFaults.{first_of};
-ghost use Rattle.cue_list.specs.State.{past_of, head_of as head_of_picture, IsRowFault};
+ghost use Rattle.cue_list.specs.Private.State.{past_of, head_of as head_of_picture, IsRowFault};
 ghost use Rattle.cue_list.specs.TextSizes.{text_head, missing_glyph};
 ghost use Rattle.cue_list.specs.Setting.{row_fault_of as row_fault_of_set};
 
@@ -40,11 +41,20 @@ impl Reader {
         requires ink { cue.ink < code_count region.depth }
         requires paper { cue.paper < code_count region.depth }
         ensures glyphs { OnOk result (missing_glyph font.now (chars text.now) ≡ None) }
-        ensures head { IfOk result (λ picture. text_head font.now region.depth (chars text.now) ≡ head_of_picture picture) }
-        ensures setting { IfOk result (IsSetting font.now (chars text.now) cue.ink cue.paper region.depth) }
+        ensures head { IfOk result
+            (λ picture. text_head font.now region.depth (chars text.now)
+            ≡ head_of_picture picture) }
+        ensures setting { IfOk result
+            (IsSetting font.now (chars text.now) cue.ink cue.paper region.depth) }
         ensures picture { IfOk result IsPicture }
-        ensures small { IfOk result (λ picture. (picture.width ≤ 1920) × (picture.height ≤ 1080)) }
-        ensures refused { IfErr result (IsRowFault (first_of (glyph_fault (missing_glyph font.now (chars text.now)) ∷ text_fault (past_of self.now) cue.placing region (text_head font.now region.depth (chars text.now)) ∷ []))) }
+        ensures small { IfOk result
+            (λ picture. (picture.width ≤ MOST_WIDTH) × (picture.height ≤ MOST_HEIGHT)) }
+        ensures refused { IfErr result
+            (IsRowFault
+            (first_of
+            (glyph_fault (missing_glyph font.now (chars text.now))
+            ∷ text_fault (past_of self.now) cue.placing region
+            (text_head font.now region.depth (chars text.now)) ∷ []))) }
     {
         match font.set(text, cue.ink, cue.paper, region.depth) {
             Ok(picture) => Ok(picture),

@@ -4,7 +4,7 @@ ghost use Rattle.cue_list.specs.CellFaults.{is_text_row as is_text_row_of};
 ghost use Rattle.cue_list.specs.Drawn.{Brings};
 ghost use Rattle.cue_list.specs.Records.{record_of, kind_of};
 ghost use Rattle.cue_list.specs.RowFaults.{shape_fault as shape_fault_of, fault_with, is_full as is_full_of, regions_of};
-ghost use Rattle.cue_list.specs.State.{IsReader, past_of, IsTaken, IsRowFault, content_fault, next_by, next_with};
+ghost use Rattle.cue_list.specs.Private.State.{IsReader, past_of, IsTaken, IsRowFault, content_fault, next_by, next_with};
 ghost use Rattle.cue_list.specs.Cells.{cell_at};
 
 use crate::cells::cell;
@@ -28,10 +28,20 @@ impl Reader {
         requires reader { IsReader self.old }
         requires fits { self.old.rows + 1 < 2 ^ 64 }
         ensures reader { OnOk result (IsReader self.new) }
-        ensures right { OnOk result (fault_with font.now (past_of self.old) (record_of (self.old.rows + 1) (fields_of row.now)) ≡ None) }
-        ensures next { OnOk result (past_of self.new ≡ next_with font.now (past_of self.old) (record_of (self.old.rows + 1) (fields_of row.now))) }
-        ensures drawn { OnOk result (Brings font.now (regions_of self.old.epoch) (kind_of (cell_at (fields_of row.now) 0)) (fields_of row.now) self.old.pictures.items self.new.pictures.items) }
-        ensures refused { IfErr result (IsRowFault (fault_with font.now (past_of self.old) (record_of (self.old.rows + 1) (fields_of row.now)))) }
+        ensures right { OnOk result
+            (fault_with font.now (past_of self.old)
+            (record_of (self.old.rows + 1) (fields_of row.now)) ≡ None) }
+        ensures next { OnOk result
+            (past_of self.new
+            ≡ next_with font.now (past_of self.old)
+            (record_of (self.old.rows + 1) (fields_of row.now))) }
+        ensures drawn { OnOk result
+            (Brings font.now (regions_of self.old.epoch) (kind_of (cell_at (fields_of row.now) 0))
+            (fields_of row.now) self.old.pictures.items self.new.pictures.items) }
+        ensures refused { IfErr result
+            (IsRowFault
+            (fault_with font.now (past_of self.old)
+            (record_of (self.old.rows + 1) (fields_of row.now)))) }
     {
         let kind = RowKind::of(cell(row, 0));
         if let Some(fault) = shape_fault(kind, row) {
@@ -61,9 +71,15 @@ impl Reader {
         requires reader { IsReader self.old }
         requires text { is_text_row_of (fields_of row.now) ≡ true }
         requires room { is_full_of (past_of self.old) kind ≡ false }
-        ensures taken { OnOk result (IsTaken (content_fault font.now (past_of self.old) kind number (fields_of row.now)) (next_by font.now (past_of self.old) kind number (fields_of row.now)) self.new) }
-        ensures drawn { OnOk result (Brings font.now (regions_of self.old.epoch) kind (fields_of row.now) self.old.pictures.items self.new.pictures.items) }
-        ensures refused { IfErr result (IsRowFault (content_fault font.now (past_of self.old) kind number (fields_of row.now))) }
+        ensures taken { OnOk result
+            (IsTaken (content_fault font.now (past_of self.old) kind number (fields_of row.now))
+            (next_by font.now (past_of self.old) kind number (fields_of row.now)) self.new) }
+        ensures drawn { OnOk result
+            (Brings font.now (regions_of self.old.epoch) kind (fields_of row.now)
+            self.old.pictures.items self.new.pictures.items) }
+        ensures refused { IfErr result
+            (IsRowFault
+            (content_fault font.now (past_of self.old) kind number (fields_of row.now))) }
     {
         match kind {
             RowKind::Origin => self.take_origin(row),

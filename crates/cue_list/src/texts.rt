@@ -50,7 +50,8 @@ pub(crate) fn text_cell(row: &ByteRecord, place: usize) -> &str
 pub(crate) fn codes_fault(head: PictureHead, text: &str) -> Option<ScriptKind>
     ensures { result ≡ codes_fault_of head (chars text.now) }
 {
-    // Characters and not bytes, so that one that is no digit counts as one and is found by the next test.
+    // Characters and not bytes, so that one that is no digit counts as one and is found by the next
+    // test.
     if character_count(text) != digits(head.depth) * area(head) {
         return Some(ScriptKind::Count);
     }

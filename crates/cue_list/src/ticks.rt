@@ -1,13 +1,13 @@
 ghost use Rattle.std.specs.Prelude.{◌≡◌, ◌||◌, ◌<◌, ◌^◌, ℕ, false, IfOk, OnOk, option_copied};
 ghost use Rattle.std.specs.Ordering.{nat_cmp};
 ghost use Rattle.cue_list.specs.Past.{is_close as is_close_of};
-ghost use Rattle.cue_list.specs.Ticks.{IsTicks, near_by, near_with, named_by, is_close_to, span_of};
+ghost use Rattle.cue_list.specs.Private.Ticks.{IsTicks, near_by, near_with, named_by, is_close_to, span_of};
 
 use std::alloc::{AllocFailed, Global};
 use std::collections::BTreeMap;
 
-/// The ticks that the records of a script have named. No two of them are 1 to 3,600 ticks apart, so a span of 3,601
-/// ticks has one of them at most.
+/// The ticks that the records of a script have named. No two of them are 1 to 3,600 ticks apart, so
+/// a span of 3,601 ticks has one of them at most.
 #[derive(Drop)]
 pub(crate) struct Ticks {
     spans: BTreeMap<u64, u64>,
@@ -66,7 +66,8 @@ impl Ticks {
         requires end { near_by self.old end ≡ false }
         requires apart { is_close_of start end ≡ false }
         ensures spans { OnOk result (IsTicks self.new) }
-        ensures added { OnOk result (near_by self.new ≡ near_with start (near_with end (near_by self.old))) }
+        ensures added { OnOk result
+            (near_by self.new ≡ near_with start (near_with end (near_by self.old))) }
     {
         self.add(end)?;
         self.add(start)?;

@@ -11,7 +11,7 @@ use Rattle.stream_syntax.specs.Segments.{SegmentValue, of_page, of_region, of_cl
 use Rattle.stream_syntax.specs.declared.region.Listing.{Listing}
 use Rattle.decoder_model.specs.Contents.{where_passes, region_named, object_named, object_of}
 use Rattle.sub_base.specs.Lists.{first_given}
-use Rattle.decoder_model.specs.Pixels.{object_version, since_region, is_painting, painted_listings, code_by_listings, depth_of, code_by_segment, last_code}
+use Rattle.decoder_model.specs.Pixels.{version_of_object, since_region, is_painting, painted_listings, code_by_listings, depth_of, code_by_segment, last_code}
 use Rattle.decoder_model.specs.Readings.{Content}
 use Rattle.decoder_model.specs.Taken.{Taken, has_new_version, taken_region, last_region}
 use Rattle.decoder_model.proofs.Searches.{first_given-append}
@@ -62,7 +62,7 @@ zero_among id object taken (c ∷ new) idle =
     (zero_among id object taken new (All-tail (IsIdle id taken) c new idle))
 
 -- behind an object of version 0, or none, and then one of version 0, an object of version 0 has no new version
-not_painted : (found behind : Option Object) (had : Object) → IsZero found → behind ≡ Some had → had.version ≡ 0 → has_new_version 0 (object_version (option_or found behind)) ≡ false
+not_painted : (found behind : Option Object) (had : Object) → IsZero found → behind ≡ Some had → had.version ≡ 0 → has_new_version 0 (version_of_object (option_or found behind)) ≡ false
 not_painted None behind had zero is none = rw (is, none) refl
 not_painted (Some o) behind had zero is none = rw zero refl
 
@@ -83,8 +83,8 @@ idle_paints_none id new taken content object idle own is = by (last_region id ta
         let since = ap (first_given (object_named object.object)) (since_behind id new taken (others id taken new idle))
         ∙ first_given-append (object_named object.object) new (since_region id (record { segments = taken })) in
         nothing_painted (record { segments = new ++ taken }) id object
-        (ap (λ found. has_new_version object.version (object_version found)) since
-        ∙ ap (λ (version : ℕ). has_new_version version (object_version (option_or (first_given (object_named object.object) new) (first_given (object_named object.object) (since_region id (record { segments = taken })))))) (own.version object is)
+        (ap (λ found. has_new_version object.version (version_of_object found)) since
+        ∙ ap (λ (version : ℕ). has_new_version version (version_of_object (option_or (first_given (object_named object.object) new) (first_given (object_named object.object) (since_region id (record { segments = taken })))))) (own.version object is)
         ∙ not_painted (first_given (object_named object.object) new) (first_given (object_named object.object) (since_region id (record { segments = taken }))) had.0 (zero_among id object.object taken new idle) had.1 had.2)
 
     by : (last : Option Region) → last_region id taken ≡ last → painted_listings (record { segments = new ++ taken }) id object ≡ []

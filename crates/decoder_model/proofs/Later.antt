@@ -10,12 +10,13 @@ use Rattle.decoder_model.specs.Readings.{Reading}
 use Rattle.decoder_model.specs.Sets.{Delivery}
 use Rattle.decoder_model.specs.Shown.{view_at}
 use Rattle.decoder_model.proofs.Views.{view_without, view_before}
+use Rattle.stream_syntax.specs.declared.wire.TheConstants.{HALF_ROUND, TICK_LIMIT}
 
 -- a kept set is later than those before it
 pub lift_above : (last ticks at : ℕ) → lift_by last ticks ≡ Some at → last < at
-lift_above last ticks at e = by (nat_le 1 ticks && (nat_lt ticks 4294967296 && nat_lt (last + ticks) 4611686018427387904)) refl e
+lift_above last ticks at e = by (nat_le 1 ticks && (nat_lt ticks HALF_ROUND && nat_lt (last + ticks) TICK_LIMIT)) refl e
   where
-    by : (kept : Bool) → (nat_le 1 ticks && (nat_lt ticks 4294967296 && nat_lt (last + ticks) 4611686018427387904)) ≡ kept → (if kept then Some (last + ticks) else None) ≡ Some at → last < at
+    by : (kept : Bool) → (nat_le 1 ticks && (nat_lt ticks HALF_ROUND && nat_lt (last + ticks) TICK_LIMIT)) ≡ kept → (if kept then Some (last + ticks) else None) ≡ Some at → last < at
     by true passes is = let same : last + ticks ≡ at = cc in let some : 1 ≤ ticks = grind (arith, nat_tests) in omega arith
     by false passes is = absurd (cc)
 

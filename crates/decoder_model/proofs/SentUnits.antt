@@ -1,9 +1,9 @@
 -- Units that are sent in packets of a PID one after another come out whole, in order and without a loss.
-use Rattle.std.proofs.Common.{◌≡◌, ◌≢◌, ◌∙◌, ℕ, zero, suc, ◌+◌, ◌-◌, Bool, true, false, cond, eqb, List, [], ◌∷◌, ◌++◌, length, take, replicate, Option, Some, None, refl, sym, ap, subst, arith, append_assoc, append-nil}
+use Rattle.std.proofs.Common.{◌≡◌, ◌≢◌, ◌∙◌, ℕ, zero, suc, ◌+◌, ◌-◌, Bool, true, false, cond, List, [], ◌∷◌, ◌++◌, length, take, replicate, Option, Some, None, refl, sym, ap, subst, arith, append_assoc, append-nil}
 use Rattle.std.specs.Prelude.{filter_map}
 use Rattle.std.specs.List.{AllByRecursion, concat, cons_option, prefix_len, take_while}
 use Rattle.std.specs.Option.{is_none}
-use Rattle.std.proofs.lemmas.Bool.Decides.{nat_tests}
+use Rattle.std.proofs.lemmas.Bool.{ne_eqb}
 use Rattle.stream_syntax.specs.Cutting.{IsUnit, IsCut, IsGapless, AnyCutting, NothingLost, units_behind, events_behind}
 use Rattle.stream_syntax.specs.TransportPackets.{pid_of, packet_fault}
 use Rattle.stream_syntax.specs.Units.{last_counter, part_after, parts_of, each_after, hand_after, unit_at, event_after, event_at, is_loss}
@@ -37,16 +37,13 @@ nothing_given (suc n) = nothing_given n
 
 -- ---- packets of other PIDs
 
-other_pid : (a b : ℕ) → a ≢ b → eqb a b ≡ false
-other_pid a b h = grind (arith, nat_tests)
-
 no_unit_at : (pid size : ℕ) (before : List (List ℕ)) (packet : List ℕ) → pid_of packet ≢ pid → unit_at pid size before packet ≡ None
 unfolding part_after
-no_unit_at pid size before packet h = rw (other_pid (pid_of packet) pid h) refl
+no_unit_at pid size before packet h = rw (ne_eqb (pid_of packet) pid h) refl
 
 pub no_loss_at : (pid size : ℕ) (before : List (List ℕ)) (packet : List ℕ) → pid_of packet ≢ pid → is_loss (event_at pid size before packet) ≡ false
 unfolding event_after
-no_loss_at pid size before packet h = rw (other_pid (pid_of packet) pid h) refl
+no_loss_at pid size before packet h = rw (ne_eqb (pid_of packet) pid h) refl
 
 others_give_none : (pid size : ℕ) (before packets : List (List ℕ)) → AllByRecursion (λ packet. pid_of packet ≢ pid) packets → filter_map (λ found. found) (units_behind pid size before packets) ≡ []
 others_give_none pid size before [] h = refl

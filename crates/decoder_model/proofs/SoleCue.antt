@@ -13,8 +13,8 @@ use Rattle.stream_syntax.specs.declared.region.RegionHead.{RegionHead}
 use Rattle.decoder_model.specs.Contents.{display_in_set}
 use Rattle.sub_base.specs.Lists.{first_given}
 use Rattle.decoder_model.specs.Faults.{epoch_fault, too_deep_at, display_fault, page_fault, first_fault_by, region_changed, pixels_full, composition_fault, object_too_deep, fault_in_region, all_region_ids}
-use Rattle.decoder_model.specs.Kept.{time_round, lifted_behind, lifted_time, last_time, epoch_of}
-use Rattle.decoder_model.specs.Nodes.{pixel_bytes, region_ids, clut_ids, table_entries}
+use Rattle.decoder_model.specs.Kept.{lifted_behind, lifted_time, last_time, epoch_of}
+use Rattle.decoder_model.specs.Nodes.{region_bytes, region_ids, clut_ids, table_entries}
 use Rattle.decoder_model.specs.Pixels.{painted_listings}
 use Rattle.decoder_model.specs.Readings.{Content, Reading, read}
 use Rattle.decoder_model.specs.Sets.{Delivery, whole}
@@ -24,6 +24,7 @@ use Rattle.decoder_model.specs.declared.set_end.SetEnd.TheVariants.{Shown}
 use Rattle.decoder_model.specs.declared.set_fault.SetFault.{SetFault}
 use Rattle.decoder_model.proofs.Lifts.{lifted_first, lifted_next}
 use Rattle.decoder_model.proofs.Searches.{first_given-none}
+use Rattle.stream_syntax.specs.declared.wire.TheConstants.{TIME_ROUND, HALF_ROUND, TICK_LIMIT}
 
 -- what the two sets are made of: the picture, its region's depth, id and CLUT, the page's time-out, the object's fields, and
 -- how many bytes the units of the sets have
@@ -82,7 +83,7 @@ last_readings cue = read (plain (of_page (last_page cue))) ∷ read (plain end_o
 pub record Fits (profile : Profile) (cue : Cue) : Type 0 where
   pub wide : cue.picture.width ≤ profile.width
   pub high : cue.picture.height ≤ profile.height
-  pub pixels : pixel_bytes (head_of cue) ≤ profile.pixels
+  pub pixels : region_bytes (head_of cue) ≤ profile.pixels
   pub nodes : 3 ≤ profile.nodes
   pub top_depth : too_deep_at cue.depth cue.top ≡ None
   pub bottom_depth : too_deep_at cue.depth cue.bottom ≡ None
@@ -169,17 +170,17 @@ first_verdict profile cue h =
 -- less than 2 to the 32 behind the first
 pub record AreLiftable (anchor start end : ℕ) : Type 0 where
   pub later : anchor ≤ start
-  pub round : start < anchor + 8589934592
+  pub round : start < anchor + TIME_ROUND
   pub rising : start < end
-  pub near : end < start + 4294967296
-  pub low : end < 4611686018427387904
+  pub near : end < start + HALF_ROUND
+  pub low : end < TICK_LIMIT
 
 -- the sets as they are handed over: their times are told modulo 2 to the 33
 abbrev pub first_set : Cue → ℕ → Delivery Reading
-first_set cue start = whole (start % time_round) cue.first_size (first_readings cue)
+first_set cue start = whole (start % TIME_ROUND) cue.first_size (first_readings cue)
 
 abbrev pub last_set : Cue → ℕ → Delivery Reading
-last_set cue end = whole (end % time_round) cue.last_size (last_readings cue)
+last_set cue end = whole (end % TIME_ROUND) cue.last_size (last_readings cue)
 
 pub first_lifted : (anchor start end : ℕ) (cue : Cue) → AreLiftable anchor start end → lifted_time anchor [] (first_set cue start) ≡ Some start
 unfolding last_time
@@ -191,7 +192,7 @@ time_before_last anchor start end cue times = ap (λ found. option_or found None
 
 pub last_lifted : (anchor start end : ℕ) (cue : Cue) → AreLiftable anchor start end → lifted_time anchor (first_set cue start ∷ []) (last_set cue end) ≡ Some end
 last_lifted anchor start end cue times =
-    ap (λ last. lifted_behind anchor last (end % time_round)) (time_before_last anchor start end cue times) ∙ lifted_next anchor start end times.rising times.near times.low
+    ap (λ last. lifted_behind anchor last (end % TIME_ROUND)) (time_before_last anchor start end cue times) ∙ lifted_next anchor start end times.rising times.near times.low
 
 -- the first set is shown
 pub first_is_shown : (profile : Profile) (cue : Cue) (anchor start end : ℕ) → Fits profile cue → AreLiftable anchor start end → verdict_of profile anchor [] (first_set cue start) ≡ Some Shown

@@ -6,7 +6,7 @@ use Rattle.std.specs.List.{range_with_len}
 use Rattle.std.specs.Option.{option_or, unwrap_or}
 use Rattle.std.proofs.lemmas.Bool.Decides.{nat_tests}
 use Rattle.sub_base.specs.Colour.{clear, default_of}
-use Rattle.sub_base.specs.Picture.{IsPicture, code_at}
+use Rattle.sub_base.specs.Picture.{IsPicture, code_at, is_inside}
 use Rattle.sub_base.specs.declared.depth.Depth.{Depth}
 use Rattle.sub_base.specs.declared.profile.Profile.{Profile}
 use Rattle.stream_syntax.specs.declared.region.Listing.{Listing}
@@ -14,15 +14,16 @@ use Rattle.decoder_model.specs.Faults.{display_in_force}
 use Rattle.decoder_model.specs.Ink.{ink_of}
 use Rattle.decoder_model.specs.Pixels.{pixel_of, fill_code, painted_listings}
 use Rattle.decoder_model.specs.Readings.{Reading}
-use Rattle.decoder_model.specs.Shown.{Plane, nothing, plane, IsClear, Scene, scene_in, Standing, until_of, is_over_at, view_of, view_at, colour_in, colour_through, colour_by_entry, colour_at, plane_of, is_in_window, is_inside, window_of}
+use Rattle.decoder_model.specs.Shown.{Plane, nothing, plane, IsClear, Scene, scene_in, Standing, until_of, is_over_at, view_of, view_at, colour_in, colour_through, colour_by_entry, colour_at, plane_of, is_in_window, window_of}
 use Rattle.decoder_model.specs.Sets.{Delivery}
 use Rattle.decoder_model.specs.Verdict.{sets_since}
 use Rattle.decoder_model.specs.Taken.{segments_of, taken_among, taken_of}
 use Rattle.decoder_model.proofs.DrawnPictures.{FieldsDraw, in_picture}
 use Rattle.decoder_model.proofs.Views.{view_before, view_of_shown}
-use Rattle.decoder_model.specs.Kept.{time_round, epoch_of}
+use Rattle.decoder_model.specs.Kept.{epoch_of}
 use Rattle.decoder_model.proofs.Planes.{picture_colours, all_clear}
 use Rattle.decoder_model.proofs.SoleCue.{Cue, Fits, AreLiftable, first_set, last_set, first_lifted, last_lifted, first_readings, last_readings, first_is_shown, last_is_shown, sets_before, begins_epoch, goes_on, head_of, display_for, first_contents, last_contents, first_page, last_page, region_for, its_region, is_same_id}
+use Rattle.stream_syntax.specs.declared.wire.TheConstants.{TIME_ROUND}
 
 -- the picture of a cue is one, and its fields draw it
 pub record IsDrawn (cue : Cue) : Type 0 where
@@ -120,7 +121,7 @@ by_first : (profile : Profile) (cue : Cue) (anchor start end tick : ℕ) → Fit
     → view_at profile anchor tick (first_set cue start ∷ []) ≡ view_of tick (Some (record { time = start; page = first_page cue; scene = first_scene cue }))
 unfolding sets_since
 by_first profile cue anchor start end tick h times come =
-    view_of_shown profile anchor tick start [] (start % time_round) cue.first_size (first_readings cue) (first_page cue) (first_contents cue ∷ []) (first_lifted anchor start end cue times) come (first_is_shown profile cue anchor start end h times) refl (begins_epoch cue)
+    view_of_shown profile anchor tick start [] (start % TIME_ROUND) cue.first_size (first_readings cue) (first_page cue) (first_contents cue ∷ []) (first_lifted anchor start end cue times) come (first_is_shown profile cue anchor start end h times) refl (begins_epoch cue)
 
 before_first : (profile : Profile) (cue : Cue) (anchor start end tick : ℕ) → AreLiftable anchor start end → tick < start → view_at profile anchor tick (first_set cue start ∷ []) ≡ nothing
 unfolding view_at
@@ -133,7 +134,7 @@ before_last profile cue anchor start end tick times early = view_before profile 
 -- from the last set's time on the view is by it
 by_last : (profile : Profile) (cue : Cue) (anchor start end tick : ℕ) → Fits profile cue → AreLiftable anchor start end → end ≤ tick → view_at profile anchor tick (both_sets cue start end) ≡ view_of tick (Some (record { time = end; page = last_page cue; scene = last_scene cue }))
 by_last profile cue anchor start end tick h times come =
-    view_of_shown profile anchor tick end (first_set cue start ∷ []) (end % time_round) cue.last_size (last_readings cue) (last_page cue) (last_contents cue ∷ first_contents cue ∷ [])
+    view_of_shown profile anchor tick end (first_set cue start ∷ []) (end % TIME_ROUND) cue.last_size (last_readings cue) (last_page cue) (last_contents cue ∷ first_contents cue ∷ [])
     (last_lifted anchor start end cue times) come (last_is_shown profile cue anchor start end h times) refl
     (ap (λ sets. epoch_of (last_contents cue ∷ sets)) (sets_before profile cue anchor start end h times) ∙ goes_on cue)
 

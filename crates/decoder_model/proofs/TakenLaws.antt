@@ -6,7 +6,7 @@ use Rattle.stream_syntax.specs.Segments.{SegmentValue, of_page, of_region, of_cl
 use Rattle.decoder_model.specs.Contents.{region_named, clut_named, region_of, clut_of, region_in, clut_in}
 use Rattle.sub_base.specs.Lists.{first_given}
 use Rattle.decoder_model.specs.Readings.{Content}
-use Rattle.decoder_model.specs.Taken.{Taken, has_new_version, region_version, clut_version, is_taken, taken_among, taken_of, taken_region, last_region, last_clut}
+use Rattle.decoder_model.specs.Taken.{Taken, has_new_version, version_of_region, version_of_clut, is_taken, taken_among, taken_of, taken_region, last_region, last_clut}
 
 -- ---- one segment more
 
@@ -99,31 +99,31 @@ clut_value id segment clut e = by segment.value refl
       | passed_over ↦ λ is. absurd (let no : None ≡ Some clut = rw is at e in cc)
     ] is
 
-regions_are_versioned : (id : ℕ) → IsVersioned (region_named id) region_version (λ region. region.head.version)
+regions_are_versioned : (id : ℕ) → IsVersioned (region_named id) version_of_region (λ region. region.head.version)
 regions_are_versioned id =
     record {
       some = λ region. refl;
       taken = λ earlier segment region e.
           let is = region_value id segment region e in
-          ap (is_taken earlier) is.0 ∙ ap (λ (own : ℕ). has_new_version region.head.version (region_version (last_region own earlier))) is.1;
+          ap (is_taken earlier) is.0 ∙ ap (λ (own : ℕ). has_new_version region.head.version (version_of_region (last_region own earlier))) is.1;
     }
 
-cluts_are_versioned : (id : ℕ) → IsVersioned (clut_named id) clut_version (λ clut. clut.version)
+cluts_are_versioned : (id : ℕ) → IsVersioned (clut_named id) version_of_clut (λ clut. clut.version)
 cluts_are_versioned id =
     record {
       some = λ clut. refl;
       taken = λ earlier segment clut e.
           let is = clut_value id segment clut e in
-          ap (is_taken earlier) is.0 ∙ ap (λ (own : ℕ). has_new_version clut.version (clut_version (last_clut own earlier))) is.1;
+          ap (is_taken earlier) is.0 ∙ ap (λ (own : ℕ). has_new_version clut.version (version_of_clut (last_clut own earlier))) is.1;
     }
 
 -- the last taken and the last region segment of an id have one version
-pub taken_region_version : (id : ℕ) (segments : List Content) → region_version (last_region id (taken_among segments)) ≡ region_version (last_region id segments)
-taken_region_version id segments = same_version (region_named id) region_version (λ region. region.head.version) (regions_are_versioned id) segments
+pub taken_region_version : (id : ℕ) (segments : List Content) → version_of_region (last_region id (taken_among segments)) ≡ version_of_region (last_region id segments)
+taken_region_version id segments = same_version (region_named id) version_of_region (λ region. region.head.version) (regions_are_versioned id) segments
 
 -- and so have the CLUT segments of an id
-pub taken_clut_version : (id : ℕ) (segments : List Content) → clut_version (last_clut id (taken_among segments)) ≡ clut_version (last_clut id segments)
-taken_clut_version id segments = same_version (clut_named id) clut_version (λ clut. clut.version) (cluts_are_versioned id) segments
+pub taken_clut_version : (id : ℕ) (segments : List Content) → version_of_clut (last_clut id (taken_among segments)) ≡ version_of_clut (last_clut id segments)
+taken_clut_version id segments = same_version (clut_named id) version_of_clut (λ clut. clut.version) (cluts_are_versioned id) segments
 
 -- so whether a segment is taken is told by the taken segments alone
 pub taken_by_taken : (segments : List Content) (value : SegmentValue) → is_taken (taken_among segments) value ≡ is_taken segments value

@@ -10,9 +10,9 @@ use Rattle.stream_syntax.specs.Segments.{SegmentValue, of_page, of_region, of_cl
 use Rattle.stream_syntax.specs.declared.region.Listing.{Listing}
 use Rattle.decoder_model.specs.Contents.{region_named, clut_named, object_named, object_of, display_of}
 use Rattle.sub_base.specs.Lists.{first_given, last_given}
-use Rattle.decoder_model.specs.Pixels.{object_version, since_region, is_painting, listings_naming, listings_by, painted_listings, code_by_listings, depth_of, code_by_segment, code_by_fill, last_code}
+use Rattle.decoder_model.specs.Pixels.{version_of_object, since_region, is_painting, listings_naming, listings_by, painted_listings, code_by_listings, depth_of, code_by_segment, code_by_fill, last_code}
 use Rattle.decoder_model.specs.Readings.{Content}
-use Rattle.decoder_model.specs.Taken.{Taken, has_new_version, region_version, clut_version, is_taken, taken_among, taken_region, last_region, last_clut, last_display}
+use Rattle.decoder_model.specs.Taken.{Taken, has_new_version, version_of_region, version_of_clut, is_taken, taken_among, taken_region, last_region, last_clut, last_display}
 use Rattle.decoder_model.proofs.Searches.{first_given-append, first_given-all_none}
 use Rattle.decoder_model.proofs.TakenLaws.{none_taken, taken_first, held_first, taken_by_taken, region_value, clut_value}
 
@@ -50,13 +50,13 @@ others_aside segment new earlier others = by segment.value refl
           let none : All (λ c. region_named v.head.region c ≡ None) new = λ k d within. not_named _ _ v (named_itself segment v is) (others k d within v.head.region).0 in
           let same : last_region v.head.region (new ++ earlier) ≡ last_region v.head.region earlier =
           first_given-append (region_named v.head.region) new earlier ∙ ap (λ found. option_or found (last_region v.head.region earlier)) (first_given-all_none (region_named v.head.region) new none) in
-          rw is (ap (λ found. has_new_version v.head.version (region_version found)) same)
+          rw is (ap (λ found. has_new_version v.head.version (version_of_region found)) same)
       | of_clut v ↦ λ is.
           let own : clut_named v.clut segment ≡ Some v = rw is (ap (λ b. cond b (Some v) None) (let same : eqb v.clut v.clut ≡ true = grind (arith, nat_tests) in same)) in
           let none : All (λ c. clut_named v.clut c ≡ None) new = λ k d within. not_named _ _ v own (others k d within v.clut).1 in
           let same : last_clut v.clut (new ++ earlier) ≡ last_clut v.clut earlier =
           first_given-append (clut_named v.clut) new earlier ∙ ap (λ found. option_or found (last_clut v.clut earlier)) (first_given-all_none (clut_named v.clut) new none) in
-          rw is (ap (λ found. has_new_version v.version (clut_version found)) same)
+          rw is (ap (λ found. has_new_version v.version (version_of_clut found)) same)
       | of_object v ↦ λ is. rw is refl
       | of_display v ↦ λ is. rw is refl
       | end_of_set ↦ λ is. rw is refl

@@ -1,5 +1,5 @@
 -- What arrives at a receiver with the packets of a PID (EN 300 743, clauses 6 and 7.1): units, and losses between them.
-use Rattle.std.specs.Prelude.{ℕ, Bool, false, true, if◌then◌else◌, List, [], ◌∷◌, ◌++◌, length, map, filter, flat_map, take_while, Option, Some, None, option_map, option_to_list, Result, Ok, Err}
+use Rattle.std.specs.Prelude.{ℕ, Bool, false, true, if◌then◌else◌, List, [], ◌∷◌, ◌++◌, length, map, filter, take_while, Option, Some, None, option_map, option_to_list, Result, Ok, Err}
 use Rattle.std.specs.Option.{is_none}
 use Rattle.stream_syntax.specs.Pes.{pes_of}
 use Rattle.stream_syntax.specs.TransportPackets.{packet_fault}
@@ -9,6 +9,7 @@ use Rattle.stream_syntax.specs.declared.pes.PesFault.TheVariants.{NoPrefix, Othe
 use Rattle.stream_syntax.specs.declared.transport.Event.{Event}
 use Rattle.stream_syntax.specs.DataField.{Frame, frames_of}
 use Rattle.decoder_model.specs.Frames.{counts_for}
+use Rattle.sub_base.specs.Lists.{all_of}
 
 -- a unit that counts for the sets of a page: the number of the packet that ends it, from 0, how many bytes it has, its
 -- presentation time, and its frames that count
@@ -38,7 +39,8 @@ is_passed_over (OtherField id) = true
 -- a unit without a frame that counts is passed over
 abbrev pub unit_with : ℕ → ℕ → ℕ → List Frame → Arrival
 unit_with place size time [] = aside
-unit_with place size time (frame ∷ frames) = unit (record { place = place; size = size; time = time; frames = frame ∷ frames })
+unit_with place size time (frame ∷ frames) =
+    unit (record { place = place; size = size; time = time; frames = frame ∷ frames })
 
 -- what a unit is for a page, by its presentation time and segments as a PES packet
 abbrev pub unit_from : ℕ → ℕ → ℕ → Result (ℕ × List ℕ) PesFault → Arrival
@@ -58,7 +60,8 @@ units_at page place ended = map (arrival_of_unit page place) (option_to_list end
 
 -- what a packet brings, behind those before it: its loss, and then the unit that it ends
 abbrev pub arrivals_at : ℕ → ℕ → ℕ → List (List ℕ) → List ℕ → List Arrival
-arrivals_at size pid page before packet = losses_at (event_at pid size before packet) ++ units_at page (length before) (unit_at pid size before packet)
+arrivals_at size pid page before packet =
+    losses_at (event_at pid size before packet) ++ units_at page (length before) (unit_at pid size before packet)
 
 -- the packets before the first that cannot be taken
 abbrev pub packets_taken : ℕ → List (List ℕ) → List (List ℕ)
@@ -66,7 +69,7 @@ packets_taken pid packets = take_while (λ packet. is_none (packet_fault pid pac
 
 -- what arrives with the packets of a PID for a page, in a demultiplexer of this size
 unfoldable pub arrivals_of : ℕ → ℕ → ℕ → List (List ℕ) → List Arrival
-arrivals_of size pid page packets = flat_map (λ (arrivals : List Arrival). arrivals) (each_after (arrivals_at size pid page) [] (packets_taken pid packets))
+arrivals_of size pid page packets = all_of (each_after (arrivals_at size pid page) [] (packets_taken pid packets))
 
 -- ---- units that are too long
 
@@ -78,4 +81,5 @@ is_over (Some (Over need)) = true
 
 -- with this packet a unit is dropped as too long for the demultiplexer, whatever the packet's event is
 abbrev pub ends_too_long : ℕ → ℕ → List (List ℕ) → List ℕ → Bool
-ends_too_long size pid before packet = is_over (option_map (fate_of size) (joined (hand_after pid size before) (part_of pid before packet)))
+ends_too_long size pid before packet =
+    is_over (option_map (fate_of size) (joined (hand_after pid size before) (part_of pid before packet)))

@@ -26,8 +26,11 @@ IsIdle lifted (refused time size fault) = Unit {0}
 -- behind a loss or a broken set no kept set has come but such of state normal
 pub data IsBehindLoss (profile : Profile) (anchor : ℕ) : List (Delivery Reading) → Type 0 where
   at_loss : (past : List (Delivery Reading)) → IsBehindLoss profile anchor (lost ∷ past)
-  at_broken : (past : List (Delivery Reading)) (delivery : Delivery Reading) (fault : SetFault) → verdict_of profile anchor past delivery ≡ Some (Broken fault) → IsBehindLoss profile anchor (delivery ∷ past)
-  goes_on : (past : List (Delivery Reading)) (delivery : Delivery Reading) → IsBehindLoss profile anchor past → IsIdle (lifted_time anchor past delivery) delivery → IsBehindLoss profile anchor (delivery ∷ past)
+  at_broken : (past : List (Delivery Reading)) (delivery : Delivery Reading) (fault : SetFault)
+      → verdict_of profile anchor past delivery ≡ Some (Broken fault)
+      → IsBehindLoss profile anchor (delivery ∷ past)
+  goes_on : (past : List (Delivery Reading)) (delivery : Delivery Reading) → IsBehindLoss profile anchor past
+      → IsIdle (lifted_time anchor past delivery) delivery → IsBehindLoss profile anchor (delivery ∷ past)
 
 -- a verdict on a kept set with which nothing is shown
 abbrev pub IsWaitingOrBroken : SetEnd → Type 0

@@ -95,7 +95,8 @@ display_in_set set = first_given display_of set
 
 -- the set has a page of this state (7.2.2, page_state)
 abbrev pub has_state : State → List Content → Bool
-has_state state set = list_any (λ (page : Page). state_number page.state == state_number state) (filter_map page_of set)
+has_state state set =
+    list_any (λ (page : Page). state_number page.state == state_number state) (filter_map page_of set)
 
 -- the segments of a set in the order in which they are handled: display, page, regions, CLUTs, objects, each kind as it
 -- stands

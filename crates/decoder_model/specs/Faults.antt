@@ -5,6 +5,7 @@ use Rattle.std.specs.Option.{is_some, is_none, option_or}
 use Rattle.sub_base.specs.Depth as depths
 use Rattle.sub_base.specs.declared.depth.Depth.{Depth}
 use Rattle.sub_base.specs.declared.profile.Profile.{Profile}
+use Rattle.stream_syntax.specs.declared.wire.TheConstants.{DEFAULT_DISPLAY_HEIGHT, DEFAULT_DISPLAY_WIDTH}
 use Rattle.stream_syntax.specs.PixelBlocks.{Part, string, table, line_end, table_size}
 use Rattle.stream_syntax.specs.PixelCodes.{string_of}
 use Rattle.stream_syntax.specs.Segments.{SegmentValue, of_page, of_region, of_clut, of_object, of_display, end_of_set, passed_over, Page, Region, Object, Display}
@@ -14,12 +15,13 @@ use Rattle.stream_syntax.specs.declared.region.RegionHead.{RegionHead}
 use Rattle.stream_syntax.specs.declared.segment_fault.SegmentKind.TheVariants.{Code}
 use Rattle.decoder_model.specs.Contents.{page_of, region_of, object_of, display_of, display_in_set, region_named, in_order}
 use Rattle.sub_base.specs.Lists.{first_given, with_earlier}
-use Rattle.decoder_model.specs.Nodes.{nodes_of, pixel_bytes, pixels_used}
+use Rattle.decoder_model.specs.Nodes.{nodes_of, region_bytes, pixels_used}
 use Rattle.decoder_model.specs.Pixels.{depth_of, painted_listings}
 use Rattle.decoder_model.specs.Readings.{Content, Reading, read, faulty}
 use Rattle.decoder_model.specs.Taken.{Taken, segments_of, taken_of, taken_region, is_taken, last_region, last_display}
 use Rattle.decoder_model.specs.declared.set_fault.SetFault.{SetFault}
 use Rattle.decoder_model.specs.declared.set_fault.SetFault.TheVariants as fault
+use Rattle.stream_syntax.specs.declared.wire.TheConstants.{DISPLAY_DEFINITION, PAGE_COMPOSITION, REGION_COMPOSITION}
 
 -- ---- the segments of a set, one by one
 
@@ -33,10 +35,15 @@ contents_in readings = filter_map content_in readings
 
 -- a page, a display, or a region of the same id stands among contents already
 abbrev pub twice_among : List Content → SegmentValue → Option SetFault
-twice_among before (of_page value) = if list_any (λ content. is_some (page_of content)) before then Some (fault.TwiceInSet 0x10 0) else None
-twice_among before (of_display value) = if list_any (λ content. is_some (display_of content)) before then Some (fault.TwiceInSet 0x14 0) else None
+twice_among before (of_page value) =
+    if list_any (λ content. is_some (page_of content)) before
+    then Some (fault.TwiceInSet PAGE_COMPOSITION 0) else None
+twice_among before (of_display value) =
+    if list_any (λ content. is_some (display_of content)) before
+    then Some (fault.TwiceInSet DISPLAY_DEFINITION 0) else None
 twice_among before (of_region value) =
-    if list_any (λ content. is_some (region_named value.head.region content)) before then Some (fault.TwiceInSet 0x11 value.head.region) else None
+    if list_any (λ content. is_some (region_named value.head.region content)) before
+    then Some (fault.TwiceInSet REGION_COMPOSITION value.head.region) else None
 twice_among before (of_clut value) = None
 twice_among before (of_object value) = None
 twice_among before end_of_set = None
@@ -49,13 +56,15 @@ fault_of_segment before (read content) = twice_among (contents_in before) conten
 
 -- the first segment with a fault
 abbrev pub segment_fault : List Reading → Option SetFault
-segment_fault readings = first_given (λ (placed : Reading × List Reading). fault_of_segment placed.1 placed.0) (with_earlier [] readings)
+segment_fault readings =
+    first_given (λ (placed : Reading × List Reading). fault_of_segment placed.1 placed.0) (with_earlier [] readings)
 
 -- ---- the display
 
 -- the display of an epoch: the last one that is defined, and else 720 by 576 pixels without a window (7.2.1)
 abbrev pub display_or_default : Option Display → Display
-display_or_default None = record { version = 0; width = 720; height = 576; window = None }
+display_or_default None =
+    record { version = 0; width = DEFAULT_DISPLAY_WIDTH; height = DEFAULT_DISPLAY_HEIGHT; window = None }
 display_or_default (Some display) = display
 
 abbrev pub display_in_force : List Content → Display
@@ -63,25 +72,29 @@ display_in_force segments = display_or_default (last_display segments)
 
 abbrev pub display_fault : Profile → Display → Option SetFault
 display_fault profile display =
-    if nat_lt profile.width display.width || nat_lt profile.height display.height then Some (fault.DisplayTooLarge display.width display.height) else None
+    if nat_lt profile.width display.width || nat_lt profile.height display.height
+    then Some (fault.DisplayTooLarge display.width display.height) else None
 
 -- ---- regions
 
 -- the first region that the page shows and no segment defines
 abbrev pub unknown_region : List Content → PageEntry → Option SetFault
-unknown_region segments entry = if is_none (last_region entry.region segments) then Some (fault.NoSuchRegion entry.region) else None
+unknown_region segments entry =
+    if is_none (last_region entry.region segments) then Some (fault.NoSuchRegion entry.region) else None
 
 abbrev pub page_fault : List Content → Page → Option SetFault
 page_fault segments page = first_given (unknown_region segments) page.entries
 
 -- two regions have the same size and depth
 abbrev pub has_same_shape : RegionHead → RegionHead → Bool
-has_same_shape a b = (a.width == b.width) && ((a.height == b.height) && (depths.bits_of a.depth == depths.bits_of b.depth))
+has_same_shape a b =
+    (a.width == b.width) && ((a.height == b.height) && depths.is_same_depth a.depth b.depth)
 
 -- a region segment has another size or depth than the taken one before it
 abbrev pub changed_from : Region → Option Region → Option SetFault
 changed_from region None = None
-changed_from region (Some last) = if has_same_shape region.head last.head then None else Some (fault.RegionChanged region.head.region)
+changed_from region (Some last) =
+    if has_same_shape region.head last.head then None else Some (fault.RegionChanged region.head.region)
 
 -- a taken region segment, behind earlier segments, that changes its region
 abbrev pub changed_region : List Content → SegmentValue → Option Region → Option SetFault
@@ -92,13 +105,15 @@ changed_region earlier value (Some region) =
 -- a region that is new in the epoch, behind earlier taken segments, and needs more bytes than these leave free
 abbrev pub region_too_large : Profile → Taken → Region → Option SetFault
 region_too_large profile taken region =
-    if is_none (taken_region region.head.region taken) && nat_lt (profile.pixels - pixels_used taken) (pixel_bytes region.head)
-    then Some (fault.PixelFull (pixel_bytes region.head) (profile.pixels - pixels_used taken)) else None
+    if is_none (taken_region region.head.region taken)
+    && nat_lt (profile.pixels - pixels_used taken) (region_bytes region.head)
+    then Some (fault.PixelFull (region_bytes region.head) (profile.pixels - pixels_used taken)) else None
 
 -- ---- nodes
 
 abbrev pub composition_fault : Profile → Taken → Page → Option SetFault
-composition_fault profile taken page = if nat_lt profile.nodes (nodes_of taken page) then Some (fault.CompositionFull (nodes_of taken page)) else None
+composition_fault profile taken page =
+    if nat_lt profile.nodes (nodes_of taken page) then Some (fault.CompositionFull (nodes_of taken page)) else None
 
 -- ---- the depth of objects
 
@@ -117,11 +132,13 @@ is_too_deep region line_end = false
 -- the place of the first string of a block that is deeper than a region, in bytes
 abbrev pub too_deep_at : Depth → List Part → Option ℕ
 too_deep_at region [] = None
-too_deep_at region (part ∷ parts) = if is_too_deep region part then Some 0 else option_map (λ place. part_size part + place) (too_deep_at region parts)
+too_deep_at region (part ∷ parts) =
+    if is_too_deep region part then Some 0 else option_map (λ place. part_size part + place) (too_deep_at region parts)
 
 -- the fault of a string at that place of a block, the first byte of which has a place in the segment
 abbrev pub too_deep_fault : ℕ → ℕ → SetFault
-too_deep_fault block place = fault.Segment (record { place = block + place; kind = Code (record { place = place; kind = TooDeep }) })
+too_deep_fault block place =
+    fault.Segment (record { place = block + place; kind = Code (record { place = place; kind = TooDeep }) })
 
 -- the fault of an object in a region of a depth: in its top block, or else in its bottom block
 abbrev pub depth_fault : Depth → Content → Object → Option SetFault
@@ -133,7 +150,8 @@ depth_fault region content object =
 -- the fault of an object, behind earlier taken segments, in a region in which it paints a listing
 abbrev pub fault_in_region : Taken → Content → Object → ℕ → Option SetFault
 fault_in_region earlier content object id =
-    if length (painted_listings earlier id object) == 0 then None else depth_fault (depth_of (taken_region id earlier)) content object
+    if length (painted_listings earlier id object) == 0 then None
+    else depth_fault (depth_of (taken_region id earlier)) content object
 
 -- the ids that a region can have, rising; an id is a byte
 unfoldable pub all_region_ids : List ℕ
@@ -145,9 +163,12 @@ fault_in_regions earlier content object = first_given (fault_in_region earlier c
 
 -- ---- all of a set
 
--- the first fault that the segments of a set have by a test, each behind the earlier segments of the epoch, the latest first
-abbrev pub first_fault_by : (List Content → Content → Option SetFault) → List Content → List Content → Option SetFault
-first_fault_by test older set = first_given (λ (placed : Content × List Content). test placed.1 placed.0) (with_earlier older (in_order set))
+-- the first fault that the segments of a set have by a test, each behind the earlier segments of the epoch, the latest
+-- first
+abbrev pub first_fault_by : (List Content → Content → Option SetFault) → List Content → List Content
+    → Option SetFault
+first_fault_by test older set =
+    first_given (λ (placed : Content × List Content). test placed.1 placed.0) (with_earlier older (in_order set))
 
 abbrev pub region_changed : List Content → Content → Option SetFault
 region_changed earlier content = changed_region earlier content.value (region_of content)
@@ -158,8 +179,8 @@ pixels_full profile earlier content = option_and_then (region_too_large profile 
 abbrev pub object_too_deep : List Content → Content → Option SetFault
 object_too_deep earlier content = option_and_then (fault_in_regions (taken_of earlier) content) (object_of content)
 
--- the first fault of a set by what the epoch is with it: the sets of the epoch before it, the latest first, and the set with
--- its page
+-- the first fault of a set by what the epoch is with it: the sets of the epoch before it, the latest first, and the set
+-- with its page
 unfoldable pub epoch_fault : Profile → List (List Content) → List Content → Page → Option SetFault
 epoch_fault profile before set page =
     first_given (λ (found : Option SetFault). found)

@@ -1,13 +1,11 @@
 -- The segments of a page among those of a data field (EN 300 743, clause 7.2).
-use Rattle.std.specs.Prelude.{ℕ, ◌==◌, ◌&&◌, Bool, true, false, List, [], ◌∷◌, length, filter_map, sum_by, Option, Some, None}
+use Rattle.std.specs.Prelude.{ℕ, ◌==◌, ◌&&◌, Bool, true, false, List, length, filter_map, sum_by, Option, Some, None}
 use Rattle.std.specs.List.{list_any}
 use Rattle.stream_syntax.specs.Tests.{byte_at, word_at}
 use Rattle.stream_syntax.specs.declared.segment_fault.SegmentFault.{SegmentFault}
 use Rattle.stream_syntax.specs.DataField.{Frame, segment, broken}
-
--- the segment types of a display set: page, region, CLUT, object, display, and end of display set
-abbrev pub set_kinds : List ℕ
-set_kinds = 0x10 ∷ 0x11 ∷ 0x12 ∷ 0x13 ∷ 0x14 ∷ 0x80 ∷ []
+use Rattle.stream_syntax.specs.declared.wire.TheConstants.{END_OF_DISPLAY_SET}
+use Rattle.stream_syntax.specs.Segments.{set_kinds}
 
 -- a segment of one of these types with this page id
 abbrev pub is_of_page : ℕ → List ℕ → Bool
@@ -31,7 +29,7 @@ abbrev pub bytes_in : List Frame → ℕ
 bytes_in frames = sum_by length (segments_in frames)
 
 abbrev pub is_end : Frame → Bool
-is_end (segment bytes) = byte_at 1 bytes == 0x80
+is_end (segment bytes) = byte_at 1 bytes == END_OF_DISPLAY_SET
 is_end (broken fault) = false
 
 abbrev pub fault_of : Frame → Option SegmentFault

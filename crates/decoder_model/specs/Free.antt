@@ -1,5 +1,5 @@
--- The memory of a receiver that is free after what it was handed (EN 300 743, clause 5.2): all of it where no epoch is known,
--- and else what the epoch leaves.
+-- The memory of a receiver that is free after what it was handed (EN 300 743, clause 5.2): all of it where no epoch is
+-- known, and else what the epoch leaves.
 use Rattle.std.specs.Prelude.{ℕ, ◌-◌, List, [], ◌∷◌, Option, Some, None}
 use Rattle.sub_base.specs.declared.profile.Profile.{Profile}
 use Rattle.stream_syntax.specs.Segments.{Page}

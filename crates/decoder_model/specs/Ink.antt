@@ -19,7 +19,8 @@ is_in_table Eight entry = entry.eight
 
 -- the colour that an entry gives that number in the table of a depth
 abbrev pub colour_by_entry : Depth → ℕ → ClutEntry → Option Colour
-colour_by_entry depth number entry = if (entry.entry == number) && is_in_table depth entry then Some entry.colour else None
+colour_by_entry depth number entry =
+    if (entry.entry == number) && is_in_table depth entry then Some entry.colour else None
 
 -- the colour of the last such entry of a CLUT segment
 abbrev pub colour_by_clut : Depth → ℕ → Clut → Option Colour
@@ -31,4 +32,5 @@ colour_by_segment id depth number segment = option_and_then (colour_by_clut dept
 
 -- the colour of an entry of a CLUT: what the last segment gave it, and else the default colour
 unfoldable pub ink_of : Taken → ℕ → Depth → ℕ → Colour
-ink_of taken id depth number = unwrap_or (first_given (colour_by_segment id depth number) taken.segments) (default_of depth number)
+ink_of taken id depth number =
+    unwrap_or (first_given (colour_by_segment id depth number) taken.segments) (default_of depth number)

@@ -1,5 +1,6 @@
--- What the regions of an epoch need: bytes in the pixel buffer and nodes in the composition memory (EN 300 743, clause 5.2).
-use Rattle.std.specs.Prelude.{ℕ, ◌+◌, ◌*◌, ◌/◌, ◌==◌, ◌&&◌, Bool, nat_lt, if◌then◌else◌, List, [], ◌∷◌, length, map, flat_map, filter_map, sum_by, Option, Some, None}
+-- What the regions of an epoch need: bytes in the pixel buffer and nodes in the composition memory (EN 300 743, clause
+-- 5.2).
+use Rattle.std.specs.Prelude.{ℕ, ◌+◌, ◌==◌, ◌&&◌, Bool, nat_lt, if◌then◌else◌, List, [], ◌∷◌, length, map, flat_map, filter_map, sum_by, Option, Some, None}
 use Rattle.sub_base.specs.Depth as depths
 use Rattle.sub_base.specs.declared.depth.Depth.{Depth}
 use Rattle.sub_base.specs.declared.depth.Depth.TheVariants.{Two, Four, Eight}
@@ -23,13 +24,13 @@ region_id region = region.head.region
 unfoldable pub region_ids : Taken → List ℕ
 region_ids taken = different is_same (map region_id (filter_map region_of taken.segments))
 
--- the bytes of a region's pixels: each row in started bytes
-abbrev pub pixel_bytes : RegionHead → ℕ
-pixel_bytes head = (head.width * depths.bits_of head.depth + 7) / 8 * head.height
+-- the bytes of a region's pixels
+abbrev pub region_bytes : RegionHead → ℕ
+region_bytes head = depths.pixel_bytes head.width head.height head.depth
 
 abbrev pub bytes_of_region : Option Region → ℕ
 bytes_of_region None = 0
-bytes_of_region (Some region) = pixel_bytes region.head
+bytes_of_region (Some region) = region_bytes region.head
 
 -- the bytes of all regions, each by its last segment
 abbrev pub pixels_used : Taken → ℕ
@@ -51,12 +52,13 @@ pub record TableEntry : Type 0 where
   pub entry : ℕ
 
 abbrev pub is_same_entry : TableEntry → TableEntry → Bool
-is_same_entry a b = (a.clut == b.clut) && ((depths.bits_of a.depth == depths.bits_of b.depth) && (a.entry == b.entry))
+is_same_entry a b = (a.clut == b.clut) && (depths.is_same_depth a.depth b.depth && (a.entry == b.entry))
 
 -- an entry of a CLUT segment in the table of a depth, where it is flagged for the table and the table has it
 abbrev pub in_table : ℕ → ClutEntry → Depth → Option TableEntry
 in_table clut entry depth =
-    if is_in_table depth entry && nat_lt entry.entry (depths.code_count depth) then Some (record { clut = clut; depth = depth; entry = entry.entry }) else None
+    if is_in_table depth entry && nat_lt entry.entry (depths.code_count depth)
+    then Some (record { clut = clut; depth = depth; entry = entry.entry }) else None
 
 abbrev pub in_tables : ℕ → ClutEntry → List TableEntry
 in_tables clut entry = filter_map (in_table clut entry) (Two ∷ Four ∷ Eight ∷ [])
@@ -79,4 +81,5 @@ listings_held taken = sum_by (λ id. listing_count (taken_region id taken)) (reg
 -- the nodes of a composition: one for each entry of the page, region, listing, CLUT, and entry that is set in a table
 abbrev pub nodes_of : Taken → Page → ℕ
 nodes_of taken page =
-    length page.entries + length (region_ids taken) + listings_held taken + length (clut_ids taken) + length (table_entries taken)
+    length page.entries + length (region_ids taken) + listings_held taken + length (clut_ids taken)
+    + length (table_entries taken)

@@ -1,7 +1,7 @@
 -- What one packet brings to the buffers of a receiver (EN 300 743, clause 5.2), behind the packets before it.
 use Rattle.std.specs.Prelude.{ℕ, ◌==◌, ◌&&◌, ◌||◌, not, Bool, false, true, List, [], ◌∷◌, ◌++◌, length, filter, reverse, Option, Some, None, option_map}
 use Rattle.std.specs.List.{list_any}
-use Rattle.stream_syntax.specs.Units.{Part, Begins, Adds, Breaks, event_at, unit_at, hand_after, part_of}
+use Rattle.stream_syntax.specs.Units.{UnitPart, Begins, Adds, Breaks, event_at, unit_at, hand_after, part_of}
 use Rattle.stream_syntax.specs.declared.transport.Event.{Event}
 use Rattle.stream_syntax.specs.declared.transport.Event.TheVariants as event
 use Rattle.decoder_model.specs.Arrivals.{PesUnit, Arrival, loss, refused_unit, aside, unit, arrival_of_unit, losses_at, arrivals_of, ends_too_long}
@@ -29,7 +29,7 @@ is_in_hand coded (one ∷ units) = not (is_ended coded (frames_in (one ∷ units
 -- ---- a packet
 
 -- how many bytes of a payload begin or continue a unit
-abbrev pub bytes_of_part : Option (List ℕ) → Option Part → ℕ
+abbrev pub bytes_of_part : Option (List ℕ) → Option UnitPart → ℕ
 bytes_of_part hand None = 0
 bytes_of_part hand (Some (Begins payload)) = length payload
 bytes_of_part None (Some (Adds payload)) = 0
@@ -38,7 +38,8 @@ bytes_of_part hand (Some Breaks) = 0
 
 -- a unit of another time than that of a set in hand makes this set ready
 abbrev pub makes_ready : ℕ → List PesUnit → Option Arrival → Bool
-makes_ready coded run (Some (unit one)) = is_in_hand coded run && not (list_any (λ (other : PesUnit). other.time == one.time) run)
+makes_ready coded run (Some (unit one)) =
+    is_in_hand coded run && not (list_any (λ (other : PesUnit). other.time == one.time) run)
 makes_ready coded run other = false
 
 -- a unit is dropped: it is refused, passed over, or stands behind the end of its set
@@ -49,8 +50,8 @@ is_dropped coded run (Some refused_unit) = true
 is_dropped coded run (Some aside) = true
 is_dropped coded run (Some (unit one)) = is_ended coded (frames_in (of_time one.time run))
 
--- what a packet brings: how many bytes; whether its unit makes the set in hand ready before them, since it has another time; and
--- whether its unit is dropped behind them
+-- what a packet brings: how many bytes; whether its unit makes the set in hand ready before them, since it has another
+-- time; and whether its unit is dropped behind them
 pub record PacketArrival : Type 0 where
   pub bytes : ℕ
   pub before : Bool
@@ -58,18 +59,22 @@ pub record PacketArrival : Type 0 where
 
 -- the run in hand as the packet's unit comes: none where the packet means a loss
 abbrev pub run_before : ℕ → ℕ → ℕ → List (List ℕ) → List ℕ → List PesUnit
-run_before coded pid page before packet = last_run (losses_at (event_at pid coded before packet) ++ reverse (arrivals_of coded pid page before))
+run_before coded pid page before packet =
+    last_run (losses_at (event_at pid coded before packet) ++ reverse (arrivals_of coded pid page before))
 
 -- the unit that the packet ends
 abbrev pub unit_ended : ℕ → ℕ → ℕ → List (List ℕ) → List ℕ → Option Arrival
-unit_ended coded pid page before packet = option_map (arrival_of_unit page (length before)) (unit_at pid coded before packet)
+unit_ended coded pid page before packet =
+    option_map (arrival_of_unit page (length before)) (unit_at pid coded before packet)
 
 -- what a packet brings to a receiver with so many bytes of coded data, behind packets that were all taken
 abbrev pub packet_arrival : ℕ → ℕ → ℕ → List (List ℕ) → List ℕ → PacketArrival
 packet_arrival coded pid page before packet = record {
   bytes = bytes_of_part (hand_after pid coded before) (part_of pid before packet);
   before = makes_ready coded (run_before coded pid page before packet) (unit_ended coded pid page before packet);
-  dropped = ends_too_long coded pid before packet || is_dropped coded (run_before coded pid page before packet) (unit_ended coded pid page before packet);
+  dropped =
+      ends_too_long coded pid before packet
+      || is_dropped coded (run_before coded pid page before packet) (unit_ended coded pid page before packet);
 }
 
 -- the packet breaks off a unit in hand, so that its bytes are dropped before the packet's arrive

@@ -15,18 +15,20 @@ use Rattle.decoder_model.specs.Taken.{Taken, taken_region, has_new_version}
 
 -- ---- which listings an object paints
 
-abbrev pub object_version : Option Object → Option ℕ
-object_version None = None
-object_version (Some object) = Some object.version
+abbrev pub version_of_object : Option Object → Option ℕ
+version_of_object None = None
+version_of_object (Some object) = Some object.version
 
 -- the segments after the last region segment of that id
 abbrev pub since_region : ℕ → Taken → List Content
 since_region id taken = take_while (λ segment. is_none (region_named id segment)) taken.segments
 
--- behind earlier segments the object paints the listings of a region that name it: since the region's last segment it was
--- not there, or the last time with another version
+-- behind earlier segments the object paints the listings of a region that name it: since the region's last segment it
+-- was not there, or the last time with another version
 abbrev pub is_painting : Taken → ℕ → Object → Bool
-is_painting earlier id object = has_new_version object.version (object_version (first_given (object_named object.object) (since_region id earlier)))
+is_painting earlier id object =
+    has_new_version object.version
+    (version_of_object (first_given (object_named object.object) (since_region id earlier)))
 
 -- the listings among some that name an object
 abbrev pub listings_naming : ℕ → List Listing → List Listing
@@ -48,11 +50,12 @@ abbrev pub bottom_parts : List Part → List Part → List Part
 bottom_parts top [] = top
 bottom_parts top (part ∷ parts) = part ∷ parts
 
--- a run of a field covers a column and a row of the region, from the corner of a listing on: the lines of the top field are
--- rows 0, 2, 4 and so on, those of the bottom field rows 1, 3, 5 and so on
+-- a run of a field covers a column and a row of the region, from the corner of a listing on: the lines of the top field
+-- are rows 0, 2, 4 and so on, those of the bottom field rows 1, 3, 5 and so on
 abbrev pub is_covered : Listing → ℕ → ℕ → ℕ → Run → Bool
 is_covered listing first_row x y run =
-    (y == listing.y + 2 * run.line + first_row) && nat_le (listing.x + run.x) x && nat_lt x (listing.x + run.x + run.length)
+    (y == listing.y + 2 * run.line + first_row) && nat_le (listing.x + run.x) x
+    && nat_lt x (listing.x + run.x + run.length)
 
 -- a run changes what it covers, but for code 1, as it is read, of an object that is seen through
 abbrev pub is_changed : Bool → Run → Bool
@@ -76,7 +79,8 @@ code_by_listing depth see_through top bottom x y listing =
 
 -- the code that an object puts there, through all of its listings in order
 abbrev pub code_by_listings : Depth → Bool → List Part → List Part → ℕ → ℕ → List Listing → Option ℕ
-code_by_listings depth see_through top bottom x y listings = last_given (code_by_listing depth see_through top bottom x y) listings
+code_by_listings depth see_through top bottom x y listings =
+    last_given (code_by_listing depth see_through top bottom x y) listings
 
 -- the depth of a region, by its last segment
 abbrev pub depth_of : Option Region → Depth
@@ -99,7 +103,8 @@ code_by_fill id head = if (head.region == id) && head.fill then Some (fill_code 
 abbrev pub code_by_segment : Taken → SegmentValue → List Part → List Part → ℕ → ℕ → ℕ → Option ℕ
 code_by_segment earlier (of_region value) top bottom id x y = code_by_fill id value.head
 code_by_segment earlier (of_object value) top bottom id x y =
-    code_by_listings (depth_of (taken_region id earlier)) value.see_through top bottom x y (painted_listings earlier id value)
+    code_by_listings (depth_of (taken_region id earlier)) value.see_through top bottom x y
+    (painted_listings earlier id value)
 code_by_segment earlier (of_page value) top bottom id x y = None
 code_by_segment earlier (of_clut value) top bottom id x y = None
 code_by_segment earlier (of_display value) top bottom id x y = None
@@ -110,7 +115,8 @@ code_by_segment earlier passed_over top bottom id x y = None
 abbrev pub last_code : List Content → ℕ → ℕ → ℕ → Option ℕ
 last_code [] id x y = None
 last_code (segment ∷ earlier) id x y =
-    option_or (code_by_segment (record { segments = earlier }) segment.value segment.top segment.bottom id x y) (last_code earlier id x y)
+    option_or (code_by_segment (record { segments = earlier }) segment.value segment.top segment.bottom id x y)
+    (last_code earlier id x y)
 
 -- the code in a column and a row of a region, and 0 where nothing was written
 unfoldable pub pixel_of : Taken → ℕ → ℕ → ℕ → ℕ

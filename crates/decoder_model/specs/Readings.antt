@@ -48,7 +48,8 @@ AreReadings (bytes ∷ segments) (reading ∷ readings) = IsReading bytes readin
 -- a set is read so; a loss or a refused set stays what it is
 abbrev pub IsDeliveryRead : Delivery (List ℕ) → Delivery Reading → Type 0
 IsDeliveryRead lost reading = reading ≡ lost
-IsDeliveryRead (whole time size segments) reading = (readings : List Reading) × AreReadings segments readings × (reading ≡ whole time size readings)
+IsDeliveryRead (whole time size segments) reading =
+    (readings : List Reading) × AreReadings segments readings × (reading ≡ whole time size readings)
 IsDeliveryRead (refused time size fault) reading = reading ≡ refused time size fault
 
 -- the sets and losses are read so, one after another
@@ -56,4 +57,5 @@ abbrev pub AreDeliveriesRead : List (Delivery (List ℕ)) → List (Delivery Rea
 AreDeliveriesRead [] [] = Unit {0}
 AreDeliveriesRead [] (reading ∷ readings) = ⊥
 AreDeliveriesRead (delivery ∷ deliveries) [] = ⊥
-AreDeliveriesRead (delivery ∷ deliveries) (reading ∷ readings) = IsDeliveryRead delivery reading × AreDeliveriesRead deliveries readings
+AreDeliveriesRead (delivery ∷ deliveries) (reading ∷ readings) =
+    IsDeliveryRead delivery reading × AreDeliveriesRead deliveries readings

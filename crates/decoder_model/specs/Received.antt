@@ -1,18 +1,18 @@
 -- What a receiver has received, as display sets that are read.
 use Rattle.std.specs.Prelude.{◌≡◌, ℕ, Bool, List, [], ◌∷◌, ◌++◌, length, reverse, None}
 use Rattle.sub_base.specs.declared.profile.Profile.{Profile}
-use Rattle.stream_syntax.specs.SegmentTests.{frame_tests}
+use Rattle.stream_syntax.specs.SegmentTests.{frame_tests, segment_size}
 use Rattle.stream_syntax.specs.Tests.{first_fault}
-use Rattle.stream_syntax.specs.DataField.{segment_size}
 use Rattle.decoder_model.specs.Readings.{Reading, IsReading, AreDeliveriesRead}
 use Rattle.decoder_model.specs.Sets.{Delivery, sets_of}
 
 -- ---- of packets
 
--- a receiver of a profile, for a PID and a page, has received these packets as these sets and losses, the latest first; the
--- stream ends with the packets or not
+-- a receiver of a profile, for a PID and a page, has received these packets as these sets and losses, the latest first;
+-- the stream ends with the packets or not
 abbrev pub HasReceived : Profile → ℕ → ℕ → Bool → List (List ℕ) → List (Delivery Reading) → Type 0
-HasReceived profile pid page ended packets past = AreDeliveriesRead (reverse (sets_of profile.coded pid page ended packets)) past
+HasReceived profile pid page ended packets past =
+    AreDeliveriesRead (reverse (sets_of profile.coded pid page ended packets)) past
 
 -- ---- of the bytes of a set
 

@@ -1,9 +1,10 @@
--- The picture that a receiver shows at a tick (EN 300 743, clauses 5.1, 7.2.1 and 7.2.2): that of the last kept display set
--- whose presentation time has come, until its time-out.
-use Rattle.std.specs.Prelude.{false, ◌≡◌, ℕ, ◌+◌, ◌-◌, ◌*◌, ◌==◌, ◌&&◌, ◌⊎◌, Bool, nat_le, nat_lt, if◌then◌else◌, List, [], ◌∷◌, map, flat_map, All, Option, Some, None, unwrap_or}
+-- The picture that a receiver shows at a tick (EN 300 743, clauses 5.1, 7.2.1 and 7.2.2): that of the last kept display
+-- set whose presentation time has come, until its time-out.
+use Rattle.std.specs.Prelude.{false, ◌≡◌, ℕ, ◌+◌, ◌-◌, ◌*◌, ◌==◌, ◌&&◌, ◌⊎◌, Bool, nat_le, if◌then◌else◌, List, [], ◌∷◌, map, flat_map, All, Option, Some, None, unwrap_or}
 use Rattle.std.specs.List.{range_with_len}
 use Rattle.sub_base.specs.Colour.{clear}
 use Rattle.sub_base.specs.declared.colour.Colour.{Colour}
+use Rattle.sub_base.specs.declared.pace.TheConstants.{SECOND}
 use Rattle.sub_base.specs.declared.profile.Profile.{Profile}
 use Rattle.stream_syntax.specs.Segments.{Page, Region, Display}
 use Rattle.stream_syntax.specs.declared.display.Window.{Window}
@@ -21,6 +22,7 @@ use Rattle.decoder_model.specs.Taken.{Taken, segments_of, taken_of, taken_region
 use Rattle.decoder_model.specs.Verdict.{verdict_of, sets_since}
 use Rattle.decoder_model.specs.declared.set_end.SetEnd.{SetEnd}
 use Rattle.decoder_model.specs.declared.set_end.SetEnd.TheVariants.{Shown, NotLater}
+use Rattle.sub_base.specs.Picture.{is_inside}
 
 -- ---- pictures in colours
 
@@ -62,11 +64,8 @@ window_of display = window_or_all display display.window
 
 -- a place of the display lies in a window
 abbrev pub is_in_window : Window → ℕ → ℕ → Bool
-is_in_window window x y = nat_le window.left x && (nat_le x window.right && (nat_le window.top y && nat_le y window.bottom))
-
--- a place lies in a rectangle by its corner and sides
-abbrev pub is_inside : ℕ → ℕ → ℕ → ℕ → ℕ → ℕ → Bool
-is_inside left top width height x y = nat_le left x && (nat_lt x (left + width) && (nat_le top y && nat_lt y (top + height)))
+is_in_window window x y =
+    nat_le window.left x && (nat_le x window.right && (nat_le window.top y && nat_le y window.bottom))
 
 -- the colour in a column and a row of a region, through its CLUT
 abbrev pub colour_in : Taken → Region → ℕ → ℕ → Colour
@@ -76,17 +75,21 @@ colour_in taken region x y = ink_of taken region.head.clut region.head.depth (pi
 abbrev pub colour_through : Taken → ℕ → ℕ → ℕ → ℕ → Option Region → Option Colour
 colour_through taken left top x y None = None
 colour_through taken left top x y (Some region) =
-    if is_inside left top region.head.width region.head.height x y then Some (colour_in taken region (x - left) (y - top)) else None
+    if is_inside left top region.head.width region.head.height x y
+    then Some (colour_in taken region (x - left) (y - top)) else None
 
 -- the colour that an entry of the page gives a place: the region stands from the window's corner on (7.2.2)
 abbrev pub colour_by_entry : Taken → Window → ℕ → ℕ → PageEntry → Option Colour
-colour_by_entry taken window x y entry = colour_through taken (window.left + entry.x) (window.top + entry.y) x y (taken_region entry.region taken)
+colour_by_entry taken window x y entry =
+    colour_through taken (window.left + entry.x) (window.top + entry.y) x y (taken_region entry.region taken)
 
--- the colour at a place of the display: that of the last listed region that covers it, within the window, and else clear
+-- the colour at a place of the display: that of the last listed region that covers it, within the window, and else
+-- clear
 unfoldable pub colour_at : Scene → ℕ → ℕ → Colour
 colour_at scene x y =
     if is_in_window (window_of scene.display) x y
-    then unwrap_or (last_given (colour_by_entry scene.taken (window_of scene.display) x y) scene.entries) clear else clear
+    then unwrap_or (last_given (colour_by_entry scene.taken (window_of scene.display) x y) scene.entries) clear
+    else clear
 
 -- a row of the picture, and the whole picture
 abbrev pub row_of : Scene → ℕ → List Colour
@@ -119,10 +122,12 @@ abbrev pub standing_in : ℕ → Option Page → Option (List (List Content)) �
 standing_in lifted (Some page) (Some epoch) = Some (record { time = lifted; page = page; scene = scene_in epoch page })
 standing_in lifted page epoch = None
 
--- what stands with a set of that lifted time, behind the kept sets since the last loss or broken set, by the verdict on it, and
--- what stood before: a set that is not kept changes nothing, and without a set that is shown nothing stands
-abbrev pub standing_with : List (List Content) → Option ℕ → Delivery Reading → Option SetEnd → Option Standing → Option Standing
-standing_with sets (Some lifted) (whole time size readings) (Some Shown) before = standing_in lifted (page_in_set (contents_in readings)) (epoch_of (contents_in readings ∷ sets))
+-- what stands with a set of that lifted time, behind the kept sets since the last loss or broken set, by the verdict on
+-- it, and what stood before: a set that is not kept changes nothing, and without a set that is shown nothing stands
+abbrev pub standing_with : List (List Content) → Option ℕ → Delivery Reading → Option SetEnd → Option Standing
+    → Option Standing
+standing_with sets (Some lifted) (whole time size readings) (Some Shown) before =
+    standing_in lifted (page_in_set (contents_in readings)) (epoch_of (contents_in readings ∷ sets))
 standing_with sets lifted delivery (Some (NotLater last)) before = before
 standing_with sets lifted delivery verdict before = None
 
@@ -130,11 +135,12 @@ standing_with sets lifted delivery verdict before = None
 unfoldable pub standing_after : Profile → ℕ → List (Delivery Reading) → Option Standing
 standing_after profile anchor [] = None
 standing_after profile anchor (delivery ∷ past) =
-    standing_with (sets_since profile anchor past) (lifted_time anchor past delivery) delivery (verdict_of profile anchor past delivery) (standing_after profile anchor past)
+    standing_with (sets_since profile anchor past) (lifted_time anchor past delivery) delivery
+    (verdict_of profile anchor past delivery) (standing_after profile anchor past)
 
 -- the tick at which the page is timed out; a time-out of 0 is never over
 abbrev pub until_of : Standing → Option ℕ
-until_of standing = if standing.page.time_out == 0 then None else Some (standing.time + 90000 * standing.page.time_out)
+until_of standing = if standing.page.time_out == 0 then None else Some (standing.time + SECOND * standing.page.time_out)
 
 -- ---- the view at a tick
 
@@ -152,18 +158,20 @@ abbrev pub from_time_on : Option ℕ → ℕ → View → View → View
 from_time_on None tick by_set before = before
 from_time_on (Some lifted) tick by_set before = if nat_le lifted tick then by_set else before
 
--- the view at a tick after a past, in a receiver with that anchor: of what stands after the last kept set whose time has come,
--- and nothing where there is none
+-- the view at a tick after a past, in a receiver with that anchor: of what stands after the last kept set whose time
+-- has come, and nothing where there is none
 unfoldable pub view_at : Profile → ℕ → ℕ → List (Delivery Reading) → View
 view_at profile anchor tick [] = nothing
 view_at profile anchor tick (delivery ∷ past) =
-    from_time_on (lifted_time anchor past delivery) tick (view_of tick (standing_after profile anchor (delivery ∷ past))) (view_at profile anchor tick past)
+    from_time_on (lifted_time anchor past delivery) tick
+    (view_of tick (standing_after profile anchor (delivery ∷ past))) (view_at profile anchor tick past)
 
 -- ---- the view of a stream
 
--- what is shown of packets at a tick, in a receiver of a profile for a PID and a page, with that anchor: the view after all of
--- their sets and losses. The stream ends with these packets or not
-pub record IsShown (profile : Profile) (pid page anchor : ℕ) (ended : Bool) (packets : List (List ℕ)) (tick : ℕ) (shown : View) : Type 0 where
+-- what is shown of packets at a tick, in a receiver of a profile for a PID and a page, with that anchor: the view after
+-- all of their sets and losses. The stream ends with these packets or not
+pub record IsShown (profile : Profile) (pid page anchor : ℕ) (ended : Bool) (packets : List (List ℕ)) (tick : ℕ)
+    (shown : View) : Type 0 where
   pub past : List (Delivery Reading)
   pub received : HasReceived profile pid page ended packets past
   pub is_view : shown ≡ view_at profile anchor tick past

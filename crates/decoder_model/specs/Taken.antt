@@ -1,5 +1,5 @@
--- Which region and CLUT segments of an epoch are taken (EN 300 743, clauses 7.2.3 and 7.2.4, version numbers). The segments
--- of an epoch stand in a list, the latest first.
+-- Which region and CLUT segments of an epoch are taken (EN 300 743, clauses 7.2.3 and 7.2.4, version numbers). The
+-- segments of an epoch stand in a list, the latest first.
 use Rattle.std.specs.Prelude.{ℕ, ◌==◌, Bool, true, not, if◌then◌else◌, List, [], ◌∷◌, flat_map, reverse, Option, Some, None}
 use Rattle.stream_syntax.specs.Segments.{SegmentValue, of_page, of_region, of_clut, of_object, of_display, end_of_set, passed_over, Region, Clut, Display}
 use Rattle.decoder_model.specs.Contents.{region_named, clut_named, display_of, in_order}
@@ -27,19 +27,20 @@ abbrev pub has_new_version : ℕ → Option ℕ → Bool
 has_new_version version None = true
 has_new_version version (Some last) = not (last == version)
 
-abbrev pub region_version : Option Region → Option ℕ
-region_version None = None
-region_version (Some region) = Some region.head.version
+abbrev pub version_of_region : Option Region → Option ℕ
+version_of_region None = None
+version_of_region (Some region) = Some region.head.version
 
-abbrev pub clut_version : Option Clut → Option ℕ
-clut_version None = None
-clut_version (Some clut) = Some clut.version
+abbrev pub version_of_clut : Option Clut → Option ℕ
+version_of_clut None = None
+version_of_clut (Some clut) = Some clut.version
 
--- behind earlier segments a region or CLUT segment is taken where it is the first of its id, or the last one of its id has
--- another version; all other segments are taken
+-- behind earlier segments a region or CLUT segment is taken where it is the first of its id, or the last one of its id
+-- has another version; all other segments are taken
 abbrev pub is_taken : List Content → SegmentValue → Bool
-is_taken earlier (of_region value) = has_new_version value.head.version (region_version (last_region value.head.region earlier))
-is_taken earlier (of_clut value) = has_new_version value.version (clut_version (last_clut value.clut earlier))
+is_taken earlier (of_region value) =
+    has_new_version value.head.version (version_of_region (last_region value.head.region earlier))
+is_taken earlier (of_clut value) = has_new_version value.version (version_of_clut (last_clut value.clut earlier))
 is_taken earlier (of_page value) = true
 is_taken earlier (of_object value) = true
 is_taken earlier (of_display value) = true
@@ -53,7 +54,8 @@ pub record Taken : Type 0 where
 -- of the segments of an epoch those that are taken
 unfoldable pub taken_among : List Content → List Content
 taken_among [] = []
-taken_among (segment ∷ earlier) = if is_taken earlier segment.value then segment ∷ taken_among earlier else taken_among earlier
+taken_among (segment ∷ earlier) =
+    if is_taken earlier segment.value then segment ∷ taken_among earlier else taken_among earlier
 
 abbrev pub taken_of : List Content → Taken
 taken_of segments = record { segments = taken_among segments }

@@ -1,5 +1,5 @@
--- What becomes of the display sets that a receiver is handed (EN 300 743, clause 5.1). What it was handed stands in a list,
--- the latest first.
+-- What becomes of the display sets that a receiver is handed (EN 300 743, clause 5.1). What it was handed stands in a
+-- list, the latest first.
 use Rattle.std.specs.Prelude.{ℕ, List, [], ◌∷◌, Option, Some, None, unwrap_or}
 use Rattle.sub_base.specs.declared.profile.Profile.{Profile}
 use Rattle.stream_syntax.specs.Segments.{Page}
@@ -40,14 +40,17 @@ abbrev pub if_kept : Option ℕ → Option ℕ → SetEnd → SetEnd
 if_kept (Some time) last verdict = verdict
 if_kept None last verdict = NotLater (unwrap_or last 0)
 
--- the verdict on what is handed behind sets of which that is the greatest lifted time, with the kept sets since the last loss
--- or broken set; a loss has none
+-- the verdict on what is handed behind sets of which that is the greatest lifted time, with the kept sets since the
+-- last loss or broken set; a loss has none
 abbrev pub verdict_after : Profile → ℕ → Option ℕ → List (List Content) → Delivery Reading → Option SetEnd
 verdict_after profile anchor last sets lost = None
-verdict_after profile anchor last sets (whole time size readings) = Some (if_kept (lifted_behind anchor last time) last (verdict_on_kept profile sets readings))
-verdict_after profile anchor last sets (refused time size fault) = Some (if_kept (lifted_behind anchor last time) last (Broken fault))
+verdict_after profile anchor last sets (whole time size readings) =
+    Some (if_kept (lifted_behind anchor last time) last (verdict_on_kept profile sets readings))
+verdict_after profile anchor last sets (refused time size fault) =
+    Some (if_kept (lifted_behind anchor last time) last (Broken fault))
 
--- the kept sets since the last loss or broken set, with what is handed after them: a set that is not kept changes nothing
+-- the kept sets since the last loss or broken set, with what is handed after them: a set that is not kept changes
+-- nothing
 abbrev pub sets_with : List (List Content) → Delivery Reading → Option SetEnd → List (List Content)
 sets_with sets (whole time size readings) (Some Shown) = contents_in readings ∷ sets
 sets_with sets (whole time size readings) (Some Waiting) = contents_in readings ∷ sets
@@ -59,11 +62,13 @@ sets_with sets delivery other = []
 unfoldable pub sets_since : Profile → ℕ → List (Delivery Reading) → List (List Content)
 sets_since profile anchor [] = []
 sets_since profile anchor (delivery ∷ past) =
-    sets_with (sets_since profile anchor past) delivery (verdict_after profile anchor (last_time anchor past) (sets_since profile anchor past) delivery)
+    sets_with (sets_since profile anchor past) delivery
+    (verdict_after profile anchor (last_time anchor past) (sets_since profile anchor past) delivery)
 
 -- the verdict on a set behind a past
 abbrev pub verdict_of : Profile → ℕ → List (Delivery Reading) → Delivery Reading → Option SetEnd
-verdict_of profile anchor past delivery = verdict_after profile anchor (last_time anchor past) (sets_since profile anchor past) delivery
+verdict_of profile anchor past delivery =
+    verdict_after profile anchor (last_time anchor past) (sets_since profile anchor past) delivery
 
 -- the sets of the epoch that is known after a past
 abbrev pub known_epoch : Profile → ℕ → List (Delivery Reading) → Option (List (List Content))

@@ -1,6 +1,7 @@
-//! What a receiver of EN 300 743 subtitles shows of a list of transport packets. The definitions stand in `specs/`, over
-//! numbers and lists: display sets, kept sets and the epoch, taken segments, the last write to a pixel, the colour of a
-//! CLUT entry, the verdict on a set, and the picture at a tick. The two types that they name stand here.
+//! What a receiver of EN 300 743 subtitles shows of a list of transport packets. The definitions
+//! stand in `specs/`, over numbers and lists: display sets, kept sets and the epoch, taken
+//! segments, the last write to a pixel, the colour of a CLUT entry, the verdict on a set, and the
+//! picture at a tick. The two types that they name stand here.
 #![tactic(auto)]
 
 mod set_end;

@@ -1,14 +1,16 @@
 use stream_syntax::SegmentFault;
 use thiserror::Error;
 
-/// Why a display set is broken (EN 300 743, clauses 5.2 and 7.2). The kinds stand in the order of the tests, but for the
-/// last, which a set has before it is whole.
+/// Why a display set is broken (EN 300 743, clauses 5.2 and 7.2). The kinds stand in the order of
+/// the tests, but for the last, which a set has before it is whole.
 #[derive(Clone, Copy, Debug, PartialEq, Eq, Error)]
 pub enum SetFault {
-    /// A segment is refused, or the pixel code strings of an object are deeper than a region that it is painted in.
+    /// A segment is refused, or the pixel code strings of an object are deeper than a region that
+    /// it is painted in.
     #[error("{0}")]
     Segment(SegmentFault),
-    /// A second segment of this type with this id: a region of the same id, a page or a display, whose id is 0.
+    /// A second segment of this type with this id: a region of the same id, a page or a display,
+    /// whose id is 0.
     #[error("a second segment of type {kind} with id {id}")]
     TwiceInSet { kind: u8, id: u8 },
     /// The set has no page composition segment.

@@ -1,6 +1,6 @@
-//! How fast packets are fed: the units of PID 256 in a stream, counted on standard output, and the time and the packets
-//! per second on standard error. The stream is the file that is named, or else a short one made here, in which one packet
-//! in eight is of the PID.
+//! How fast packets are fed: the units of PID 256 in a stream, counted on standard output, and the
+//! time and the packets per second on standard error. The stream is the file that is named, or else
+//! a short one made here, in which one packet in eight is of the PID.
 #![tactic(auto)]
 
 use anyhow::Result;

@@ -6,11 +6,11 @@ use Rattle.decoder_model.specs.Sets.{is_ended}
 use Rattle.decoder_model.specs.declared.set_fault.SetFault.{SetFault}
 use Rattle.decoder_model.specs.declared.set_fault.SetFault.TheVariants.{Segment}
 use Rattle.std.specs.Prelude.{find}
-use Rattle.sub_base.specs.Lists.{prefixes}
+use Rattle.sub_base.specs.Lists.{prefixes, has_some}
 use Rattle.decoder_model.proofs.Growth.{ended_more}
-use Rattle.display_sets.specs.Counted.{counted_in, is_any}
+use Rattle.display_sets.specs.Counted.{counted_in}
 use Rattle.display_sets.specs.Filling.{AreOpen, IsEnd, Adds, EndsWithin, Fills, Grows}
-use Rattle.display_sets.specs.Hands.{is_still_open}
+use Rattle.display_sets.specs.Private.Hands.{is_still_open}
 use Rattle.display_sets.specs.declared.filling.Filled.{Filled}
 use Rattle.display_sets.specs.declared.filling.Filled.TheVariants.{Open, Ended}
 use Rattle.display_sets.proofs.FillingLaws.{ends_broken}
@@ -92,9 +92,9 @@ fill_open page coded field rest start bytes h none front at_start =
     let all : counted_in page field ≡ there.passed = there.split ∙ ap (λ left. there.passed ++ left) none ∙ append-nil there.passed in
     subst (λ (more : List Frame). AreOpen coded (front ++ more) bytes) (sym all) there.still
 
-pub grows_open : (page coded : ℕ) (field rest start bytes : List ℕ) → IsFilling page coded field rest start bytes → counted_in page rest ≡ [] → is_any (counted_in page field) ≡ true → length start < length bytes
+pub grows_open : (page coded : ℕ) (field rest start bytes : List ℕ) → IsFilling page coded field rest start bytes → counted_in page rest ≡ [] → has_some (counted_in page field) ≡ true → length start < length bytes
 grows_open page coded field rest start bytes h none some = by h.grown
   where
     by : (length start < length bytes) ⊎ (counted_in page field ≡ counted_in page rest) → length start < length bytes
     by (inl more) = more
-    by (inr same) = let empty : is_any (counted_in page field) ≡ false = ap is_any (same ∙ none) in absurd (cc)
+    by (inr same) = let empty : has_some (counted_in page field) ≡ false = ap has_some (same ∙ none) in absurd (cc)

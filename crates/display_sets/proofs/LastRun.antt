@@ -1,12 +1,13 @@
 -- The last run of all that arrived, and what one arrival more adds.
 use Rattle.std.proofs.Common.{◌≡◌, ◌∙◌, ℕ, Bool, true, false, ◌==◌, cond, List, [], ◌∷◌, ◌++◌, reverse, refl, sym, ap, subst}
 use Rattle.std.proofs.lemmas.List.{reverse-append, reverse-reverse}
+use Rattle.std.proofs.lemmas.Bool.{eqb-true}
 use Rattle.decoder_model.specs.Arrivals.{PesUnit, Arrival, loss, refused_unit, aside, unit}
 use Rattle.decoder_model.specs.PacketArrivals.{of_time, last_run}
 use Rattle.decoder_model.specs.Sets.{runs_of, sets_in, lost}
 use Rattle.decoder_model.proofs.OnePacket.{IsLossArrival, runs_loss, loss_adds, runs_aside}
 use Rattle.decoder_model.proofs.SentSets.{all-append}
-use Rattle.display_sets.proofs.Runs.{HaveTime, time_is, unit_extends, last_of, AreAlike, last_extends, last_of-loss}
+use Rattle.display_sets.proofs.Runs.{HaveTime, unit_extends, last_of, AreAlike, last_extends, last_of-loss}
 use Rattle.display_sets.proofs.RunSets.{added_by, sets_extend, open_set, sets_finish}
 
 -- ---- units of one time
@@ -16,7 +17,7 @@ have_time time [] = tt
 have_time time (one ∷ units) = by (one.time == time) refl (have_time time units)
   where
     by : (b : Bool) → (one.time == time) ≡ b → HaveTime time (of_time time units) → HaveTime time (cond b (one ∷ of_time time units) (of_time time units))
-    by true is rest = (time_is one.time time is, rest)
+    by true is rest = (eqb-true one.time time is, rest)
     by false is rest = rest
 
 pub have_time_too : (time : ℕ) (units : List PesUnit) (one : PesUnit) → HaveTime time units → one.time ≡ time → HaveTime time (units ++ one ∷ [])

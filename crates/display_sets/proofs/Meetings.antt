@@ -1,25 +1,26 @@
 -- What the time of a unit says of the run in hand.
 use Rattle.std.proofs.Common.{◌≡◌, ℕ, ◌<◌, Bool, true, false, not, ◌==◌, ◌||◌, List, [], ◌∷◌, length, Some, None, refl, sym, ap, subst, arith}
 use Rattle.std.specs.Bool.{if◌then◌else◌}
+use Rattle.std.proofs.lemmas.Bool.{eq-eqb, eqb-true}
 use Rattle.decoder_model.specs.Arrivals.{PesUnit}
 use Rattle.decoder_model.specs.PacketArrivals.{of_time, is_in_hand}
 use Rattle.decoder_model.specs.Sets.{is_ended, frames_in}
 use Rattle.display_sets.specs.Gathered.{content_of, ready_in}
-use Rattle.display_sets.specs.Hands.{meeting_of}
+use Rattle.display_sets.specs.Private.Hands.{meeting_of}
 use Rattle.display_sets.specs.Standing.{AreOfTime, IsOpenRun, IsEndedRun, IsInHand, AreReady}
 use Rattle.display_sets.specs.declared.hand.Hand.{Hand}
 use Rattle.display_sets.specs.declared.hand.Hand.TheVariants as hand
 use Rattle.display_sets.specs.declared.hand.Head.{Head}
 use Rattle.display_sets.specs.declared.hand.Meeting.{Meeting}
 use Rattle.display_sets.specs.declared.hand.Meeting.TheVariants as meeting
-use Rattle.display_sets.proofs.Runs.{has_time, time_is, time_same, none_of_time}
+use Rattle.display_sets.proofs.Runs.{has_time, none_of_time}
 use Rattle.display_sets.proofs.RunSets.{set_of_run}
 
 -- ---- runs of one time
 
 pub some_has_time : (time : ℕ) (units : List PesUnit) → AreOfTime time units → has_time time units ≡ true
 some_has_time time [] h = absurd (omega (arith, h.some))
-some_has_time time (one ∷ units) h = ap (λ b. b || has_time time units) (time_same one.time time h.all.0)
+some_has_time time (one ∷ units) h = ap (λ b. b || has_time time units) (eq-eqb one.time time h.all.0)
 
 pub ended_hand : (coded : ℕ) (units : List PesUnit) → is_ended coded (frames_in units) ≡ true → is_in_hand coded units ≡ false
 ended_hand coded [] e = refl
@@ -48,12 +49,12 @@ moved_times own time units is h = subst (λ (time : ℕ). AreOfTime time units) 
 
 finds_ended : (coded : ℕ) (units : List PesUnit) (own time : ℕ) (bytes : List ℕ) (same : Bool) → (own == time) ≡ same → IsEndedRun coded units own
     → Finds coded units time bytes (if same then meeting.Behind else meeting.Begins)
-finds_ended coded units own time bytes true is h = record { of_time = moved_times own time units (time_is own time is) h.of_time; ended = h.ended }
+finds_ended coded units own time bytes true is h = record { of_time = moved_times own time units (eqb-true own time is) h.of_time; ended = h.ended }
 finds_ended coded units own time bytes false is h = (none_of_time own time units h.of_time.all is, ended_hand coded units h.ended)
 
 finds_open : (coded : ℕ) (units : List PesUnit) (own time size : ℕ) (bytes : List ℕ) (same : Bool) → (own == time) ≡ same → IsOpenRun coded units own size bytes
     → Finds coded units time bytes (if same then meeting.Joins size else meeting.Parts (record { time = own; size = size; fault = None }))
-finds_open coded units own time size bytes true is h = record { of_time = moved_times own time units (time_is own time is) h.of_time; size_is = h.size_is; frames = h.frames }
+finds_open coded units own time size bytes true is h = record { of_time = moved_times own time units (eqb-true own time is) h.of_time; size_is = h.size_is; frames = h.frames }
 finds_open coded units own time size bytes false is h = (h, is, refl)
 
 finds : (coded : ℕ) (units : List PesUnit) (time : ℕ) (own : Hand) (bytes : List ℕ) → IsInHand coded units own bytes → Finds coded units time bytes (meeting_of time own)

@@ -3,6 +3,7 @@ use Rattle.std.proofs.Common.{◌≡◌, ◌∙◌, ℕ, Bool, true, false, not,
 use Rattle.std.specs.Prelude.{find}
 use Rattle.std.specs.Bool.{if◌then◌else◌}
 use Rattle.std.proofs.lemmas.Bool.Decides.{nat_tests}
+use Rattle.std.proofs.lemmas.Bool.{eqb-true}
 use Rattle.sub_base.specs.Lists.{prefixes}
 use Rattle.stream_syntax.specs.DataField.{Frame}
 use Rattle.decoder_model.specs.Arrivals.{PesUnit, unit}
@@ -11,7 +12,7 @@ use Rattle.decoder_model.specs.PacketArrivals.{of_time, is_in_hand, makes_ready}
 use Rattle.decoder_model.specs.Sets.{Stretch, loss_between, run, Delivery, lost, whole, is_ended, frames_in, size_in, set_of, is_followed, sets_in}
 use Rattle.decoder_model.proofs.Growth.{ended_more, ended_run, found_passes, found_is_front, whole_is_found}
 use Rattle.decoder_model.proofs.OnePacket.{first_end}
-use Rattle.display_sets.proofs.Runs.{HaveTime, has_time, time_is, all_of_time, none_of_time, none_has_time, Extends, begins, same_run, other_run, behind_loss, behind_run, last_of, IsStart, AreAlike, some_follow}
+use Rattle.display_sets.proofs.Runs.{HaveTime, has_time, all_of_time, none_of_time, none_has_time, Extends, begins, same_run, other_run, behind_loss, behind_run, last_of, IsStart, AreAlike, some_follow}
 
 -- ---- ends
 
@@ -95,7 +96,7 @@ gone_on : (coded : ℕ) (one first : PesUnit) (units : List PesUnit) (found : Op
     → sets_in coded false (run first (units ++ one ∷ []) ∷ []) ≡ (set_of coded first.time (first ∷ units) false found ++ []) ++ added_by coded (first ∷ units) one
 gone_on coded one first units None alike same e =
     append-nil (set_of coded first.time (first ∷ (units ++ one ∷ [])) false (first_end coded (first ∷ (units ++ one ∷ []))))
-    ∙ ap (λ time. set_of coded time (first ∷ (units ++ one ∷ [])) false (first_end coded (first ∷ (units ++ one ∷ [])))) (time_is first.time one.time same)
+    ∙ ap (λ time. set_of coded time (first ∷ (units ++ one ∷ [])) false (first_end coded (first ∷ (units ++ one ∷ [])))) (eqb-true first.time one.time same)
     ∙ sym (ended-open coded (first ∷ units) (first ∷ units) one (all_of_time first.time one.time (first ∷ units) (refl, alike) same) (none_ended coded (frames_in (first ∷ units)) e))
     ∙ sym (ap (λ parted. parted ++ ended_by coded (first ∷ units) one) (parted-none coded (first ∷ units) one (makes-same coded (first ∷ units) one (ap (λ b. b || has_time one.time units) same))))
 gone_on coded one first units (Some front) alike same e =

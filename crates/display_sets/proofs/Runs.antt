@@ -3,6 +3,7 @@ use Rattle.std.proofs.Common.{◌≡◌, ◌∙◌, ℕ, Bool, true, false, ◌|
 use Rattle.std.specs.Bool.{if◌then◌else◌}
 use Rattle.std.specs.List.{AllByRecursion, list_any}
 use Rattle.std.proofs.lemmas.Bool.Decides.{nat_tests}
+use Rattle.std.proofs.lemmas.Bool.{eq-eqb}
 use Rattle.decoder_model.specs.Arrivals.{PesUnit, Arrival, loss, refused_unit, aside, unit}
 use Rattle.decoder_model.specs.PacketArrivals.{of_time}
 use Rattle.decoder_model.specs.Sets.{Stretch, loss_between, run, runs_of, joined_to}
@@ -15,12 +16,6 @@ same_times a b c e f = grind (arith, nat_tests)
 other_times : (a b c : ℕ) → (a == b) ≡ true → (b == c) ≡ false → (a == c) ≡ false
 other_times a b c e f = grind (arith, nat_tests)
 
-pub time_is : (a b : ℕ) → (a == b) ≡ true → a ≡ b
-time_is a b e = grind (arith, nat_tests)
-
-pub time_same : (a b : ℕ) → a ≡ b → (a == b) ≡ true
-time_same a b e = grind (arith, nat_tests)
-
 -- all units have that time
 abbrev pub HaveTime : ℕ → List PesUnit → Type 0
 HaveTime time units = AllByRecursion (λ (one : PesUnit). one.time ≡ time) units
@@ -28,13 +23,13 @@ HaveTime time units = AllByRecursion (λ (one : PesUnit). one.time ≡ time) uni
 pub all_of_time : (own time : ℕ) (units : List PesUnit) → HaveTime own units → (own == time) ≡ true → of_time time units ≡ units
 all_of_time own time [] h e = refl
 all_of_time own time (one ∷ units) h e =
-    let same : (one.time == time) ≡ true = same_times one.time own time (time_same one.time own h.0) e in
+    let same : (one.time == time) ≡ true = same_times one.time own time (eq-eqb one.time own h.0) e in
     ap (λ b. cond b (one ∷ of_time time units) (of_time time units)) same ∙ ap (λ rest. one ∷ rest) (all_of_time own time units h.1 e)
 
 pub none_of_time : (own time : ℕ) (units : List PesUnit) → HaveTime own units → (own == time) ≡ false → of_time time units ≡ []
 none_of_time own time [] h e = refl
 none_of_time own time (one ∷ units) h e =
-    let other : (one.time == time) ≡ false = other_times one.time own time (time_same one.time own h.0) e in
+    let other : (one.time == time) ≡ false = other_times one.time own time (eq-eqb one.time own h.0) e in
     ap (λ b. cond b (one ∷ of_time time units) (of_time time units)) other ∙ none_of_time own time units h.1 e
 
 abbrev pub has_time : ℕ → List PesUnit → Bool
@@ -43,7 +38,7 @@ has_time time units = list_any (λ (other : PesUnit). other.time == time) units
 pub none_has_time : (own time : ℕ) (units : List PesUnit) → HaveTime own units → (own == time) ≡ false → has_time time units ≡ false
 none_has_time own time [] h e = refl
 none_has_time own time (one ∷ units) h e =
-    let other : (one.time == time) ≡ false = other_times one.time own time (time_same one.time own h.0) e in
+    let other : (one.time == time) ≡ false = other_times one.time own time (eq-eqb one.time own h.0) e in
     ap (λ b. b || has_time time units) other ∙ none_has_time own time units h.1 e
 
 -- ---- the runs

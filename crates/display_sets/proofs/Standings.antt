@@ -11,7 +11,7 @@ use Rattle.decoder_model.specs.PacketArrivals.{last_run, is_in_hand}
 use Rattle.decoder_model.specs.Sets.{Delivery, lost, runs_of, sets_in}
 use Rattle.decoder_model.proofs.OnePacket.{IsLossArrival}
 use Rattle.display_sets.specs.Gathered.{Gathered, ReadySet, ready_set, ready_in, ready_sets, first_ready, sets_behind}
-use Rattle.display_sets.specs.Hands.{ready_head, given_hand, closed_hand}
+use Rattle.display_sets.specs.Private.Hands.{ready_head, given_hand, closed_hand}
 use Rattle.display_sets.specs.Standing.{IsInHand, AreReady, Stands, IsFirst}
 use Rattle.display_sets.specs.declared.hand.Hand.{Hand}
 use Rattle.display_sets.specs.declared.hand.Hand.TheVariants as hand

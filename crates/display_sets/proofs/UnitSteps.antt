@@ -1,15 +1,16 @@
 -- What becomes of a unit, by what it is to the run in hand.
 use Rattle.std.proofs.Common.{◌≡◌, ◌∙◌, ℕ, ◌+◌, Bool, true, false, ◌==◌, List, [], ◌∷◌, ◌++◌, reverse, Option, Some, None, refl, sym, ap, subst, arith, append-nil, length-append}
 use Rattle.std.specs.Bool.{if◌then◌else◌}
+use Rattle.std.proofs.lemmas.Bool.{eq-eqb, eqb-true}
 use Rattle.stream_syntax.specs.DataField.{Frame}
 use Rattle.decoder_model.specs.Arrivals.{PesUnit, Arrival, unit, unit_with}
 use Rattle.decoder_model.specs.PacketArrivals.{of_time, last_run, is_dropped}
 use Rattle.decoder_model.specs.Sets.{Delivery, runs_of, sets_in, is_ended, frames_in, size_in}
 use Rattle.decoder_model.proofs.Growth.{frames-append, ended_more}
-use Rattle.display_sets.specs.Counted.{counted_in, is_any}
+use Rattle.display_sets.specs.Counted.{counted_in}
 use Rattle.display_sets.specs.Filling.{AreOpen, Fills}
 use Rattle.display_sets.specs.Gathered.{Gathered, ready_in, ready_sets, TakesUp}
-use Rattle.display_sets.specs.Hands.{hand_with, ready_head, meeting_of}
+use Rattle.display_sets.specs.Private.Hands.{hand_with, ready_head, meeting_of}
 use Rattle.display_sets.specs.Standing.{AreOfTime, IsEndedRun, IsInHand, AreReady, Stands, IsUnitEnd}
 use Rattle.display_sets.specs.declared.hand.Hand.{Hand}
 use Rattle.display_sets.specs.declared.hand.Hand.TheVariants as hand
@@ -18,12 +19,13 @@ use Rattle.display_sets.specs.declared.hand.Meeting.{Meeting}
 use Rattle.display_sets.specs.declared.hand.Meeting.TheVariants as meeting
 use Rattle.display_sets.specs.declared.hand.UnitEnd.{UnitEnd}
 use Rattle.display_sets.specs.declared.hand.UnitEnd.TheVariants as end
-use Rattle.display_sets.proofs.Runs.{HaveTime, time_is, time_same, all_of_time, none_has_time, none_of_time}
+use Rattle.display_sets.proofs.Runs.{HaveTime, all_of_time, none_has_time, none_of_time}
 use Rattle.display_sets.proofs.RunSets.{parted_by, ended_by, added_by, no_frames, makes-none, makes-same, makes-other, parted-none, parted-some, ended-open, ended-behind}
 use Rattle.display_sets.proofs.LastRun.{have_time, have_time_too, latest_first, unit_adds}
 use Rattle.display_sets.proofs.Meetings.{some_has_time, ended_hand, open_hand, run_ready, Finds, finds_by}
 use Rattle.display_sets.proofs.Standings.{are_ready-append, all_given, none_parted, aside_stands}
 use Rattle.display_sets.proofs.Units.{unit_taken}
+use Rattle.sub_base.specs.Lists.{has_some}
 
 abbrev Deliveries : Type 0
 Deliveries = List (Delivery (List ℕ))
@@ -38,7 +40,7 @@ pub record IsRight (old new : Gathered) (arrivals : List Arrival) (given : Deliv
 abbrev unit_of : ℕ → ℕ → ℕ → List Frame → PesUnit
 unit_of place size time frames = record { place = place; size = size; time = time; frames = frames }
 
-counts_as : (place size time : ℕ) (frames : List Frame) → is_any frames ≡ true → unit_with place size time frames ≡ unit (unit_of place size time frames)
+counts_as : (place size time : ℕ) (frames : List Frame) → has_some frames ≡ true → unit_with place size time frames ≡ unit (unit_of place size time frames)
 counts_as place size time [] some = absurd (cc)
 counts_as place size time (frame ∷ frames) some = refl
 
@@ -92,7 +94,7 @@ no_units_yet coded = record { no_end = no_frames coded; bytes_are = record { joi
 abbrev pub started : Gathered → Gathered
 started old = record old { hand = hand.Empty; bytes = [] }
 
-pub begins_right : (old new : Gathered) (time size place : ℕ) (field : List ℕ) (met : Meeting) → ready_sets old ≡ [] → is_any (counted_in old.page field) ≡ true → met ≡ meeting_of time old.hand → met ≡ meeting.Begins
+pub begins_right : (old new : Gathered) (time size place : ℕ) (field : List ℕ) (met : Meeting) → ready_sets old ≡ [] → has_some (counted_in old.page field) ≡ true → met ≡ meeting_of time old.hand → met ≡ meeting.Begins
     → TakesUp (started old) new time size field → (arrivals : List Arrival) (given : Deliveries) → Stands arrivals false given old
     → IsRight old new arrivals given (unit_with place size time (counted_in old.page field)) end.Taken
 begins_right old new time size place field met none some meets is takes arrivals given h =
@@ -114,7 +116,7 @@ begins_right old new time size place field met none some meets is takes arrivals
       right_end = record { passed_over = refl; dropped = not_dropped old.coded units [] one found.0 (no_frames old.coded); before = sym makes };
     })
 
-pub joins_right : (old new : Gathered) (time size place before : ℕ) (field : List ℕ) (met : Meeting) → ready_sets old ≡ [] → is_any (counted_in old.page field) ≡ true → met ≡ meeting_of time old.hand → met ≡ meeting.Joins before
+pub joins_right : (old new : Gathered) (time size place before : ℕ) (field : List ℕ) (met : Meeting) → ready_sets old ≡ [] → has_some (counted_in old.page field) ≡ true → met ≡ meeting_of time old.hand → met ≡ meeting.Joins before
     → TakesUp old new time (before + size) field → (arrivals : List Arrival) (given : Deliveries) → Stands arrivals false given old
     → IsRight old new arrivals given (unit_with place size time (counted_in old.page field)) end.Taken
 joins_right old new time size place before field met none some meets is takes arrivals given h =
@@ -122,7 +124,7 @@ joins_right old new time size place before field met none some meets is takes ar
     let units = last_run (reverse arrivals) in
     let found = subst (Finds old.coded units time old.bytes) is (finds_by old.coded units time old.hand old.bytes met meets h.in_hand) in
     let makes = makes-same old.coded units one (some_has_time time units found.of_time) in
-    let all = all_of_time time time units found.of_time.all (time_same time time refl) in
+    let all = all_of_time time time units found.of_time.all (eq-eqb time time refl) in
     subst (λ (arrival : Arrival). IsRight old new arrivals given arrival end.Taken) (sym (counts_as place size time (counted_in old.page field) some))
     (record {
       stands = taken old old new arrivals given one units (before + size) field h none
@@ -141,7 +143,7 @@ joins_right old new time size place before field met none some meets is takes ar
 abbrev pub put_aside : Gathered → Head → Gathered
 put_aside old head = record old { hand = hand.Empty; bytes = old.parted_bytes; parted = Some head; parted_bytes = old.bytes }
 
-pub parts_right : (old new : Gathered) (time size place : ℕ) (head : Head) (field : List ℕ) (met : Meeting) → ready_sets old ≡ [] → is_any (counted_in old.page field) ≡ true → met ≡ meeting_of time old.hand
+pub parts_right : (old new : Gathered) (time size place : ℕ) (head : Head) (field : List ℕ) (met : Meeting) → ready_sets old ≡ [] → has_some (counted_in old.page field) ≡ true → met ≡ meeting_of time old.hand
     → met ≡ meeting.Parts head → TakesUp (started (put_aside old head)) new time size field → (arrivals : List Arrival) (given : Deliveries) → Stands arrivals false given old
     → IsRight old new arrivals given (unit_with place size time (counted_in old.page field)) end.Parted
 parts_right old new time size place head field met none some meets is takes arrivals given h =
@@ -177,12 +179,12 @@ behind_hand coded units time (hand.Open own size) bytes meets h ended = absurd (
 behind_hand coded units time (hand.Ready head) bytes meets h ended = record { of_time = by (head.time == time) refl meets; ended = ended }
   where
     by : (same : Bool) → (head.time == time) ≡ same → (if same then meeting.Behind else meeting.Begins) ≡ meeting.Behind → AreOfTime head.time units
-    by true is e = subst (λ (own : ℕ). AreOfTime own units) (sym (time_is head.time time is)) h
+    by true is e = subst (λ (own : ℕ). AreOfTime own units) (sym (eqb-true head.time time is)) h
     by false is e = absurd (cc)
 behind_hand coded units time (hand.Given own) bytes meets h ended = record { of_time = by (own == time) refl meets; ended = ended }
   where
     by : (same : Bool) → (own == time) ≡ same → (if same then meeting.Behind else meeting.Begins) ≡ meeting.Behind → AreOfTime own units
-    by true is e = subst (λ (own : ℕ). AreOfTime own units) (sym (time_is own time is)) h
+    by true is e = subst (λ (own : ℕ). AreOfTime own units) (sym (eqb-true own time is)) h
     by false is e = absurd (cc)
 
 -- behind the end of its set
@@ -191,7 +193,7 @@ dropped : (old : Gathered) (arrivals : List Arrival) (given : Deliveries) (one :
 dropped old arrivals given one h none run meets =
     let coded = old.coded in
     let units = last_run (reverse arrivals) in
-    let all = all_of_time one.time one.time units run.of_time.all (time_same one.time one.time refl) in
+    let all = all_of_time one.time one.time units run.of_time.all (eq-eqb one.time one.time refl) in
     let added : added_by coded units one ≡ [] =
     ap (λ sets. sets ++ ended_by coded units one) (parted-none coded units one (makes-none coded units one (ended_hand coded units run.ended))) ∙ ended-behind coded units units one all run.ended in
     let still : is_ended coded (frames_in (units ++ one ∷ [])) ≡ true = ap (is_ended coded) (frames-append units (one ∷ [])) ∙ ended_more coded (frames_in units) (frames_in (one ∷ [])) run.ended in
@@ -204,13 +206,13 @@ dropped old arrivals given one h none run meets =
       are_ready = h.are_ready;
     }
 
-pub behind_right : (old : Gathered) (time size place : ℕ) (field : List ℕ) (met : Meeting) → ready_sets old ≡ [] → is_any (counted_in old.page field) ≡ true → met ≡ meeting_of time old.hand → met ≡ meeting.Behind
+pub behind_right : (old : Gathered) (time size place : ℕ) (field : List ℕ) (met : Meeting) → ready_sets old ≡ [] → has_some (counted_in old.page field) ≡ true → met ≡ meeting_of time old.hand → met ≡ meeting.Behind
     → (arrivals : List Arrival) (given : Deliveries) → Stands arrivals false given old → IsRight old old arrivals given (unit_with place size time (counted_in old.page field)) end.Dropped
 behind_right old time size place field met none some meets is arrivals given h =
     let one = unit_of place size time (counted_in old.page field) in
     let units = last_run (reverse arrivals) in
     let found = subst (Finds old.coded units time old.bytes) is (finds_by old.coded units time old.hand old.bytes met meets h.in_hand) in
-    let all = all_of_time time time units found.of_time.all (time_same time time refl) in
+    let all = all_of_time time time units found.of_time.all (eq-eqb time time refl) in
     subst (λ (arrival : Arrival). IsRight old old arrivals given arrival end.Dropped) (sym (counts_as place size time (counted_in old.page field) some))
     (record {
       stands = dropped old arrivals given one h none found (sym meets ∙ is);
@@ -221,12 +223,12 @@ behind_right old time size place field met none some meets is arrivals given h =
       };
     })
 
-no_frames_count : (frames : List Frame) → is_any frames ≡ false → frames ≡ []
+no_frames_count : (frames : List Frame) → has_some frames ≡ false → frames ≡ []
 no_frames_count [] none = refl
 no_frames_count (frame ∷ frames) none = absurd (cc)
 
 -- nothing counts
-pub aside_right : (old : Gathered) (time size place : ℕ) (field : List ℕ) → is_any (counted_in old.page field) ≡ false → (arrivals : List Arrival) (given : Deliveries) → Stands arrivals false given old
+pub aside_right : (old : Gathered) (time size place : ℕ) (field : List ℕ) → has_some (counted_in old.page field) ≡ false → (arrivals : List Arrival) (given : Deliveries) → Stands arrivals false given old
     → IsRight old old arrivals given (unit_with place size time (counted_in old.page field)) end.Aside
 aside_right old time size place field none arrivals given h =
     subst (λ (frames : List Frame). IsRight old old arrivals given (unit_with place size time frames) end.Aside) (sym (no_frames_count (counted_in old.page field) none))
@@ -234,8 +236,8 @@ aside_right old time size place field none arrivals given h =
 
 -- ---- what the call finds
 
-pub counts_now : (inside now : Gathered) (field : List ℕ) (found some : Bool) → inside ≡ now → found ≡ is_any (counted_in inside.page field) → found ≡ some → is_any (counted_in now.page field) ≡ some
-counts_now inside now field found some same is found_is = sym (ap (λ (old : Gathered). is_any (counted_in old.page field)) same) ∙ sym is ∙ found_is
+pub counts_now : (inside now : Gathered) (field : List ℕ) (found some : Bool) → inside ≡ now → found ≡ has_some (counted_in inside.page field) → found ≡ some → has_some (counted_in now.page field) ≡ some
+counts_now inside now field found some same is found_is = sym (ap (λ (old : Gathered). has_some (counted_in old.page field)) same) ∙ sym is ∙ found_is
 
 pub meets_now : (inside now : Gathered) (time : ℕ) (met : Meeting) → inside ≡ now → met ≡ meeting_of time inside.hand → met ≡ meeting_of time now.hand
 meets_now inside now time met same is = is ∙ ap (λ (old : Gathered). meeting_of time old.hand) same

@@ -13,7 +13,7 @@ use Rattle.decoder_model.proofs.Growth.{frames-append, ended_more}
 use Rattle.decoder_model.proofs.OnePacket.{first_end}
 use Rattle.display_sets.specs.Filling.{AreBytes, AreOpen, EndsWithin, Fills}
 use Rattle.display_sets.specs.Gathered.{ready_set, ready_in}
-use Rattle.display_sets.specs.Hands.{hand_with, ready_head}
+use Rattle.display_sets.specs.Private.Hands.{hand_with, ready_head}
 use Rattle.display_sets.specs.Standing.{AreOfTime, IsInHand, IsReady, AreReady}
 use Rattle.display_sets.specs.declared.hand.Hand.{Hand}
 use Rattle.display_sets.specs.declared.filling.Filled.{Filled}

@@ -1,5 +1,6 @@
--- What counts for the sets of a page in the data field of a PES packet (EN 300 743, clause 7.2), taken one after another.
-use Rattle.std.specs.Prelude.{◌≡◌, ℕ, ◌<◌, Bool, true, false, List, [], ◌∷◌, length, filter, Option, Some, None, Result, Ok, Err}
+-- What counts for the sets of a page in the data field of a PES packet (EN 300 743, clause 7.2), taken one after
+-- another.
+use Rattle.std.specs.Prelude.{◌≡◌, ℕ, ◌<◌, List, [], ◌∷◌, length, filter, Option, Some, None, Result, Ok, Err}
 use Rattle.stream_syntax.specs.DataField.{Frame, segment, broken, frames_of}
 use Rattle.stream_syntax.specs.declared.segment_fault.SegmentFault.{SegmentFault}
 use Rattle.decoder_model.specs.Frames.{counts_for}
@@ -9,11 +10,6 @@ use Rattle.display_sets.specs.declared.counted.Front.{Front}
 -- the segments of a page in a data field, and the fault at which it breaks off, whatever page stands beside it
 abbrev pub counted_in : ℕ → List ℕ → List Frame
 counted_in page field = filter (counts_for page) (frames_of field)
-
--- whether there is any
-abbrev pub is_any : List Frame → Bool
-is_any [] = false
-is_any (frame ∷ frames) = true
 
 -- the first segment that counts, and what is left behind it
 pub record IsFront (page : ℕ) (field : List ℕ) (front : Front) : Type 0 where

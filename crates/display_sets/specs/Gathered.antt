@@ -5,7 +5,7 @@ use Rattle.stream_syntax.specs.DataField.{Frame}
 use Rattle.decoder_model.specs.declared.set_fault.SetFault.{SetFault}
 use Rattle.display_sets.specs.Counted.{counted_in}
 use Rattle.display_sets.specs.Filling.{AreOpen, Fills}
-use Rattle.display_sets.specs.Hands.{hand_time, hand_with, ready_head, ready_size, open_size}
+use Rattle.display_sets.specs.Private.Hands.{hand_time, hand_with, ready_head, ready_size, open_size}
 use Rattle.display_sets.specs.declared.filling.Filled.{Filled}
 use Rattle.display_sets.specs.declared.hand.Hand.{Hand}
 use Rattle.display_sets.specs.declared.hand.Head.{Head}
@@ -44,7 +44,8 @@ ready_in (Some head) bytes = ready_set bytes head ∷ []
 
 -- the sets that are ready and not yet given, the first one first
 abbrev pub ready_sets : Gathered → List ReadySet
-ready_sets gathered = ready_in gathered.parted gathered.parted_bytes ++ ready_in (ready_head gathered.hand) gathered.bytes
+ready_sets gathered =
+    ready_in gathered.parted gathered.parted_bytes ++ ready_in (ready_head gathered.hand) gathered.bytes
 
 -- the first of them
 abbrev pub first_ready : List ReadySet → Option ReadySet
@@ -60,7 +61,8 @@ sets_behind (one ∷ sets) = sets
 abbrev pub IsSmall : ℕ → ℕ → Type 0
 IsSmall coded size = size < (coded + 1) * 4294967296
 
--- the bytes fit the memory; each byte of an open set stands for less than 2^32 bytes of units, so that their size fits 64 bits
+-- the bytes fit the memory; each byte of an open set stands for less than 2^32 bytes of units, so that their size fits
+-- 64 bits
 pub record IsSound (gathered : Gathered) : Type 0 where
   pub few : gathered.coded < 2 ^ 32
   pub within : length gathered.bytes ≤ gathered.coded
@@ -80,4 +82,5 @@ pub record TakesUp (old new : Gathered) (time size : ℕ) (field : List ℕ) : T
   pub same_bytes : new.parted_bytes ≡ old.parted_bytes
   pub filled : Filled
   pub in_hand : new.hand ≡ hand_with time size filled
-  pub fills : (front : List Frame) → AreOpen old.coded front old.bytes → Fills old.coded front (counted_in old.page field) new.bytes filled
+  pub fills : (front : List Frame) → AreOpen old.coded front old.bytes
+      → Fills old.coded front (counted_in old.page field) new.bytes filled

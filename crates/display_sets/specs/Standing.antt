@@ -42,7 +42,9 @@ IsInHand coded units (hand.Given time) bytes = IsEndedRun coded units time
 -- the set in a receiver's memory is that delivery, with its segments one after another
 abbrev pub IsReady : Delivery (List ℕ) → ReadySet → Type 0
 IsReady lost set = ⊥
-IsReady (whole time size segments) set = (set.time ≡ time) × (set.size ≡ size) × ((bytes : List ℕ) × (set.content ≡ Ok bytes) × AreBytes segments bytes)
+IsReady (whole time size segments) set =
+    (set.time ≡ time) × (set.size ≡ size)
+    × ((bytes : List ℕ) × (set.content ≡ Ok bytes) × AreBytes segments bytes)
 IsReady (refused time size fault) set = (set.time ≡ time) × (set.size ≡ size) × (set.content ≡ Err fault)
 
 -- the sets in a receiver's memory are those deliveries, one after another
@@ -54,9 +56,10 @@ AreReady (delivery ∷ deliveries) (set ∷ sets) = IsReady delivery set × AreR
 
 -- ---- all that arrived
 
--- the gathering stands for these arrivals, of which the stream ends with the last or not, where these sets and losses were
--- given already: the run in hand is the last one, and what was not given is ready
-pub record Stands (arrivals : List Arrival) (ended : Bool) (given : List (Delivery (List ℕ))) (gathered : Gathered) : Type 0 where
+-- the gathering stands for these arrivals, of which the stream ends with the last or not, where these sets and losses
+-- were given already: the run in hand is the last one, and what was not given is ready
+pub record Stands (arrivals : List Arrival) (ended : Bool) (given : List (Delivery (List ℕ)))
+    (gathered : Gathered) : Type 0 where
   pub in_hand : OnFalse ended (IsInHand gathered.coded (last_run (reverse arrivals)) gathered.hand gathered.bytes)
   pub waiting : List (Delivery (List ℕ))
   pub sets : sets_in gathered.coded ended (runs_of arrivals) ≡ given ++ waiting
@@ -65,7 +68,8 @@ pub record Stands (arrivals : List Arrival) (ended : Bool) (given : List (Delive
 -- the first that is ready behind those given, or none where all were given
 abbrev pub IsFirst : List (Delivery (List ℕ)) → List (Delivery (List ℕ)) → Option ReadySet → Type 0
 IsFirst sets given None = sets ≡ given
-IsFirst sets given (Some set) = (delivery : Delivery (List ℕ)) × (rest : List (Delivery (List ℕ))) × (sets ≡ given ++ delivery ∷ rest) × IsReady delivery set
+IsFirst sets given (Some set) = (delivery : Delivery (List ℕ)) × (rest : List (Delivery (List ℕ)))
+    × (sets ≡ given ++ delivery ∷ rest) × IsReady delivery set
 
 -- ---- what became of a unit
 
@@ -97,8 +101,8 @@ is_aside_arrival refused_unit = false
 is_aside_arrival aside = true
 is_aside_arrival (unit one) = false
 
--- the answer says of a unit behind that run whether it is passed over, whether it is dropped, and whether it makes the set in
--- hand ready before it
+-- the answer says of a unit behind that run whether it is passed over, whether it is dropped, and whether it makes the
+-- set in hand ready before it
 pub record IsUnitEnd (coded : ℕ) (units : List PesUnit) (arrival : Arrival) (answer : UnitEnd) : Type 0 where
   pub passed_over : is_aside answer ≡ is_aside_arrival arrival
   pub dropped : drops answer ≡ is_dropped coded units (Some arrival)

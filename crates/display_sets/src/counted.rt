@@ -2,14 +2,14 @@
 
 ghost use Rattle.std.specs.Prelude.{◌≡◌, ◌==◌, ◌&&◌};
 ghost use Rattle.std.specs.List.{list_any};
-ghost use Rattle.stream_syntax.specs.DataField.{ends_segments as has_ended};
-ghost use Rattle.decoder_model.specs.Frames.{set_kinds};
-ghost use Rattle.display_sets.specs.Counted.{IsNext, counted_in, is_any};
+ghost use Rattle.stream_syntax.specs.Segments.{set_kinds};
+ghost use Rattle.sub_base.specs.Lists.{has_some};
+ghost use Rattle.display_sets.specs.Counted.{IsNext, counted_in};
 
-use segments::read_frame;
+use segments::frames;
 use stream_syntax::{
-    CLUT_DEFINITION, DISPLAY_DEFINITION, END_OF_DISPLAY_SET, END_OF_FIELD, OBJECT_DATA,
-    PAGE_COMPOSITION, REGION_COMPOSITION, SegmentFault,
+    CLUT_DEFINITION, DISPLAY_DEFINITION, END_OF_DISPLAY_SET, OBJECT_DATA, PAGE_COMPOSITION,
+    REGION_COMPOSITION, SegmentFault,
 };
 
 /// A segment that counts, and the bytes of the field behind it.
@@ -19,13 +19,14 @@ pub(crate) struct Front<'a> {
     pub rest: &'a [u8],
 }
 
-/// The first segment of a page in a data field, or the fault at which the field breaks off before one.
+/// The first segment of a page in a data field, or the fault at which the field breaks off before
+/// one.
 pub(crate) fn next_counted(page: u16, field: &[u8]) -> Option<Result<Front<'_>, SegmentFault>>
     ensures { IsNext page field.now result }
 {
     let mut rest = field;
-    while !ends_segments(rest) {
-        let frame = match read_frame(rest) {
+    for head in frames(field) {
+        let frame = match head {
             Ok(frame) => frame,
             Err(fault) => return Some(Err(fault)),
         };
@@ -43,7 +44,7 @@ pub(crate) fn next_counted(page: u16, field: &[u8]) -> Option<Result<Front<'_>, 
 
 /// Whether something in a data field counts for the sets of a page.
 pub(crate) fn counts(page: u16, field: &[u8]) -> bool
-    ensures { result ≡ is_any (counted_in page field.now) }
+    ensures { result ≡ has_some (counted_in page field.now) }
 {
     next_counted(page, field).is_some()
 }
@@ -68,14 +69,4 @@ fn is_set_kind(kind: u8) -> bool
             | DISPLAY_DEFINITION
             | END_OF_DISPLAY_SET
     )
-}
-
-/// Whether no segment begins here.
-fn ends_segments(bytes: &[u8]) -> bool
-    ensures { result ≡ has_ended bytes.now }
-{
-    match bytes {
-        [] => true,
-        [first, ..] => *first == END_OF_FIELD,
-    }
 }

@@ -3,8 +3,9 @@
 ghost use Rattle.std.specs.Prelude.{◌≡◌, ◌+◌, ◌≤◌, true, List, ◌++◌, length, vec_capacity};
 ghost use Rattle.stream_syntax.specs.DataField.{Frame, segment as whole_segment};
 ghost use Rattle.decoder_model.specs.Received.{IsFramed};
-ghost use Rattle.display_sets.specs.Counted.{counted_in, is_any};
+ghost use Rattle.display_sets.specs.Counted.{counted_in};
 ghost use Rattle.display_sets.specs.Filling.{Adds, AreOpen, Fills, Grows};
+ghost use Rattle.sub_base.specs.Lists.{has_some};
 
 use crate::counted::next_counted;
 use decoder_model::SetFault;
@@ -19,12 +20,12 @@ pub(crate) enum Filled {
     Ended { fault: Option<SetFault> },
 }
 
-/// Puts what counts in a data field behind the bytes of an open set, up to the set's end. Behind a fault the bytes mean
-/// nothing.
+/// Puts what counts in a data field behind the bytes of an open set, up to the set's end. Behind a
+/// fault the bytes mean nothing.
 pub(crate) fn fill(page: u16, coded: u32, bytes: &mut Vec<u8>, field: &[u8]) -> Filled
     requires room { coded ≤ vec_capacity bytes.old }
     requires within { length bytes.old.items ≤ coded }
-    requires counted { is_any (counted_in page field.now) ≡ true }
+    requires counted { has_some (counted_in page field.now) ≡ true }
     ensures room { coded ≤ vec_capacity bytes.new }
     ensures within { length bytes.new.items ≤ coded }
     ensures grows { Grows bytes.old.items bytes.new.items result }
@@ -81,7 +82,7 @@ fn append(bytes: &mut Vec<u8>, more: &[u8])
 impl Filled {
     ghost use Rattle.std.specs.Prelude.{◌≡◌, Some};
     ghost use Rattle.display_sets.specs.declared.filling.Filled.TheVariants.{Ended};
-    ghost use Rattle.display_sets.specs.Hands.{is_still_open};
+    ghost use Rattle.display_sets.specs.Private.Hands.{is_still_open};
 
     /// The set ends with this fault.
     fn refused(fault: SetFault) -> Filled

@@ -1,6 +1,7 @@
 //! The display sets of a page, gathered from units.
 
 ghost use Rattle.std.specs.Prelude.{◌≡◌};
+ghost use Rattle.sub_base.specs.Lists.{has_some};
 
 use crate::counted::counts;
 use crate::filling::fill;
@@ -11,8 +12,8 @@ use std::marker::Model;
 use std::mem;
 use sub_base::NoMemory;
 
-/// Gathers the display sets of a page from the PES packets of a receiver, in memory of a fixed size: the set in hand and a
-/// set that was made ready before it.
+/// Gathers the display sets of a page from the PES packets of a receiver, in memory of a fixed
+/// size: the set in hand and a set that was made ready before it.
 #[derive(Drop)]
 pub struct Gathering {
     page: u16,
@@ -30,9 +31,25 @@ impl Model for Gathering {
 
     ghost Value = { Gathered };
 
-    ghost view = { λ g. record { page = g.page; coded = g.coded; hand = g.hand; bytes = g.bytes.items; parted = g.parted; parted_bytes = g.parted_bytes.items } };
+    ghost view = { λ g. record {
+      page = g.page;
+      coded = g.coded;
+      hand = g.hand;
+      bytes = g.bytes.items;
+      parted = g.parted;
+      parted_bytes = g.parted_bytes.items;
+    } };
 
-    ghost invariant = { λ g. IsSound (record { page = g.page; coded = g.coded; hand = g.hand; bytes = g.bytes.items; parted = g.parted; parted_bytes = g.parted_bytes.items }) × (g.coded ≤ vec_capacity g.bytes) × (g.coded ≤ vec_capacity g.parted_bytes) };
+    ghost invariant = { λ g. IsSound
+        (record {
+          page = g.page;
+          coded = g.coded;
+          hand = g.hand;
+          bytes = g.bytes.items;
+          parted = g.parted;
+          parted_bytes = g.parted_bytes.items;
+        }) × (g.coded ≤ vec_capacity g.bytes)
+        × (g.coded ≤ vec_capacity g.parted_bytes) };
 }
 
 impl Gathering {
@@ -41,14 +58,14 @@ impl Gathering {
     ghost use Rattle.decoder_model.specs.Arrivals.{Arrival, loss, refused_unit, unit_with};
     ghost use Rattle.decoder_model.specs.PacketArrivals.{last_run};
     ghost use Rattle.decoder_model.specs.Sets.{Delivery, lost, runs_of, sets_in};
-    ghost use Rattle.display_sets.specs.Counted.{counted_in, is_any};
+    ghost use Rattle.display_sets.specs.Counted.{counted_in};
     ghost use Rattle.display_sets.specs.Gathered.{IsSmall, TakesUp, first_ready, ready_sets, sets_behind};
     ghost use Rattle.display_sets.specs.Lent.{lent};
     ghost use Rattle.display_sets.specs.Standing.{IsFirst, IsUnitEnd, Stands};
     ghost use Rattle.display_sets.specs.declared.hand.Hand.TheVariants as hand_is;
 
-    /// A gathering for a page to which nothing came. A set whose segments have more than `coded` bytes is refused. All
-    /// memory is taken here: twice that many bytes.
+    /// A gathering for a page to which nothing came. A set whose segments have more than `coded`
+    /// bytes is refused. All memory is taken here: twice that many bytes.
     pub fn make(alloc: Global, page: u16, coded: u32) -> Result<Gathering, NoMemory>
         ensures page { IfOk result (λ gathering. gathering.page ≡ page) }
         ensures coded { IfOk result (λ gathering. gathering.coded ≡ coded) }
@@ -64,24 +81,27 @@ impl Gathering {
         })
     }
 
-    /// Something was lost, or a unit was refused as a PES packet: a set in hand that has not ended is given up.
+    /// Something was lost, or a unit was refused as a PES packet: a set in hand that has not ended
+    /// is given up.
     pub fn lose(&mut self)
         requires { ready_sets self.old ≡ [] }
         ensures page { self.new.page ≡ self.old.page }
         ensures coded { self.new.coded ≡ self.old.coded }
 
         // The loss counts as given.
-        ensures loss { (arrivals : List Arrival) (given : List (Delivery (List ℕ))) → Stands arrivals false given self.old
+        ensures loss { (arrivals : List Arrival) (given : List (Delivery (List ℕ)))
+            → Stands arrivals false given self.old
             → Stands (arrivals ++ loss ∷ []) false (given ++ lost ∷ []) self.new }
-        ensures refused { (arrivals : List Arrival) (given : List (Delivery (List ℕ))) → Stands arrivals false given self.old
+        ensures refused { (arrivals : List Arrival) (given : List (Delivery (List ℕ)))
+            → Stands arrivals false given self.old
             → Stands (arrivals ++ refused_unit ∷ []) false (given ++ lost ∷ []) self.new }
         ensures none { ready_sets self.new ≡ [] }
     {
         self.hand = Hand::Empty;
     }
 
-    /// Takes the unit of a PES packet with this presentation time and so many bytes, whose segments are in `field`: the
-    /// bytes of its data field behind the first two.
+    /// Takes the unit of a PES packet with this presentation time and so many bytes, whose segments
+    /// are in `field`: the bytes of its data field behind the first two.
     pub fn take_unit(&mut self, time: u64, size: u32, field: &[u8]) -> UnitEnd
         requires none { ready_sets self.old ≡ [] }
         requires time { time < 2 ^ 33 }
@@ -89,9 +109,13 @@ impl Gathering {
         ensures coded { self.new.coded ≡ self.old.coded }
 
         // Whichever packet ended the unit.
-        ensures stands { (arrivals : List Arrival) (given : List (Delivery (List ℕ))) (place : ℕ) → Stands arrivals false given self.old
-            → Stands (arrivals ++ unit_with place size time (counted_in self.old.page field.now) ∷ []) false given self.new }
-        ensures end { (arrivals : List Arrival) (given : List (Delivery (List ℕ))) (place : ℕ) → Stands arrivals false given self.old
+        ensures stands { (arrivals : List Arrival) (given : List (Delivery (List ℕ)))
+            (place : ℕ)
+            → Stands arrivals false given self.old
+            → Stands (arrivals ++ unit_with place size time (counted_in self.old.page field.now)
+            ∷ []) false given self.new }
+        ensures end { (arrivals : List Arrival) (given : List (Delivery (List ℕ))) (place : ℕ)
+            → Stands arrivals false given self.old
             → IsUnitEnd self.old.coded (last_run (reverse arrivals))
             (unit_with place size time (counted_in self.old.page field.now)) result }
     {
@@ -121,7 +145,8 @@ impl Gathering {
         requires { ready_sets self.old ≡ [] }
         ensures page { self.new.page ≡ self.old.page }
         ensures coded { self.new.coded ≡ self.old.coded }
-        ensures stands { (arrivals : List Arrival) (given : List (Delivery (List ℕ))) → Stands arrivals false given self.old
+        ensures stands { (arrivals : List Arrival) (given : List (Delivery (List ℕ)))
+            → Stands arrivals false given self.old
             → Stands arrivals true given self.new }
     {
         self.hand = self.hand.closed();
@@ -132,10 +157,13 @@ impl Gathering {
         ensures first { option_map lent result ≡ first_ready (ready_sets self.now) }
         ensures timely { ForSome result (λ ready. ready.time < 2 ^ 33) }
         ensures small { ForSome result (λ ready. IsSmall self.now.coded ready.size) }
-        ensures within { ForSome result (λ ready. IfOk ready.segments (λ bytes. length bytes.now < 2 ^ 32)) }
-        ensures delivery { (arrivals : List Arrival) (ended : Bool) (given : List (Delivery (List ℕ)))
+        ensures within { ForSome result
+            (λ ready. IfOk ready.segments (λ bytes. length bytes.now < 2 ^ 32)) }
+        ensures delivery { (arrivals : List Arrival) (ended : Bool)
+            (given : List (Delivery (List ℕ)))
             → Stands arrivals ended given self.now
-            → IsFirst (sets_in self.now.coded ended (runs_of arrivals)) given (option_map lent result) }
+            → IsFirst (sets_in self.now.coded ended (runs_of arrivals)) given
+            (option_map lent result) }
     {
         if let Some(head) = self.parted {
             return Some(head.lend(&self.parted_bytes));
@@ -146,13 +174,16 @@ impl Gathering {
         }
     }
 
-    /// The first set that is ready was taken; those behind it are left. Where none is ready nothing changes.
+    /// The first set that is ready was taken; those behind it are left. Where none is ready nothing
+    /// changes.
     pub fn give(&mut self)
         ensures page { self.new.page ≡ self.old.page }
         ensures coded { self.new.coded ≡ self.old.coded }
         ensures left { ready_sets self.new ≡ sets_behind (ready_sets self.old) }
-        ensures stands { (arrivals : List Arrival) (ended : Bool) (given rest : List (Delivery (List ℕ))) (delivery : Delivery (List ℕ))
-            → Stands arrivals ended given self.old → sets_in self.old.coded ended (runs_of arrivals) ≡ given ++ delivery ∷ rest
+        ensures stands { (arrivals : List Arrival) (ended : Bool)
+            (given rest : List (Delivery (List ℕ))) (delivery : Delivery (List ℕ))
+            → Stands arrivals ended given self.old
+            → sets_in self.old.coded ended (runs_of arrivals) ≡ given ++ delivery ∷ rest
             → Stands arrivals ended (given ++ delivery ∷ []) self.new }
     {
         if self.parted.is_some() {
@@ -166,7 +197,14 @@ impl Gathering {
     fn part(&mut self, head: Head)
         requires time { head.time < 2 ^ 33 }
         requires size { head.size ≤ length self.old.bytes * 4294967296 }
-        ensures { self.new ≡ record self.old { hand = hand_is.Empty; bytes = self.old.parted_bytes; parted = Some head; parted_bytes = self.old.bytes } }
+        ensures { self.new
+            ≡ record self.old {
+              hand = hand_is.Empty;
+              bytes = self.old.parted_bytes;
+              parted = Some
+                  head;
+              parted_bytes = self.old.bytes;
+            } }
     {
         mem::swap(&mut self.bytes, &mut self.parted_bytes);
         self.hand = Hand::Empty;
@@ -176,8 +214,9 @@ impl Gathering {
     /// Begins a set with a unit.
     fn begin(&mut self, time: u64, size: u32, field: &[u8])
         requires time { time < 2 ^ 33 }
-        requires counted { is_any (counted_in self.old.page field.now) ≡ true }
-        ensures { TakesUp (record self.old { hand = hand_is.Empty; bytes = [] }) self.new time size field.now }
+        requires counted { has_some (counted_in self.old.page field.now) ≡ true }
+        ensures { TakesUp (record self.old { hand = hand_is.Empty; bytes = [] }) self.new time size
+            field.now }
     {
         self.hand = Hand::Empty;
         self.bytes.clear();
@@ -188,7 +227,7 @@ impl Gathering {
     fn take_up(&mut self, time: u64, before: u64, size: u32, field: &[u8])
         requires time { time < 2 ^ 33 }
         requires before { before ≤ length self.old.bytes * 4294967296 }
-        requires counted { is_any (counted_in self.old.page field.now) ≡ true }
+        requires counted { has_some (counted_in self.old.page field.now) ≡ true }
         ensures { TakesUp self.old self.new time (before + size) field.now }
     {
         let filled = fill(self.page, self.coded, &mut self.bytes, field);

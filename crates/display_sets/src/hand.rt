@@ -2,7 +2,7 @@
 
 ghost use Rattle.std.specs.Prelude.{◌≡◌, ◌+◌, ◌≤◌};
 ghost use Rattle.std.specs.Option.{ForSome};
-ghost use Rattle.display_sets.specs.Hands.{closed_hand, given_hand, hand_time, hand_with, meeting_of, open_size, parted_size, parted_time, ready_head, ready_size};
+ghost use Rattle.display_sets.specs.Private.Hands.{closed_hand, given_hand, hand_time, hand_with, meeting_of, open_size, parted_size, parted_time, ready_head, ready_size};
 
 use crate::filling::Filled;
 use decoder_model::SetFault;
@@ -16,11 +16,13 @@ pub enum UnitEnd {
     Dropped,
     /// It is taken to the set in hand, or begins the next one.
     Taken,
-    /// It has another time than the open set in hand, which is ready by that, and begins the next one.
+    /// It has another time than the open set in hand, which is ready by that, and begins the next
+    /// one.
     Parted,
 }
 
-/// A set that has ended: its presentation time, how many bytes its PES packets have, and why it is refused.
+/// A set that has ended: its presentation time, how many bytes its PES packets have, and why it is
+/// refused.
 #[derive(Clone, Copy)]
 pub(crate) struct Head {
     pub time: u64,

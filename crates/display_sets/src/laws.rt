@@ -14,15 +14,20 @@ pub fn bytes_are_read()
         → AreBytes segments bytes → AreReadings segments readings → AreRead readings bytes }
 {}
 
-/// Behind packets that were all taken, a packet without a fault brings its own arrivals and changes none before them.
+/// Behind packets that were all taken, a packet without a fault brings its own arrivals and changes
+/// none before them.
 pub fn packet_brings_arrivals()
     ensures { (size pid page : ℕ) (packets : List (List ℕ)) (packet : List ℕ)
         → packets_taken pid packets ≡ packets → packet_fault pid packet ≡ None
-        → arrivals_of size pid page (packets ++ packet ∷ []) ≡ arrivals_of size pid page packets ++ arrivals_at size pid page packets packet }
+        → arrivals_of size pid page (packets ++ packet ∷ [])
+        ≡ arrivals_of size pid page packets
+        ++ arrivals_at size pid page packets packet }
 {}
 
 /// The sets of packets that were all taken are those of what arrived with them.
 pub fn sets_of_arrivals()
-    ensures { (coded pid page : ℕ) (ended : Bool) (packets : List (List ℕ)) → packets_taken pid packets ≡ packets
-        → sets_of coded pid page ended packets ≡ sets_in coded ended (runs_of (arrivals_of coded pid page packets)) }
+    ensures { (coded pid page : ℕ) (ended : Bool) (packets : List (List ℕ))
+        → packets_taken pid packets ≡ packets
+        → sets_of coded pid page ended packets
+        ≡ sets_in coded ended (runs_of (arrivals_of coded pid page packets)) }
 {}

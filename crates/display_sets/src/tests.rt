@@ -44,7 +44,8 @@ const UNSYNCED: [u8; 9] = [0x0F, 0x10, 0x00, 0x01, 0x00, 0x02, 0x0A, 0x08, 0x00]
 /// An end of page 2, and a head that is cut.
 const CUT: [u8; 9] = [0x0F, 0x80, 0x00, 0x02, 0x00, 0x00, 0x0F, 0x10, 0x00];
 
-/// A unit: its time, its size and its segments; what becomes of it, and the sets that are ready then.
+/// A unit: its time, its size and its segments; what becomes of it, and the sets that are ready
+/// then.
 #[derive(Clone, Copy)]
 struct Row<'a> {
     time: u32,

@@ -8,6 +8,7 @@ use Rattle.decoder_model.specs.Received.{HasReceived}
 use Rattle.decoder_model.specs.Sets.{Delivery}
 use Rattle.decoder_model.specs.Shown.{View, nothing, plane, view_at}
 use Rattle.sub_base.specs.declared.profile.Profile.{Profile}
+use Rattle.stream_syntax.specs.declared.wire.TheConstants.{HALF_ROUND}
 
 -- the text of what is shown at a tick
 abbrev pub view_text : ℕ → View → List ℕ
@@ -31,7 +32,7 @@ told_ticks false last ticks = settled_ticks last ticks
 -- lifted times begin at the first asked tick less 2 to the 32, or at 0 where that is negative
 abbrev pub anchor_of : List ℕ → ℕ
 anchor_of [] = 0
-anchor_of (tick ∷ ticks) = tick - 4294967296
+anchor_of (tick ∷ ticks) = tick - HALF_ROUND
 
 -- the text of the pictures that are shown at these ticks, in a receiver of a profile for a PID and a page: the stream
 -- ends with these packets, or the text is of the ticks that the packets settle

@@ -77,7 +77,8 @@ pub record IsTold (ended : Bool) (receiving : Receiving) (ticks : List ℕ) (tol
 
 -- what is shown at a tick that is no earlier than the kept sets is put out
 abbrev pub PutsShown : Receiving → Received → Received → Buffered → Buffered → ℕ → Type 0
-PutsShown receiving before now was is tick = (ended : Bool) (packets : List (List ℕ)) (given : List (Delivery (List ℕ)))
+PutsShown receiving before now was is tick =
+    (ended : Bool) (packets : List (List ℕ)) (given : List (Delivery (List ℕ)))
     (past : List (Delivery Reading))
     → Stands ended packets given receiving → AreDeliveriesRead (reverse given) past
     → unwrap_or (last_time receiving.showing.core.anchor past) 0 ≤ tick
@@ -86,7 +87,8 @@ PutsShown receiving before now was is tick = (ended : Bool) (packets : List (Lis
 
 -- what is shown at the ticks from a place on, up to another one, is put out, where these are no earlier than the
 -- kept sets
-abbrev pub PutsBetween : Receiving → Received → Received → Buffered → Buffered → List ℕ → ℕ → ℕ → Type 0
+abbrev pub PutsBetween : Receiving → Received → Received → Buffered → Buffered → List ℕ → ℕ → ℕ
+    → Type 0
 PutsBetween receiving before now was is ticks first next = (ended : Bool) (packets : List (List ℕ))
     (given : List (Delivery (List ℕ))) (past : List (Delivery Reading))
     → Stands ended packets given receiving → AreDeliveriesRead (reverse given) past
@@ -111,13 +113,15 @@ pub record SettlesNothing (before now : Received) (was is : Buffered) (told next
   pub same_told : next ≡ told
 
 -- the ticks that a set with that lifted time settles were told: none, where it is not kept
-abbrev pub Settles : Receiving → Received → Received → Buffered → Buffered → List ℕ → ℕ → ℕ → Option ℕ → Type 0
+abbrev pub Settles : Receiving → Received → Received → Buffered → Buffered → List ℕ → ℕ → ℕ
+    → Option ℕ → Type 0
 Settles receiving before now was is ticks told next None = SettlesNothing before now was is told next
 Settles receiving before now was is ticks told next (Some time) =
     SettlesBefore receiving before now was is ticks told next time
 
 -- sets were taken, and the texts of the ticks that they settle were put out
-pub record DumpsOn (before now : Received) (old new : Receiving) (ticks : List ℕ) (told next : ℕ) (was is : Buffered)
+pub record DumpsOn (before now : Received) (old new : Receiving) (ticks : List ℕ) (told next : ℕ)
+    (was is : Buffered)
     : Type 0 where
   pub goes : (ended : Bool) (packets : List (List ℕ)) (text : List ℕ) → IsTold ended old ticks told packets text
       → (more : List ℕ) × IsTold ended new ticks next packets (text ++ more) × PutsOut before now was is more

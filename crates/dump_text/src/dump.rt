@@ -16,7 +16,7 @@ use receiver::Receiver;
 use std::alloc::Global;
 use std::marker::Model;
 use std::thread::Threads;
-use stream_syntax::PacketFault;
+use stream_syntax::{HALF_ROUND, PacketFault};
 use sub_base::{BandGate, NoMemory, Profile, Sink, Source};
 
 /// A receiver, and the ticks at which it is to be told what it shows. The text of a tick is put out
@@ -82,7 +82,8 @@ impl<'a> Dump<'a> {
         requires anchor { anchor_of ticks.now < 2 ^ 34 }
         ensures pid { IfOk result (λ dump. dump.receiving.demux.pid ≡ pid) }
         ensures page { IfOk result (λ dump. dump.receiving.showing.core.page ≡ page) }
-        ensures profile { IfOk result (λ dump. dump.receiving.showing.core.profile ≡ profile.now) }
+        ensures profile { IfOk result
+            (λ dump. dump.receiving.showing.core.profile ≡ profile.now) }
         ensures ticks { IfOk result (λ dump. dump.ticks ≡ ticks.now) }
         ensures nothing { IfOk result (λ dump. HasDumped dump [] []) }
     {
@@ -253,7 +254,7 @@ fn anchor(ticks: &[u64]) -> u64
 {
     match ticks.first() {
         None => 0,
-        Some(tick) => tick.saturating_sub(4_294_967_296),
+        Some(tick) => tick.saturating_sub(HALF_ROUND),
     }
 }
 

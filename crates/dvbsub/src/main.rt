@@ -1,5 +1,5 @@
-//! The program: it opens the files that a command names, hands them to the command, and ends with the code of its
-//! status.
+//! The program: it opens the files that a command names, hands them to the command, and ends with
+//! the code of its status.
 #![tactic(auto)]
 
 mod output;
@@ -55,7 +55,8 @@ fn words_of(rt: &HostRuntime) -> Result<Words, WordsFault> {
 
 /// Carries out the command that the words are, and answers the code of its status.
 ///
-/// The line of the status waits until the output's file is there, so `done` is told only where it is.
+/// The line of the status waits until the output's file is there, so `done` is told only where it
+/// is.
 fn carry_out<T: Threads + Sync>(rt: &HostRuntime, threads: &T, words: &Words) -> u8 {
     let places = inputs(words);
     let first_name = word_at(words, places.first);
@@ -76,7 +77,8 @@ fn carry_out<T: Threads + Sync>(rt: &HostRuntime, threads: &T, words: &Words) ->
     told(rt, finished(&mut output, status))
 }
 
-/// The name of the output's file. There is none where an input has it, so that no input is overwritten.
+/// The name of the output's file. There is none where an input has it, so that no input is
+/// overwritten.
 fn output_name<'a>(
     name: Option<&'a str>,
     first: Option<&str>,
@@ -97,8 +99,8 @@ fn finished(output: &mut Output<'_>, status: Status) -> Status {
     }
 }
 
-/// Writes the line of a status to standard output, and the table of commands to standard error where the command line was
-/// wrong. Answers the code.
+/// Writes the line of a status to standard output, and the table of commands to standard error
+/// where the command line was wrong. Answers the code.
 fn told(rt: &HostRuntime, status: Status) -> u8 {
     if let Status::Usage = status {
         let _ = match command_table(rt.alloc()) {

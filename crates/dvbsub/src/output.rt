@@ -1,8 +1,9 @@
 use std::fs::File;
 use std::io::{self, ErrorKind, Write};
 
-/// The file of a command's output. It is made, or cut to nothing, only as the first bytes are written to it or as the
-/// command has ended well, so that a command that is refused leaves what was there.
+/// The file of a command's output. It is made, or cut to nothing, only as the first bytes are
+/// written to it or as the command has ended well, so that a command that is refused leaves what
+/// was there.
 #[derive(Drop)]
 pub struct Output<'a> {
     rt: &'a HostRuntime,

@@ -15,7 +15,7 @@ use Rattle.packet_walk.specs.declared.walk.WalkEnd.TheVariants as end
 use Rattle.command_text.specs.Putting.{Buffered, IsPutOut, PutsOut}
 use Rattle.sub_base.specs.Endpoints.{Supplied, Received}
 use Rattle.command_text.specs.Putting.{Sent}
-use Rattle.dvbsub_cmd.specs.Closing.{Closes, ClosesEnd, HasEnded}
+use Rattle.dvbsub_cmd.specs.Private.Closing.{Closes, ClosesEnd, HasEnded}
 use Rattle.dvbsub_cmd.specs.declared.status.Status.{Status}
 use Rattle.dvbsub_cmd.specs.declared.status.Status.TheVariants as status
 use Rattle.dvbsub_cmd.specs.declared.status.Which.TheVariants as which

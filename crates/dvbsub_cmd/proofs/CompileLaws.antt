@@ -23,9 +23,9 @@ use Rattle.sub_base.specs.declared.profile.Profile.{Profile}
 use Rattle.sub_base.specs.declared.profile.ProfileName.{ProfileName}
 use Rattle.shown_stream.specs.Compiled.{AreLoads, all_units, IsCompiledTo, IsPlanned}
 use Rattle.dvbsub_cmd.specs.CompileRefused.{IsPlanRefused, IsScheduleRefused}
-use Rattle.dvbsub_cmd.specs.Sending.{IsAmong, IsRefusal, IsScheduleRefusal, plan_refusal}
+use Rattle.dvbsub_cmd.specs.Private.Sending.{IsAmong, IsRefusal, IsScheduleRefusal, plan_refusal}
 use Rattle.slot_stream.specs.SlotStream.{Piece, all_pieces, slot_count, stream_of}
-use Rattle.dvbsub_cmd.specs.SetUnits.{AreWritten, AreCut}
+use Rattle.dvbsub_cmd.specs.Private.SetUnits.{AreWritten, AreCut}
 use Rattle.dvbsub_cmd.specs.declared.compile.SendFault.{SendFault}
 use Rattle.dvbsub_cmd.specs.declared.compile.SendFault.TheVariants as fault
 use Rattle.shown_stream.proofs.CompiledPackets.{count_pieces}

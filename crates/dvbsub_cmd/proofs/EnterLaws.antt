@@ -17,9 +17,9 @@ use Rattle.shown_stream.specs.Shows.{Shows, ShowsFrom, authored_view}
 use Rattle.stream_syntax.specs.TransportPackets.{packet_fault}
 use Rattle.sub_base.specs.Profile.{profile_of}
 use Rattle.sub_base.specs.declared.profile.ProfileName.{ProfileName}
-use Rattle.dvbsub_cmd.specs.Entries.{HasEntry}
+use Rattle.dvbsub_cmd.specs.Private.Entries.{HasEntry}
 use Rattle.dvbsub_cmd.specs.GenText.{entry_time, generated_page, generated_pid}
-use Rattle.dvbsub_cmd.specs.Generating.{AreOf, AreShown, AreTakable, AreTold}
+use Rattle.dvbsub_cmd.specs.Private.Generating.{AreOf, AreShown, AreTakable, AreTold}
 use Rattle.dvbsub_cmd.specs.declared.generated.Generated.{Generated}
 
 -- the packets behind some are taken as well

@@ -1,31 +1,19 @@
 -- The set with which a receiver enters, looked for from the first set on.
-use Rattle.std.proofs.Common.{◌≡◌, ◌∙◌, ℕ, suc, ◌+◌, Bool, true, false, not, ◌&&◌, cond, List, ◌∷◌, length, drop, Some, None, refl, ap, arith}
+use Rattle.std.proofs.Common.{◌≡◌, ◌∙◌, ℕ, suc, ◌+◌, Bool, true, false, cond, List, ◌∷◌, length, drop, Some, None, ap, arith}
 use Rattle.std.proofs.lemmas.List.{drop_all}
 use Rattle.decoder_model.specs.Streams.{entry_set}
-use Rattle.page_epoch.specs.States.{is_whole}
 use Rattle.page_epoch.specs.declared.planned_set.PlannedSet.{PlannedSet}
 use Rattle.schedule.specs.Slots.{Timetable, slots_of}
 use Rattle.shown_stream.specs.SentSets.{sent_from, sent_set, sent_sets}
-use Rattle.dvbsub_cmd.specs.Entries.{are_all_from, is_entry}
+use Rattle.dvbsub_cmd.specs.Private.Entries.{is_entry}
 
 -- the entry set is that among the sets from a number on
 abbrev pub IsLeft : ℕ → Timetable → List PlannedSet → ℕ → Type 0
 IsLeft missed table sets number = entry_set missed (sent_sets table sets) ≡ entry_set missed (sent_from table number (drop number sets))
 
-twice_not : (whole : Bool) → not (not whole) ≡ whole
-twice_not true = refl
-twice_not false = refl
-
--- a set that is entered with, or not, and those behind it
-entry_by : (missed number : ℕ) (table : Timetable) (set : PlannedSet) (sets : List PlannedSet)
-    → entry_set missed (sent_from table number (set ∷ sets)) ≡ cond (is_entry missed set (slots_of table number)) (Some (sent_set table number set)) (entry_set missed (sent_from table (number + 1) sets))
-entry_by missed number table set sets =
-    ap (λ (whole : Bool). cond (whole && are_all_from missed (slots_of table number)) (Some (sent_set table number set)) (entry_set missed (sent_from table (number + 1) sets)))
-    (twice_not (is_whole set.state))
-
 module _ (missed number : ℕ) (table : Timetable) (set : PlannedSet) (sets : List PlannedSet) (here : drop number sets ≡ set ∷ drop (suc number) sets) (left : IsLeft missed table sets number) where
   split : entry_set missed (sent_sets table sets) ≡ cond (is_entry missed set (slots_of table number)) (Some (sent_set table number set)) (entry_set missed (sent_from table (number + 1) (drop (suc number) sets)))
-  split = left ∙ ap (λ (from : List PlannedSet). entry_set missed (sent_from table number from)) here ∙ entry_by missed number table set (drop (suc number) sets)
+  split = left ∙ ap (λ (from : List PlannedSet). entry_set missed (sent_from table number from)) here
 
   -- it is the entry set
   pub entered_here : is_entry missed set (slots_of table number) ≡ true → entry_set missed (sent_sets table sets) ≡ Some (sent_set table number set)

@@ -6,7 +6,7 @@ use Rattle.packet_walk.proofs.EndLaws.{end_told, end_told_on}
 use Rattle.packet_walk.specs.declared.walk.WalkEnd.{WalkEnd}
 use Rattle.packet_walk.specs.declared.walk.WalkEnd.TheVariants as end
 use Rattle.sub_base.specs.Endpoints.{Received}
-use Rattle.dvbsub_cmd.specs.Closing.{Finishes, is_whole_end}
+use Rattle.dvbsub_cmd.specs.Private.Closing.{Finishes, is_whole_end}
 use Rattle.dvbsub_cmd.specs.StreamOutcome.{Telling}
 
 module _ (Before : List (List ℕ) → List ℕ → Type 0) (Told : Telling) where

@@ -40,7 +40,7 @@ use Rattle.sub_base.specs.declared.profile.ProfileName.TheVariants.{Sd, Hd, Wide
 use Rattle.dvbsub_cmd.proofs.HeadlineLaws.{compiled_to, is_free}
 use Rattle.dvbsub_cmd.proofs.UnitLaws.{AllZip-length}
 use Rattle.dvbsub_cmd.specs.GenText.{IsGenText, IsGeneratedFor, entry_line, entry_time, generated_page, generated_pid, number_line}
-use Rattle.dvbsub_cmd.specs.Generating.{AreOf, AreToldAs, IsCompiledFrom, entry_behind, told_lines}
+use Rattle.dvbsub_cmd.specs.Private.Generating.{AreOf, AreToldAs, IsCompiledFrom, entry_behind, told_lines}
 use Rattle.dvbsub_cmd.specs.declared.gen_text.Entry.{Entry}
 use Rattle.dvbsub_cmd.specs.declared.gen_text.Told.{Told}
 use Rattle.dvbsub_cmd.specs.declared.generated.Generated.{Generated}

@@ -19,8 +19,9 @@ use Rattle.dvbsub_cmd.specs.declared.command.Command.{Command}
 use Rattle.dvbsub_cmd.specs.declared.command.Command.TheVariants as command
 use Rattle.dvbsub_cmd.specs.declared.status.Status.{Status}
 use Rattle.dvbsub_cmd.specs.declared.status.Status.TheVariants as status
+use Rattle.stream_syntax.specs.declared.wire.TheConstants.{NULL_PID}
 
-pub is_free : (pid : ℕ) → pid < 8191 → IsFree pid
+pub is_free : (pid : ℕ) → pid < NULL_PID → IsFree pid
 is_free pid below = record { small = omega arith; no_null = λ same. omega (arith, same) }
 
 -- bytes that are the same are compiled from the same sets
@@ -40,7 +41,7 @@ compiled_to profile pid page script bytes same is compiled = record {
 }
 
 -- the packets of a compiled script are shown
-pub shows_script : (profile : ProfileName) (pid page : ℕ) (has_font : Bool) (before now : Seen) (script : Script) (bytes : List ℕ) → pid < 8191 → IsCompiledFor profile
+pub shows_script : (profile : ProfileName) (pid page : ℕ) (has_font : Bool) (before now : Seen) (script : Script) (bytes : List ℕ) → pid < NULL_PID → IsCompiledFor profile
     → ReadsScript has_font before.first now.first before.second now.second script → IsCompiledTo profile pid page script bytes → Appends before.out.written now.out.written bytes
     → ShowsScript profile pid page has_font before now
 shows_script profile pid page has_font before now script bytes below made reads compiled written =

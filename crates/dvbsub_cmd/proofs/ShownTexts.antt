@@ -17,7 +17,7 @@ use Rattle.sub_base.specs.declared.colour.Colour.{Colour}
 use Rattle.sub_base.specs.declared.profile.ProfileName.{ProfileName}
 use Rattle.dvbsub_cmd.specs.ExpectOutcome.{authored_text, expect_text}
 use Rattle.dvbsub_cmd.specs.GenText.{generated_page, generated_pid}
-use Rattle.dvbsub_cmd.specs.Generating.{AreShown, AreTold}
+use Rattle.dvbsub_cmd.specs.Private.Generating.{AreShown, AreTold}
 
 -- ---- one picture
 

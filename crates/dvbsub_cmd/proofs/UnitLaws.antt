@@ -9,24 +9,18 @@ use Rattle.page_epoch.specs.declared.planned_set.PlannedSet.{PlannedSet}
 use Rattle.set_coder.specs.SetSegments.{AreSetPackets}
 use Rattle.set_coder.specs.SetSizes.{AreUnitSizes, IsSetLoad}
 use Rattle.set_coder.proofs.SetSizeLaws.{one_unit_sizes}
+use Rattle.sub_base.proofs.ListLaws.{pair_more}
 use Rattle.sub_base.specs.declared.load.WriteLoad.{WriteLoad}
 use Rattle.shown_stream.specs.Compiled.{AreSizedAs, all_units}
 use Rattle.slot_stream.specs.SlotStream.{all_pieces, pieces_of}
-use Rattle.dvbsub_cmd.specs.SetUnits.{AreSized, AreWritten, AreCut}
+use Rattle.dvbsub_cmd.specs.Private.SetUnits.{AreSized, AreWritten, AreCut}
 use Rattle.slot_stream.specs.UnitBytes.{AreUnitsOf}
 
 module _ {A B : Type 0} (R : A → B → Type 0) where
-  -- one more at the end of both
-  pub AllZip-push : (xs : List A) (ys : List B) (x : A) (y : B) → AllZip R xs ys → R x y → AllZip R (xs ++ x ∷ []) (ys ++ y ∷ [])
-  AllZip-push [] [] x y all one = (one, tt)
-  AllZip-push [] (b ∷ ys) x y all one = absurd all
-  AllZip-push (a ∷ xs) [] x y all one = absurd all
-  AllZip-push (a ∷ xs) (b ∷ ys) x y all one = (all.0, AllZip-push xs ys x y all.1 one)
-
   -- one more of the first list
   pub AllZip-more : (xs : List A) (ys : List B) (k : ℕ) (d : A) (y : B) → k < length xs → AllZip R (take k xs) ys → R (get_or xs k d) y → AllZip R (take (k + 1) xs) (ys ++ y ∷ [])
   AllZip-more xs ys k d y inside all one =
-      subst (λ (front : List A). AllZip R front (ys ++ y ∷ [])) (sym (take_more xs k d inside)) (AllZip-push (take k xs) ys (get_or xs k d) y all one)
+      subst (λ (front : List A). AllZip R front (ys ++ y ∷ [])) (sym (take_more xs k d inside)) (pair_more R (take k xs) ys (get_or xs k d) y all one)
 
   -- the item at a place, and one more of the second list
   pub AllZip-step : (xs : List A) (ys new : List B) (k : ℕ) (x : A) (y : B) → k < length xs → AllZip R (take k xs) ys → x ≡ get_or xs k x → new ≡ ys ++ y ∷ [] → R x y → AllZip R (take (k + 1) xs) new

@@ -12,4 +12,5 @@ checks profile origin pid page ended packets text = IsCheckText (profile_of prof
 -- what a receiver at work tells of packets
 abbrev pub check_tells : Checking → Bool → List (List ℕ) → List ℕ → Type 0
 check_tells checking ended packets text =
-    IsCheckText checking.receiving.showing.core.profile checking.receiving.showing.core.anchor checking.receiving.demux.pid checking.receiving.showing.core.page ended packets text
+    IsCheckText checking.receiving.showing.core.profile checking.receiving.showing.core.anchor
+    checking.receiving.demux.pid checking.receiving.showing.core.page ended packets text

@@ -10,10 +10,12 @@ use Rattle.sub_base.specs.declared.profile.ProfileName.{ProfileName}
 use Rattle.sub_base.specs.declared.profile.ProfileName.TheVariants.{Sd, Hd, Wide, Large}
 use Rattle.shown_stream.specs.Compiled.{IsCompiledFor}
 use Rattle.dvbsub_cmd.specs.GenText.{IsGeneratedFor}
-use Rattle.dvbsub_cmd.specs.declared.command.TheConstants.{GREATEST_PAGE, GREATEST_PID, LATEST_ORIGIN, LATEST_TICK, LEAST_PID, MOST_BANDS, MOST_GENERATED}
+use Rattle.dvbsub_cmd.specs.declared.command.TheConstants.{GREATEST_PAGE, GREATEST_PID, LATEST_TICK, LEAST_PID, MOST_BANDS, MOST_GENERATED}
 use Rattle.dvbsub_cmd.specs.declared.command.Command.{Command}
 use Rattle.dvbsub_cmd.specs.declared.command.Command.TheVariants as command
 use Rattle.dvbsub_cmd.specs.declared.command.InputPlaces.{InputPlaces}
+use Rattle.stream_syntax.specs.declared.wire.TheConstants.{TIME_ROUND, NULL_PID}
+use Rattle.cue_list.specs.declared.limits.TheConstants.{LATEST_ORIGIN}
 
 -- the word at that place
 abbrev pub word_at : List (List ℕ) → ℕ → List ℕ
@@ -82,7 +84,8 @@ asked_ticks place words = map tick_or_zero (drop place words)
 
 -- so many words come before 1 to 1,000 rising ticks
 abbrev pub has_ticks : ℕ → List (List ℕ) → Bool
-has_ticks place words = nat_lt place (length words) && nat_le (length words) (place + 1000) && are_rising None (drop place words)
+has_ticks place words =
+    nat_lt place (length words) && nat_le (length words) (place + 1000) && are_rising None (drop place words)
 
 -- `expect SCRIPT FONT OUT TICK...`, with 1 to 1,000 rising ticks
 abbrev pub is_expect : List (List ℕ) → Bool
@@ -122,7 +125,10 @@ gen_of words = if (length words == 4) && has_word words 0 (codes "gen") then (do
 
 -- the command of these words, none of which is empty or begins with `-`
 abbrev pub named_command : List (List ℕ) → Option Command
-named_command words = option_or (compile_of words) (option_or (list_of words) (option_or (dump_of words) (option_or (check_of words) (option_or (expect_of words) (gen_of words)))))
+named_command words =
+    option_or (compile_of words)
+    (option_or (list_of words)
+    (option_or (dump_of words) (option_or (check_of words) (option_or (expect_of words) (gen_of words)))))
 
 -- the command that the words are, if they are one: no word is empty or begins with `-`, and each number is in its range
 unfoldable pub command_of : List (List ℕ) → Option Command
@@ -136,20 +142,22 @@ font_place false place = None
 -- where the names of a command's files stand among the words
 abbrev pub places_of : Option Command → InputPlaces
 places_of None = record { first = None; second = None; out = None }
-places_of (Some (command.Compile profile pid page has_font)) = record { first = Some 4; second = font_place has_font 5; out = Some 6 }
+places_of (Some (command.Compile profile pid page has_font)) =
+    record { first = Some 4; second = font_place has_font 5; out = Some 6 }
 places_of (Some (command.List pid)) = record { first = Some 2; second = None; out = Some 3 }
 places_of (Some (command.Dump profile pid page bands)) = record { first = Some 5; second = None; out = Some 6 }
 places_of (Some (command.Check profile origin pid page)) = record { first = Some 5; second = None; out = Some 6 }
 places_of (Some (command.Expect has_font)) = record { first = Some 1; second = font_place has_font 2; out = Some 3 }
 places_of (Some (command.Gen number profile)) = record { first = None; second = None; out = Some 3 }
 
--- the numbers of a command are in their ranges: packets are sent with a PID of 13 bits that null packets do not have, for a profile
--- that scripts are compiled for, and so are levels measured; a stream begins at a tick of 33 bits; pictures are drawn in 1 to 64 bands, and the ticks rise;
--- a script is generated of 1 to 500 cues
+-- the numbers of a command are in their ranges: packets are sent with a PID of 13 bits that null packets do not have,
+-- for a profile that scripts are compiled for, and so are levels measured; a stream begins at a tick of 33 bits;
+-- pictures are drawn in 1 to 64 bands, and the ticks rise; a script is generated of 1 to 500 cues
 abbrev pub IsInRange : List (List ℕ) → Command → Type 0
-IsInRange words (command.Compile profile pid page has_font) = (pid < 8191) × IsCompiledFor profile
+IsInRange words (command.Compile profile pid page has_font) = (pid < NULL_PID) × IsCompiledFor profile
 IsInRange words (command.List pid) = Unit {0}
-IsInRange words (command.Dump profile pid page bands) = (1 ≤ bands) × (bands ≤ 64) × (are_rising None (drop 7 words) ≡ true)
-IsInRange words (command.Check profile origin pid page) = IsCompiledFor profile × (origin < 8589934592)
+IsInRange words (command.Dump profile pid page bands) =
+    (1 ≤ bands) × (bands ≤ 64) × (are_rising None (drop 7 words) ≡ true)
+IsInRange words (command.Check profile origin pid page) = IsCompiledFor profile × (origin < TIME_ROUND)
 IsInRange words (command.Expect has_font) = Unit {0}
 IsInRange words (command.Gen number profile) = (1 ≤ number) × (number ≤ 500) × IsGeneratedFor profile

@@ -18,9 +18,12 @@ use Rattle.shown_stream.specs.Compiled.{IsPlanned}
 -- the plan is refused for this reason
 abbrev pub IsPlanRefused : ProfileName → Script → PlanFault → Type 0
 IsPlanRefused profile script plan.Memory = ⊥
-IsPlanRefused profile script (plan.DisplayTooLarge row) = IsPlanCause script (profile_of profile) (plan.DisplayTooLarge row)
-IsPlanRefused profile script (plan.PixelFull row need) = IsPlanCause script (profile_of profile) (plan.PixelFull row need)
-IsPlanRefused profile script (plan.CompositionFull row need) = IsPlanCause script (profile_of profile) (plan.CompositionFull row need)
+IsPlanRefused profile script (plan.DisplayTooLarge row) =
+    IsPlanCause script (profile_of profile) (plan.DisplayTooLarge row)
+IsPlanRefused profile script (plan.PixelFull row need) =
+    IsPlanCause script (profile_of profile) (plan.PixelFull row need)
+IsPlanRefused profile script (plan.CompositionFull row need) =
+    IsPlanCause script (profile_of profile) (plan.CompositionFull row need)
 
 -- the record of the script that brings the set at that place
 pub record IsRowAt (sets : List PlannedSet) (place row : ℕ) : Type 0 where
@@ -35,9 +38,10 @@ IsRowOf sets (fault.CodedFull set size) row = IsRowAt sets set row
 IsRowOf sets (fault.Late set done pts) row = IsRowAt sets set row
 IsRowOf sets (fault.SegmentFull set longest) row = IsRowAt sets set row
 
--- the script has a plan, each set of which can be scheduled by itself, and the schedule of its sets is refused for this reason, at
--- the set that the record brings
-pub record IsScheduleRefused (profile : ProfileName) (script : Script) (row : ℕ) (fault : ScheduleFault) : Type 0 where
+-- the script has a plan, each set of which can be scheduled by itself, and the schedule of its sets is refused for this
+-- reason, at the set that the record brings
+pub record IsScheduleRefused (profile : ProfileName) (script : Script) (row : ℕ)
+    (fault : ScheduleFault) : Type 0 where
   pub sets : List PlannedSet
   pub loads : List WriteLoad
   pub planned : IsPlanned profile script sets loads

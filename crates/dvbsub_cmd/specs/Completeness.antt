@@ -28,7 +28,8 @@ IsRightInput (Some (command.Expect has_font)) before now = IsExpectable has_font
 IsRightInput (Some (command.Gen number profile)) before now = Unit {0}
 
 -- no count of faults rose, and what the command reads is right
-pub record IsUntroubled (command : Option Command) (before now : Seen) (notes_before notes_now : Received) : Type 0 where
+pub record IsUntroubled (command : Option Command) (before now : Seen)
+    (notes_before notes_now : Received) : Type 0 where
   pub written : HasRisen before.out.faults now.out.faults → ⊥
   pub told : HasRisen notes_before.faults notes_now.faults → ⊥
   pub right : IsRightInput command before now
@@ -36,4 +37,5 @@ pub record IsUntroubled (command : Option Command) (before now : Seen) (notes_be
 -- where nothing gives a cause of refusal, the command is done whole, or memory is wanting
 abbrev pub IsComplete : List (List ℕ) → Seen → Seen → Received → Received → Status → Type 0
 IsComplete words before now notes_before notes_now answer =
-    IsUntroubled (command_of words) before now notes_before notes_now → ((cut : ℕ) × (answer ≡ status.Done cut)) ⊎ (answer ≡ status.Memory)
+    IsUntroubled (command_of words) before now notes_before notes_now → ((cut : ℕ) × (answer ≡ status.Done cut))
+    ⊎ (answer ≡ status.Memory)

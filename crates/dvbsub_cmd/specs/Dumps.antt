@@ -12,4 +12,5 @@ dumps profile pid page ticks ended packets text = IsDumpText (profile_of profile
 -- what a receiver at work tells of packets
 abbrev pub dump_tells : Dumping → Bool → List (List ℕ) → List ℕ → Type 0
 dump_tells dumping ended packets text =
-    IsDumpText dumping.receiving.showing.core.profile dumping.receiving.demux.pid dumping.receiving.showing.core.page dumping.ticks ended packets text
+    IsDumpText dumping.receiving.showing.core.profile dumping.receiving.demux.pid dumping.receiving.showing.core.page
+    dumping.ticks ended packets text

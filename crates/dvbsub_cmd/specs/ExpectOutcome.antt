@@ -18,7 +18,8 @@ use Rattle.dvbsub_cmd.specs.declared.status.Which.TheVariants as which
 -- the text of the authored picture of a script at a tick
 abbrev pub authored_text : Script → ℕ → List ℕ
 authored_text script tick =
-    picture_text tick script.width script.height (authored_picture script.width script.height script.epochs script.pictures tick)
+    picture_text tick script.width script.height
+    (authored_picture script.width script.height script.epochs script.pictures tick)
 
 -- the texts at all asked ticks, in order
 abbrev pub expect_text : Script → List ℕ → List ℕ
@@ -33,7 +34,8 @@ pub record Expects (has_font : Bool) (ticks : List ℕ) (before now : Seen) (tex
 -- the output could not be written: it received a front of the texts, and its count of faults rose
 abbrev pub IsCutOff : Bool → List ℕ → Seen → Seen → Which → Type 0
 IsCutOff has_font ticks before now which.Out =
-    (text : List ℕ) × Expects has_font ticks before now text × AppendsPrefix before.out.written now.out.written text × HasRisen before.out.faults now.out.faults
+    (text : List ℕ) × Expects has_font ticks before now text × AppendsPrefix before.out.written now.out.written text
+    × HasRisen before.out.faults now.out.faults
 IsCutOff has_font ticks before now which.First = ⊥
 IsCutOff has_font ticks before now which.Second = ⊥
 IsCutOff has_font ticks before now which.Notes = ⊥
@@ -41,22 +43,28 @@ IsCutOff has_font ticks before now which.Notes = ⊥
 -- the cause of each status, and what the output has received then
 abbrev pub IsExpectCause : Bool → List ℕ → Seen → Seen → Status → Type 0
 IsExpectCause has_font ticks before now (status.Done cut) =
-    (text : List ℕ) × Expects has_font ticks before now text × Appends before.out.written now.out.written text × (cut ≡ 0)
+    (text : List ℕ) × Expects has_font ticks before now text × Appends before.out.written now.out.written text
+    × (cut ≡ 0)
 IsExpectCause has_font ticks before now status.Usage = ⊥
 IsExpectCause has_font ticks before now (status.FontRefused fault) =
-    IsInputCause has_font before.first now.first before.second now.second (status.FontRefused fault) × WroteNothing before.out now.out
+    IsInputCause has_font before.first now.first before.second now.second (status.FontRefused fault)
+    × WroteNothing before.out now.out
 IsExpectCause has_font ticks before now (status.ScriptRefused fault) =
-    IsInputCause has_font before.first now.first before.second now.second (status.ScriptRefused fault) × WroteNothing before.out now.out
+    IsInputCause has_font before.first now.first before.second now.second (status.ScriptRefused fault)
+    × WroteNothing before.out now.out
 IsExpectCause has_font ticks before now (status.PlanRefused fault) = ⊥
 IsExpectCause has_font ticks before now (status.ScheduleRefused row fault) = ⊥
 IsExpectCause has_font ticks before now (status.StreamRefused packet fault) = ⊥
 IsExpectCause has_font ticks before now (status.ReadFault which) =
-    IsInputCause has_font before.first now.first before.second now.second (status.ReadFault which) × WroteNothing before.out now.out
+    IsInputCause has_font before.first now.first before.second now.second (status.ReadFault which)
+    × WroteNothing before.out now.out
 IsExpectCause has_font ticks before now (status.WriteFault which) = IsCutOff has_font ticks before now which
 IsExpectCause has_font ticks before now status.Memory = WroteNothing before.out now.out
 IsExpectCause has_font ticks before now (status.InputTooLong which) =
-    IsInputCause has_font before.first now.first before.second now.second (status.InputTooLong which) × WroteNothing before.out now.out
+    IsInputCause has_font before.first now.first before.second now.second (status.InputTooLong which)
+    × WroteNothing before.out now.out
 
 -- nothing stops the command: its inputs are right
 abbrev pub IsExpectable : Bool → Seen → Seen → Type 0
-IsExpectable has_font before now = HasRightScript has_font before.first now.first before.second now.second (λ script. Unit {0})
+IsExpectable has_font before now =
+    HasRightScript has_font before.first now.first before.second now.second (λ script. Unit {0})

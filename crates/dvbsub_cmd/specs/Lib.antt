@@ -1,5 +1,4 @@
 pub mod Checks
-pub mod Closing
 pub mod Command
 pub mod CompileOutcome
 pub mod CompileRefused
@@ -10,15 +9,12 @@ pub mod ListLines
 pub mod ListText
 pub mod Listing
 pub mod Outcome
-pub mod Sending
 pub mod Seen
 pub mod StatusText
 pub mod StreamOutcome
 pub mod ReadScript
 pub mod Dumps
 pub mod ExpectOutcome
-pub mod SetUnits
-pub mod Entries
 pub mod GenOutcome
 pub mod GenText
-pub mod Generating
+pub mod Private

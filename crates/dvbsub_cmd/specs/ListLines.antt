@@ -31,6 +31,7 @@ pes_line place fault = codes "pes" ++ then_number place ++ codes " " ++ pes_faul
 abbrev pub segment_line : ℕ → ℕ → ℕ → ℕ → List ℕ
 segment_line place kind page size = codes "segment" ++ then_number place ++ codes " " ++ two_hex kind ++ then_number page ++ then_number size ++ line_end
 
--- the line in place of a segment that begins at that place of its field and is refused: the place of the fault in the field
+-- the line in place of a segment that begins at that place of its field and is refused: the place of the fault in the
+-- field
 abbrev pub fault_line : ℕ → SegmentFault → List ℕ
 fault_line place fault = codes "fault" ++ then_number (place + fault.place) ++ codes " " ++ segment_kind_name fault.kind ++ line_end

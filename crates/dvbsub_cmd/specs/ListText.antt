@@ -17,15 +17,20 @@ unit_limit = 262144
 
 -- the line of a segment at that place of its field: of what its head says, or of its first fault
 pub data IsSegmentLine : ℕ → List ℕ → List ℕ → Type 0 where
-  right : {place : ℕ} {bytes line : List ℕ} (value : SegmentValue) → IsSegment bytes value → line ≡ segment_line place (byte_at 1 bytes) (word_at 2 bytes) (word_at 4 bytes)
+  right : {place : ℕ} {bytes line : List ℕ} (value : SegmentValue) → IsSegment bytes value
+      → line ≡ segment_line place (byte_at 1 bytes) (word_at 2 bytes) (word_at 4 bytes)
       → IsSegmentLine place bytes line
-  refused : {place : ℕ} {bytes line : List ℕ} (fault : SegmentFault) → IsSegmentFault bytes fault → line ≡ fault_line place fault → IsSegmentLine place bytes line
+  refused : {place : ℕ} {bytes line : List ℕ} (fault : SegmentFault) → IsSegmentFault bytes fault
+      → line ≡ fault_line place fault → IsSegmentLine place bytes line
 
 -- the lines of the frames of a field, the first of which stands at that place
 pub data AreFrameLines : ℕ → List Frame → List ℕ → Type 0 where
   none_left : {place : ℕ} {lines : List ℕ} → lines ≡ [] → AreFrameLines place [] lines
-  cut_line : {place : ℕ} {fault : SegmentFault} {frames : List Frame} {lines : List ℕ} → lines ≡ fault_line place fault → AreFrameLines place (broken fault ∷ frames) lines
-  line_first : {place : ℕ} {bytes lines : List ℕ} {frames : List Frame} (line rest : List ℕ) → IsSegmentLine place bytes line → AreFrameLines (place + length bytes) frames rest
+  cut_line : {place : ℕ} {fault : SegmentFault} {frames : List Frame} {lines : List ℕ}
+      → lines ≡ fault_line place fault
+      → AreFrameLines place (broken fault ∷ frames) lines
+  line_first : {place : ℕ} {bytes lines : List ℕ} {frames : List Frame} (line rest : List ℕ)
+      → IsSegmentLine place bytes line → AreFrameLines (place + length bytes) frames rest
       → lines ≡ line ++ rest → AreFrameLines place (segment bytes ∷ frames) lines
 
 -- the lines of the segments that stand in these bytes of a field, the first at that place
@@ -36,9 +41,12 @@ pub record AreSegmentLines (place : ℕ) (bytes lines : List ℕ) : Type 0 where
 
 -- the lines of a unit that ends with the packet of that place. The segments begin at place 2 of the field.
 pub data AreUnitLines : ℕ → List ℕ → List ℕ → Type 0 where
-  of_subtitles : {place : ℕ} {unit lines : List ℕ} (pts : ℕ) (segments rest : List ℕ) → IsPes unit pts segments → AreSegmentLines 2 segments rest
+  of_subtitles : {place : ℕ} {unit lines : List ℕ} (pts : ℕ) (segments rest : List ℕ)
+      → IsPes unit pts segments
+      → AreSegmentLines 2 segments rest
       → lines ≡ unit_line place pts (length unit) ++ rest → AreUnitLines place unit lines
-  of_others : {place : ℕ} {unit lines : List ℕ} (fault : PesFault) → pes_fault unit ≡ Some fault → lines ≡ pes_line place fault → AreUnitLines place unit lines
+  of_others : {place : ℕ} {unit lines : List ℕ} (fault : PesFault) → pes_fault unit ≡ Some fault
+      → lines ≡ pes_line place fault → AreUnitLines place unit lines
 
 -- the lines of the unit that a packet ends, where it ends one
 abbrev pub AreEndLines : ℕ → Option (List ℕ) → List ℕ → Type 0
@@ -55,5 +63,6 @@ pub record ArePacketLines (pid : ℕ) (before : List (List ℕ)) (packet lines :
 pub record IsListText (pid : ℕ) (packets : List (List ℕ)) (text : List ℕ) : Type 0 where
   pub lines : List (List ℕ)
   pub count : length lines ≡ length packets
-  pub each : (k : ℕ) → k < length packets → ArePacketLines pid (take k packets) (slice_index_or packets k []) (slice_index_or lines k [])
+  pub each : (k : ℕ) → k < length packets
+      → ArePacketLines pid (take k packets) (slice_index_or packets k []) (slice_index_or lines k [])
   pub whole : text ≡ flat_map (λ at_one. at_one) lines

@@ -20,18 +20,23 @@ use Rattle.dvbsub_cmd.specs.declared.status.Status.{Status}
 use Rattle.dvbsub_cmd.specs.declared.status.Status.TheVariants as status
 use Rattle.dvbsub_cmd.specs.declared.status.Which.TheVariants as which
 
--- the cause of a status by the command, and what the output has received then: a wrong command line ends with the usage,
--- and nothing else does; it calls no source, and nor does `gen`
+-- the cause of a status by the command, and what the output has received then: a wrong command line ends with the
+-- usage, and nothing else does; it calls no source, and nor does `gen`
 abbrev pub IsCausedBy : List (List ℕ) → Option Command → Seen → Seen → Status → Type 0
-IsCausedBy words None before now answer = (answer ≡ status.Usage) × (now.first ≡ before.first) × WroteNothing before.out now.out
-IsCausedBy words (Some (command.Compile profile pid page has_font)) before now answer = IsCompileCause profile pid page has_font before now answer
-IsCausedBy words (Some (command.List pid)) before now answer = IsStreamCause (lists pid) pid before.first now.first before.out now.out answer
+IsCausedBy words None before now answer =
+    (answer ≡ status.Usage) × (now.first ≡ before.first) × WroteNothing before.out now.out
+IsCausedBy words (Some (command.Compile profile pid page has_font)) before now answer =
+    IsCompileCause profile pid page has_font before now answer
+IsCausedBy words (Some (command.List pid)) before now answer =
+    IsStreamCause (lists pid) pid before.first now.first before.out now.out answer
 IsCausedBy words (Some (command.Dump profile pid page bands)) before now answer =
     IsStreamCause (dumps profile pid page (asked_ticks 7 words)) pid before.first now.first before.out now.out answer
 IsCausedBy words (Some (command.Check profile origin pid page)) before now answer =
     IsStreamCause (checks profile origin pid page) pid before.first now.first before.out now.out answer
-IsCausedBy words (Some (command.Expect has_font)) before now answer = IsExpectCause has_font (asked_ticks 4 words) before now answer
-IsCausedBy words (Some (command.Gen number profile)) before now answer = IsGenCause number profile before.out now.out answer × (now.first ≡ before.first)
+IsCausedBy words (Some (command.Expect has_font)) before now answer =
+    IsExpectCause has_font (asked_ticks 4 words) before now answer
+IsCausedBy words (Some (command.Gen number profile)) before now answer =
+    IsGenCause number profile before.out now.out answer × (now.first ≡ before.first)
 
 -- the cause of a status by the words
 abbrev pub IsCaused : List (List ℕ) → Seen → Seen → Status → Type 0
@@ -61,8 +66,10 @@ unfinished other = other
 abbrev pub Tells : Received → Received → Status → Status → Type 0
 Tells before now run answer =
     (Appends before.written now.written (status_line run) × (answer ≡ run))
-    ⊎ (AppendsPrefix before.written now.written (status_line run) × HasRisen before.faults now.faults × (answer ≡ untold run))
+    ⊎ (AppendsPrefix before.written now.written (status_line run) × HasRisen before.faults now.faults
+    × (answer ≡ untold run))
 
 -- the cause of the status that a command answers, and its line in the notes
 abbrev pub HasCause : List (List ℕ) → Seen → Seen → Received → Received → Status → Type 0
-HasCause words before now notes_before notes_now answer = (run : Status) × IsCaused words before now run × Tells notes_before notes_now run answer
+HasCause words before now notes_before notes_now answer =
+    (run : Status) × IsCaused words before now run × Tells notes_before notes_now run answer

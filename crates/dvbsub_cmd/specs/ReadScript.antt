@@ -1,5 +1,5 @@
 -- The script that a command reads, with its font.
-use Rattle.std.specs.Prelude.{◌≡◌, ℕ, Bool, true, false, List, [], pos}
+use Rattle.std.specs.Prelude.{◌≡◌, ℕ, ◌+◌, ◌≤◌, Bool, true, false, List, [], pos}
 use Rattle.bitmap_font.specs.Font.{FontValue}
 use Rattle.bitmap_font.specs.Reading.{IsFont}
 use Rattle.bitmap_font.specs.Refusal.{IsFontFault}
@@ -33,7 +33,8 @@ abbrev pub HasSomeFont : Bool → Supplied → Supplied → Type 0
 HasSomeFont has_font before now = (font : FontValue) × HasFont has_font before now font
 
 -- the first source was read to its end and is this script, in the command's font
-pub record ReadsScript (has_font : Bool) (first_before first_now second_before second_now : Supplied) (script : Script) : Type 0 where
+pub record ReadsScript (has_font : Bool) (first_before first_now second_before second_now : Supplied)
+    (script : Script) : Type 0 where
   pub font : FontValue
   pub has : HasFont has_font second_before second_now font
   pub text : List ℕ
@@ -43,10 +44,12 @@ pub record ReadsScript (has_font : Bool) (first_before first_now second_before s
 -- the second source was read to its end, and is refused as a font
 abbrev pub IsFontRefused : FontFault → Supplied → Supplied → Type 0
 IsFontRefused font.Memory before now = ⊥
-IsFontRefused (font.Refused line kind) before now = (text : List ℕ) × WasRead text_limit before now text × IsFontFault text (font.Refused line kind)
+IsFontRefused (font.Refused line kind) before now =
+    (text : List ℕ) × WasRead text_limit before now text × IsFontFault text (font.Refused line kind)
 
 -- the first source was read to its end, and is refused as a script in the command's font
-pub record IsRefusedAt (has_font : Bool) (first_before first_now second_before second_now : Supplied) (fault : ScriptFault) : Type 0 where
+pub record IsRefusedAt (has_font : Bool) (first_before first_now second_before second_now : Supplied)
+    (fault : ScriptFault) : Type 0 where
   pub font : FontValue
   pub has : HasFont has_font second_before second_now font
   pub text : List ℕ
@@ -55,23 +58,31 @@ pub record IsRefusedAt (has_font : Bool) (first_before first_now second_before s
 
 abbrev pub IsScriptRefused : Bool → Supplied → Supplied → Supplied → Supplied → ScriptFault → Type 0
 IsScriptRefused has_font first_before first_now second_before second_now script.Memory = ⊥
-IsScriptRefused has_font first_before first_now second_before second_now (script.Refused row kind) = IsRefusedAt has_font first_before first_now second_before second_now (script.Refused row kind)
+IsScriptRefused has_font first_before first_now second_before second_now (script.Refused row kind) =
+    IsRefusedAt has_font first_before first_now second_before second_now (script.Refused row kind)
 
--- why a command has no script. The font is read first: a fault of the second source comes before the first one is called,
--- and a fault of the first source with a font that is right
+-- the source gave no more bytes than a script or a font may have
+abbrev pub IsTextWithin : Supplied → Supplied → Type 0
+IsTextWithin before now = now.given ≤ before.given + text_limit
+
+-- why a command has no script. The font is read first: a fault of the second source comes before the first one is
+-- called, and a fault of the first source with a font that is right
 abbrev pub IsInputCause : Bool → Supplied → Supplied → Supplied → Supplied → Status → Type 0
 IsInputCause has_font first_before first_now second_before second_now (status.Done cut) = ⊥
 IsInputCause has_font first_before first_now second_before second_now status.Usage = ⊥
 IsInputCause has_font first_before first_now second_before second_now (status.FontRefused fault) =
     (has_font ≡ true) × IsFontRefused fault second_before second_now × (first_now ≡ first_before)
-IsInputCause has_font first_before first_now second_before second_now (status.ScriptRefused fault) = IsScriptRefused has_font first_before first_now second_before second_now fault
+IsInputCause has_font first_before first_now second_before second_now (status.ScriptRefused fault) =
+    IsScriptRefused has_font first_before first_now second_before second_now fault
 IsInputCause has_font first_before first_now second_before second_now (status.PlanRefused fault) = ⊥
 IsInputCause has_font first_before first_now second_before second_now (status.ScheduleRefused row fault) = ⊥
 IsInputCause has_font first_before first_now second_before second_now (status.StreamRefused packet fault) = ⊥
 IsInputCause has_font first_before first_now second_before second_now (status.ReadFault which.First) =
     HasSomeFont has_font second_before second_now × HasRisen first_before.faults first_now.faults
+    × IsTextWithin first_before first_now
 IsInputCause has_font first_before first_now second_before second_now (status.ReadFault which.Second) =
     (has_font ≡ true) × HasRisen second_before.faults second_now.faults × (first_now ≡ first_before)
+    × IsTextWithin second_before second_now
 IsInputCause has_font first_before first_now second_before second_now (status.ReadFault which.Out) = ⊥
 IsInputCause has_font first_before first_now second_before second_now (status.ReadFault which.Notes) = ⊥
 IsInputCause has_font first_before first_now second_before second_now (status.WriteFault which) = ⊥
@@ -83,13 +94,16 @@ IsInputCause has_font first_before first_now second_before second_now (status.In
 IsInputCause has_font first_before first_now second_before second_now (status.InputTooLong which.Out) = ⊥
 IsInputCause has_font first_before first_now second_before second_now (status.InputTooLong which.Notes) = ⊥
 
--- nothing stops the reading of the inputs: no count rose, no limit was passed, font and script are right, and P holds of
--- the script
-pub record HasRightScript (has_font : Bool) (first_before first_now second_before second_now : Supplied) (P : Script → Type 0) : Type 0 where
+-- nothing stops the reading of the inputs: no count rose, no limit was passed, font and script are right, and P holds
+-- of the script
+pub record HasRightScript (has_font : Bool) (first_before first_now second_before second_now : Supplied)
+    (P : Script → Type 0) : Type 0 where
   pub first_read : HasRisen first_before.faults first_now.faults → ⊥
   pub second_read : has_font ≡ true → HasRisen second_before.faults second_now.faults → ⊥
   pub first_within : HasRisenPast text_limit first_before.given first_now.given → ⊥
   pub second_within : has_font ≡ true → HasRisenPast text_limit second_before.given second_now.given → ⊥
   pub font_right : (fault : FontFault) → has_font ≡ true → IsFontRefused fault second_before second_now → ⊥
-  pub script_right : (fault : ScriptFault) → IsScriptRefused has_font first_before first_now second_before second_now fault → ⊥
-  pub goes_on : (script : Script) → ReadsScript has_font first_before first_now second_before second_now script → P script
+  pub script_right : (fault : ScriptFault)
+      → IsScriptRefused has_font first_before first_now second_before second_now fault → ⊥
+  pub goes_on : (script : Script) → ReadsScript has_font first_before first_now second_before second_now script
+      → P script

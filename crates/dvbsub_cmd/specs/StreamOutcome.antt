@@ -1,5 +1,5 @@
--- Why a command that reads a stream ended as it did, and what its output has received then. What a command tells of packets is
--- a relation between them and a text; the stream ends with the packets or not.
+-- Why a command that reads a stream ended as it did, and what its output has received then. What a command tells of
+-- packets is a relation between them and a text; the stream ends with the packets or not.
 use Rattle.std.specs.Prelude.{◌≡◌, ℕ, Bool, true, false, ◌<◌, ◌≤◌, List, ◌++◌, length, Some}
 use Rattle.std.specs.Io.KnownBytes.{Appends, IsAtEnd}
 use Rattle.packet_source.specs.Packets.{IsWithin}
@@ -18,8 +18,10 @@ use Rattle.dvbsub_cmd.specs.declared.status.Which.TheVariants as which
 abbrev pub Telling : Type 1
 Telling = Bool → List (List ℕ) → List ℕ → Type 0
 
--- the stream was read to its end, and the output has received the text of its packets; the rest is shorter than a packet
-pub record IsWhole (Told : Telling) (pid : ℕ) (before now : Supplied) (out_before out_now : Received) (cut : ℕ) : Type 0 where
+-- the stream was read to its end, and the output has received the text of its packets; the rest is shorter than a
+-- packet
+pub record IsWhole (Told : Telling) (pid : ℕ) (before now : Supplied) (out_before out_now : Received)
+    (cut : ℕ) : Type 0 where
   pub packets : List (List ℕ)
   pub rest : List ℕ
   pub taken : AreTaken pid before now packets rest
@@ -32,7 +34,9 @@ pub record IsWhole (Told : Telling) (pid : ℕ) (before now : Supplied) (out_bef
   pub written : Appends out_before.written out_now.written text
 
 -- the packet at that place is the first that is refused, and the output has received the text of the packets before it
-pub record IsUpToFault (Told : Telling) (pid : ℕ) (before now : Supplied) (out_before out_now : Received) (place : ℕ) (fault : PacketFault) : Type 0 where
+pub record IsUpToFault (Told : Telling) (pid : ℕ) (before now : Supplied) (out_before out_now : Received)
+    (place : ℕ)
+    (fault : PacketFault) : Type 0 where
   pub packets : List (List ℕ)
   pub refused : List ℕ
   pub rest : List ℕ
@@ -46,7 +50,8 @@ pub record IsUpToFault (Told : Telling) (pid : ℕ) (before now : Supplied) (out
   pub written : Appends out_before.written out_now.written text
 
 -- the stream could not be read on, and the output has received the text of the packets that were read whole
-pub record IsUpToFailure (Told : Telling) (pid : ℕ) (before now : Supplied) (out_before out_now : Received) : Type 0 where
+pub record IsUpToFailure (Told : Telling) (pid : ℕ) (before now : Supplied)
+    (out_before out_now : Received) : Type 0 where
   pub packets : List (List ℕ)
   pub rest : List ℕ
   pub taken : AreTaken pid before now packets rest
@@ -56,8 +61,8 @@ pub record IsUpToFailure (Told : Telling) (pid : ℕ) (before now : Supplied) (o
   pub told : Told false packets text
   pub written : Appends out_before.written out_now.written text
 
--- the output has received a front of the text of packets that the source gave; of what the end of the stream adds only where the
--- source is at its end
+-- the output has received a front of the text of packets that the source gave; of what the end of the stream adds only
+-- where the source is at its end
 pub record IsFront (Told : Telling) (pid : ℕ) (before now : Supplied) (out_before out_now : Received) : Type 0 where
   pub packets : List (List ℕ)
   pub rest : List ℕ
@@ -70,24 +75,29 @@ pub record IsFront (Told : Telling) (pid : ℕ) (before now : Supplied) (out_bef
 
 -- the cause of each status, by the stream's source and the output before and now, and what the output has received then
 abbrev pub IsStreamCause : Telling → ℕ → Supplied → Supplied → Received → Received → Status → Type 0
-IsStreamCause Told pid before now out_before out_now (status.Done cut) = IsWhole Told pid before now out_before out_now cut
+IsStreamCause Told pid before now out_before out_now (status.Done cut) =
+    IsWhole Told pid before now out_before out_now cut
 IsStreamCause Told pid before now out_before out_now status.Usage = ⊥
 IsStreamCause Told pid before now out_before out_now (status.FontRefused fault) = ⊥
 IsStreamCause Told pid before now out_before out_now (status.ScriptRefused fault) = ⊥
 IsStreamCause Told pid before now out_before out_now (status.PlanRefused fault) = ⊥
 IsStreamCause Told pid before now out_before out_now (status.ScheduleRefused row fault) = ⊥
-IsStreamCause Told pid before now out_before out_now (status.StreamRefused packet fault) = IsUpToFault Told pid before now out_before out_now packet fault
-IsStreamCause Told pid before now out_before out_now (status.ReadFault which.First) = HasRisen before.faults now.faults × IsUpToFailure Told pid before now out_before out_now
+IsStreamCause Told pid before now out_before out_now (status.StreamRefused packet fault) =
+    IsUpToFault Told pid before now out_before out_now packet fault
+IsStreamCause Told pid before now out_before out_now (status.ReadFault which.First) =
+    HasRisen before.faults now.faults × IsUpToFailure Told pid before now out_before out_now
 IsStreamCause Told pid before now out_before out_now (status.ReadFault which.Second) = ⊥
 IsStreamCause Told pid before now out_before out_now (status.ReadFault which.Out) = ⊥
 IsStreamCause Told pid before now out_before out_now (status.ReadFault which.Notes) = ⊥
 IsStreamCause Told pid before now out_before out_now (status.WriteFault which.Out) =
-    HasRisen out_before.faults out_now.faults × IsFront Told pid before now out_before out_now × (now.given ≤ counted before.given STREAM_LIMIT)
+    HasRisen out_before.faults out_now.faults × IsFront Told pid before now out_before out_now
+    × (now.given ≤ counted before.given STREAM_LIMIT)
 IsStreamCause Told pid before now out_before out_now (status.WriteFault which.First) = ⊥
 IsStreamCause Told pid before now out_before out_now (status.WriteFault which.Second) = ⊥
 IsStreamCause Told pid before now out_before out_now (status.WriteFault which.Notes) = ⊥
 IsStreamCause Told pid before now out_before out_now status.Memory = (now ≡ before) × WroteNothing out_before out_now
-IsStreamCause Told pid before now out_before out_now (status.InputTooLong which.First) = HasRisenPast STREAM_LIMIT before.given now.given × IsFront Told pid before now out_before out_now
+IsStreamCause Told pid before now out_before out_now (status.InputTooLong which.First) =
+    HasRisenPast STREAM_LIMIT before.given now.given × IsFront Told pid before now out_before out_now
 IsStreamCause Told pid before now out_before out_now (status.InputTooLong which.Second) = ⊥
 IsStreamCause Told pid before now out_before out_now (status.InputTooLong which.Out) = ⊥
 IsStreamCause Told pid before now out_before out_now (status.InputTooLong which.Notes) = ⊥
@@ -95,4 +105,6 @@ IsStreamCause Told pid before now out_before out_now (status.InputTooLong which.
 -- the stream is within its limit, and no packet of it is refused
 pub record IsRightStream (pid : ℕ) (before now : Supplied) : Type 0 where
   pub within : HasRisenPast STREAM_LIMIT before.given now.given → ⊥
-  pub right : (packets : List (List ℕ)) (packet rest : List ℕ) (fault : PacketFault) → AreTaken pid before now packets (packet ++ rest) → length packet ≡ PACKET_LENGTH → packet_fault pid packet ≡ Some fault → ⊥
+  pub right : (packets : List (List ℕ)) (packet rest : List ℕ) (fault : PacketFault)
+      → AreTaken pid before now packets (packet ++ rest) → length packet ≡ PACKET_LENGTH
+      → packet_fault pid packet ≡ Some fault → ⊥

@@ -2,8 +2,9 @@ ghost use Rattle.std.specs.Prelude.{◌<◌};
 ghost use Rattle.check_text.specs.Checking.{HasChecked};
 ghost use Rattle.shown_stream.specs.Compiled.{IsCompiledFor};
 ghost use Rattle.dvbsub_cmd.specs.Checks.{check_tells, checks};
-ghost use Rattle.dvbsub_cmd.specs.Closing.{Finishes};
+ghost use Rattle.dvbsub_cmd.specs.Private.Closing.{Finishes};
 ghost use Rattle.dvbsub_cmd.specs.StreamOutcome.{IsStreamCause};
+ghost use Rattle.stream_syntax.specs.declared.wire.TheConstants.{TIME_ROUND};
 
 use crate::closing::{close, is_whole};
 use crate::status::Status;
@@ -29,7 +30,7 @@ pub fn check<R: Threads + Sync, A: Source, K: Sink, G: BandGate + Sync>(
     gate: &G,
 ) -> Status
     requires profile { IsCompiledFor profile }
-    requires origin { origin < 8589934592 }
+    requires origin { origin < TIME_ROUND }
     ensures { IsStreamCause (checks profile origin pid page) pid
         (A.supplied stream.old)
         (A.supplied stream.new)

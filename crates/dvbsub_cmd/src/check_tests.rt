@@ -31,8 +31,12 @@ const LATE: &str =
 const LIFTED: &str =
     "set 8590024592 shown 98 90100\nset 8590114592 shown 31 8590024623\npeak 98\nbreach none\n";
 
-const FOUR_SETS: &str =
-    "set 90000 shown 84 85\nset 180000 broken 84 90084\nset 270000 waiting 31 180031\nset 360000 shown 84 270085\npeak 199\nbreach none\n";
+const FOUR_SETS: &str = "set 90000 shown 84 85\n\
+     set 180000 broken 84 90084\n\
+     set 270000 waiting 31 180031\n\
+     set 360000 shown 84 270085\n\
+     peak 199\n\
+     breach none\n";
 
 const OPEN_HEAD: [u8; 6] = [0x47, 0x41, 0x00, 0x30, 0x9E, 0x00];
 

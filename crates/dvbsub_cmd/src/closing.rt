@@ -1,5 +1,5 @@
 ghost use Rattle.std.specs.Prelude.{◌≡◌};
-ghost use Rattle.dvbsub_cmd.specs.Closing.{Closes, ClosesEnd, is_whole_end};
+ghost use Rattle.dvbsub_cmd.specs.Private.Closing.{Closes, ClosesEnd, is_whole_end};
 ghost use Rattle.packet_walk.specs.declared.walk.WalkEnd.TheVariants.{Stream};
 
 use crate::status::{Status, Which};

@@ -3,9 +3,11 @@ ghost use Rattle.std.specs.Option.{option_or};
 ghost use Rattle.dvbsub_cmd.specs.Command.{command_of as command_of_words, check_of as check_of_words, compile_of as compile_of_words, dump_of as dump_of_words, expect_of as expect_of_words, font_place as font_place_of, gen_of as gen_of_words, generating_profile as small_profile_of_word, has_ticks as has_ticks_at, has_word as has_word_at, is_above as is_tick_above, list_of as list_of_words, named_command, names_font as is_font_named, places_of, reading_profile as any_profile_of_word, sending_profile as profile_of_word, are_rising as are_ticks_rising, IsInRange};
 
 use command_line::are_plain;
+use cue_list::LATEST_ORIGIN;
 use sub_base::{ProfileName, Words, number_in};
 
-/// The least PID that a command takes: those below are of tables (ISO/IEC 13818-1, table 2-3; EN 300 468, table 1).
+/// The least PID that a command takes: those below are of tables (ISO/IEC 13818-1, table 2-3; EN
+/// 300 468, table 1).
 pub const LEAST_PID: u64 = 32;
 
 /// The greatest PID that a command takes: the next one is that of null packets.
@@ -16,9 +18,6 @@ pub const GREATEST_PAGE: u64 = 65_535;
 
 /// The latest tick that is asked for: twice round the 33 bits of a presentation time.
 pub const LATEST_TICK: u64 = 17_179_869_183;
-
-/// The latest tick at which a stream begins: the greatest of 33 bits.
-pub const LATEST_ORIGIN: u64 = 8_589_934_591;
 
 /// The most bands that a picture is drawn in.
 pub const MOST_BANDS: u64 = 64;
@@ -64,7 +63,8 @@ pub enum Command {
         /// In how many bands it draws its pictures, 1 to 64.
         bands: u32,
     },
-    /// Writes what becomes of each display set of a stream, and the levels of the coded data buffer.
+    /// Writes what becomes of each display set of a stream, and the levels of the coded data
+    /// buffer.
     Check {
         /// What the receiver has.
         profile: ProfileName,
@@ -80,7 +80,8 @@ pub enum Command {
         /// Whether a font is named, the second source.
         has_font: bool,
     },
-    /// Generates a script, compiles it, receives its packets, and writes how large they are and where receivers enter.
+    /// Generates a script, compiles it, receives its packets, and writes how large they are and
+    /// where receivers enter.
     Gen {
         /// How many cues the script has, 1 to 500.
         number: u64,
@@ -100,8 +101,8 @@ pub struct InputPlaces {
     pub out: Option<usize>,
 }
 
-/// Where the names of the files stand that the command of these words reads and writes: nowhere where the words are
-/// no command, and no second one where a command names no font.
+/// Where the names of the files stand that the command of these words reads and writes: nowhere
+/// where the words are no command, and no second one where a command names no font.
 pub fn inputs(words: &Words) -> InputPlaces
     ensures { result ≡ places_of (command_of_words words.now) }
 {

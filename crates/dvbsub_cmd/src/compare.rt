@@ -5,7 +5,7 @@ ghost use Rattle.shown_stream.specs.Compiled.{IsCompiledFor};
 ghost use Rattle.sub_base.specs.Profile.{profile_of};
 ghost use Rattle.dvbsub_cmd.specs.ExpectOutcome.{expect_text};
 ghost use Rattle.dvbsub_cmd.specs.GenText.{generated_page, generated_pid};
-ghost use Rattle.dvbsub_cmd.specs.Generating.{AreShown, AreTakable, AreTold};
+ghost use Rattle.dvbsub_cmd.specs.Private.Generating.{AreShown, AreTakable, AreTold};
 
 use crate::expect::{plane_of, put_pictures};
 use crate::generated::{PAGE, PID};
@@ -90,7 +90,8 @@ fn authored_texts(alloc: Global, script: &Script, ticks: &[u64]) -> Result<MemSi
     Ok(texts)
 }
 
-/// The greatest level of the coded data buffer of a receiver of the profile that gets these packets.
+/// The greatest level of the coded data buffer of a receiver of the profile that gets these
+/// packets.
 pub fn peak_of<R: Threads + Sync, G: BandGate + Sync>(
     rt: &R,
     alloc: Global,

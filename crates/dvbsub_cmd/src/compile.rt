@@ -3,8 +3,9 @@ ghost use Rattle.shown_stream.specs.Compiled.{IsCompiledFor};
 ghost use Rattle.dvbsub_cmd.specs.CompileRefused.{IsRowAt};
 ghost use Rattle.dvbsub_cmd.specs.CompileOutcome.{IsCompileCause};
 ghost use Rattle.dvbsub_cmd.specs.Headline.{OnDone, ShowsScript};
-ghost use Rattle.dvbsub_cmd.specs.Sending.{Sends, IsRefusal, IsAmong, IsScheduleRefusal, plan_refusal};
+ghost use Rattle.dvbsub_cmd.specs.Private.Sending.{Sends, IsRefusal, IsAmong, IsScheduleRefusal, plan_refusal};
 ghost use Rattle.dvbsub_cmd.specs.Seen.{seen};
+ghost use Rattle.stream_syntax.specs.declared.wire.TheConstants.{NULL_PID};
 
 use crate::loads::loads_of;
 use crate::read_script::read_script;
@@ -29,7 +30,7 @@ pub fn compile<A: Source, B: Source, K: Sink>(
     second: &mut B,
     out: &mut K,
 ) -> Status
-    requires pid { pid < 8191 }
+    requires pid { pid < NULL_PID }
     requires profile { IsCompiledFor profile }
     ensures cause { IsCompileCause profile pid page has_font
         (seen (A.supplied first.old) (B.supplied second.old) (K.received out.old))
@@ -84,10 +85,14 @@ pub fn send<K: Sink>(
     script: &Script,
     out: &mut K,
 ) -> Result<Sent, SendFault>
-    requires pid { pid < 8191 }
+    requires pid { pid < NULL_PID }
     requires profile { IsCompiledFor profile }
-    ensures sent { IfOk result (λ sent. Sends profile pid page script.now sent.plan.sets sent.schedule (K.received out.old).written (K.received out.new).written) }
-    ensures refused { IfErr result (IsRefusal profile pid page script.now (K.received out.old).written (K.received out.new).written (K.received out.old).faults (K.received out.new).faults) }
+    ensures sent { IfOk result
+        (λ sent. Sends profile pid page script.now sent.plan.sets sent.schedule
+        (K.received out.old).written (K.received out.new).written) }
+    ensures refused { IfErr result
+        (IsRefusal profile pid page script.now (K.received out.old).written
+        (K.received out.new).written (K.received out.old).faults (K.received out.new).faults) }
 {
     let receiver = Profile::of(profile);
     let plan = match Plan::make(alloc, script, &receiver) {

@@ -8,23 +8,48 @@ use sub_base::{MemSink, MemSource, NoGate};
 
 /// A font of the letter H, 10 by 20 pixels in a box of 12 by 24.
 const LETTER_FONT: &str =
-    "STARTFONT 2.1\nFONTBOUNDINGBOX 12 24 0 -4\nSTARTCHAR H\nENCODING 72\nDWIDTH 12 0\nBBX 10 20 1 0\nBITMAP\nC0C0\nC0C0\nC0C0\nC0C0\nC0C0\nC0C0\nC0C0\nC0C0\nC0C0\nFFC0\nFFC0\nC0C0\nC0C0\nC0C0\nC0C0\nC0C0\nC0C0\nC0C0\nC0C0\nC0C0\nENDCHAR\nENDFONT\n";
+    "STARTFONT 2.1\nFONTBOUNDINGBOX 12 24 0 -4\nSTARTCHAR H\nENCODING 72\nDWIDTH 12 0\n\
+     BBX 10 20 1 0\nBITMAP\nC0C0\nC0C0\nC0C0\nC0C0\nC0C0\nC0C0\nC0C0\nC0C0\nC0C0\nFFC0\nFFC0\n\
+     C0C0\nC0C0\nC0C0\nC0C0\nC0C0\nC0C0\nC0C0\nC0C0\nC0C0\nENDCHAR\nENDFONT\n";
 
 /// Two lines of thirty letters near the lower edge of the display, for four seconds.
-const SIXTY_LETTERS: &str =
-    "origin,0\ndisplay,720,576\nrefresh,5\nepoch,900000\nregion,0,0,480,720,80,4,0\ncue,900000,1260000,0,180,16,7,0,\"HHHHHHHHHHHHHHHHHHHHHHHHHHHHHH\nHHHHHHHHHHHHHHHHHHHHHHHHHHHHHH\"\n";
+const SIXTY_LETTERS: &str = "origin,0\n\
+     display,720,576\n\
+     refresh,5\n\
+     epoch,900000\n\
+     region,0,0,480,720,80,4,0\n\
+     cue,900000,1260000,0,180,16,7,0,\"HHHHHHHHHHHHHHHHHHHHHHHHHHHHHH\n\
+     HHHHHHHHHHHHHHHHHHHHHHHHHHHHHH\"\n";
 
 /// Two epochs with the same cue.
-pub(crate) const TWO_EPOCHS: &str =
-    "origin,0\ndisplay,4,2\nrefresh,5\nepoch,90000\nregion,0,0,0,4,2,8,0\npicture,a,8,4,2,0102020203030303\nplace,90000,180000,0,0,0,solid,a\nepoch,270000\nregion,0,0,0,4,2,8,0\nplace,270000,360000,0,0,0,solid,a\n";
+pub(crate) const TWO_EPOCHS: &str = "origin,0\n\
+     display,4,2\n\
+     refresh,5\n\
+     epoch,90000\n\
+     region,0,0,0,4,2,8,0\n\
+     picture,a,8,4,2,0102020203030303\n\
+     place,90000,180000,0,0,0,solid,a\n\
+     epoch,270000\n\
+     region,0,0,0,4,2,8,0\n\
+     place,270000,360000,0,0,0,solid,a\n";
 
 /// A cue of forty seconds, whose page is sent again each five seconds.
-pub(crate) const FORTY_SECONDS: &str =
-    "origin,0\ndisplay,4,2\nrefresh,5\nepoch,90000\nregion,0,0,0,4,2,8,0\npicture,a,8,4,2,0102020203030303\nplace,90000,3690000,0,0,0,solid,a\n";
+pub(crate) const FORTY_SECONDS: &str = "origin,0\n\
+     display,4,2\n\
+     refresh,5\n\
+     epoch,90000\n\
+     region,0,0,0,4,2,8,0\n\
+     picture,a,8,4,2,0102020203030303\n\
+     place,90000,3690000,0,0,0,solid,a\n";
 
 /// A cue whose start passes 33 bits.
-const BEHIND_THE_WRAP: &str =
-    "origin,8589844592\ndisplay,4,2\nrefresh,5\nepoch,8589934592\nregion,0,0,0,4,2,8,0\npicture,a,8,4,2,0102020203030303\nplace,8589934592,8590024592,0,0,0,solid,a\n";
+const BEHIND_THE_WRAP: &str = "origin,8589844592\n\
+     display,4,2\n\
+     refresh,5\n\
+     epoch,8589934592\n\
+     region,0,0,0,4,2,8,0\n\
+     picture,a,8,4,2,0102020203030303\n\
+     place,8589934592,8590024592,0,0,0,solid,a\n";
 
 /// What a source, the font's source and `out` hold.
 #[derive(Drop)]
@@ -78,8 +103,8 @@ fn packets_of_256(stream: &[u8]) -> (usize, usize, usize) {
     (first, last, count)
 }
 
-/// A script with its font is compiled in each profile: 28 packets as early as five seconds before the cue, and one for
-/// its end.
+/// A script with its font is compiled in each profile: 28 packets as early as five seconds before
+/// the cue, and one for its end.
 #[test]
 fn sixty_letters_in_each_profile(rt: HostRuntime) -> Result<(), Fail> {
     let cases = [
@@ -149,14 +174,26 @@ fn programmes_pass_33_bits(rt: HostRuntime) -> Result<(), Fail> {
     let shown = run(&rt, rt.alloc(), line, BEHIND_THE_WRAP, "")?;
     assert_eq!(rt;
         shown.out.written(),
-        b"picture 8589934591 clear\npicture 8589934592 4 2\n1*51F05AC0 3*912236C0\n4*D29210C0\npicture 8590024592 clear\n".as_slice()
+        b"picture 8589934591 clear\n\
+          picture 8589934592 4 2\n\
+          1*51F05AC0 3*912236C0\n\
+          4*D29210C0\n\
+          picture 8590024592 clear\n"
+            .as_slice()
     );
     Ok(())
 }
 
 /// The second picture lets code 1 be seen through.
-pub(crate) const SEE_THROUGH: &str =
-    "origin,0\ndisplay,4,1\nrefresh,5\nepoch,90000\nregion,0,0,0,4,1,4,0\npicture,a,4,4,1,2222\npicture,b,4,4,1,1134\nplace,90000,270000,0,0,0,solid,a\nplace,135000,270000,0,0,0,through,b\n";
+pub(crate) const SEE_THROUGH: &str = "origin,0\n\
+     display,4,1\n\
+     refresh,5\n\
+     epoch,90000\n\
+     region,0,0,0,4,1,4,0\n\
+     picture,a,4,4,1,2222\n\
+     picture,b,4,4,1,1134\n\
+     place,90000,270000,0,0,0,solid,a\n\
+     place,135000,270000,0,0,0,through,b\n";
 
 #[test]
 fn authored_pictures(rt: HostRuntime) -> Result<(), Fail> {
@@ -165,7 +202,12 @@ fn authored_pictures(rt: HostRuntime) -> Result<(), Fail> {
     assert_eq!(rt; shown.status, Status::Done { cut: 0 });
     assert_eq!(rt;
         shown.out.written(),
-        b"picture 90000 4 1\n4*91223600\npicture 135000 4 1\n2*91223600 1*D2921000 1*296EF000\npicture 270000 clear\n".as_slice()
+        b"picture 90000 4 1\n\
+          4*91223600\n\
+          picture 135000 4 1\n\
+          2*91223600 1*D2921000 1*296EF000\n\
+          picture 270000 clear\n"
+            .as_slice()
     );
     let line = "expect script.csv none out.txt 90000 180000";
     let shown = run(&rt, rt.alloc(), line, TWO_EPOCHS, "")?;
@@ -177,12 +219,28 @@ fn authored_pictures(rt: HostRuntime) -> Result<(), Fail> {
 }
 
 /// A font of the letter H, two by two pixels.
-const SMALL_FONT: &str =
-    "STARTFONT 2.1\nFONTBOUNDINGBOX 2 2 0 0\nSTARTCHAR H\nENCODING 72\nDWIDTH 2 0\nBBX 2 2 0 0\nBITMAP\n80\nC0\nENDCHAR\nENDFONT\n";
+const SMALL_FONT: &str = "STARTFONT 2.1\n\
+     FONTBOUNDINGBOX 2 2 0 0\n\
+     STARTCHAR H\n\
+     ENCODING 72\n\
+     DWIDTH 2 0\n\
+     BBX 2 2 0 0\n\
+     BITMAP\n\
+     80\n\
+     C0\n\
+     ENDCHAR\n\
+     ENDFONT\n";
 
 /// Two epochs of texts.
-const TEXTS: &str =
-    "origin,0\ndisplay,4,2\nrefresh,5\nepoch,90000\nregion,0,0,0,4,2,8,0\ncue,90000,180000,0,0,0,2,3,HH\nepoch,270000\nregion,0,0,0,4,2,8,0\ncue,270000,360000,0,0,0,3,2,HH\n";
+const TEXTS: &str = "origin,0\n\
+     display,4,2\n\
+     refresh,5\n\
+     epoch,90000\n\
+     region,0,0,0,4,2,8,0\n\
+     cue,90000,180000,0,0,0,2,3,HH\n\
+     epoch,270000\n\
+     region,0,0,0,4,2,8,0\n\
+     cue,270000,360000,0,0,0,3,2,HH\n";
 
 /// The letters of both epochs, in their ink on their background.
 #[test]
@@ -192,29 +250,47 @@ fn authored_texts(rt: HostRuntime) -> Result<(), Fail> {
     assert_eq!(rt; shown.status, Status::Done { cut: 0 });
     assert_eq!(rt;
         shown.out.written(),
-        b"picture 90000 4 2\n1*912236C0 1*D29210C0 1*912236C0 1*D29210C0\n4*912236C0\npicture 180000 clear\npicture 270000 4 2\n1*D29210C0 1*912236C0 1*D29210C0 1*912236C0\n4*D29210C0\n".as_slice()
+        b"picture 90000 4 2\n\
+          1*912236C0 1*D29210C0 1*912236C0 1*D29210C0\n\
+          4*912236C0\n\
+          picture 180000 clear\n\
+          picture 270000 4 2\n\
+          1*D29210C0 1*912236C0 1*D29210C0 1*912236C0\n\
+          4*D29210C0\n"
+            .as_slice()
     );
     Ok(())
 }
 
-/// A script of two epochs with pictures, a colour and refreshes, and, where there is a font, a text.
+/// A script of two epochs with pictures, a colour and refreshes, and, where there is a font, a
+/// text.
 fn mixed_script(alloc: Global, has_font: bool) -> Result<String, Fail> {
     let mut script = String::from_str(
         alloc,
-        "origin,450000\ndisplay,720,576\nrefresh,5\nepoch,900000\nregion,0,0,480,720,80,4,3\nregion,1,0,100,8,2,8,0\npicture,a,8,4,2,0102020203030303\nplace,900000,1800000,1,0,0,solid,a\n",
+        "origin,450000\n\
+         display,720,576\n\
+         refresh,5\n\
+         epoch,900000\n\
+         region,0,0,480,720,80,4,3\n\
+         region,1,0,100,8,2,8,0\n\
+         picture,a,8,4,2,0102020203030303\n\
+         place,900000,1800000,1,0,0,solid,a\n",
     )?;
     if has_font {
         script.push_str("cue,900000,1350000,0,180,16,7,0,HH\n")?;
     }
     script.push_str(
-        "colour,900000,3,4,7,81,90,240,0\nepoch,2700000\nregion,0,0,100,8,2,8,0\nplace,2700000,3150000,0,0,0,solid,a\n",
+        "colour,900000,3,4,7,81,90,240,0\n\
+         epoch,2700000\n\
+         region,0,0,100,8,2,8,0\n\
+         place,2700000,3150000,0,0,0,solid,a\n",
     )?;
     Ok(script)
 }
 
-/// In each profile, with a font and without one: five sets, each of which begins at the first slot from five seconds before its
-/// time on. The second is the end of the text, and where there is no font a refresh; in the pause before the second epoch none is
-/// sent.
+/// In each profile, with a font and without one: five sets, each of which begins at the first slot
+/// from five seconds before its time on. The second is the end of the text, and where there is no
+/// font a refresh; in the pause before the second epoch none is sent.
 #[test]
 fn mixed_scripts_in_each_profile(rt: HostRuntime) -> Result<(), Fail> {
     let alloc = rt.alloc();
@@ -276,8 +352,9 @@ fn plans_and_schedules_that_are_refused(rt: HostRuntime) -> Result<(), Fail> {
     Ok(())
 }
 
-/// A script of full high definition that shows a picture of that height at each of these columns. The picture's two codes
-/// change from pixel to pixel, so that each of its rows of 196 pixels has 200 bytes.
+/// A script of full high definition that shows a picture of that height at each of these columns.
+/// The picture's two codes change from pixel to pixel, so that each of its rows of 196 pixels has
+/// 200 bytes.
 fn script_of_large_pictures(alloc: Global, height: u16, columns: &[u16]) -> Result<String, Fail> {
     let mut script = String::from_str(
         alloc,
@@ -307,7 +384,8 @@ fn unit_starts(alloc: Global, packets: &[u8]) -> Result<Vec<usize>, Fail> {
     Ok(starts)
 }
 
-/// Three objects of 60,014 bytes are sent in three PES packets of 327 packets each, and one of 65,614 bytes in none.
+/// Three objects of 60,014 bytes are sent in three PES packets of 327 packets each, and one of
+/// 65,614 bytes in none.
 #[test]
 fn sets_of_several_packets(rt: HostRuntime) -> Result<(), Fail> {
     let alloc = rt.alloc();

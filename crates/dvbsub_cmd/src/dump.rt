@@ -1,6 +1,6 @@
 ghost use Rattle.std.specs.Prelude.{◌≡◌, ◌≤◌, None, drop, true};
 ghost use Rattle.dump_text.specs.Dumping.{HasDumped};
-ghost use Rattle.dvbsub_cmd.specs.Closing.{Finishes};
+ghost use Rattle.dvbsub_cmd.specs.Private.Closing.{Finishes};
 ghost use Rattle.dvbsub_cmd.specs.Command.{are_rising as are_ticks_rising, asked_ticks};
 ghost use Rattle.dvbsub_cmd.specs.Dumps.{dump_tells, dumps};
 ghost use Rattle.dvbsub_cmd.specs.StreamOutcome.{IsStreamCause};

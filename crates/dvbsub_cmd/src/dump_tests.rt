@@ -50,7 +50,8 @@ const CLEAR_PICTURES: &str = "picture 90000 clear\npicture 180000 clear\n";
 
 const ROWS_HEAD: [u8; 6] = [0x47, 0x41, 0x00, 0x30, 0x77, 0x00];
 
-/// A unit of a display of four columns and five rows, of which rows 1 to 3 are filled with code 1 of 8 bits.
+/// A unit of a display of four columns and five rows, of which rows 1 to 3 are filled with code 1
+/// of 8 bits.
 #[rattlefmt::skip]
 const ROWS_UNIT: [u8; 64] = [
     0x00, 0x00, 0x01, 0xBD, 0x00, 0x3A, 0x84, 0x80, 0x05, 0x21, 0x00, 0x05, 0xBF, 0x21, 0x20, 0x00,
@@ -86,8 +87,9 @@ const NO_DUMPS: [&str; 10] = [
     "dump other 256 1 2 in.ts out.txt 90000",
 ];
 
-/// Carries out a command over a stream, whose source gives at most `most` bytes a read. The source fails at the read with the
-/// number `bad_read`, and the output at the write with the number `bad_write`, which are counted from 1.
+/// Carries out a command over a stream, whose source gives at most `most` bytes a read. The source
+/// fails at the read with the number `bad_read`, and the output at the write with the number
+/// `bad_write`, which are counted from 1.
 pub(crate) fn run_over<R: Threads + Sync, G: BandGate + Sync>(
     rt: &R,
     alloc: Global,
@@ -251,7 +253,8 @@ fn five_rows_are_one_picture_in_any_bands(rt: HostRuntime) -> Result<(), Fail> {
     Ok(())
 }
 
-/// A stream that has begun without its first packet, an empty one, and one that ends within a packet.
+/// A stream that has begun without its first packet, an empty one, and one that ends within a
+/// packet.
 #[test]
 fn parts_of_a_stream_are_shown(rt: HostRuntime) -> Result<(), Fail> {
     let alloc = rt.alloc();
@@ -266,7 +269,8 @@ fn parts_of_a_stream_are_shown(rt: HostRuntime) -> Result<(), Fail> {
     are_told(&rt, alloc, &rows)
 }
 
-/// The picture stays behind a packet that is lost. Behind one that is refused, only the ticks before a set that came are told.
+/// The picture stays behind a packet that is lost. Behind one that is refused, only the ticks
+/// before a set that came are told.
 #[test]
 fn losses_and_refusals_are_shown(rt: HostRuntime) -> Result<(), Fail> {
     let alloc = rt.alloc();
@@ -311,7 +315,8 @@ fn other_words_are_no_dump(rt: HostRuntime) -> Result<(), Fail> {
     Ok(())
 }
 
-/// The text of the picture of the usual encoder's unit: two pixels in a corner of a display of 720 by 576.
+/// The text of the picture of the usual encoder's unit: two pixels in a corner of a display of 720
+/// by 576.
 fn encoder_picture(alloc: Global, title: &str) -> Result<String, Fail> {
     let mut text = String::new(alloc);
     text.push_str(title)?;
@@ -345,8 +350,8 @@ fn encoder_packet(counter: u8, time: [u8; 5], coding: u8) -> [u8; 188] {
     packet_of(&head, &unit)
 }
 
-/// The encoder's set at 90000, the same with an object of characters at 180000, a set of state normal at 270000, and the first
-/// set again at 360000.
+/// The encoder's set at 90000, the same with an object of characters at 180000, a set of state
+/// normal at 270000, and the first set again at 360000.
 pub(crate) fn four_sets(alloc: Global) -> Result<Vec<u8>, Fail> {
     let mut unit = SECOND_UNIT;
     unit[9..14].copy_from_slice(&[0x21, 0x00, 0x11, 0x3D, 0x61]);
@@ -407,7 +412,8 @@ impl BandGate for Meeting {
     }
 }
 
-/// A picture of five rows is drawn in two bands at the same time: both are entered, and each sees the other's flag.
+/// A picture of five rows is drawn in two bands at the same time: both are entered, and each sees
+/// the other's flag.
 #[test]
 fn two_bands_of_a_dump_meet(rt: HostRuntime) -> Result<(), Fail> {
     let gate = Meeting {

@@ -1,13 +1,11 @@
 ghost use Rattle.std.specs.Prelude.{◌≡◌, length};
-ghost use Rattle.page_epoch.specs.States.{is_whole as is_whole_state};
-ghost use Rattle.dvbsub_cmd.specs.Entries.{HasEntry, are_all_from, is_entry as is_entry_set};
+ghost use Rattle.dvbsub_cmd.specs.Private.Entries.{HasEntry, are_all_from, is_entry as is_entry_set};
 
-use page_epoch::PlannedSet;
+use page_epoch::{PlannedSet, is_entry_state};
 use schedule::Schedule;
-use stream_syntax::State;
 
 /// The set with which a receiver enters that gets the packets of a plan behind so many: the first
-/// of which it gets all packets, and which is not of state normal.
+/// of which it gets all packets, and at which a receiver can begin.
 pub fn entry_of(sets: &[PlannedSet], schedule: &Schedule, missed: u64) -> Option<usize>
     requires { length schedule.now.dones ≡ length sets.now }
     ensures { HasEntry missed schedule.now sets.now result }
@@ -24,18 +22,7 @@ pub fn entry_of(sets: &[PlannedSet], schedule: &Schedule, missed: u64) -> Option
 fn is_entry(set: &PlannedSet, slots: &[u64], missed: u64) -> bool
     ensures { result ≡ is_entry_set missed set.now slots.now }
 {
-    is_whole(set.state) && are_from(slots, missed)
-}
-
-/// Whether a set of that state is one that a receiver can enter with.
-fn is_whole(state: State) -> bool
-    ensures { result ≡ is_whole_state state }
-{
-    match state {
-        State::Normal => false,
-        State::Acquisition => true,
-        State::ModeChange => true,
-    }
+    is_entry_state(set.state) && are_from(slots, missed)
 }
 
 /// Whether none of the slots lies before that one.

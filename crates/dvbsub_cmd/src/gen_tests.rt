@@ -1,19 +1,14 @@
 use super::*;
-use crate::tests::words_of;
+use crate::compile_tests::Outcome;
+use crate::dump_tests::run_over;
 use std::alloc::Global;
 use std::process::Abort;
 use std::test::Fail;
 use std::thread::Threads;
-use sub_base::{MemSink, MemSource, NoGate};
+use sub_base::NoGate;
 
-/// How a command ended that has no sources: the status, and what `out` received.
-#[derive(Drop)]
-struct Outcome {
-    status: Status,
-    out: MemSink,
-}
-
-/// Runs the command. Both of its sources fail at their first read, and the output at the write with the number
+/// Runs the command. Both of its sources fail at their first read, and the output at the write with
+/// the number
 /// `bad_write`.
 fn run<R: Threads + Sync>(
     rt: &R,
@@ -21,22 +16,7 @@ fn run<R: Threads + Sync>(
     line: &str,
     bad_write: u64,
 ) -> Result<Outcome, Fail> {
-    let words = words_of(alloc, line)?;
-    let mut first = MemSource::make(alloc, Vec::new(alloc), 1, vec![in alloc; 1u64]?);
-    let mut second = MemSource::make(alloc, Vec::new(alloc), 1, vec![in alloc; 1u64]?);
-    let mut out = MemSink::make(alloc, 1_000_000, vec![in alloc; bad_write]?);
-    let mut notes = MemSink::make(alloc, 1_000_000, Vec::new(alloc));
-    let status = top(
-        rt,
-        alloc,
-        &words,
-        &mut first,
-        &mut second,
-        &mut out,
-        &mut notes,
-        &NoGate,
-    );
-    Ok(Outcome { status, out })
+    run_over(rt, alloc, line, &[], 1, [1, bad_write], &NoGate)
 }
 
 #[test]
@@ -56,7 +36,13 @@ fn five_hundred_cues_are_generated_alike(rt: HostRuntime) -> Result<(), Fail> {
     assert_eq!(rt; done.status, Status::Done { cut: 0 });
     assert_eq!(rt;
         done.out.written(),
-        b"sets 1000\npackets 124601\npeak 6106\nentry 0 180000\nentry 41533 15480000\nentry 83067 30420000\n".as_slice()
+        b"sets 1000\n\
+          packets 124601\n\
+          peak 6106\n\
+          entry 0 180000\n\
+          entry 41533 15480000\n\
+          entry 83067 30420000\n"
+            .as_slice()
     );
     let again = run(&rt, rt.alloc(), "gen 500 hd entries.txt", 0)?;
     assert_eq!(rt; again.status, Status::Done { cut: 0 });
@@ -69,24 +55,5 @@ fn an_output_that_fails_gets_nothing_of_a_generated_script(rt: HostRuntime) -> R
     let failed = run(&rt, rt.alloc(), "gen 1 sd entries.txt", 1)?;
     assert_eq!(rt; failed.status, Status::WriteFault(Which::Out));
     assert!(rt; failed.out.written().is_empty());
-    Ok(())
-}
-
-#[test]
-fn other_numbers_and_profiles_are_wrong(rt: HostRuntime) -> Result<(), Fail> {
-    let lines = [
-        "gen 0 sd o",
-        "gen 501 sd o",
-        "gen 01 sd o",
-        "gen 1 wide o",
-        "gen 1 large o",
-        "gen 1 sd",
-        "gen 1 sd o p",
-    ];
-    for line in lines {
-        let wrong = run(&rt, rt.alloc(), line, 0)?;
-        assert_eq!(rt; wrong.status, Status::Usage);
-        assert!(rt; wrong.out.written().is_empty());
-    }
     Ok(())
 }

@@ -5,7 +5,7 @@ ghost use Rattle.page_epoch.specs.declared.planned_set.PlannedSet.{PlannedSet};
 ghost use Rattle.shown_stream.specs.Compiled.{IsCompiledFor};
 ghost use Rattle.dvbsub_cmd.specs.GenOutcome.{IsGenCause};
 ghost use Rattle.dvbsub_cmd.specs.GenText.{IsGenText, IsGeneratedFor, entry_line as entry_line_of};
-ghost use Rattle.dvbsub_cmd.specs.Generating.{AreOf, AreToldAs, entry_behind, told_lines};
+ghost use Rattle.dvbsub_cmd.specs.Private.Generating.{AreOf, AreToldAs, entry_behind, told_lines};
 
 use crate::compare::{peak_of, shows_authored};
 use crate::entries::entry_of;
@@ -37,9 +37,9 @@ pub struct Entry {
     time: Option<u64>,
 }
 
-/// Generates the script of so many cues, compiles it for a profile, receives its packets, and writes
-/// how many sets and packets there are, the greatest level of the coded data buffer, and the entry
-/// sets of three receivers. All memory is taken before the first byte is written.
+/// Generates the script of so many cues, compiles it for a profile, receives its packets, and
+/// writes how many sets and packets there are, the greatest level of the coded data buffer, and the
+/// entry sets of three receivers. All memory is taken before the first byte is written.
 pub fn write_gen_text<R: Threads + Sync, K: Sink, G: BandGate + Sync>(
     rt: &R,
     alloc: Global,
@@ -221,7 +221,8 @@ fn first_time(times: &[u64]) -> Option<u64>
 
 /// The times of the sets.
 fn times_of(alloc: Global, sets: &[PlannedSet]) -> Result<Vec<u64>, AllocError>
-    ensures { IfOk result (λ times. times.items ≡ map (λ (set : PlannedSet). set.pts) sets.now) }
+    ensures { IfOk result
+        (λ times. times.items ≡ map (λ (set : PlannedSet). set.pts) sets.now) }
 {
     let mut times = Vec::new(alloc);
     for set in sets {

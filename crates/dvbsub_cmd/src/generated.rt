@@ -1,6 +1,6 @@
 ghost use Rattle.std.specs.Prelude.{◌≤◌, IfOk};
 ghost use Rattle.dvbsub_cmd.specs.GenText.{IsGeneratedFor};
-ghost use Rattle.dvbsub_cmd.specs.Generating.{IsCompiledFrom};
+ghost use Rattle.dvbsub_cmd.specs.Private.Generating.{IsCompiledFrom};
 
 use crate::compile::{SendFault, Sent, send};
 use cue_list::Script;

@@ -1,4 +1,5 @@
-//! The commands: their words, the sources they read, the sink they write, and the line that tells how they ended.
+//! The commands: their words, the sources they read, the sink they write, and the line that tells
+//! how they ended.
 #![tactic(auto)]
 
 // The words of a command, and how it ended.

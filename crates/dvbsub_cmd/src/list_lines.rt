@@ -21,7 +21,8 @@ pub fn loss_line(place: u64, event: Event) -> Line
     }
 }
 
-/// The line of a unit that ends with the packet of that place: its presentation time in ticks of 90 kHz, and its bytes.
+/// The line of a unit that ends with the packet of that place: its presentation time in ticks of 90
+/// kHz, and its bytes.
 pub fn unit_line(place: u64, pts: u64, size: u64) -> Line
     ensures line { result ≡ unit_line_of place pts size }
     ensures short { length result ≤ 128 }
@@ -47,19 +48,20 @@ pub fn pes_line(place: u64, fault: PesFault) -> Line
     line
 }
 
-/// The line of a segment that begins at that place of its field.
-pub fn segment_line(place: u64, kind: u8, page: u16, size: u64) -> Line
-    ensures line { result ≡ segment_line_of place kind page size }
-    ensures short { length result ≤ 128 }
+/// Makes this the line of a segment that begins at that place of its field. One line serves for all
+/// segments: they are most of a listing, and a line of its own for each would be moved twice.
+pub fn write_segment_line(line: &mut Line, place: u64, kind: u8, page: u16, size: u64)
+    ensures line { line.new ≡ segment_line_of place kind page size }
+    ensures short { length line.new ≤ 128 }
 {
-    let mut line = Line::of("segment");
+    line.clear();
+    line.push_text("segment");
     line.push_then_number(place);
     line.push_text(" ");
     line.push_hex(kind);
     line.push_then_number(u64::from(page));
     line.push_then_number(size);
     line.push_text("\n");
-    line
 }
 
 /// The line in place of a segment that begins at that place of its field and is refused.

@@ -51,23 +51,54 @@ const OTHER_HEAD: [u8; 6] = [0x47, 0x41, 0x00, 0x31, 0xAE, 0x00];
 /// A unit of another stream id.
 const OTHER_UNIT: [u8; 9] = [0x00, 0x00, 0x01, 0xC0, 0x00, 0x03, 0x80, 0x00, 0x00];
 
-const FIRST_LINES: &str =
-    "unit 0 pts 90000 length 98\nsegment 2 14 1 5\nsegment 13 10 1 8\nsegment 27 11 1 16\nsegment 49 13 1 22\nsegment 77 80 1 0\n";
+const FIRST_LINES: &str = "unit 0 pts 90000 length 98\n\
+     segment 2 14 1 5\n\
+     segment 13 10 1 8\n\
+     segment 27 11 1 16\n\
+     segment 49 13 1 22\n\
+     segment 77 80 1 0\n";
 
-const BOTH_LINES: &str =
-    "unit 0 pts 90000 length 98\nsegment 2 14 1 5\nsegment 13 10 1 8\nsegment 27 11 1 16\nsegment 49 13 1 22\nsegment 77 80 1 0\nunit 1 pts 180000 length 31\nsegment 2 10 1 2\nsegment 10 80 1 0\n";
+const BOTH_LINES: &str = "unit 0 pts 90000 length 98\n\
+     segment 2 14 1 5\n\
+     segment 13 10 1 8\n\
+     segment 27 11 1 16\n\
+     segment 49 13 1 22\n\
+     segment 77 80 1 0\n\
+     unit 1 pts 180000 length 31\n\
+     segment 2 10 1 2\n\
+     segment 10 80 1 0\n";
 
-const GAP_LINES: &str =
-    "unit 0 pts 90000 length 98\nsegment 2 14 1 5\nsegment 13 10 1 8\nsegment 27 11 1 16\nsegment 49 13 1 22\nsegment 77 80 1 0\ngap 1 1 3\nunit 1 pts 180000 length 31\nsegment 2 10 1 2\nsegment 10 80 1 0\n";
+const GAP_LINES: &str = "unit 0 pts 90000 length 98\n\
+     segment 2 14 1 5\n\
+     segment 13 10 1 8\n\
+     segment 27 11 1 16\n\
+     segment 49 13 1 22\n\
+     segment 77 80 1 0\n\
+     gap 1 1 3\n\
+     unit 1 pts 180000 length 31\n\
+     segment 2 10 1 2\n\
+     segment 10 80 1 0\n";
 
-const ERROR_LINES: &str =
-    "unit 0 pts 90000 length 98\nsegment 2 14 1 5\nsegment 13 10 1 8\nsegment 27 11 1 16\nsegment 49 13 1 22\nsegment 77 80 1 0\nerror 1\n";
+const ERROR_LINES: &str = "unit 0 pts 90000 length 98\n\
+     segment 2 14 1 5\n\
+     segment 13 10 1 8\n\
+     segment 27 11 1 16\n\
+     segment 49 13 1 22\n\
+     segment 77 80 1 0\n\
+     error 1\n";
 
-const ENCODER_LINES: &str =
-    "unit 0 pts 90000 length 84\nsegment 2 10 1 8\nsegment 16 11 1 16\nsegment 38 FF 1 2\nsegment 46 13 1 11\nsegment 63 80 1 0\n";
+const ENCODER_LINES: &str = "unit 0 pts 90000 length 84\n\
+     segment 2 10 1 8\n\
+     segment 16 11 1 16\n\
+     segment 38 FF 1 2\n\
+     segment 46 13 1 11\n\
+     segment 63 80 1 0\n";
 
-const BROKEN_LINES: &str =
-    "unit 0 pts 90000 length 32\nfault 6 BadLength\nsegment 11 80 1 0\nfault 17 NoSync\npes 1 OtherStream\n";
+const BROKEN_LINES: &str = "unit 0 pts 90000 length 32\n\
+     fault 6 BadLength\n\
+     segment 11 80 1 0\n\
+     fault 17 NoSync\n\
+     pes 1 OtherStream\n";
 
 /// How a command ended over a stream in memory: the status, what `out` received, and the note.
 #[derive(Drop)]
@@ -102,8 +133,8 @@ pub(crate) fn stream_of(
     Ok(stream)
 }
 
-/// Lists the stream, whose source gives at most `most` bytes a read and fails at the read, the write and the note of these
-/// numbers.
+/// Lists the stream, whose source gives at most `most` bytes a read and fails at the read, the
+/// write and the note of these numbers.
 fn run<R: Threads + Sync>(
     rt: &R,
     alloc: Global,

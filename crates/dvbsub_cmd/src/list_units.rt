@@ -1,20 +1,13 @@
 ghost use Rattle.std.specs.Prelude.{◌≡◌, ◌+◌, ◌<◌, ◌≤◌, ◌^◌, List, ℕ, length};
-ghost use Rattle.stream_syntax.specs.Tests.{byte_at, word_at};
-ghost use Rattle.stream_syntax.specs.DataField.{ends_segments as ends_segments_of};
+ghost use Rattle.segments.specs.Framing.{IsFrameOf};
 ghost use Rattle.dvbsub_cmd.specs.ListText.{AreSegmentLines, AreUnitLines, IsSegmentLine};
 ghost use Rattle.command_text.specs.Putting.{PutsOut};
 
-use crate::list_lines::{fault_line, pes_line, segment_line, unit_line};
+use crate::list_lines::{fault_line, pes_line, unit_line, write_segment_line};
 use command_text::{Line, TextBuffer, put};
 use pes_packets::read_pes;
-use segments::{Frame, read_frame, read_segment};
+use segments::{Frame, frames};
 use sub_base::Sink;
-
-/// The bytes of a segment's head.
-const HEAD: usize = 6;
-
-/// The byte that ends the segments of a field.
-const END_MARKER: u8 = 0xFF;
 
 /// Puts out the lines of a unit that ends with the packet of that place.
 pub fn list_unit<K: Sink>(sink: &mut K, buffer: &mut TextBuffer, place: u64, unit: &[u8])
@@ -43,11 +36,11 @@ fn list_segments<K: Sink>(sink: &mut K, buffer: &mut TextBuffer, segments: &[u8]
         (K.received sink.new)
         buffer.old buffer.new lines }
 {
-    let mut rest = segments;
     // Behind data identifier and subtitle stream id.
     let mut place = 2u64;
-    while !ends_segments(rest) {
-        let frame = match read_frame(rest) {
+    let mut line = Line::new();
+    for head in frames(segments) {
+        let frame = match head {
             Ok(frame) => frame,
             Err(fault) => {
                 // Where a head is faulty, nothing says where the next segment begins.
@@ -56,36 +49,23 @@ fn list_segments<K: Sink>(sink: &mut K, buffer: &mut TextBuffer, segments: &[u8]
                 return;
             }
         };
-        let (front, behind) = rest.split_at(frame.whole);
-        let line = framed_line(place, front, &frame);
+        write_framed_line(&mut line, place, &frame);
         put(sink, buffer, line.as_bytes());
         place += frame.whole as u64;
-        rest = behind;
     }
 }
 
-/// The line of the segment that these bytes are, which has this frame.
-fn framed_line(place: u64, bytes: &[u8], frame: &Frame<'_>) -> Line
+/// Makes this the line of the segment that this is the frame of.
+fn write_framed_line(line: &mut Line, place: u64, frame: &Frame<'_>)
     requires place { place < 2 ^ 63 + 2 }
-    requires kind { frame.now.kind ≡ byte_at 1 bytes.now }
-    requires page { frame.now.page ≡ word_at 2 bytes.now }
-    requires whole { frame.now.whole ≡ 6 + word_at 4 bytes.now }
-    requires exact { length bytes.now ≡ frame.now.whole }
-    ensures line { IsSegmentLine place bytes.now result }
-    ensures short { length result ≤ 128 }
+    requires short { length frame.now.body.now < 65536 }
+    ensures line { (bytes : List ℕ) → IsFrameOf bytes frame.now
+        → frame.now.whole ≡ length bytes
+        → IsSegmentLine place bytes line.new }
+    ensures short { length line.new ≤ 128 }
 {
-    match read_segment(bytes) {
-        Ok(_) => segment_line(place, frame.kind, frame.page, (frame.whole - HEAD) as u64),
-        Err(fault) => fault_line(place, fault),
-    }
-}
-
-/// Whether no segment begins here.
-fn ends_segments(bytes: &[u8]) -> bool
-    ensures { result ≡ ends_segments_of bytes.now }
-{
-    match bytes {
-        [] => true,
-        [first, ..] => *first == END_MARKER,
+    match frame.segment() {
+        Ok(_) => write_segment_line(line, place, frame.kind, frame.page, frame.body.len() as u64),
+        Err(fault) => *line = fault_line(place, fault),
     }
 }

@@ -6,8 +6,8 @@ use command_line::{are_plain, positional_words};
 use std::alloc::Global;
 use sub_base::{NoMemory, Words};
 
-/// The command that the words are, if they are one, read from what `clap` finds in them. Memory is wanting only where
-/// they are one: other words are a wrong command line whatever memory there is.
+/// The command that the words are, if they are one, read from what `clap` finds in them. Memory is
+/// wanting only where they are one: other words are a wrong command line whatever memory there is.
 #[tactic(auto, unfolding(crate::specs::Command::command_of))]
 pub fn read_command(alloc: Global, words: &Words) -> Result<Option<Command>, NoMemory>
     ensures command { IfOk result (λ command. command ≡ command_of_words words.now) }

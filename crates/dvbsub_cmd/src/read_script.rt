@@ -11,8 +11,9 @@ use sub_base::{ReadAllFault, Source, read_all};
 /// The most bytes of a script, and of a font.
 const TEXT_LIMIT: u64 = 67_108_864;
 
-/// The script that is in the first source, in the font that is in the second one, or in the font without glyphs where the
-/// command names none; or the status with which the command ends. The font is read first.
+/// The script that is in the first source, in the font that is in the second one, or in the font
+/// without glyphs where the command names none; or the status with which the command ends. The font
+/// is read first.
 pub fn read_script<A: Source, B: Source>(
     alloc: Global,
     has_font: bool,
@@ -56,7 +57,8 @@ fn font_of<B: Source>(alloc: Global, has_font: bool, second: &mut B) -> Result<F
     ensures font { IfOk result (HasFont has_font
         (B.supplied second.old)
         (B.supplied second.new)) }
-    ensures cause { IfErr result (λ status. (first : Supplied) → IsInputCause has_font first first
+    ensures cause { IfErr result
+        (λ status. (first : Supplied) → IsInputCause has_font first first
         (B.supplied second.old)
         (B.supplied second.new) status) }
     ensures second { has_font ≡ false → second.new ≡ second.old }

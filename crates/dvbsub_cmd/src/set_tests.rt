@@ -8,12 +8,27 @@ use std::process::Abort;
 use std::test::Fail;
 
 /// Three cues of one region: the second and the third join, and stay as the first one ends.
-const JOINED: &str =
-    "origin,0\ndisplay,4,2\nrefresh,5\nepoch,90000\nregion,0,0,0,4,2,8,0\npicture,a,8,4,2,0102020203030303\nplace,90000,360000,0,0,0,solid,a\nplace,180000,450000,0,0,0,solid,a\nplace,270000,450000,0,0,0,solid,a\n";
+const JOINED: &str = "origin,0\n\
+     display,4,2\n\
+     refresh,5\n\
+     epoch,90000\n\
+     region,0,0,0,4,2,8,0\n\
+     picture,a,8,4,2,0102020203030303\n\
+     place,90000,360000,0,0,0,solid,a\n\
+     place,180000,450000,0,0,0,solid,a\n\
+     place,270000,450000,0,0,0,solid,a\n";
 
 /// A region of two cues with a pause between, beside a region whose cue stays.
-const PAUSED: &str =
-    "origin,0\ndisplay,4,2\nrefresh,2\nepoch,90000\nregion,0,0,0,4,1,8,0\nregion,1,0,1,4,1,8,0\npicture,a,8,4,1,01020203\nplace,90000,180000,0,0,0,solid,a\nplace,495000,585000,0,0,0,solid,a\nplace,90000,675000,1,0,0,solid,a\n";
+const PAUSED: &str = "origin,0\n\
+     display,4,2\n\
+     refresh,2\n\
+     epoch,90000\n\
+     region,0,0,0,4,1,8,0\n\
+     region,1,0,1,4,1,8,0\n\
+     picture,a,8,4,1,01020203\n\
+     place,90000,180000,0,0,0,solid,a\n\
+     place,495000,585000,0,0,0,solid,a\n\
+     place,90000,675000,1,0,0,solid,a\n";
 
 /// What stands in a transport packet behind its head and its adaptation field.
 fn payload_of(packet: &[u8; 188]) -> Result<&[u8], Fail> {
@@ -36,7 +51,8 @@ fn name_of(state: State) -> &'static str {
     }
 }
 
-/// The time and the state of a set, and the regions that it sends: version, fill, and the objects that are listed.
+/// The time and the state of a set, and the regions that it sends: version, fill, and the objects
+/// that are listed.
 fn set_text(alloc: Global, unit: &[u8], with_regions: bool) -> Result<String, Fail> {
     let pes = read_pes(unit)?;
     let mut text = format!(in alloc; "{}", pes.pts)?;
@@ -103,7 +119,9 @@ fn a_later_cue_is_sent_alone(rt: HostRuntime) -> Result<(), Fail> {
     let sets = sets_of(rt.alloc(), done.out.written(), true)?;
     assert_eq!(rt;
         sets.as_str(),
-        "90000 mode change; region 0 version 0 fill 0\n135000 normal; region 0 version 1 1\n270000 normal\n"
+        "90000 mode change; region 0 version 0 fill 0\n\
+         135000 normal; region 0 version 1 1\n\
+         270000 normal\n"
     );
     Ok(())
 }
@@ -115,7 +133,11 @@ fn cues_join_and_leave(rt: HostRuntime) -> Result<(), Fail> {
     let sets = sets_of(rt.alloc(), done.out.written(), true)?;
     assert_eq!(rt;
         sets.as_str(),
-        "90000 mode change; region 0 version 0 fill 0\n180000 normal; region 0 version 1 1\n270000 normal; region 0 version 2 2\n360000 normal; region 0 version 3 fill 1 2\n450000 normal\n"
+        "90000 mode change; region 0 version 0 fill 0\n\
+         180000 normal; region 0 version 1 1\n\
+         270000 normal; region 0 version 2 2\n\
+         360000 normal; region 0 version 3 fill 1 2\n\
+         450000 normal\n"
     );
     Ok(())
 }
@@ -127,7 +149,12 @@ fn acquisition_points_of_two_regions(rt: HostRuntime) -> Result<(), Fail> {
     let states = sets_of(rt.alloc(), done.out.written(), false)?;
     assert_eq!(rt;
         states.as_str(),
-        "90000 mode change\n180000 normal\n360000 acquisition\n495000 normal\n585000 acquisition\n675000 normal\n"
+        "90000 mode change\n\
+         180000 normal\n\
+         360000 acquisition\n\
+         495000 normal\n\
+         585000 acquisition\n\
+         675000 normal\n"
     );
     let sets = sets_of(rt.alloc(), done.out.written(), true)?;
     assert_eq!(rt;
@@ -151,7 +178,12 @@ pub(crate) fn start_of(place: u64) -> u64 {
 pub(crate) fn seventeen_cues(alloc: Global) -> Result<String, Fail> {
     let mut script = String::from_str(
         alloc,
-        "origin,0\ndisplay,4,2\nrefresh,5\nepoch,90000\nregion,0,0,0,4,2,8,0\npicture,a,8,4,2,0102020203030303\n",
+        "origin,0\n\
+         display,4,2\n\
+         refresh,5\n\
+         epoch,90000\n\
+         region,0,0,0,4,2,8,0\n\
+         picture,a,8,4,2,0102020203030303\n",
     )?;
     for k in 0..17u64 {
         let row = format!(in alloc; "place,{},{},0,0,0,solid,a\n", start_of(k), start_of(k + 1))?;
@@ -188,14 +220,23 @@ fn versions_go_round(rt: HostRuntime) -> Result<(), Fail> {
     Ok(())
 }
 
-/// A cue of forty seconds has seven acquisition points, each with the whole page again. Its end is the eighth.
+/// A cue of forty seconds has seven acquisition points, each with the whole page again. Its end is
+/// the eighth.
 #[test]
 fn a_long_cue_is_sent_again(rt: HostRuntime) -> Result<(), Fail> {
     let done = run(&rt, rt.alloc(), COMPILE, FORTY_SECONDS, "")?;
     let states = sets_of(rt.alloc(), done.out.written(), false)?;
     assert_eq!(rt;
         states.as_str(),
-        "90000 mode change\n540000 acquisition\n990000 acquisition\n1440000 acquisition\n1890000 acquisition\n2340000 acquisition\n2790000 acquisition\n3240000 acquisition\n3690000 acquisition\n"
+        "90000 mode change\n\
+         540000 acquisition\n\
+         990000 acquisition\n\
+         1440000 acquisition\n\
+         1890000 acquisition\n\
+         2340000 acquisition\n\
+         2790000 acquisition\n\
+         3240000 acquisition\n\
+         3690000 acquisition\n"
     );
     Ok(())
 }

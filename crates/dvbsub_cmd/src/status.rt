@@ -27,8 +27,8 @@ pub enum Which {
 /// How a command ended.
 #[derive(Clone, Copy, Debug, PartialEq, Eq)]
 pub enum Status {
-    /// The inputs were read to their end, and all of the output was written. `cut` bytes were left after the last
-    /// whole packet.
+    /// The inputs were read to their end, and all of the output was written. `cut` bytes were left
+    /// after the last whole packet.
     Done { cut: u64 },
     /// The words are no command.
     Usage,
@@ -53,13 +53,15 @@ pub enum Status {
 }
 
 impl Status {
-    /// What becomes of the status where the file of the output could not be made: what was done whole is a write fault.
+    /// What becomes of the status where the file of the output could not be made: what was done
+    /// whole is a write fault.
     pub fn unfinished(self) -> Status
         ensures { result ≡ unfinished_of self }
     {
         match self {
             Status::Done { .. } => Status::WriteFault(Which::Out),
-            // A command that failed says why it did, and not that its output could not be made as well.
+            // A command that failed says why it did, and not that its output could not be made as
+            // well.
             other => other,
         }
     }

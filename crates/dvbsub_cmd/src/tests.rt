@@ -8,20 +8,40 @@ use std::thread::Threads;
 use sub_base::{MemSink, MemSource, NoGate, Words};
 
 /// The script of the first run: one cue of one picture of 8 bits.
-const FIRST_SCRIPT: &str =
-    "origin,0\ndisplay,4,2\nrefresh,5\nepoch,90000\nregion,0,0,0,4,2,8,0\npicture,a,8,4,2,0102020203030303\nplace,90000,180000,0,0,0,solid,a\n";
+const FIRST_SCRIPT: &str = "origin,0\n\
+     display,4,2\n\
+     refresh,5\n\
+     epoch,90000\n\
+     region,0,0,0,4,2,8,0\n\
+     picture,a,8,4,2,0102020203030303\n\
+     place,90000,180000,0,0,0,solid,a\n";
 
 /// Its first set, of 98 bytes, is shown a tick before it is done.
-const SCRIPT_AT_98: &str =
-    "origin,0\ndisplay,4,2\nrefresh,5\nepoch,98\nregion,0,0,0,4,2,8,0\npicture,a,8,4,2,0102020203030303\nplace,98,180000,0,0,0,solid,a\n";
+const SCRIPT_AT_98: &str = "origin,0\n\
+     display,4,2\n\
+     refresh,5\n\
+     epoch,98\n\
+     region,0,0,0,4,2,8,0\n\
+     picture,a,8,4,2,0102020203030303\n\
+     place,98,180000,0,0,0,solid,a\n";
 
 /// Its first set is shown at the tick at which it is done.
-const SCRIPT_AT_99: &str =
-    "origin,0\ndisplay,4,2\nrefresh,5\nepoch,99\nregion,0,0,0,4,2,8,0\npicture,a,8,4,2,0102020203030303\nplace,99,180000,0,0,0,solid,a\n";
+const SCRIPT_AT_99: &str = "origin,0\n\
+     display,4,2\n\
+     refresh,5\n\
+     epoch,99\n\
+     region,0,0,0,4,2,8,0\n\
+     picture,a,8,4,2,0102020203030303\n\
+     place,99,180000,0,0,0,solid,a\n";
 
 /// The picture of the first run, of 8 bits, in a region of 4 bits.
-const SCRIPT_TOO_DEEP: &str =
-    "origin,0\ndisplay,4,2\nrefresh,5\nepoch,90000\nregion,0,0,0,4,2,4,0\npicture,a,8,4,2,0102020203030303\nplace,90000,180000,0,0,0,solid,a\n";
+const SCRIPT_TOO_DEEP: &str = "origin,0\n\
+     display,4,2\n\
+     refresh,5\n\
+     epoch,90000\n\
+     region,0,0,0,4,2,4,0\n\
+     picture,a,8,4,2,0102020203030303\n\
+     place,90000,180000,0,0,0,solid,a\n";
 
 /// What stands in its first packet behind the head, `55 00` and 84 bytes FF.
 #[rattlefmt::skip]
@@ -58,8 +78,9 @@ pub(crate) fn words_of(alloc: Global, line: &str) -> Result<Words, Fail> {
     Ok(words)
 }
 
-/// Runs the command over the script and the font. The script's source fails at the read with the number `bad_read`, the
-/// output at the write with the number `bad_write`, and the notes at the write with the number `bad_note`.
+/// Runs the command over the script and the font. The script's source fails at the read with the
+/// number `bad_read`, the output at the write with the number `bad_write`, and the notes at the
+/// write with the number `bad_note`.
 fn run_failing<R: Threads + Sync>(
     rt: &R,
     alloc: Global,
@@ -164,6 +185,13 @@ fn other_words_are_answered_with_the_usage(rt: HostRuntime) -> Result<(), Fail> 
         "expect script.csv none out.txt",
         "expect script.csv none out.txt 90000 90000",
         "expect script.csv none out.txt 17179869184",
+        "gen 0 sd entries.txt",
+        "gen 501 sd entries.txt",
+        "gen 01 sd entries.txt",
+        "gen 1 wide entries.txt",
+        "gen 1 large entries.txt",
+        "gen 1 sd",
+        "gen 1 sd entries.txt more",
     ];
     for line in lines {
         let refused = run(&rt, rt.alloc(), line, FIRST_SCRIPT)?;
@@ -206,16 +234,39 @@ fn sources_and_sinks_that_fail_are_told(rt: HostRuntime) -> Result<(), Fail> {
 }
 
 /// A font of one letter, which another program has drawn too.
-const FONT: &str =
-    "STARTFONT 2.1\nFONTBOUNDINGBOX 3 4 0 -1\nSTARTCHAR A\nENCODING 65\nDWIDTH 3 0\nBBX 2 3 0 0\nBITMAP\n40\nC0\n40\nENDCHAR\nENDFONT\n";
+const FONT: &str = "STARTFONT 2.1\n\
+     FONTBOUNDINGBOX 3 4 0 -1\n\
+     STARTCHAR A\n\
+     ENCODING 65\n\
+     DWIDTH 3 0\n\
+     BBX 2 3 0 0\n\
+     BITMAP\n\
+     40\n\
+     C0\n\
+     40\n\
+     ENDCHAR\n\
+     ENDFONT\n";
 
 /// A cue of two lines in that font.
-const SCRIPT_OF_TEXT: &str =
-    "origin,0\ndisplay,20,8\nrefresh,5\nepoch,90000\nregion,0,0,0,20,8,4,0\ncue,90000,180000,0,0,0,1,0,\"A\nAA\"\n";
+const SCRIPT_OF_TEXT: &str = "origin,0\n\
+     display,20,8\n\
+     refresh,5\n\
+     epoch,90000\n\
+     region,0,0,0,20,8,4,0\n\
+     cue,90000,180000,0,0,0,1,0,\"A\n\
+     AA\"\n";
 
 /// What is shown while the cue stands, and after it.
-const PICTURES_OF_TEXT: &str =
-    "picture 90000 20 8\n1*000000FF 1*51F05A00 18*000000FF\n2*51F05A00 18*000000FF\n1*000000FF 1*51F05A00 18*000000FF\n20*000000FF\n1*000000FF 1*51F05A00 2*000000FF 1*51F05A00 15*000000FF\n2*51F05A00 1*000000FF 2*51F05A00 15*000000FF\n1*000000FF 1*51F05A00 2*000000FF 1*51F05A00 15*000000FF\n20*000000FF\npicture 180000 clear\n";
+const PICTURES_OF_TEXT: &str = "picture 90000 20 8\n\
+     1*000000FF 1*51F05A00 18*000000FF\n\
+     2*51F05A00 18*000000FF\n\
+     1*000000FF 1*51F05A00 18*000000FF\n\
+     20*000000FF\n\
+     1*000000FF 1*51F05A00 2*000000FF 1*51F05A00 15*000000FF\n\
+     2*51F05A00 1*000000FF 2*51F05A00 15*000000FF\n\
+     1*000000FF 1*51F05A00 2*000000FF 1*51F05A00 15*000000FF\n\
+     20*000000FF\n\
+     picture 180000 clear\n";
 
 const EXPECT: &str = "expect script.csv font.bdf out.txt 90000 180000";
 

@@ -18,8 +18,8 @@ use std::alloc::Global;
 use std::thread::Threads;
 use sub_base::{BandGate, NoMemory, Sink, Source, Words, write_whole};
 
-/// Carries out the command that the words are: reads its sources, writes its output to `out`, and tells how it
-/// ended, by its answer and by one line to `notes`.
+/// Carries out the command that the words are: reads its sources, writes its output to `out`, and
+/// tells how it ended, by its answer and by one line to `notes`.
 pub fn top<R, A, B, K, N, G>(
     rt: &R,
     alloc: Global,
@@ -48,10 +48,11 @@ where
         (seen (A.supplied first.new) (B.supplied second.new) (K.received out.new))
         (N.received notes.old) (N.received notes.new) result }
 
-    // Where a script was compiled, a receiver that enters the packets anywhere, with any anchor that suits the sets of which
-    // packets come, shows nothing before its entry set, and from then on the authored picture at every tick; one that
-    // loses packets shows it at every good tick; and page memory holds the script. Wherever it enters, the coded data buffer
-    // holds what comes, and every set is decoded by its time.
+    // Where a script was compiled, a receiver that enters the packets anywhere, with any anchor
+    // that suits the sets of which packets come, shows nothing before its entry set, and from then
+    // on the authored picture at every tick; one that loses packets shows it at every good tick;
+    // and page memory holds the script. Wherever it enters, the coded data buffer holds what comes,
+    // and every set is decoded by its time.
     ensures shown { IsShownBy (command_of_words words.now)
         (seen (A.supplied first.old) (B.supplied second.old) (K.received out.old))
         (seen (A.supplied first.new) (B.supplied second.new) (K.received out.new))
@@ -64,7 +65,8 @@ where
     tell(status, notes)
 }
 
-/// Writes the line of the status, and answers the status, or what it becomes where the line cannot be written.
+/// Writes the line of the status, and answers the status, or what it becomes where the line cannot
+/// be written.
 pub fn tell<N: Sink>(status: Status, notes: &mut N) -> Status
     ensures { Tells (N.received notes.old) (N.received notes.new) status result }
 {

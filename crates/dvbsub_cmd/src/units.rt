@@ -6,7 +6,7 @@ ghost use Rattle.set_coder.specs.SetSegments.{AreSetPackets};
 ghost use Rattle.set_coder.specs.SetSizes.{AreUnitSizes, FitsPackets};
 ghost use Rattle.shown_stream.specs.Compiled.{all_units};
 ghost use Rattle.slot_stream.specs.SlotStream.{IsPiece, all_pieces};
-ghost use Rattle.dvbsub_cmd.specs.SetUnits.{AreCut, AreWritten};
+ghost use Rattle.dvbsub_cmd.specs.Private.SetUnits.{AreCut, AreWritten};
 
 use cue_list::Script;
 use page_epoch::PlannedSet;
@@ -29,7 +29,9 @@ pub fn units_of(
     requires kept { AreCoded script.now.pictures kept.now.coded.items }
     requires sendable { All (IsSendable script.now) sets.now }
     requires fit { All (FitsPackets script.now) sets.now }
-    ensures { IfOk result (λ written. (units : List (List (List ℕ))) × AreWritten script.now page sets.now written.items units) }
+    ensures { IfOk result
+        (λ written. (units : List (List (List ℕ)))
+        × AreWritten script.now page sets.now written.items units) }
 {
     let mut written = Vec::new(alloc);
     for set in sets {
@@ -50,14 +52,16 @@ fn set_units(
     requires sendable { IsSendable script.now set.now }
     requires fits { FitsPackets script.now set.now }
     ensures { IfOk result (λ bytes. (packets : List (List ℕ)) × (bytes ≡ concat packets)
-        × AreSetPackets script.now page set.now packets × AreUnitSizes script.now set.now (map length packets)) }
+        × AreSetPackets script.now page set.now packets
+        × AreUnitSizes script.now set.now (map length packets)) }
 {
     let mut bytes = Vec::new(alloc);
     kept.write_set(script, set, page, &mut bytes)?;
     Ok(Items::new(alloc, bytes))
 }
 
-/// The pieces of all PES packets of all sets, in order, where each set has as many packets of such lengths as its load says.
+/// The pieces of all PES packets of all sets, in order, where each set has as many packets of such
+/// lengths as its load says.
 pub fn pieces_of<'a>(
     alloc: Global,
     loads: &[WriteLoad],

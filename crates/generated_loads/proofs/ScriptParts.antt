@@ -11,7 +11,7 @@ use Rattle.cue_list.specs.declared.epoch.Epoch.{Epoch}
 use Rattle.cue_list.specs.declared.epoch.Region.{Region}
 use Rattle.cue_list.specs.declared.script.Script.{Script}
 use Rattle.page_epoch.specs.Live.{cue_at, no_cue}
-use Rattle.set_coder.specs.SetSegments.{region_or_none, region_of, picture_of_cue, depth_of_cue}
+use Rattle.set_coder.specs.SetSegments.{region_or_none, epoch_region, picture_of_cue, depth_of_cue}
 use Rattle.generated_script.proofs.TickLaws.{epoch_at, cue_of, cue_count}
 use Rattle.generated_script.specs.Generated.{generated_picture, generated_region, IsGeneratedCue, IsGeneratedEpoch, IsGenerated}
 
@@ -50,7 +50,7 @@ second_of_both = record { width = refl; height = refl; depth = refl }
 
 -- so the regions of an epoch are, by their numbers
 pub own_region : (number e id : ℕ) (epoch : Epoch) → IsGeneratedEpoch number e epoch → (id ≡ 0) ⊎ (id ≡ 1)
-    → IsOwnRegion (region_of epoch id)
+    → IsOwnRegion (epoch_region epoch id)
 own_region number e id epoch is (inl first) =
     subst (λ (n : ℕ). IsOwnRegion (among epoch.regions n)) (sym first)
     (subst (λ (regions : List Region). IsOwnRegion (among regions 0)) (sym is.regions) first_of_both)
@@ -74,7 +74,7 @@ pub own_depth : (number e place : ℕ) (epoch : Epoch) → IsGeneratedEpoch numb
     → depth_of_cue epoch place ≡ Four
 own_depth number e place epoch is h =
     let cue = (cue_there number e epoch is place h).1 in
-    ap (λ (n : ℕ). (region_of epoch n).depth) (ap (λ (c : Cue). c.region) cue)
+    ap (λ (n : ℕ). (epoch_region epoch n).depth) (ap (λ (c : Cue). c.region) cue)
     ∙ (own_region number e ((16 * e + place) % 2) epoch is (even_or_odd (16 * e + place))).depth
 
 -- its picture is the generated one

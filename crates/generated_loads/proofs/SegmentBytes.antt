@@ -17,8 +17,8 @@ use Rattle.cue_list.specs.declared.script.Script.{Script}
 use Rattle.page_epoch.specs.declared.planned_set.PlannedSet.{PlannedSet}
 use Rattle.page_epoch.specs.declared.planned_set.SentClut.{SentClut}
 use Rattle.page_epoch.specs.declared.planned_set.SentRegion.{SentRegion}
-use Rattle.set_coder.specs.SetSegments.{region_of, picture_of_cue, depth_of_cue}
-use Rattle.set_coder.specs.SetSizes.{display_sizes, page_size, region_size, clut_size, leading_sizes, made_even, painting_of, IsObjectSize, AreObjectSizes, AreSegmentSizes}
+use Rattle.set_coder.specs.SetSegments.{epoch_region, picture_of_cue, depth_of_cue}
+use Rattle.set_coder.specs.SetSizes.{display_sizes, page_size, region_size, clut_size, leading_sizes, made_even, sent_painting, IsObjectSize, AreObjectSizes, AreSegmentSizes}
 use Rattle.generated_script.specs.Generated.{generated_picture, IsGeneratedEpoch, IsGenerated}
 use Rattle.generated_plan.specs.Listed.{ListsFew}
 use Rattle.generated_loads.proofs.GeneratedFields.{fields_short}
@@ -166,13 +166,13 @@ one_within (size ∷ sizes) one e = by (one_within sizes one) (eqb size one) ref
 -- painting the regions of a set takes 72 ticks each
 regions_painted : (number e : ℕ) (epoch : Epoch) (regions : List SentRegion) → IsGeneratedEpoch number e epoch
     → All (λ (sent : SentRegion). (sent.id ≡ 0) ⊎ (sent.id ≡ 1)) regions →
-    sum_by (painting_of epoch) regions ≡ 72 * length regions
+    sum_by (sent_painting epoch) regions ≡ 72 * length regions
 regions_painted number e epoch [] is ids = refl
 regions_painted number e epoch (sent ∷ regions) is ids =
     omega (
       arith,
-      sum_by-cons (painting_of epoch) sent regions,
-      own_painting (region_of epoch sent.id)
+      sum_by-cons (sent_painting epoch) sent regions,
+      own_painting (epoch_region epoch sent.id)
           (own_region number e sent.id epoch is (All-head (λ (other : SentRegion). (other.id ≡ 0)
           ⊎ (other.id ≡ 1)) sent regions ids)),
       regions_painted number e epoch regions is (All-tail (λ (other : SentRegion). (other.id ≡ 0)
@@ -181,6 +181,6 @@ regions_painted number e epoch (sent ∷ regions) is ids =
 
 -- so painting those of a set that sends two takes at most 144
 pub painted_short : (number e : ℕ) (epoch : Epoch) (set : PlannedSet) → IsGeneratedEpoch number e epoch
-    → ListsFew epoch set → sum_by (painting_of epoch) set.regions ≤ 144
+    → ListsFew epoch set → sum_by (sent_painting epoch) set.regions ≤ 144
 painted_short number e epoch set is few =
     omega (arith, regions_painted number e epoch set.regions is few.ids, few.regions)

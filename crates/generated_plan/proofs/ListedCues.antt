@@ -20,15 +20,16 @@ use Rattle.generated_script.specs.Generated.{generated_region, IsGenerated, IsGe
 use Rattle.generated_script.proofs.TickLaws.{epoch_at}
 use Rattle.page_epoch.specs.declared.planned_set.PlannedSet.{PlannedSet}
 use Rattle.page_epoch.specs.declared.planned_set.SentRegion.{SentRegion}
-use Rattle.page_epoch.specs.Live.{has_some, live_places}
+use Rattle.page_epoch.specs.Live.{live_places}
 use Rattle.page_epoch.specs.Plan.{IsCarried, IsNext, IsPlan}
 use Rattle.page_epoch.specs.Sendable.{IsSendable, IsSendableRegion}
 use Rattle.page_epoch.specs.SentCluts.{clut_count, sent_clut, sent_cluts}
-use Rattle.page_epoch.specs.SentRegions.{is_risen, is_extended, region_version, live_before, filled, extended, region_from, sent_region, AreShown, listed_cues}
+use Rattle.page_epoch.specs.SentRegions.{is_redrawn, is_extended, region_version, live_before, filled, extended, region_from, sent_region, AreShown, listed_cues}
 use Rattle.page_epoch.proofs.ListLaws.{filter_none, length_kept, one_each}
 use Rattle.page_epoch.proofs.SendLaws.{sendable_all}
 use Rattle.page_epoch.proofs.SoundLaws.{plain}
 use Rattle.generated_plan.proofs.LiveCues.{most, few_live}
+use Rattle.sub_base.specs.Lists.{has_some}
 
 -- ---- a region
 
@@ -38,7 +39,7 @@ record IsFew (n : ℕ) (sent : List SentRegion) : Type 0 where
   few : sum_by (λ (one : SentRegion). length one.cues) sent ≤ n
 
 from_few : (id version n : ℕ) (whole : Bool) (old new : List ℕ) → length new ≤ n → IsFew n (region_from id version whole old new)
-from_few id version n whole old new h = by whole (is_risen old new) (is_extended old new)
+from_few id version n whole old new h = by whole (is_redrawn old new) (is_extended old new)
   where
     by : (w r x : Bool) → IsFew n (cond w (filled id version new ∷ []) (cond (not r) [] (cond x (extended id version old new ∷ []) (filled id version new ∷ []))))
     by true r x = record { once = omega arith; few = omega arith }

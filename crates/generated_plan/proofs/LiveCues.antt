@@ -3,16 +3,18 @@ use Rattle.std.proofs.Common.{◌≡◌, ◌∙◌, ◌⊎◌, inl, inr, ℕ, �
 use Rattle.std.specs.List.Sorted.{IsStrictlyIncreasing}
 use Rattle.std.proofs.lemmas.Bool.Decides.{nat_tests}
 use Rattle.std.proofs.lemmas.List.Elements.{All-filter, filter_passes}
+use Rattle.std.proofs.lemmas.Bool.{eqb-true}
 use Rattle.cue_list.specs.declared.epoch.Cue.{Cue}
 use Rattle.cue_list.specs.declared.epoch.Epoch.{Epoch}
 use Rattle.cue_list.specs.Authored.{is_live}
 use Rattle.generated_script.specs.Generated.{generated_start, generated_length, IsGeneratedEpoch}
 use Rattle.generated_script.proofs.TickLaws.{IsLong, length_of, lasts, cue_of}
-use Rattle.page_epoch.specs.Live.{cue_at, no_cue, own_places, live_places, places_below, has_some}
-use Rattle.page_epoch.specs.SentRegions.{held}
+use Rattle.page_epoch.specs.Live.{cue_at, no_cue, own_places, live_places, places_below}
+use Rattle.page_epoch.specs.SentRegions.{drawn_count}
 use Rattle.page_epoch.proofs.ListLaws.{twice_within}
 use Rattle.page_epoch.proofs.LiveLaws.{live_rise}
-use Rattle.page_epoch.proofs.RegionLaws.{held-more}
+use Rattle.page_epoch.proofs.RegionLaws.{drawn_count-more}
+use Rattle.sub_base.specs.Lists.{has_some}
 
 -- the most cues that are live in a region at once
 abbrev pub most : ℕ → ℕ
@@ -23,9 +25,6 @@ pub record IsShown (e id tick place : ℕ) : Type 0 where
   pub own : (16 * e + place) % 2 ≡ id
   pub begun : generated_start (16 * e + place) ≤ tick
   pub going : tick < generated_start (16 * e + place) + generated_length (16 * e + place)
-
-is_own : (region id : ℕ) → (region == id) ≡ true → region ≡ id
-is_own region id h = grind (arith, nat_tests)
 
 pub begun_by : (tick : ℕ) (cue : Cue) → is_live tick cue ≡ true → cue.start ≤ tick
 begun_by tick cue h = grind (arith, nat_tests)
@@ -39,7 +38,7 @@ shown_at number e id tick epoch place is h own live =
     let region = ap (λ (c : Cue). c.region) cue in
     let start = ap (λ (c : Cue). c.start) cue in
     let end = ap (λ (c : Cue). c.end) cue in
-    let same = is_own (cue_at epoch.cues place).region id own in
+    let same = eqb-true (cue_at epoch.cues place).region id own in
     let begun = begun_by tick (cue_at epoch.cues place) live in
     let going = going_at tick (cue_at epoch.cues place) live in
     record { own = sym region ∙ same; begun = omega arith; going = omega arith }
@@ -107,9 +106,9 @@ one_of true x y n h g = h
 one_of false x y n h g = g
 
 -- a region holds no more cues than are ever live in it
-pub few_held : (number e : ℕ) (epoch : Epoch) → IsGeneratedEpoch number e epoch → (id : ℕ) (seen : List ℕ) → held epoch.cues id seen ≤ most id
+pub few_held : (number e : ℕ) (epoch : Epoch) → IsGeneratedEpoch number e epoch → (id : ℕ) (seen : List ℕ) → drawn_count epoch.cues id seen ≤ most id
 few_held number e epoch is id [] = grind (arith, nat_tests)
 few_held number e epoch is id (tick ∷ earlier) =
-    let here = held-more epoch.cues id tick earlier in
-    let least = one_of (has_some (live_places epoch.cues id tick)) (length (live_places epoch.cues id tick)) (held epoch.cues id earlier) (most id) (few_live number e epoch is id tick) (few_held number e epoch is id earlier) in
+    let here = drawn_count-more epoch.cues id tick earlier in
+    let least = one_of (has_some (live_places epoch.cues id tick)) (length (live_places epoch.cues id tick)) (drawn_count epoch.cues id earlier) (most id) (few_live number e epoch is id tick) (few_held number e epoch is id earlier) in
     rw here least

@@ -16,7 +16,7 @@ use Rattle.page_epoch.specs.Needs.{pixel_need, clut_nodes, node_need}
 use Rattle.page_epoch.specs.Refusals.{IsFirstUnheld, IsCause}
 use Rattle.page_epoch.specs.SentCluts.{sent_cluts}
 use Rattle.page_epoch.specs.States.{seen_of}
-use Rattle.page_epoch.specs.SentRegions.{held}
+use Rattle.page_epoch.specs.SentRegions.{drawn_count}
 use Rattle.generated_plan.proofs.LiveCues.{few_held}
 use Rattle.generated_plan.proofs.ListedCues.{no_cluts, few_shown, epoch_there}
 
@@ -29,11 +29,11 @@ nodes_of number e epoch seen shown is few =
     let two = ap length is.regions in
     let first = few_held number e epoch is 0 seen in
     let second = few_held number e epoch is 1 seen in
-    let held_both = ap (λ (rs : List Region). sum_by (λ (region : Region). held epoch.cues region.id seen) rs) is.regions in
+    let held_both = ap (λ (rs : List Region). sum_by (λ (region : Region). drawn_count epoch.cues region.id seen) rs) is.regions in
     let none = ap clut_nodes (ap (λ (rows : List ColourRow). sent_cluts rows true seen) is.colours ∙ no_cluts true seen) in
     omega arith
 
--- the first set that could not be held
+-- the first set that could not be drawn_count
 record IsSmall (pixels nodes : ℕ) : Type 0 where
   pixels_few : pixels ≡ 4608
   nodes_few : nodes ≤ 7

@@ -1,5 +1,5 @@
-//! The plan of a generated script: no receiver of standard or high definition lacks what it needs, its sets are far apart, and
-//! each carries little. These are laws; there is no code here.
+//! The plan of a generated script: no receiver of standard or high definition lacks what it needs,
+//! its sets are far apart, and each carries little. These are laws; there is no code here.
 #![tactic(auto)]
 
 mod laws;

@@ -4,18 +4,12 @@ use Rattle.std.specs.List.{range_with_len, flat_map, AllZip}
 use Rattle.std.proofs.lemmas.List.{flat_map_more, map-id}
 use Rattle.std.proofs.lemmas.List.Elements.{All-append, All-head, All-tail}
 use Rattle.std.proofs.lemmas.List.FromFn.{map-range_with_len_more}
+use Rattle.sub_base.proofs.ListLaws.{pair_more}
 
 -- one number more at the end of a range
 pub range_more : (a n : ℕ) → range_with_len a (n + 1) ≡ range_with_len a n ++ (a + n) ∷ []
 range_more a n =
     sym (map-id (range_with_len a (n + 1))) ∙ map-range_with_len_more (λ (x : ℕ). x) a n (a + n) refl ∙ ap (λ (xs : List ℕ). xs ++ (a + n) ∷ []) (map-id (range_with_len a n))
-
--- one pair more
-pub pair_more : {A B : Type 0} (R : A → B → Type 0) (xs : List A) (ys : List B) (x : A) (y : B) → AllZip R xs ys → R x y → AllZip R (xs ++ x ∷ []) (ys ++ y ∷ [])
-pair_more R [] [] x y all here = (here, tt)
-pair_more R [] (b ∷ ys) x y all here = absurd all
-pair_more R (a ∷ xs) [] x y all here = absurd all
-pair_more R (a ∷ xs) (b ∷ ys) x y all here = (all.0, pair_more R xs ys x y all.1 here)
 
 -- one item more for a range
 pub item_more : {B : Type 0} (R : ℕ → B → Type 0) (a n : ℕ) (ys zs : List B) (y : B) → AllZip R (range_with_len a n) ys → R (a + n) y → zs ≡ ys ++ y ∷ [] → AllZip R (range_with_len a (n + 1)) zs

@@ -55,7 +55,8 @@ pub record IsGeneratedEpoch (number e : ℕ) (epoch : Epoch) : Type 0 where
   pub colours : epoch.colours ≡ []
   pub cues : AllZip IsGeneratedCue (range_with_len (16 * e) (min number (16 * e + 16) - 16 * e)) epoch.cues
 
--- this is the script of so many cues: display of 320 by 180, a refresh each five seconds, an epoch for each sixteen cues begun
+-- this is the script of so many cues: display of 320 by 180, a refresh each five seconds, an epoch for each sixteen
+-- cues begun
 pub record IsGenerated (number : ℕ) (script : Script) : Type 0 where
   pub origin : script.origin ≡ 0
   pub width : script.width ≡ 320

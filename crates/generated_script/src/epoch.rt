@@ -108,8 +108,8 @@ fn regions(alloc: Global) -> Result<Vec<Region>, NoMemory>
     Ok(Vec::from_slice(alloc, &REGIONS)?)
 }
 
-/// The epoch of that number in a script of so many cues. Its record and those of its cues are numbered as in a file where
-/// the pictures stand before the epochs.
+/// The epoch of that number in a script of so many cues. Its record and those of its cues are
+/// numbered as in a file where the pictures stand before the epochs.
 fn epoch(alloc: Global, cue_count: u64, number: u64) -> Result<Epoch, NoMemory>
     requires few { cue_count ≤ 500 }
     requires there { number < (cue_count + 15) / 16 }

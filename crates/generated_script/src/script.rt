@@ -16,8 +16,8 @@ const HEIGHT: u16 = 180;
 /// The ticks after which a page that stays is sent again: five seconds.
 const REFRESH: u64 = 450_000;
 
-/// The script of so many cues: one starts each second, in one of two regions in turn, with sixteen cues in each epoch but the
-/// last.
+/// The script of so many cues: one starts each second, in one of two regions in turn, with sixteen
+/// cues in each epoch but the last.
 pub fn generate(alloc: Global, number: u64) -> Result<Script, NoMemory>
     requires some { 1 ≤ number }
     requires few { number ≤ 500 }

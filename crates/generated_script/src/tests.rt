@@ -7,8 +7,9 @@ use std::process::Abort;
 use std::test::Fail;
 use sub_base::{Depth, NoMemory};
 
-/// What is wanted of a script: how many epochs and pictures it has, where its last epoch starts and in which record, how many
-/// cues that epoch has, its last cue, and the codes in the four corners of that cue's picture.
+/// What is wanted of a script: how many epochs and pictures it has, where its last epoch starts and
+/// in which record, how many cues that epoch has, its last cue, and the codes in the four corners
+/// of that cue's picture.
 struct Wanted {
     epochs: usize,
     pictures: usize,
@@ -135,7 +136,8 @@ const REGIONS: [Region; 2] = [
     },
 ];
 
-/// The codes of a picture of 64 by 32 pixels in its corners: those of the first row, and then of the last.
+/// The codes of a picture of 64 by 32 pixels in its corners: those of the first row, and then of
+/// the last.
 fn check_corners<R: Abort>(rt: &R, codes: &[u8], wanted: &[u8; 4]) {
     assert_eq!(rt; codes.len(), 2_048);
     let above = (codes.get(0).copied(), codes.get(63).copied());

@@ -18,12 +18,15 @@ pub record IsPainted (under over : Picture) (x y : ℕ) (see_through : Bool) (ne
   pub height : new.height ≡ under.height
   pub depth : new.depth ≡ under.depth
   pub covered : (column row : ℕ) → column < over.width → row < over.height →
-      code_at new (x + column) (y + row) ≡ code_over see_through (code_at under (x + column) (y + row)) (code_at over column row)
+      code_at new (x + column) (y + row)
+      ≡ code_over see_through (code_at under (x + column) (y + row)) (code_at over column row)
   pub outside : (column row : ℕ) → column < under.width → row < under.height →
       (column < x) ⊎ (x + over.width ≤ column) ⊎ (row < y) ⊎ (y + over.height ≤ row) →
       code_at new column row ≡ code_at under column row
 
 -- a row of codes was painted on a list of codes, from place `start` on
 pub record PaintsRow (row : List ℕ) (start : ℕ) (see_through : Bool) (old new : List ℕ) : Type 0 where
-  pub covered : (k : ℕ) → k < length row → slice_index new (start + k) ≡ code_over see_through (slice_index old (start + k)) (slice_index row k)
-  pub outside : (place : ℕ) → (place < start) ⊎ (start + length row ≤ place) → slice_index new place ≡ slice_index old place
+  pub covered : (k : ℕ) → k < length row
+      → slice_index new (start + k) ≡ code_over see_through (slice_index old (start + k)) (slice_index row k)
+  pub outside : (place : ℕ) → (place < start) ⊎ (start + length row ≤ place)
+      → slice_index new place ≡ slice_index old place

@@ -5,8 +5,8 @@ ghost use Rattle.sub_base.specs.Picture.{every_second_row};
 use crate::picture::Indexed;
 use std::marker::Model;
 
-/// The rows of one field of a picture, from the top, each as its codes from the left: seen as the list of the rows
-/// that are left.
+/// The rows of one field of a picture, from the top, each as its codes from the left: seen as the
+/// list of the rows that are left.
 #[derive(Drop)]
 pub struct FieldRows<'a> {
     picture: &'a Indexed,

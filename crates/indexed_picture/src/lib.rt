@@ -1,4 +1,5 @@
-//! Indexed pictures: rectangles of pixel codes, as subtitles are authored and painted, and their two fields.
+//! Indexed pictures: rectangles of pixel codes, as subtitles are authored and painted, and their
+//! two fields.
 #![tactic(auto)]
 
 // Pictures, and why codes are none.

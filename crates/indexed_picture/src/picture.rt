@@ -10,8 +10,8 @@ use std::alloc::Global;
 use std::marker::Model;
 use sub_base::{Depth, NoMemory};
 
-/// A picture of pixel codes: a width and a height in pixels, each at least 1, a depth, and width times height codes
-/// of that depth, by rows from the top.
+/// A picture of pixel codes: a width and a height in pixels, each at least 1, a depth, and width
+/// times height codes of that depth, by rows from the top.
 #[derive(Drop)]
 pub struct Indexed {
     width: u16,
@@ -27,11 +27,13 @@ impl Model for Indexed {
 
     ghost view = { λ picture. picture_of picture.width picture.height picture.depth picture.codes.items };
 
-    ghost invariant = { λ picture. IsPicture (picture_of picture.width picture.height picture.depth picture.codes.items) };
+    ghost invariant = { λ picture. IsPicture
+        (picture_of picture.width picture.height picture.depth picture.codes.items) };
 }
 
 impl Indexed {
-    /// The picture of these codes, given by rows. No memory is taken; where the codes are refused, they are given up.
+    /// The picture of these codes, given by rows. No memory is taken; where the codes are refused,
+    /// they are given up.
     pub fn from_codes(
         _alloc: Global,
         width: u16,
@@ -41,7 +43,8 @@ impl Indexed {
     ) -> Result<Indexed, PictureFault>
         requires wide { 1 ≤ width }
         requires high { 1 ≤ height }
-        ensures made { IfOk result (λ picture. picture ≡ picture_of width height depth codes.items) }
+        ensures made { IfOk result
+            (λ picture. picture ≡ picture_of width height depth codes.items) }
         ensures picture { IfOk result IsPicture }
         ensures refused { IfErr result (IsFaultOf (picture_of width height depth codes.items)) }
         ensures succeeds { IsPicture (picture_of width height depth codes.items) → IsOk result }
@@ -60,8 +63,8 @@ impl Indexed {
         })
     }
 
-    /// The picture of codes that are known to fit: as many as its sides have places, and of its depth. They are
-    /// not looked at.
+    /// The picture of codes that are known to fit: as many as its sides have places, and of its
+    /// depth. They are not looked at.
     pub fn of_codes(width: u16, height: u16, depth: Depth, codes: Vec<u8>) -> Indexed
         requires { IsPicture (picture_of width height depth codes.items) }
         ensures made { result ≡ picture_of width height depth codes.items }
@@ -79,7 +82,8 @@ impl Indexed {
     pub fn blank(alloc: Global, width: u16, height: u16, depth: Depth) -> Result<Indexed, NoMemory>
         requires wide { 1 ≤ width }
         requires high { 1 ≤ height }
-        ensures made { IfOk result (λ picture. picture ≡ picture_of width height depth (replicate (width * height) 0)) }
+        ensures made { IfOk result
+            (λ picture. picture ≡ picture_of width height depth (replicate (width * height) 0)) }
         ensures picture { IfOk result IsPicture }
     {
         let codes = vec![in alloc; 0; usize::from(width) * usize::from(height)]?;
@@ -173,8 +177,9 @@ impl Indexed {
         true
     }
 
-    /// Paints a picture over this one, with its upper left corner at column `x` of row `y`. Each of its codes replaces
-    /// the one beneath, but code 1 where the picture is seen through (EN 300 743, non-modifying colour).
+    /// Paints a picture over this one, with its upper left corner at column `x` of row `y`. Each of
+    /// its codes replaces the one beneath, but code 1 where the picture is seen through (EN 300
+    /// 743, non-modifying colour).
     pub fn paint(&mut self, x: u16, y: u16, over: &Indexed, see_through: bool)
         requires { LiesWithin over.now self.old x y }
         ensures painted { IsPainted self.old over.now x y see_through self.new }
@@ -203,7 +208,8 @@ fn paint_row(codes: &mut [u8], start: usize, row: &[u8], see_through: bool)
 
 // The place of the first code that the depth does not have.
 fn first_outside(depth: Depth, codes: &[u8]) -> Option<usize>
-    ensures { MatchOption result (All (λ code. code < code_count depth) codes.now) (λ place. IsFirstOutside depth codes.now place) }
+    ensures { MatchOption result (All (λ code. code < code_count depth) codes.now)
+        (λ place. IsFirstOutside depth codes.now place) }
 {
     let count = depth.code_count();
     codes.iter().position(|code| u16::from(*code) >= count)

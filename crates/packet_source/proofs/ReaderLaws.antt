@@ -1,57 +1,96 @@
 -- What a reader stands for, from one of its steps to the next.
-use Rattle.std.proofs.Common.{◌≡◌, ℕ, ◌+◌, ◌-◌, ◌*◌, ◌/◌, ◌≤◌, ◌<◌, List, ◌++◌, length, take, drop, append_assoc, length-append, length-drop, length-take-le, sym, ap, subst, ◌∙◌, arith}
+use Rattle.std.proofs.Common.{◌≡◌, ℕ, ◌+◌, ◌-◌, ◌*◌, ◌/◌, ◌≤◌, ◌<◌, List, ◌++◌, length, take, drop, append_assoc, length-append, length-drop, length-take-le, sym, ap, ap₂, subst, ◌∙◌, arith}
+use Rattle.std.specs.Prelude.{Result, Ok, Err, OnErr}
 use Rattle.std.specs.Counts.{IsPrefixLen}
-use Rattle.std.proofs.Math.Seq.{take-add, take-append_seam}
+use Rattle.std.proofs.Math.Seq.{drop-append_seam, take-add, take-append_seam}
 use Rattle.std.specs.Io.KnownBytes.{Consumes, IsAtEnd}
 use Rattle.std.proofs.KnownBytes.{Consumes-kept, Consumes-trans}
-use Rattle.std.proofs.lemmas.List.{drop-take}
+use Rattle.std.proofs.lemmas.List.{drop-drop, drop-take}
 use Rattle.std.proofs.lemmas.List.Edits.{take-paste}
 use Rattle.std.specs.List.{copy_within}
 use lib.Seq.{paste}
 use Rattle.sub_base.specs.Counts.{counted}
 use Rattle.sub_base.specs.Endpoints.{Supplied}
-use Rattle.packet_source.specs.Filling.{HasRead, HasReadNothing, given_up}
+use Rattle.packet_source.specs.Private.Filling.{HasRead, HasReadNothing, given_up}
 use Rattle.packet_source.specs.InHand.{InHand, whole_packets}
 use Rattle.packet_source.specs.Packets.{GoesOn, Stands, stream_length}
 use Rattle.packet_source.proofs.GaveLaws.{Gave-whole_packets, bytes_of, length-whole_packets}
 
--- the bytes behind the last whole packet were moved to the front
-moved_rest : (room after : List ℕ) (start filled : ℕ) → after ≡ copy_within room start filled 0 → start ≤ filled → filled ≤ length room → take (filled - start) after ≡ drop start (take filled room)
-moved_rest room after start filled moved below fits =
-    let same : filled - start ≡ 0 + (filled - start) = omega arith in
-    let whole : start + (filled - start) ≡ filled = omega arith in
-    ap (λ (l : List ℕ). take (filled - start) l) moved ∙ (ap (λ (k : ℕ). take k (paste room 0 (drop start room) (filled - start))) same
-    ∙ (take-paste room 0 (drop start room) (filled - start) (omega arith) (omega (arith, length-drop start room))
-    ∙ (sym (drop-take start (filled - start) room) ∙ ap (λ (k : ℕ). drop start (take k room)) whole)))
+-- the bytes behind the last whole packet were moved to that place
+moved_rest : (room after : List ℕ) (rest filled place : ℕ) → after ≡ copy_within room rest filled place → rest ≤ filled → filled ≤ length room → place ≤ length room
+    → take (filled - rest) (drop place after) ≡ take (filled - rest) (drop rest room)
+moved_rest room after rest filled place moved below fits there =
+    let n : ℕ = filled - rest in
+    let front : length (take place room) ≡ place = length-take-le place room there in
+    sym (drop-take place n after)
+    ∙ ap (λ (l : List ℕ). drop place (take (place + n) l)) moved
+    ∙ ap (λ (l : List ℕ). drop place l) (take-paste room place (drop rest room) n there (omega (arith, length-drop rest room)))
+    ∙ ap (λ (k : ℕ). drop k (take place room ++ take n (drop rest room))) (sym front)
+    ∙ drop-append_seam (take place room) (take n (drop rest room))
 
--- the bytes in hand at the front of a room
-abbrev pub in_room : ℕ → ℕ → List ℕ → InHand
-in_room first filled room = record { first = first; bytes = take filled room }
+-- the bytes in hand in a room
+abbrev pub in_room : ℕ → ℕ → ℕ → List ℕ → InHand
+in_room first start filled room = record { first = first; bytes = take (filled - start) (drop start room) }
 
--- the bytes behind the packets in hand were moved to the front, and the packets counted
-pub given_up-moved : (first filled : ℕ) (room after : List ℕ) (hand : InHand) → after ≡ copy_within room (filled / 188 * 188) filled 0 → filled ≤ length room
-    → in_room first filled room ≡ hand → in_room (first + filled / 188) (filled - filled / 188 * 188) after ≡ given_up hand
-given_up-moved first filled room after hand moved fits here =
-    subst (λ (n : ℕ). in_room (first + filled / 188) (filled - filled / 188 * 188) after ≡ in_room_after n)
-    (sym (length-take-le filled room fits))
-    (ap (λ (rest : List ℕ). hand_of (first + filled / 188) rest) (moved_rest room after (filled / 188 * 188) filled moved (omega arith) fits))
+hand_count : (start filled : ℕ) (room : List ℕ) → start ≤ filled → filled ≤ length room → length (take (filled - start) (drop start room)) ≡ filled - start
+hand_count start filled room below fits = length-take-le (filled - start) (drop start room) (omega (arith, length-drop start room))
+
+-- the packets in hand were given up
+pub given_up-moved : (first start filled front : ℕ) (room after : List ℕ) (hand : InHand) → start ≤ filled → filled ≤ length room → 188 ≤ front → front ≤ length room
+    → after ≡ copy_within room (start + (filled - start) / 188 * 188) filled (front - (filled - (start + (filled - start) / 188 * 188)))
+    → in_room first start filled room ≡ hand
+    → in_room (first + (filled - start) / 188) (front - (filled - (start + (filled - start) / 188 * 188))) front after ≡ given_up hand
+given_up-moved first start filled front room after hand below fits low high moved here =
+    let count : ℕ = (filled - start) / 188 in
+    let rest : ℕ = start + count * 188 in
+    let place : ℕ = front - (filled - rest) in
+    let kept : front - place ≡ filled - rest = omega arith in
+    let long : filled - start ≡ count * 188 + (filled - rest) = omega arith in
+    let left : take (front - place) (drop place after) ≡ drop (count * 188) (take (filled - start) (drop start room)) =
+    ap (λ (n : ℕ). take n (drop place after)) kept
+    ∙ moved_rest room after rest filled place moved (omega arith) fits (omega arith)
+    ∙ ap (λ (l : List ℕ). take (filled - rest) l) (sym (drop-drop (count * 188) start room))
+    ∙ sym (drop-take (count * 188) (filled - rest) (drop start room))
+    ∙ ap (λ (n : ℕ). drop (count * 188) (take n (drop start room))) (sym long) in
+    ap (hand_of (first + count)) left
+    ∙ ap (λ (n : ℕ). hand_of (first + n / 188) (drop (n / 188 * 188) (take (filled - start) (drop start room)))) (sym (hand_count start filled room below fits))
     ∙ ap given_up here
   where
     hand_of : ℕ → List ℕ → InHand
     hand_of n bytes = record { first = n; bytes = bytes }
 
-    in_room_after : ℕ → InHand
-    in_room_after n = hand_of (first + n / 188) (drop (n / 188 * 188) (take filled room))
-
 -- a room that is filled up with as many bytes as it has
 pub refilled : (size : ℕ) (bytes room : List ℕ) → length bytes ≡ size → take size (bytes ++ drop (length bytes) room) ≡ bytes
 refilled size bytes room full = ap (λ (n : ℕ). take n (bytes ++ drop (length bytes) room)) (sym full) ∙ take-append_seam bytes (drop (length bytes) room)
 
+longer : (start kept count : ℕ) → start ≤ kept → kept + count - start ≡ kept - start + count
+longer start kept count below = omega arith
+
+hand_front : (start kept : ℕ) (bytes : List ℕ) → start ≤ kept → take (kept - start) (drop start bytes) ≡ drop start (take kept bytes)
+hand_front start kept bytes below =
+    let whole : start + (kept - start) ≡ kept = omega arith in
+    sym (drop-take start (kept - start) bytes) ∙ ap (λ (k : ℕ). drop start (take k bytes)) whole
+
+-- the bytes in hand are the same where those up to their end are
+same_hand : (start kept : ℕ) (room after : List ℕ) → take kept after ≡ take kept room → start ≤ kept → take (kept - start) (drop start after) ≡ take (kept - start) (drop start room)
+same_hand start kept room after front below = hand_front start kept after below ∙ ap (λ (l : List ℕ). drop start l) front ∙ sym (hand_front start kept room below)
+
+-- a failed read leaves the bytes in hand
+pub hand_kept : (first start kept : ℕ) (room after now : List ℕ) (hand : InHand) → now ≡ after → in_room first start kept room ≡ hand → take kept after ≡ take kept room → start ≤ kept → in_room first start kept now ≡ hand
+hand_kept first start kept room after now hand now_is here front below = ap (λ (l : List ℕ). in_room first start kept l) now_is ∙ ap with (same_hand start kept room after front below) ∙ here
+  where
+    with : List ℕ → InHand
+    with bytes = record { first = first; bytes = bytes }
+
+pub on_err : {A E : Type 0} (result : Result A E) (P : Type 0) → P → OnErr result P
+on_err (Ok value) P p = tt
+on_err (Err fault) P p = p
+
 -- bytes were read behind those in hand
-pub HasRead-behind : (was is : Supplied) (first kept count : ℕ) (room after now : List ℕ) (hand : InHand) → now ≡ after → in_room first kept room ≡ hand → take kept after ≡ take kept room
+pub HasRead-behind : (was is : Supplied) (first start kept count : ℕ) (room after now : List ℕ) (hand : InHand) → now ≡ after → in_room first start kept room ≡ hand → take kept after ≡ take kept room → start ≤ kept
     → IsPrefixLen count (drop kept after) → Consumes was.left is.left (take count (drop kept after)) → is.given ≡ counted was.given count → (0 < length (drop kept after) → count ≡ 0 → IsAtEnd is.left) → kept < length after
-    → HasRead was is hand (in_room first (kept + count) now) count
-HasRead-behind was is first kept count room after now hand now_is here front bound bytes given end fits = record {
+    → HasRead was is hand (in_room first start (kept + count) now) count
+HasRead-behind was is first start kept count room after now hand now_is here front below bound bytes given end fits = record {
   more = take count (drop kept after);
   count_is = bound.1;
   hand = hand_is;
@@ -66,8 +105,18 @@ HasRead-behind was is first kept count room after now hand now_is here front bou
     more_than : InHand → InHand
     more_than old = record { first = old.first; bytes = old.bytes ++ take count (drop kept after) }
 
-    hand_is : in_room first (kept + count) now ≡ more_than hand
-    hand_is = ap with (ap (λ (l : List ℕ). take (kept + count) l) now_is ∙ (take-add kept count after ∙ ap (λ (l : List ℕ). l ++ take count (drop kept after)) front)) ∙ ap more_than here
+    whole : kept ≡ start + (kept - start)
+    whole = omega arith
+
+    hand_is : in_room first start (kept + count) now ≡ more_than hand
+    hand_is =
+        ap with
+        (ap (λ (l : List ℕ). take (kept + count - start) (drop start l)) now_is
+        ∙ ap (λ (k : ℕ). take k (drop start after)) (longer start kept count below)
+        ∙ take-add (kept - start) count (drop start after)
+        ∙ ap₂ (λ (l k : List ℕ). l ++ take count k) (same_hand start kept room after front below)
+        (drop-drop (kept - start) start after ∙ ap (λ (k : ℕ). drop k after) (sym whole)))
+        ∙ ap more_than here
 
 -- the packets in hand were given up
 Stands-given_up : (before now : Supplied) (hand : InHand) (packets : List (List ℕ)) → Stands before now hand packets → Stands before now (given_up hand) (packets ++ whole_packets hand.bytes)

@@ -1,3 +1,3 @@
 pub mod InHand
 pub mod Packets
-pub mod Filling
+pub mod Private

@@ -29,8 +29,8 @@ pub record Stands (before now : Supplied) (hand : InHand) (packets : List (List 
   pub count : length packets ≡ hand.first
   pub gave : Gave before now packets hand.bytes
 
--- whichever packets came before the old bytes in hand: before the new ones came these, and then the whole packets of the old
--- bytes
+-- whichever packets came before the old bytes in hand: before the new ones came these, and then the whole packets of
+-- the old bytes
 abbrev pub GoesOn : Supplied → Supplied → InHand → InHand → Type 0
 GoesOn was is old new = (before : Supplied) (packets : List (List ℕ)) → Stands before was old packets
     → Stands before is new (packets ++ whole_packets old.bytes)

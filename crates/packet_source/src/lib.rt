@@ -1,5 +1,5 @@
-//! Reading the transport packets of a stream: whole packets of 188 bytes from a source, up to the stream's end or to the
-//! limit of its bytes.
+//! Reading the transport packets of a stream: whole packets of 188 bytes from a source, up to the
+//! stream's end or to the limit of its bytes.
 #![tactic(auto)]
 
 // How long a stream may be, and how it ends.

@@ -7,8 +7,8 @@ use std::test::Fail;
 use stream_syntax::PACKET_LENGTH;
 use sub_base::MemSource;
 
-/// A stream of so many bytes, given at most so many a read, with a read that fails, where it is not 0; and what comes of
-/// it: how many packets, how many failures, and how the stream ends.
+/// A stream of so many bytes, given at most so many a read, with a read that fails, where it is not
+/// 0; and what comes of it: how many packets, how many failures, and how the stream ends.
 #[derive(Clone, Copy)]
 struct Row {
     size: usize,
@@ -19,7 +19,8 @@ struct Row {
     cut: u64,
 }
 
-/// Bytes that count from 0 to 250 again and again, so that each packet of a stream begins with another one.
+/// Bytes that count from 0 to 250 again and again, so that each packet of a stream begins with
+/// another one.
 fn counting_bytes(alloc: Global, size: usize) -> Result<Vec<u8>, Fail> {
     let mut bytes = Vec::new(alloc);
     for place in 0..size {

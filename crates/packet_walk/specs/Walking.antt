@@ -14,7 +14,8 @@ use Rattle.packet_walk.specs.declared.walk.WalkEnd.{WalkEnd}
 use Rattle.packet_walk.specs.declared.walk.WalkEnd.TheVariants as end
 
 -- the source gave these packets and the rest, and a text that is told of the packets was put out
-pub record IsTold (Told : List (List ℕ) → List ℕ → Type 0) (pid : ℕ) (before now : Supplied) (start out : Received)
+pub record IsTold (Told : List (List ℕ) → List ℕ → Type 0) (pid : ℕ) (before now : Supplied)
+    (start out : Received)
     (buffer : Buffered) (packets : List (List ℕ)) (rest : List ℕ) : Type 0 where
   pub taken : AreTaken pid before now packets rest
   pub text : List ℕ
@@ -22,7 +23,9 @@ pub record IsTold (Told : List (List ℕ) → List ℕ → Type 0) (pid : ℕ) (
   pub put_out : IsPutOut start out buffer text
 
 -- how the walk ended, and what was told of the packets that were taken
-abbrev pub IsEnd : (List (List ℕ) → List ℕ → Type 0) → ℕ → Supplied → Supplied → Received → Received → Buffered → WalkEnd → Type 0
+abbrev pub IsEnd : (List (List ℕ) → List ℕ → Type 0) → ℕ → Supplied → Supplied → Received
+    → Received → Buffered
+    → WalkEnd → Type 0
 IsEnd Told pid before now start out buffer (end.Stream (stream.Whole cut)) =
     (packets : List (List ℕ)) × (rest : List ℕ) × IsTold Told pid before now start out buffer packets rest
     × IsWithin packets rest × (length rest < PACKET_LENGTH) × (cut ≡ length rest) × IsAtEnd now.left
@@ -35,7 +38,8 @@ IsEnd Told pid before now start out buffer (end.Stream stream.TooLong) =
 IsEnd Told pid before now start out buffer (end.Refused refused) =
     (packets : List (List ℕ)) × (packet : List ℕ) × (rest : List ℕ)
     × IsTold Told pid before now start out buffer packets (packet ++ rest) × IsWithin packets (packet ++ rest)
-    × (length packet ≡ PACKET_LENGTH) × (refused.packet ≡ length packets) × (packet_fault pid packet ≡ Some refused.fault)
+    × (length packet ≡ PACKET_LENGTH) × (refused.packet ≡ length packets)
+    × (packet_fault pid packet ≡ Some refused.fault)
 IsEnd Told pid before now start out buffer end.Unwritten =
     (packets : List (List ℕ)) × (rest : List ℕ) × IsTold Told pid before now start out buffer packets rest
     × IsWithin packets rest × (buffer.failed ≡ true)

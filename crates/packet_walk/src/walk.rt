@@ -85,7 +85,8 @@ fn take_packets<T: PacketTeller, K: Sink>(
         teller.old teller.new buffer.old buffer.new first packets.now) }
     ensures refused { IfErr result (λ refused.
         (k : ℕ) × (k < length packets.now) × (refused.packet ≡ first + k)
-        × (packet_fault (T.pid teller.old) (slice_index_or packets.now k []) ≡ Some refused.fault)
+        × (packet_fault (T.pid teller.old) (slice_index_or packets.now k [])
+        ≡ Some refused.fault)
         × Tells T.stands (T.pid teller.old)
         (K.received out.old)
         (K.received out.new)

@@ -13,7 +13,7 @@ use Rattle.stream_syntax.specs.declared.map_table.MapTable.{MapTable}
 use Rattle.stream_syntax.specs.declared.map_table.MapTable.TheVariants.{TwoToFour, TwoToEight, FourToEight}
 use Rattle.stream_syntax.specs.declared.pixel_run.Run.{Run}
 use Rattle.pixel_codes.proofs.Steps.{colour_below}
-use Rattle.page_core.specs.Painted.{HaveCodes}
+use Rattle.page_core.specs.Private.Painted.{HaveCodes}
 
 -- each number of a list is a byte; a number past its end reads as 0
 abbrev pub AreBytes : List ℕ → Type 0

@@ -20,7 +20,7 @@ use Rattle.decoder_model.specs.Pixels.{bottom_parts}
 use Rattle.decoder_model.specs.Readings.{Content}
 use Rattle.decoder_model.specs.declared.set_fault.SetFault.TheVariants as fault
 use Rattle.pixel_codes.proofs.Bits.{length-bits_of}
-use Rattle.page_core.specs.Painted.{IsCheckedBlock, AreChecked}
+use Rattle.page_core.specs.Private.Painted.{IsCheckedBlock, AreChecked}
 
 part_here : (region : Depth) (part : Part) (bytes : List ℕ) → IsPart Eight part bytes → is_too_deep region part ≡ false → IsPart region part bytes
 part_here region (string depth codes) bytes h shallow =

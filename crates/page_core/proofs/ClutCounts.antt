@@ -6,12 +6,12 @@ use Rattle.stream_syntax.specs.Segments.{of_clut, Clut}
 use Rattle.decoder_model.specs.Contents.{clut_in as value_clut, clut_of, where_passes}
 use Rattle.decoder_model.specs.Nodes.{clut_ids, table_entries}
 use Rattle.decoder_model.specs.Readings.{Content}
-use Rattle.decoder_model.specs.Taken.{clut_version, is_taken, last_clut, taken_among}
-use Rattle.page_core.specs.ClutSteps.{Placed, placed_by, with_entries_of, with_segment, entries_placed}
+use Rattle.decoder_model.specs.Taken.{version_of_clut, is_taken, last_clut, taken_among}
+use Rattle.page_core.specs.Private.ClutSteps.{Placed, placed_by, with_entries_of, with_segment, entries_placed}
 use Rattle.page_core.specs.Composition.{Composition, clut_in}
-use Rattle.page_core.specs.Counting.{AreCounted, CountsMore, HasVersions, IsClutCounted, clut_need, new_or_none, of_taken}
+use Rattle.page_core.specs.Private.Counting.{AreCounted, CountsMore, HasVersions, IsClutCounted, clut_need, new_or_none, of_taken}
 use Rattle.page_core.specs.Handed.{AreContents}
-use Rattle.page_core.specs.Walks.{IsNextOf, is_clut}
+use Rattle.page_core.specs.Private.Walks.{IsNextOf, is_clut}
 use Rattle.page_core.specs.declared.marks.Mark.{Mark}
 use Rattle.page_core.proofs.ClutLaws.{clut_ids_with, taken_more, taken_same, version_by}
 use Rattle.page_core.proofs.ClutNodes.{version_of}
@@ -27,12 +27,12 @@ pub clut_not_counted : (earlier : List Content) (content : Content) (composition
 clut_not_counted earlier content composition versions marks held known counted =
     let same : taken_among earlier ≡ taken_among (content ∷ earlier) = sym (taken_same content earlier held) in
     record {
-      known = λ id byte. known id byte ∙ ap (λ (segments : List Content). clut_version (last_clut id segments)) same;
+      known = λ id byte. known id byte ∙ ap (λ (segments : List Content). version_of_clut (last_clut id segments)) same;
       counted = subst (λ (segments : List Content). AreCounted (placed_by segments) composition.set_entries marks) same counted;
       exact = ap clut_need (sym same) ∙ omega arith;
     }
 
-needs_one : (known : Option ℕ) (last : Option Clut) (ids : List ℕ) (id : ℕ) → known ≡ clut_version last → length (cond (is_some last) ids (id ∷ ids)) ≡ length ids + new_or_none known
+needs_one : (known : Option ℕ) (last : Option Clut) (ids : List ℕ) (id : ℕ) → known ≡ version_of_clut last → length (cond (is_some last) ids (id ∷ ids)) ≡ length ids + new_or_none known
 needs_one None None ids id is = omega arith
 needs_one (Some version) (Some last) ids id is = omega arith
 needs_one None (Some last) ids id is = absurd (cc)
@@ -40,12 +40,12 @@ needs_one (Some version) None ids id is = absurd (cc)
 
 -- by the taken segments
 record IsCountedBy (now taken : List Content) (composition : Composition) (versions : List (Option ℕ)) (marks : List Mark) (count : ℕ) : Type 0 where
-  known : (id : ℕ) → id < 256 → option_or (slice_index_or versions id None) (option_map version_of (clut_in composition id)) ≡ clut_version (last_clut id now)
+  known : (id : ℕ) → id < 256 → option_or (slice_index_or versions id None) (option_map version_of (clut_in composition id)) ≡ version_of_clut (last_clut id now)
   counted : AreCounted (placed_by now) composition.set_entries marks
   exact : clut_need now ≡ clut_need taken + count
 
 pub clut_counted : (earlier : List Content) (content : Content) (clut : Clut) (composition : Composition) (versions new_versions : List (Option ℕ)) (marks new_marks : List Mark) (known : Option ℕ) (entries count : ℕ) → of_clut clut ≡ content.value
-    → is_taken earlier content.value ≡ true → known ≡ clut_version (last_clut clut.clut (taken_among earlier)) → HasVersions earlier composition versions
+    → is_taken earlier content.value ≡ true → known ≡ version_of_clut (last_clut clut.clut (taken_among earlier)) → HasVersions earlier composition versions
     → ((other : ℕ) → other < 256 → slice_index_or new_versions other None ≡ cond (clut.clut == other) (Some clut.version) (slice_index_or versions other None))
     → AreCounted (placed_by (taken_among earlier)) composition.set_entries marks → CountsMore (with_entries_of clut.clut clut.entries) marks new_marks entries → clut_need (taken_among (content ∷ earlier)) < 2 ^ 63
     → count ≡ min (new_or_none known + entries) 18446744073709551615 → IsClutCounted earlier content composition new_versions new_marks count
@@ -64,7 +64,7 @@ clut_counted earlier content clut composition versions new_versions marks new_ma
       known = λ id byte.
           ap (λ (o : Option ℕ). option_or o (option_map version_of (clut_in composition id))) (set id byte)
           ∙ first (clut.clut == id) (slice_index_or versions id None) (option_map version_of (clut_in composition id))
-          ∙ ap (cond (clut.clut == id) (Some clut.version)) (has id byte) ∙ version_by clut id (last_clut id taken) ∙ ap clut_version (sym (named id));
+          ∙ ap (cond (clut.clut == id) (Some clut.version)) (has id byte) ∙ version_by clut id (last_clut id taken) ∙ ap version_of_clut (sym (named id));
       counted = subst (λ (ps : List Placed). AreCounted ps composition.set_entries new_marks) (sym placed) step.0;
       exact = total (length (clut_ids (of_taken (content ∷ taken)))) (length (clut_ids (of_taken taken))) (new_or_none known) (length (table_entries (of_taken (content ∷ taken)))) (length (table_entries (of_taken taken))) entries count ids
           (sym now ∙ step.1 ∙ ap (λ n. n + entries) (placed_count taken)) need sum;

@@ -11,9 +11,9 @@ use Rattle.stream_syntax.specs.Segments.{SegmentValue, of_page, of_region, of_cl
 use Rattle.decoder_model.specs.Contents.{clut_in as value_clut, clut_named, clut_of, where_passes}
 use Rattle.decoder_model.specs.Nodes.{clut_id, clut_ids, is_same, table_entries}
 use Rattle.decoder_model.specs.Readings.{Content}
-use Rattle.decoder_model.specs.Taken.{clut_version, has_new_version, is_taken, last_clut, taken_among, taken_of}
+use Rattle.decoder_model.specs.Taken.{version_of_clut, has_new_version, is_taken, last_clut, taken_among, taken_of}
 use Rattle.sub_base.specs.declared.colour.Colour.{Colour}
-use Rattle.page_core.specs.ClutSteps.{AreSetBy, HasColours, HasRoomFor, IsKeptBeside, IsKeptBut, SetsMore, entries_placed, placed_by, with_clut, with_cluts, with_entries_of, with_segment, with_version}
+use Rattle.page_core.specs.Private.ClutSteps.{AreSetBy, HasColours, HasRoomFor, IsKeptBeside, IsKeptBut, SetsMore, entries_placed, placed_by, with_clut, with_cluts, with_entries_of, with_segment, with_version}
 use Rattle.page_core.specs.Composition.{Composition, KeptClut, clut_in}
 use Rattle.page_core.proofs.ClutNodes.{is_of_id, version_of}
 use Rattle.page_core.proofs.ColourSteps.{more_in_entries, no_more_placed}
@@ -37,10 +37,10 @@ chosen id v clut false is found = absurd (cc)
 
 -- a CLUT segment that is not taken has the version of the last one before it
 held_version : (id : ℕ) (earlier : List Content) (value : SegmentValue) (clut : Clut) → is_taken earlier value ≡ false → where_passes (λ c. c.clut == id) (value_clut value) ≡ Some clut
-    → clut_version (last_clut id earlier) ≡ Some clut.version
+    → version_of_clut (last_clut id earlier) ≡ Some clut.version
 held_version id earlier (of_clut v) clut held found =
     let both = chosen id v clut (v.clut == id) refl found in
-    ap (λ n. clut_version (last_clut n earlier)) (sym both.0) ∙ not_new v.version (clut_version (last_clut v.clut earlier)) held ∙ ap (λ (c : Clut). Some c.version) both.1
+    ap (λ n. version_of_clut (last_clut n earlier)) (sym both.0) ∙ not_new v.version (version_of_clut (last_clut v.clut earlier)) held ∙ ap (λ (c : Clut). Some c.version) both.1
 held_version id earlier (of_page v) clut held found = absurd (cc)
 held_version id earlier (of_region v) clut held found = absurd (cc)
 held_version id earlier (of_object v) clut held found = absurd (cc)
@@ -49,23 +49,23 @@ held_version id earlier end_of_set clut held found = absurd (cc)
 held_version id earlier passed_over clut held found = absurd (cc)
 
 -- the last version of a CLUT is that of its last taken segment
-pub clut_version_of_taken : (id : ℕ) (segments : List Content) → clut_version (last_clut id (taken_of segments).segments) ≡ clut_version (last_clut id segments)
+pub clut_version_of_taken : (id : ℕ) (segments : List Content) → version_of_clut (last_clut id (taken_of segments).segments) ≡ version_of_clut (last_clut id segments)
 unfolding taken_among
 clut_version_of_taken id [] = refl
 clut_version_of_taken id (segment ∷ earlier) =
-    ap clut_version (given_by (clut_named id) segment (taken_among earlier) (is_taken earlier segment.value))
+    ap version_of_clut (given_by (clut_named id) segment (taken_among earlier) (is_taken earlier segment.value))
     ∙ one_more (clut_named id segment) (is_taken earlier segment.value) (last_clut id (taken_among earlier)) (last_clut id earlier) (clut_version_of_taken id earlier)
     (λ held clut found. held_version id earlier segment.value clut held found)
   where
-    one_more : (named : Option Clut) (taken : Bool) (kept rest : Option Clut) → clut_version kept ≡ clut_version rest → (taken ≡ false → (clut : Clut) → named ≡ Some clut → clut_version rest ≡ Some clut.version)
-        → clut_version (cond taken (option_or named kept) kept) ≡ clut_version (option_or named rest)
+    one_more : (named : Option Clut) (taken : Bool) (kept rest : Option Clut) → version_of_clut kept ≡ version_of_clut rest → (taken ≡ false → (clut : Clut) → named ≡ Some clut → version_of_clut rest ≡ Some clut.version)
+        → version_of_clut (cond taken (option_or named kept) kept) ≡ version_of_clut (option_or named rest)
     one_more None true kept rest same held = same
     one_more None false kept rest same held = same
     one_more (Some clut) true kept rest same held = refl
     one_more (Some clut) false kept rest same held = same ∙ held refl clut refl
 
 -- a CLUT segment is taken, by the version that is known
-pub clut_taken_by : (earlier : List Content) (content : Content) (clut : Clut) (known : Option ℕ) → of_clut clut ≡ content.value → known ≡ clut_version (last_clut clut.clut (taken_of earlier).segments)
+pub clut_taken_by : (earlier : List Content) (content : Content) (clut : Clut) (known : Option ℕ) → of_clut clut ≡ content.value → known ≡ version_of_clut (last_clut clut.clut (taken_of earlier).segments)
     → is_taken earlier content.value ≡ has_new_version clut.version known
 clut_taken_by earlier content clut known is by_known =
     ap (is_taken earlier) (sym is) ∙ ap (has_new_version clut.version) (sym (clut_version_of_taken clut.clut earlier) ∙ sym by_known)
@@ -105,7 +105,7 @@ clut_ids_with content clut segments is =
 
 -- ---- with a version
 
-version_some : (o : Option KeptClut) (last : Option Clut) → option_map version_of o ≡ clut_version last → is_some o ≡ is_some last
+version_some : (o : Option KeptClut) (last : Option Clut) → option_map version_of o ≡ version_of_clut last → is_some o ≡ is_some last
 version_some None None is = refl
 version_some (Some kept) (Some last) is = refl
 version_some None (Some last) is = absurd (cc)
@@ -206,7 +206,7 @@ colours_held earlier content composition inks held has =
     let same : taken_among earlier ≡ taken_among (content ∷ earlier) = sym (taken_same content earlier held) in
     record {
       clut_ids = has.clut_ids ∙ ap (λ (segments : List Content). reverse (clut_ids (record { segments = segments }))) same;
-      versions = λ id. has.versions id ∙ ap (λ (segments : List Content). clut_version (last_clut id segments)) same;
+      versions = λ id. has.versions id ∙ ap (λ (segments : List Content). version_of_clut (last_clut id segments)) same;
       set = subst (λ (segments : List Content). AreSetBy (placed_by segments) composition.set_entries inks) same has.set;
     }
 
@@ -215,20 +215,20 @@ colours_held earlier content composition inks held has =
 -- what there is with its CLUT, and before its entries
 record HasClut (content : Content) (taken : List Content) (old mid : Composition) : Type 0 where
   clut_ids : map (λ (kept : KeptClut). kept.clut) mid.cluts ≡ reverse (clut_ids (record { segments = content ∷ taken }))
-  versions : (id : ℕ) → option_map version_of (clut_in mid id) ≡ clut_version (last_clut id (content ∷ taken))
+  versions : (id : ℕ) → option_map version_of (clut_in mid id) ≡ version_of_clut (last_clut id (content ∷ taken))
   set : mid.set_entries ≡ old.set_entries
   total : mid.free + length mid.cluts ≡ old.free + length old.cluts
 
 -- CLUTs and colours, by the taken segments
 record HasTaken (taken : List Content) (composition : Composition) (inks : List Colour) : Type 0 where
   clut_ids : map (λ (kept : KeptClut). kept.clut) composition.cluts ≡ reverse (clut_ids (record { segments = taken }))
-  versions : (id : ℕ) → option_map version_of (clut_in composition id) ≡ clut_version (last_clut id taken)
+  versions : (id : ℕ) → option_map version_of (clut_in composition id) ≡ version_of_clut (last_clut id taken)
   set : AreSetBy (placed_by taken) composition.set_entries inks
 
-pub version_by : (clut : Clut) (asked : ℕ) (rest : Option Clut) → cond (clut.clut == asked) (Some clut.version) (clut_version rest) ≡ clut_version (option_or (cond (clut.clut == asked) (Some clut) None) rest)
+pub version_by : (clut : Clut) (asked : ℕ) (rest : Option Clut) → cond (clut.clut == asked) (Some clut.version) (version_of_clut rest) ≡ version_of_clut (option_or (cond (clut.clut == asked) (Some clut) None) rest)
 version_by clut asked rest = by (clut.clut == asked)
   where
-    by : (hit : Bool) → cond hit (Some clut.version) (clut_version rest) ≡ clut_version (option_or (cond hit (Some clut) None) rest)
+    by : (hit : Bool) → cond hit (Some clut.version) (version_of_clut rest) ≡ version_of_clut (option_or (cond hit (Some clut) None) rest)
     by true = refl
     by false = refl
 
@@ -256,7 +256,7 @@ module _ (earlier : List Content) (content : Content) (clut : Clut) (old mid : C
         ∙ ap (λ b. cond b (clut_ids (record { segments = taken_among earlier })) (clut.clut ∷ clut_ids (record { segments = taken_among earlier }))) (sym known_is ∙ some)));
     versions = λ asked.
         ap (λ (c : Composition). option_map version_of (clut_in c asked)) same ∙ found_with_version clut.clut clut.version asked old.cluts some
-        ∙ ap (cond (clut.clut == asked) (Some clut.version)) (has.versions asked) ∙ version_by clut asked (last_clut asked (taken_among earlier)) ∙ ap clut_version (sym (named_last asked));
+        ∙ ap (cond (clut.clut == asked) (Some clut.version)) (has.versions asked) ∙ version_by clut asked (last_clut asked (taken_among earlier)) ∙ ap version_of_clut (sym (named_last asked));
     set = ap (λ (c : Composition). c.set_entries) same;
     total = ap (λ (c : Composition). c.free + length c.cluts) same ∙ ap (λ n. old.free + n) (count_with_version clut.clut clut.version old.cluts);
   }
@@ -270,7 +270,7 @@ module _ (earlier : List Content) (content : Content) (clut : Clut) (old mid : C
         ∙ ap (λ b. cond b (clut_ids (record { segments = taken_among earlier })) (clut.clut ∷ clut_ids (record { segments = taken_among earlier }))) (sym known_is ∙ none)));
     versions = λ asked.
         ap (λ (c : Composition). option_map version_of (clut_in c asked)) same ∙ found_with_more clut.clut clut.version asked old.cluts none
-        ∙ ap (cond (clut.clut == asked) (Some clut.version)) (has.versions asked) ∙ version_by clut asked (last_clut asked (taken_among earlier)) ∙ ap clut_version (sym (named_last asked));
+        ∙ ap (cond (clut.clut == asked) (Some clut.version)) (has.versions asked) ∙ version_by clut asked (last_clut asked (taken_among earlier)) ∙ ap version_of_clut (sym (named_last asked));
     set = ap (λ (c : Composition). c.set_entries) same;
     total = ap (λ (c : Composition). c.free + length c.cluts) same ∙ omega (arith, room, length-append old.cluts (record { clut = clut.clut; version = clut.version } ∷ []));
   }

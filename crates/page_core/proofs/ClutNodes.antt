@@ -13,10 +13,10 @@ use Rattle.comp_pool.specs.Pool.{PoolOf, list_of, nodes_of, IsInList, NoneTwice,
 use Rattle.comp_pool.proofs.ItemLaws.{in_list_from_item, list_after_push, list_beside_push, list_count_after_push, list_after_set}
 use Rattle.comp_pool.proofs.NodeLaws.{one_item}
 use Rattle.comp_pool.proofs.PairLaws.{AtOne, off_before, off_after, pair_node, replaced_split}
-use Rattle.page_core.specs.ClutSteps.{IsPushed, IsVersionOf, with_clut, with_cluts, with_colour, with_version}
+use Rattle.page_core.specs.Private.ClutSteps.{IsPushed, IsVersionOf, with_clut, with_cluts, with_colour, with_version}
 use Rattle.page_core.specs.Composition.{Composition, KeptClut, clut_in}
-use Rattle.page_core.specs.Lists.{KeepsBeside}
-use Rattle.page_core.specs.Nodes.{AreKind, IsIndexed, IsSorted, clut_node, colour_in, composition_of, entry_in, is_clut_of, is_region_of, kept_in, listing_in, listings_list, node_of, place_kept, region_node}
+use Rattle.page_core.specs.Private.Lists.{KeepsBeside}
+use Rattle.page_core.specs.Private.Nodes.{AreKind, IsIndexed, IsSorted, clut_node, colour_in, composition_of, entry_in, is_clut_of, is_region_of, kept_in, listing_in, listings_list, node_of, place_kept, region_node}
 use Rattle.page_core.specs.declared.node.Node.{Node}
 use Rattle.page_core.specs.declared.node.Node.TheVariants as node
 use Rattle.page_core.specs.declared.node.TablePlace.{TablePlace}

@@ -15,11 +15,11 @@ use Rattle.decoder_model.specs.Pixels.{pixel_of}
 use Rattle.decoder_model.specs.Readings.{Content}
 use Rattle.decoder_model.specs.Taken.{is_taken, last_clut, last_display, last_region, taken_among}
 use Rattle.pixel_store.specs.Regions.{Regions, code_of, region_at}
-use Rattle.page_core.specs.ClutSteps.{HasColours, HasRoomFor, HasRoomForCluts, IsKeptBeside}
+use Rattle.page_core.specs.Private.ClutSteps.{HasColours, HasRoomFor, HasRoomForCluts, IsKeptBeside}
 use Rattle.page_core.specs.Composition.{Composition, KeptRegion, region_in}
 use Rattle.page_core.specs.Handed.{AreContents}
 use Rattle.page_core.specs.Memory.{Memory, Holds, code_in, head_of, kept_listing}
-use Rattle.page_core.specs.Walks.{IsNextOf, is_clut}
+use Rattle.page_core.specs.Private.Walks.{IsNextOf, is_clut}
 use Rattle.page_core.proofs.ClutLaws.{clut_ids_with, taken_more, taken_same}
 use Rattle.page_core.proofs.DifferentItems.{more_behind}
 use Rattle.page_core.proofs.MarkTables.{same_entry, same_itself}

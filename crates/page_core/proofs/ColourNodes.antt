@@ -7,8 +7,8 @@ use Rattle.std.proofs.lemmas.List.Elements.{All-head, All-tail}
 use Rattle.comp_pool.specs.declared.node.NodeId.{NodeId}
 use Rattle.comp_pool.specs.Pool.{PoolOf, list_of}
 use Rattle.page_core.specs.Composition.{Composition, without_colour}
-use Rattle.page_core.specs.Lists.{IsPopped}
-use Rattle.page_core.specs.Nodes.{kept_in, AreKind, IsPoppedAs, IsSorted, IsIndexed, composition_of, region_kept, region_node, entry_in, clut_node, colour_in, listing_in, listings_list, place_kept, is_region_of, is_clut_of, node_of}
+use Rattle.page_core.specs.Private.Lists.{IsPopped}
+use Rattle.page_core.specs.Private.Nodes.{kept_in, AreKind, IsPoppedAs, IsSorted, IsIndexed, composition_of, region_kept, region_node, entry_in, clut_node, colour_in, listing_in, listings_list, place_kept, is_region_of, is_clut_of, node_of}
 use Rattle.page_core.specs.declared.node.Node.{Node}
 use Rattle.page_core.specs.declared.node.RegionNode.{RegionNode}
 use Rattle.page_core.specs.declared.node.TablePlace.{TablePlace}

@@ -17,12 +17,12 @@ use Rattle.sub_base.specs.declared.depth.Depth.TheVariants.{Two, Four, Eight}
 use Rattle.stream_syntax.specs.declared.clut.ClutEntry.{ClutEntry}
 use Rattle.decoder_model.specs.Ink.{is_in_table}
 use Rattle.decoder_model.specs.Nodes.{TableEntry, is_same_entry}
-use Rattle.page_core.specs.ClutSteps.{AreColoured, AreSetBy, IsKeptBut, Placed, SetsMore, colour_at, entries_placed, entry_of, in_depth, in_depths, with_colour, with_entries_of, with_place, with_set}
+use Rattle.page_core.specs.Private.ClutSteps.{AreColoured, AreSetBy, IsKeptBut, Placed, SetsMore, colour_at, entries_placed, entry_of, in_depth, in_depths, with_colour, with_entries_of, with_place, with_set}
 use Rattle.page_core.specs.Composition.{Composition}
-use Rattle.page_core.specs.Inks.{ink_count}
-use Rattle.page_core.specs.Marks.{AreMarked}
+use Rattle.page_core.specs.Private.Inks.{ink_count}
+use Rattle.page_core.specs.Private.Marks.{AreMarked}
 use Rattle.page_core.specs.Memory.{AreInks, IsInTable, ink_place}
-use Rattle.page_core.specs.Nodes.{place_kept}
+use Rattle.page_core.specs.Private.Nodes.{place_kept}
 use Rattle.page_core.specs.declared.marks.Mark.{Mark}
 use Rattle.page_core.specs.declared.marks.Mark.TheVariants.{Set}
 use Rattle.page_core.specs.declared.node.TablePlace.{TablePlace}

@@ -6,16 +6,16 @@ use Rattle.decoder_model.specs.Contents.{page_in_set}
 use Rattle.decoder_model.specs.Nodes.{nodes_of}
 use Rattle.decoder_model.specs.Readings.{Content}
 use Rattle.decoder_model.specs.Taken.{segments_of, taken_among, taken_of}
-use Rattle.page_core.specs.Accepted.{IsBefore}
-use Rattle.page_core.specs.ClutSteps.{placed_by}
-use Rattle.page_core.specs.Counting.{AreCounted, AreKept, HasRegionNeed, HasVersions, clut_need, kept_need, region_need}
+use Rattle.page_core.specs.Private.Accepted.{IsBefore}
+use Rattle.page_core.specs.Private.ClutSteps.{placed_by}
+use Rattle.page_core.specs.Private.Counting.{AreCounted, AreKept, HasRegionNeed, HasVersions, clut_need, kept_need, region_need}
 use Rattle.page_core.specs.Handed.{AreContents}
-use Rattle.page_core.specs.Inks.{ink_count}
-use Rattle.page_core.specs.Marks.{AreMarked}
+use Rattle.page_core.specs.Private.Inks.{ink_count}
+use Rattle.page_core.specs.Private.Marks.{AreMarked}
 use Rattle.page_core.specs.Memory.{IsWhole, Memory}
-use Rattle.page_core.specs.RegionTests.{AreApart, before_regions}
-use Rattle.page_core.specs.Sound.{IsSound}
-use Rattle.page_core.specs.Walks.{is_clut, is_region}
+use Rattle.page_core.specs.Private.RegionTests.{AreApart, before_regions}
+use Rattle.page_core.specs.Private.Sound.{IsSound}
+use Rattle.page_core.specs.Private.Walks.{is_clut, is_region}
 use Rattle.page_core.specs.declared.marks.Mark.{Mark}
 use Rattle.page_core.proofs.ClutSegments.{colours_of_holds}
 use Rattle.page_core.proofs.KeptCounts.{are_kept, cluts_counted, regions_counted}

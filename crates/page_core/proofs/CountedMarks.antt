@@ -11,9 +11,9 @@ use Rattle.sub_base.specs.declared.depth.Depth.TheVariants.{Two, Four, Eight}
 use Rattle.stream_syntax.specs.declared.clut.ClutEntry.{ClutEntry}
 use Rattle.decoder_model.specs.Ink.{is_in_table}
 use Rattle.decoder_model.specs.Nodes.{TableEntry, is_same_entry}
-use Rattle.page_core.specs.ClutSteps.{Placed, entries_placed, entry_of, in_depth, in_depths, with_entries_of, with_place}
-use Rattle.page_core.specs.Counting.{AreCounted, CountsMore}
-use Rattle.page_core.specs.Marks.{AreMarked, mark_for, uncounted}
+use Rattle.page_core.specs.Private.ClutSteps.{Placed, entries_placed, entry_of, in_depth, in_depths, with_entries_of, with_place}
+use Rattle.page_core.specs.Private.Counting.{AreCounted, CountsMore}
+use Rattle.page_core.specs.Private.Marks.{AreMarked, mark_for, uncounted}
 use Rattle.page_core.specs.Memory.{IsInTable, ink_place}
 use Rattle.page_core.specs.declared.marks.Mark.{Mark}
 use Rattle.page_core.specs.declared.marks.Mark.TheVariants.{Unset, Counted}

@@ -14,9 +14,9 @@ use Rattle.decoder_model.specs.Readings.{Content}
 use Rattle.decoder_model.specs.Taken.{last_region}
 use Rattle.page_core.specs.Composition.{Composition}
 use Rattle.page_core.specs.Composition.{region_in as kept_region}
-use Rattle.page_core.specs.Judging.{KnowsRegions}
-use Rattle.page_core.specs.Known.{IsRegionIn}
-use Rattle.page_core.specs.Seen.{defines}
+use Rattle.page_core.specs.Private.Judging.{KnowsRegions}
+use Rattle.page_core.specs.Private.Known.{IsRegionIn}
+use Rattle.page_core.specs.Private.Seen.{defines}
 use Rattle.page_core.specs.declared.node.RegionNode.{RegionNode}
 
 -- ---- a value is of one kind

@@ -11,8 +11,8 @@ use Rattle.decoder_model.specs.Contents.{page_in, display_in, display_of, displa
 use Rattle.decoder_model.specs.Faults.{display_fault, display_in_force, display_or_default}
 use Rattle.decoder_model.specs.Readings.{Content}
 use Rattle.decoder_model.specs.declared.set_fault.SetFault.TheVariants.{DisplayTooLarge}
-use Rattle.page_core.specs.Epochs.{HasOneDisplay}
-use Rattle.page_core.specs.RegionTests.{before_regions}
+use Rattle.page_core.specs.Private.Epochs.{HasOneDisplay}
+use Rattle.page_core.specs.Private.RegionTests.{before_regions}
 use Rattle.page_core.proofs.Defining.{any_reversed, any_of_none, some_given}
 use Rattle.page_core.proofs.Orders.{is_display, is_page, or_assoc}
 

@@ -16,18 +16,19 @@ use Rattle.sub_base.specs.declared.depth.Depth.TheVariants.{Two, Four, Eight}
 use Rattle.stream_syntax.specs.declared.display.Window.{Window}
 use Rattle.stream_syntax.specs.declared.page.PageEntry.{PageEntry}
 use Rattle.stream_syntax.specs.declared.region.RegionHead.{RegionHead}
-use Rattle.decoder_model.specs.Shown.{window_of, is_in_window, is_inside}
+use Rattle.decoder_model.specs.Shown.{window_of, is_in_window}
 use Rattle.pixel_store.specs.Codes.{code_in as code_in_byte}
 use Rattle.pixel_store.specs.Regions.{Region, Regions, region_at, code_of as code_in_region}
 use Rattle.page_core.specs.Coloured.{colour_of}
 use Rattle.page_core.specs.Composition.{Composition, KeptRegion, region_in}
 use Rattle.page_core.specs.Memory.{Memory, HasSides, IsWhole, ink_place, ink_in}
-use Rattle.page_core.specs.Painted.{HasRegion}
+use Rattle.page_core.specs.Private.Painted.{HasRegion}
 use Rattle.page_core.specs.Rows.{colour_through, colour_by_entry, colour_at, row_in, seen_in, IsDrawnOver, colour_by_region, AreColoursOf, IsDrawing, IsKeptAs, window_at}
-use Rattle.page_core.specs.Known.{IsNodeOf}
+use Rattle.page_core.specs.Private.Known.{IsNodeOf}
 use Rattle.page_core.specs.declared.rows.RowPlace.{RowPlace}
 use Rattle.page_core.proofs.Finds.{found_all}
 use Rattle.page_core.specs.declared.node.RegionNode.{RegionNode}
+use Rattle.sub_base.specs.Picture.{is_inside}
 
 -- ---- before any entry, after one more, after all
 

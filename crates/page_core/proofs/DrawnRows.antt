@@ -10,10 +10,11 @@ use Rattle.sub_base.specs.Colour.{clear}
 use Rattle.sub_base.specs.declared.colour.Colour.{Colour}
 use Rattle.stream_syntax.specs.declared.display.Window.{Window}
 use Rattle.stream_syntax.specs.declared.region.RegionHead.{RegionHead}
-use Rattle.decoder_model.specs.Shown.{is_in_window, is_inside}
+use Rattle.decoder_model.specs.Shown.{is_in_window}
 use Rattle.pixel_store.specs.Regions.{Region, code_of as code_at}
 use Rattle.page_core.specs.Coloured.{colour_of}
 use Rattle.page_core.specs.Rows.{seen_in, IsDrawnOver, colour_by_region, IsLineDrawn}
+use Rattle.sub_base.specs.Picture.{is_inside}
 
 -- ---- a part of a row
 

@@ -10,8 +10,8 @@ use Rattle.comp_pool.specs.Pool.{PoolOf, list_of, NoneTwice}
 use Rattle.comp_pool.specs.declared.node.NodeId.{NodeId}
 use Rattle.comp_pool.proofs.NodeLaws.{in_list_first, in_list_behind}
 use Rattle.comp_pool.proofs.WalkLaws.{walk_start, walk_step}
-use Rattle.page_core.specs.Entries.{entries_left, IsWalk}
-use Rattle.page_core.specs.Nodes.{kept_in, entry_in, IsSorted}
+use Rattle.page_core.specs.Private.Entries.{entries_left, IsWalk}
+use Rattle.page_core.specs.Private.Nodes.{kept_in, entry_in, IsSorted}
 use Rattle.page_core.specs.declared.node.Node.{Node}
 
 -- a walk begins at the first node

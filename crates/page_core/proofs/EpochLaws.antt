@@ -9,7 +9,7 @@ use Rattle.stream_syntax.specs.declared.page.State.TheVariants.{Normal, Acquisit
 use Rattle.decoder_model.specs.Contents.{has_state}
 use Rattle.decoder_model.specs.Kept.{epoch_of}
 use Rattle.decoder_model.specs.Readings.{Content}
-use Rattle.page_core.specs.Epochs.{HasOnePage}
+use Rattle.page_core.specs.Private.Epochs.{HasOnePage}
 
 -- the state of a set is that of its page
 state_is : (set : List Content) (page : Page) (state other : State) → HasOnePage set page → page.state ≡ state → has_state other set ≡ ((state_number state == state_number other) || false)

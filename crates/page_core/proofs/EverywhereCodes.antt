@@ -10,10 +10,10 @@ use Rattle.decoder_model.specs.Readings.{Content}
 use Rattle.decoder_model.specs.Taken.{Taken, taken_region, taken_of}
 use Rattle.pixel_store.specs.Regions.{Regions, region_at, code_of}
 use Rattle.page_core.specs.Composition.{Composition, KeptRegion, region_in}
-use Rattle.page_core.specs.Everywhere.{AreKeptWritten, painted_kept, with_all_painted}
-use Rattle.page_core.specs.Listings.{IsPainter, code_by_kept, painted_listing}
+use Rattle.page_core.specs.Private.Everywhere.{AreKeptWritten, painted_kept, with_all_painted}
+use Rattle.page_core.specs.Private.Listings.{IsPainter, code_by_kept, painted_listing}
 use Rattle.page_core.specs.Memory.{Memory, IsWhole, Holds, HasSides, kept_listing, head_of}
-use Rattle.page_core.specs.Painted.{field_runs}
+use Rattle.page_core.specs.Private.Painted.{field_runs}
 use Rattle.page_core.specs.declared.composition.listings.Painter.{Painter}
 use Rattle.page_core.proofs.EverywhereKept.{all_at}
 use Rattle.page_core.proofs.ObjectSteps.{object_writes, object_keeps}

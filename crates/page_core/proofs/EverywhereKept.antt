@@ -10,11 +10,11 @@ use Rattle.comp_pool.specs.Pool.{PoolOf, list_of}
 use Rattle.decoder_model.specs.Readings.{Content}
 use Rattle.pixel_store.specs.Regions.{Regions}
 use Rattle.page_core.specs.Composition.{Composition, KeptRegion}
-use Rattle.page_core.specs.Everywhere.{HasRegionAt, painted_where, IsEverywhere, painted_kept, with_all_painted, HasNoFaults, AreApart, AreWritten, HaveRegions, AreIdsApart, AreKeptWritten}
-use Rattle.page_core.specs.Listings.{code_by_kept, code_by_pair, painted_listing}
-use Rattle.page_core.specs.Nodes.{kept_in, AreKind, entry_in, region_node, listing_in, clut_node, colour_in, listings_list, region_kept, composition_of, IsSorted, IsIndexed, is_region_of, is_clut_of, node_of}
-use Rattle.page_core.specs.ObjectFaults.{least_of, fault_in_kept}
-use Rattle.page_core.specs.Painted.{HasRegion, field_runs}
+use Rattle.page_core.specs.Private.Everywhere.{HasRegionAt, painted_where, IsEverywhere, painted_kept, with_all_painted, HasNoFaults, AreApart, AreWritten, HaveRegions, AreIdsApart, AreKeptWritten}
+use Rattle.page_core.specs.Private.Listings.{code_by_kept, code_by_pair, painted_listing}
+use Rattle.page_core.specs.Private.Nodes.{kept_in, AreKind, entry_in, region_node, listing_in, clut_node, colour_in, listings_list, region_kept, composition_of, IsSorted, IsIndexed, is_region_of, is_clut_of, node_of}
+use Rattle.page_core.specs.Private.ObjectFaults.{least_of, fault_in_kept}
+use Rattle.page_core.specs.Private.Painted.{HasRegion, field_runs}
 use Rattle.page_core.specs.declared.composition.listings.Painter.{Painter}
 use Rattle.page_core.specs.declared.node.Node.{Node}
 use Rattle.page_core.specs.declared.node.Node.TheVariants as node

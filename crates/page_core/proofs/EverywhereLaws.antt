@@ -12,12 +12,12 @@ use Rattle.decoder_model.specs.Faults.{depth_fault}
 use Rattle.decoder_model.specs.Readings.{Content}
 use Rattle.decoder_model.specs.declared.set_fault.SetFault.{SetFault}
 use Rattle.pixel_store.specs.Regions.{Regions}
-use Rattle.page_core.specs.Everywhere.{AreApart, painted_where}
-use Rattle.page_core.specs.Listings.{code_by_node, code_by_pair, painted_node}
-use Rattle.page_core.specs.Lists.{with_changed, IsRewritten}
-use Rattle.page_core.specs.Nodes.{is_region_of, listing_in, listings_list}
-use Rattle.page_core.specs.ObjectFaults.{fault_in_node, fault_in_pair, fault_in_region_node, in_region, is_due_node, is_due_pair, least_of, lesser}
-use Rattle.page_core.specs.Painted.{FieldRuns, IsWritten}
+use Rattle.page_core.specs.Private.Everywhere.{AreApart, painted_where}
+use Rattle.page_core.specs.Private.Listings.{code_by_node, code_by_pair, painted_node}
+use Rattle.page_core.specs.Private.Lists.{with_changed, IsRewritten}
+use Rattle.page_core.specs.Private.Nodes.{is_region_of, listing_in, listings_list}
+use Rattle.page_core.specs.Private.ObjectFaults.{fault_in_node, fault_in_pair, fault_in_region_node, in_region, is_due_node, is_due_pair, least_of, lesser}
+use Rattle.page_core.specs.Private.Painted.{FieldRuns, IsWritten}
 use Rattle.page_core.specs.declared.composition.listings.Painter.{Painter}
 use Rattle.page_core.specs.declared.node.Node.{Node}
 use Rattle.page_core.specs.declared.node.Node.TheVariants as node

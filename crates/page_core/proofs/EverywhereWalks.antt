@@ -10,10 +10,10 @@ use Rattle.comp_pool.specs.Places.{first_of, behind, rest_from}
 use Rattle.comp_pool.specs.Pool.{PoolOf, list_of, nodes_of, IsInList, NoneTwice, node_count}
 use Rattle.comp_pool.proofs.NodeLaws.{in_list_first, in_list_behind}
 use Rattle.comp_pool.proofs.WalkLaws.{walk_start, walk_step}
-use Rattle.page_core.specs.Everywhere.{IsPaintedAt, painted_where, IsEverywhere}
-use Rattle.page_core.specs.Listings.{due_node, painted_node}
-use Rattle.page_core.specs.Lists.{with_changed, IsRewritten}
-use Rattle.page_core.specs.Nodes.{region_node, is_region_of, listings_list}
+use Rattle.page_core.specs.Private.Everywhere.{IsPaintedAt, painted_where, IsEverywhere}
+use Rattle.page_core.specs.Private.Listings.{due_node, painted_node}
+use Rattle.page_core.specs.Private.Lists.{with_changed, IsRewritten}
+use Rattle.page_core.specs.Private.Nodes.{region_node, is_region_of, listings_list}
 use Rattle.page_core.specs.declared.composition.listings.Painter.{Painter}
 use Rattle.page_core.specs.declared.node.Node.{Node}
 use Rattle.page_core.specs.declared.node.Node.TheVariants as node

@@ -11,12 +11,12 @@ use Rattle.comp_pool.specs.Pool.{PoolOf, list_of}
 use Rattle.decoder_model.specs.Faults.{depth_fault}
 use Rattle.decoder_model.specs.Readings.{Content}
 use Rattle.pixel_store.specs.Regions.{Regions, KeepsOthers}
-use Rattle.page_core.specs.Everywhere.{HasNoFault, HasRegionAt, KeepsAt, KeepsRoom, IsWrittenIn, IsWrittenAt, painted_where, HasNoFaults, AreApart, AreWritten, HaveRegions}
-use Rattle.page_core.specs.Listings.{code_by_pair}
+use Rattle.page_core.specs.Private.Everywhere.{HasNoFault, HasRegionAt, KeepsAt, KeepsRoom, IsWrittenIn, IsWrittenAt, painted_where, HasNoFaults, AreApart, AreWritten, HaveRegions}
+use Rattle.page_core.specs.Private.Listings.{code_by_pair}
 use Rattle.page_core.specs.Memory.{HasSides}
-use Rattle.page_core.specs.Nodes.{kept_in, region_node, is_region_of, listings_list}
-use Rattle.page_core.specs.Painted.{HasRegion, IsWritten, field_runs}
-use Rattle.page_core.specs.ObjectFaults.{in_region, is_due_pair}
+use Rattle.page_core.specs.Private.Nodes.{kept_in, region_node, is_region_of, listings_list}
+use Rattle.page_core.specs.Private.Painted.{HasRegion, IsWritten, field_runs}
+use Rattle.page_core.specs.Private.ObjectFaults.{in_region, is_due_pair}
 use Rattle.page_core.specs.declared.composition.listings.Painter.{Painter}
 use Rattle.page_core.specs.declared.node.Node.{Node}
 use Rattle.page_core.specs.declared.node.Node.TheVariants as node

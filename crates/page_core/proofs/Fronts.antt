@@ -1,18 +1,20 @@
 -- The segment at the front of framed segments.
-use Rattle.std.proofs.Common.{◌≡◌, ℕ, ◌≤◌, List, ◌++◌, length, take, drop, None, Ok, Err, sym, ap, subst, ◌∙◌, arith, length-append}
+use Rattle.std.specs.Prelude.{IfOk, IsOkAnd}
+use Rattle.std.proofs.Common.{Result, ◌≡◌, ℕ, ◌≤◌, List, ◌++◌, length, take, drop, None, Ok, Err, sym, ap, subst, ◌∙◌, arith, length-append}
 use Rattle.std.proofs.Math.Seq.{take-append_seam, drop-append_seam, take-length}
 use Rattle.std.proofs.Math.ListN.{get_or-append}
 use Rattle.std.proofs.lemmas.Bool.Decides.{nat_tests}
-use Rattle.stream_syntax.specs.SegmentTests.{frame_tests, IsSegmentFault}
+use Rattle.stream_syntax.specs.SegmentTests.{frame_tests, IsSegmentFault, segment_size}
 use Rattle.stream_syntax.specs.Segments.{SegmentValue, IsSegment}
 use Rattle.stream_syntax.specs.Tests.{byte_at, first_fault}
 use Rattle.stream_syntax.specs.declared.segment_fault.SegmentFault.{SegmentFault}
-use Rattle.stream_syntax.specs.DataField.{segment_size}
 use Rattle.decoder_model.specs.Readings.{Reading, read, faulty, IsReading}
 use Rattle.segments.specs.Contents.{contents}
 use Rattle.segments.specs.declared.reading.Segment.{Segment}
 use Rattle.decoder_model.specs.Received.{IsFramed, BeginsWith}
 use Rattle.page_core.specs.Handed.{Matches}
+use Rattle.page_core.specs.Private.RegionSteps.{IsRightValue}
+use Rattle.page_core.proofs.RegionHeads.{right_value}
 
 -- framed bytes have a head
 pub framed_length : (bytes : List ℕ) → IsFramed bytes → 6 ≤ length bytes
@@ -53,6 +55,20 @@ pub matches_err : (bytes : List ℕ) (found : SegmentFault) (reading : Reading)
 matches_err bytes found (read content) never every is_reading =
     never content.value (length bytes) (omega arith) (subst (λ (part : List ℕ). IsSegment part content.value) (sym (take-length bytes)) is_reading.segment)
 matches_err bytes found (faulty fault) never every is_reading = every fault is_reading
+
+-- what a reader of a frame gives is what a reading of its segment says
+pub matches_result : (bytes : List ℕ) (whole : ℕ) (result : Result Segment SegmentFault) (reading : Reading)
+    → ((value : SegmentValue) (size : ℕ) → size ≤ length bytes → IsSegment (take size bytes) value → IsOkAnd result (λ segment. (contents segment ≡ value) × (whole ≡ size)))
+    → ((fault : SegmentFault) → IsSegmentFault bytes fault → result ≡ Err fault) → IsReading bytes reading → Matches result reading
+matches_result bytes whole (Ok segment) reading every_segment every_fault is_reading =
+    matches_ok bytes segment whole reading every_segment (λ fault is. absurd (let no : ◌≡◌ {A = Result Segment SegmentFault} (Ok segment) (Err fault) = every_fault fault is in cc)) is_reading
+matches_result bytes whole (Err found) reading every_segment every_fault is_reading =
+    matches_err bytes found reading every_segment (λ fault is. let same : ◌≡◌ {A = Result Segment SegmentFault} (Err found) (Err fault) = every_fault fault is in cc) is_reading
+
+-- and a right value
+pub right_result : (bytes : List ℕ) (whole : ℕ) (result : Result Segment SegmentFault) → IfOk result (λ segment. IsSegment (take whole bytes) (contents segment)) → IfOk result (λ segment. IsRightValue (contents segment))
+right_result bytes whole (Ok segment) is = right_value (take whole bytes) (contents segment) is
+right_result bytes whole (Err fault) is = tt
 
 -- the front of bytes, cut where the size says
 pub taken_front : (bytes rest : List ℕ) (reading : Reading) (size : ℕ) → BeginsWith bytes reading rest → size ≡ segment_size bytes → IsReading (take size bytes) reading × (drop size bytes ≡ rest)

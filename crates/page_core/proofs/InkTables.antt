@@ -14,7 +14,7 @@ use Rattle.decoder_model.specs.Nodes.{TableEntry, is_same_entry}
 use Rattle.sub_base.specs.declared.colour.Colour.{Colour}
 use Rattle.sub_base.specs.declared.depth.Depth.{Depth}
 use Rattle.sub_base.specs.declared.depth.Depth.TheVariants.{Two, Four, Eight}
-use Rattle.page_core.specs.Inks.{default_ink, AreDefaults, ink_count}
+use Rattle.page_core.specs.Private.Inks.{default_ink, AreDefaults, ink_count}
 use Rattle.page_core.specs.Memory.{AreDefaultsBeside, AreInks, IsInTable, ink_place, first_of_table, colours_of_clut}
 
 -- the default colour at the index of an entry is that of the entry

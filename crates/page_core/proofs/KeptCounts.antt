@@ -13,7 +13,7 @@ use Rattle.decoder_model.specs.Nodes.{clut_ids, is_same, listing_count, listings
 use Rattle.decoder_model.specs.Readings.{Content}
 use Rattle.decoder_model.specs.Taken.{last_region, taken_among, taken_of, taken_region}
 use Rattle.page_core.specs.Composition.{KeptClut, KeptListing, KeptRegion, region_in}
-use Rattle.page_core.specs.Counting.{AreKept, clut_need, kept_need, of_taken, region_need}
+use Rattle.page_core.specs.Private.Counting.{AreKept, clut_need, kept_need, of_taken, region_need}
 use Rattle.page_core.specs.Memory.{Holds, IsWhole, Memory, kept_listing}
 use Rattle.page_core.proofs.Defining.{any_reversed}
 use Rattle.page_core.proofs.DifferentItems.{among_different, as_many_different, different_within}

@@ -11,7 +11,7 @@ use Rattle.decoder_model.specs.Nodes.{is_same, region_id, region_ids}
 use Rattle.decoder_model.specs.Readings.{Content}
 use Rattle.decoder_model.specs.Taken.{taken_among}
 use Rattle.page_core.specs.Composition.{KeptRegion}
-use Rattle.page_core.specs.Everywhere.{AreIdsApart}
+use Rattle.page_core.specs.Private.Everywhere.{AreIdsApart}
 use Rattle.page_core.specs.Memory.{Memory, Holds}
 use Rattle.page_core.proofs.Defining.{any_reversed}
 use Rattle.page_core.proofs.EverywhereKept.{none_has}

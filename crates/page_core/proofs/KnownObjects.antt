@@ -6,7 +6,7 @@ use Rattle.stream_syntax.specs.Segments.{Object, of_object, IsSegment}
 use Rattle.stream_syntax.specs.Tests.{byte_at, first_fault}
 use Rattle.segments.specs.Reading.{object_in, value_in}
 use Rattle.segments.proofs.Bodies.{object_kind}
-use Rattle.segments.proofs.Frames.{segment_again}
+use Rattle.segments.proofs.WholeSegments.{segment_again}
 use Rattle.segments.proofs.Readings.{kind_of_segment}
 
 -- the body of an object's segment passes the tests of one, and has the object
@@ -25,3 +25,11 @@ known bytes value is =
       tests = ap first_fault (sym (object_kind (byte_at 1 bytes) (body_of bytes) kind)) ∙ again.2.0.1;
       object = cc;
     }
+
+-- as the body of its frame
+pub known_body : (segment body : List ℕ) (value : Object) → IsSegment segment (of_object value) → body ≡ body_of segment → (first_fault (object_tests body) ≡ None) × (object_in body ≡ value)
+known_body segment body value is same =
+    let k = known segment value is in (
+      subst (λ (bytes : List ℕ). first_fault (object_tests bytes) ≡ None) (sym same) k.tests,
+      ap object_in same ∙ sym k.object,
+    )

@@ -9,7 +9,7 @@ use Rattle.std.proofs.lemmas.List.Sums.{sum_by-cons}
 use Rattle.comp_pool.specs.declared.node.NodeId.{NodeId}
 use Rattle.comp_pool.specs.Pool.{PoolOf, list_of, node_count}
 use Rattle.page_core.specs.Composition.{Composition, KeptRegion, region_in}
-use Rattle.page_core.specs.Nodes.{AreKind, IsSorted, composition_of, entry_in, is_region_of, kept_in, listing_in, listings_list, region_kept}
+use Rattle.page_core.specs.Private.Nodes.{AreKind, IsSorted, composition_of, entry_in, is_region_of, kept_in, listing_in, listings_list, region_kept}
 use Rattle.page_core.specs.declared.node.Node.{Node}
 use Rattle.page_core.specs.declared.node.RegionNode.{RegionNode}
 use Rattle.page_core.proofs.RegionNodes.{found_there, item_region, region_lookup}

@@ -11,10 +11,10 @@ use Rattle.comp_pool.specs.Pool.{PoolOf, list_of, node_count}
 use Rattle.comp_pool.specs.Changes.{pushed}
 use Rattle.comp_pool.specs.declared.fault.Full.{Full}
 use Rattle.comp_pool.specs.declared.node.NodeId.{NodeId}
-use Rattle.page_core.specs.Lists.{KeepsBeside}
-use Rattle.page_core.specs.Nodes.{AreKind, kept_in, listing_in}
-use Rattle.page_core.specs.PoolChanges.{HasListings}
-use Rattle.page_core.specs.RegionSteps.{fresh}
+use Rattle.page_core.specs.Private.Lists.{KeepsBeside}
+use Rattle.page_core.specs.Private.Nodes.{AreKind, kept_in, listing_in}
+use Rattle.page_core.specs.Private.PoolChanges.{HasListings}
+use Rattle.page_core.specs.Private.RegionSteps.{fresh}
 use Rattle.page_core.specs.declared.node.Node.{Node}
 use Rattle.page_core.specs.declared.node.Node.TheVariants as node
 use Rattle.page_core.proofs.PagePushes.{take_one}

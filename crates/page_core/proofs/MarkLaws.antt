@@ -6,8 +6,8 @@ use Rattle.std.proofs.lemmas.List.{get_or-map, get_or-replicate, length-map, len
 use Rattle.std.proofs.lemmas.List.Elements.{All-replicate, All-get_or}
 use Rattle.sub_base.specs.Depth.{code_count}
 use Rattle.sub_base.specs.declared.depth.Depth.{Depth}
-use Rattle.page_core.specs.Inks.{ink_count}
-use Rattle.page_core.specs.Marks.{AreMarked, AreStamps, AreSwept, IsStamp, all_set, mark_by, uncounted}
+use Rattle.page_core.specs.Private.Inks.{ink_count}
+use Rattle.page_core.specs.Private.Marks.{AreMarked, AreStamps, AreSwept, IsStamp, all_set, mark_by, uncounted}
 use Rattle.page_core.specs.Memory.{ink_place}
 use Rattle.page_core.specs.declared.marks.Mark.{Mark}
 use Rattle.page_core.specs.declared.marks.Mark.TheVariants.{Unset}

@@ -10,8 +10,8 @@ use Rattle.sub_base.specs.Depth as depths
 use Rattle.sub_base.specs.Depth.{code_count}
 use Rattle.sub_base.specs.declared.depth.Depth.{Depth}
 use Rattle.decoder_model.specs.Nodes.{TableEntry, is_same_entry}
-use Rattle.page_core.specs.Inks.{ink_count}
-use Rattle.page_core.specs.Marks.{AreDifferent, AreMarked, mark_for, uncounted}
+use Rattle.page_core.specs.Private.Inks.{ink_count}
+use Rattle.page_core.specs.Private.Marks.{AreDifferent, AreMarked, mark_for, uncounted}
 use Rattle.page_core.specs.Memory.{IsInTable, ink_place}
 use Rattle.page_core.specs.declared.marks.Mark.{Mark}
 use Rattle.page_core.specs.declared.marks.Mark.TheVariants.{Unset, Counted, Set}

@@ -9,10 +9,11 @@ use Rattle.stream_syntax.specs.Tests.{byte_at}
 use Rattle.decoder_model.specs.Readings.{Content, Reading, read, IsReading}
 use Rattle.decoder_model.specs.Received.{BeginsWith}
 use Rattle.segments.specs.Contents.{contents}
+use Rattle.segments.specs.Framing.{IsFrameOf}
 use Rattle.segments.specs.declared.reading.Segment.{Segment}
 use Rattle.segments.proofs.Readings.{kind_of_segment}
 use Rattle.page_core.specs.Handed.{AreContents, IsCutOff}
-use Rattle.page_core.specs.Walks.{is_of, is_content_of, is_object, IsNextFront, IsNextOf, IsLeftOf}
+use Rattle.page_core.specs.Private.Walks.{is_of, is_content_of, is_object, IsNextFront, IsNextOf, IsLeftOf}
 use Rattle.page_core.specs.declared.front.Front.{Front as Cut}
 
 -- the segment type of a segment tells whether its value is of that type
@@ -32,11 +33,13 @@ kind_tells kind number passed_over is set = by (number == kind) refl
 -- what is cut off at the front of what is left
 pub record Front (kind : ℕ) (set : List Content) (front : Cut) : Type 0 where
   pub content : Content
-  pub is_reading : IsReading front.segment.now (read content)
+  pub segment : List ℕ
+  pub is_reading : IsReading segment (read content)
+  pub framed : IsFrameOf segment front.frame
   pub more : List Content
   pub are : AreContents more front.rest.now
   pub same : filter (is_content_of kind) set ≡ filter (is_content_of kind) (content ∷ more)
-  pub type_is : (front.kind == kind) ≡ is_content_of kind content
+  pub type_is : (front.frame.kind == kind) ≡ is_content_of kind content
 
 front_by : (kind : ℕ) (set : List Content) (bytes : List ℕ) (front : Cut) (left : List Content) → (IsPassedOver kind → ⊥) → length front.rest.now < length bytes
     → ((reading : Reading) (behind : List ℕ) → BeginsWith bytes reading behind → IsCutOff reading behind front) → AreContents left bytes → filter (is_content_of kind) set ≡ filter (is_content_of kind) left → Front kind set front
@@ -45,11 +48,13 @@ front_by kind set bytes front (content ∷ more) known shorter cut (behind, begi
     let off = cut (read content) behind begins in
     record {
       content = content;
+      segment = off.segment;
       is_reading = off.is_reading;
+      framed = off.framed;
       more = more;
       are = subst (AreContents more) (sym off.behind) are;
       same = same;
-      type_is = ap (λ number. number == kind) off.kind ∙ kind_tells kind (byte_at 1 front.segment.now) content.value (kind_of_segment front.segment.now content.value off.is_reading.segment) known;
+      type_is = ap (λ number. number == kind) off.framed.kind_is ∙ kind_tells kind (byte_at 1 off.segment) content.value (kind_of_segment off.segment content.value off.is_reading.segment) known;
     }
 
 pub front_of : (kind : ℕ) (set : List Content) (bytes : List ℕ) (front : Cut) → (IsPassedOver kind → ⊥) → length front.rest.now < length bytes
@@ -57,7 +62,7 @@ pub front_of : (kind : ℕ) (set : List Content) (bytes : List ℕ) (front : Cut
 front_of kind set bytes front known shorter cut l = front_by kind set bytes front l.left known shorter cut l.are l.same
 
 -- one of another type is passed over
-pub passed : (kind : ℕ) (set : List Content) (front : Cut) → (front.kind == kind) ≡ false → Front kind set front → IsLeftOf (is_content_of kind) set front.rest.now
+pub passed : (kind : ℕ) (set : List Content) (front : Cut) → (front.frame.kind == kind) ≡ false → Front kind set front → IsLeftOf (is_content_of kind) set front.rest.now
 passed kind set front other f = record {
   left = f.more;
   are = f.are;
@@ -65,10 +70,12 @@ passed kind set front other f = record {
 }
 
 -- one of the type is the next
-pub found : (kind : ℕ) (set : List Content) (front : Cut) → (front.kind == kind) ≡ true → Front kind set front → IsNextFront kind set front
+pub found : (kind : ℕ) (set : List Content) (front : Cut) → (front.frame.kind == kind) ≡ true → Front kind set front → IsNextFront kind set front
 found kind set front hit f = record {
   content = f.content;
+  segment = f.segment;
   is_content = f.is_reading;
+  framed = f.framed;
   hit = sym f.type_is ∙ hit;
   more = f.more;
   are = f.are;
@@ -100,10 +107,10 @@ is_object_value passed_over = refl
 objects_of : (set : List Content) → filter (is_content_of OBJECT_DATA) set ≡ filter is_object set
 objects_of set = λ i. filter (λ content. is_object_value content.value i) set
 
-pub object_is_segment : (set : List Content) (front : Cut) (n : IsNextFront OBJECT_DATA set front) → (object : Object) × IsSegment front.segment.now (of_object object) × (n.content.value ≡ of_object object)
+pub object_is_segment : (set : List Content) (front : Cut) (n : IsNextFront OBJECT_DATA set front) → (object : Object) × IsSegment n.segment (of_object object) × (n.content.value ≡ of_object object)
 object_is_segment set front n =
     let object = object_by_kind n.content.value n.hit in
-    (object.0, subst (IsSegment front.segment.now) object.1 n.is_content.segment, object.1)
+    (object.0, subst (IsSegment n.segment) object.1 n.is_content.segment, object.1)
 
 pub next_object_is : (set : List Content) (front : Cut) (object : Object) (n : IsNextFront OBJECT_DATA set front) → of_object object ≡ n.content.value → IsNextOf is_object set (of_object object) front.rest.now
 next_object_is set front object n same = record {

@@ -13,9 +13,9 @@ use Rattle.decoder_model.specs.Readings.{Content}
 use Rattle.decoder_model.specs.Taken.{Taken, taken_of, taken_region}
 use Rattle.decoder_model.specs.declared.set_fault.SetFault.{SetFault}
 use Rattle.page_core.specs.Composition.{KeptRegion, region_in}
-use Rattle.page_core.specs.Listings.{is_due, IsPainter}
+use Rattle.page_core.specs.Private.Listings.{is_due, IsPainter}
 use Rattle.page_core.specs.Memory.{Memory, Holds, head_of, kept_listing}
-use Rattle.page_core.specs.ObjectFaults.{least_of, in_region, fault_in_kept}
+use Rattle.page_core.specs.Private.ObjectFaults.{least_of, in_region, fault_in_kept}
 use Rattle.page_core.specs.declared.composition.listings.Painter.{Painter}
 use Rattle.page_core.proofs.KeptIds.{ids_apart, found_by_id}
 use Rattle.page_core.proofs.ObjectRegions.{IsLeastOf, least_is, first_at, none_at}

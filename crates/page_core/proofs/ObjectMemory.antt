@@ -20,11 +20,11 @@ use Rattle.decoder_model.specs.declared.set_fault.SetFault.TheVariants.{Segment}
 use Rattle.pixel_store.specs.Regions.{region_at, code_of}
 use Rattle.page_core.proofs.RegionIds.{apart_by_ids}
 use Rattle.page_core.specs.Composition.{AreIdsApart, Composition, KeptRegion, KeptClut, region_in, clut_in, taken_nodes}
-use Rattle.page_core.specs.Everywhere.{AreKeptWritten, KeepsRoom, painted_kept, with_all_painted}
-use Rattle.page_core.specs.Listings.{IsPainter, painted_listing}
+use Rattle.page_core.specs.Private.Everywhere.{AreKeptWritten, KeepsRoom, painted_kept, with_all_painted}
+use Rattle.page_core.specs.Private.Listings.{IsPainter, painted_listing}
 use Rattle.page_core.specs.Memory.{Memory, AreInks, IsWhole, HasSides, Holds, ink_in}
-use Rattle.page_core.specs.ObjectFaults.{fault_in_kept, least_of}
-use Rattle.page_core.specs.Painted.{HasRegion}
+use Rattle.page_core.specs.Private.ObjectFaults.{fault_in_kept, least_of}
+use Rattle.page_core.specs.Private.Painted.{HasRegion}
 use Rattle.page_core.specs.declared.composition.listings.Painter.{Painter}
 use Rattle.page_core.proofs.EverywhereCodes.{region_behind, heads_behind, listings_behind, pixels_behind}
 use Rattle.page_core.proofs.ObjectFaultLaws.{object_fault_is}

@@ -15,9 +15,9 @@ use Rattle.decoder_model.specs.declared.set_fault.SetFault.TheVariants as fault
 use Rattle.stream_syntax.specs.declared.segment_fault.SegmentFault.{SegmentFault}
 use Rattle.page_core.specs.declared.composition.objects.RegionFault.{RegionFault}
 use Rattle.page_core.specs.Composition.{Composition, KeptListing}
-use Rattle.page_core.specs.Listings.{is_due}
-use Rattle.page_core.specs.Nodes.{kept_in, region_node, region_kept, listing_in, listings_list, composition_of}
-use Rattle.page_core.specs.ObjectFaults.{lesser, least_of, in_region, fault_in_kept, is_due_node, is_due_pair, fault_in_region_node, fault_in_node, fault_in_pair, told}
+use Rattle.page_core.specs.Private.Listings.{is_due}
+use Rattle.page_core.specs.Private.Nodes.{kept_in, region_node, region_kept, listing_in, listings_list, composition_of}
+use Rattle.page_core.specs.Private.ObjectFaults.{lesser, least_of, in_region, fault_in_kept, is_due_node, is_due_pair, fault_in_region_node, fault_in_node, fault_in_pair, told}
 use Rattle.page_core.specs.declared.composition.listings.Painter.{Painter}
 use Rattle.page_core.specs.declared.node.Node.{Node}
 use Rattle.page_core.specs.declared.node.Node.TheVariants as node

@@ -10,13 +10,13 @@ use Rattle.stream_syntax.specs.PixelBlocks.{Part}
 use Rattle.stream_syntax.specs.Segments.{SegmentValue, Object, Region, of_object}
 use Rattle.stream_syntax.specs.declared.region.Listing.{Listing}
 use Rattle.decoder_model.specs.Contents.{where_passes, region_in, object_in, object_named, region_named}
-use Rattle.decoder_model.specs.Pixels.{object_version, since_region, is_painting, listings_by, painted_listings, code_by_listing, code_by_listings, code_by_segment, last_code, pixel_of}
+use Rattle.decoder_model.specs.Pixels.{version_of_object, since_region, is_painting, listings_by, painted_listings, code_by_listing, code_by_listings, code_by_segment, last_code, pixel_of}
 use Rattle.decoder_model.specs.Readings.{Content}
 use Rattle.decoder_model.specs.Taken.{Taken, has_new_version, taken_region}
 use Rattle.pixel_store.specs.Regions.{Regions, region_at, code_of}
-use Rattle.page_core.specs.Listings.{is_due, code_by_kept, painted_listing, IsPainter}
+use Rattle.page_core.specs.Private.Listings.{is_due, code_by_kept, painted_listing, IsPainter}
 use Rattle.page_core.specs.Memory.{kept_listing}
-use Rattle.page_core.specs.Painted.{FieldRuns, IsWritten, code_by_fields, field_runs}
+use Rattle.page_core.specs.Private.Painted.{FieldRuns, IsWritten, code_by_fields, field_runs}
 use Rattle.page_core.specs.declared.composition.listings.Painter.{Painter}
 use Rattle.page_core.proofs.Written.{named_listings, later_first}
 
@@ -37,12 +37,12 @@ module _ (taken : Taken) (id : ℕ) (object : Object) (painter : Painter) (is : 
   -- whether a listing is due
   pub due_is : (listing : Listing) → is_due painter (kept_listing taken id listing) ≡ (eqb listing.object object.object && is_painting taken id object)
   due_is listing =
-      (λ i. eqb listing.object (is.object i) && has_new_version (is.version i) (object_version (first_given (object_named listing.object) (since_region id taken))))
+      (λ i. eqb listing.object (is.object i) && has_new_version (is.version i) (version_of_object (first_given (object_named listing.object) (since_region id taken))))
       ∙ by (eqb listing.object object.object) refl
     where
       by : (named : Bool) → eqb listing.object object.object ≡ named
-          → (named && has_new_version object.version (object_version (first_given (object_named listing.object) (since_region id taken)))) ≡ (named && is_painting taken id object)
-      by true same = ap (λ (n : ℕ). has_new_version object.version (object_version (first_given (object_named n) (since_region id taken)))) (eqb-true listing.object object.object same)
+          → (named && has_new_version object.version (version_of_object (first_given (object_named listing.object) (since_region id taken)))) ≡ (named && is_painting taken id object)
+      by true same = ap (λ (n : ℕ). has_new_version object.version (version_of_object (first_given (object_named n) (since_region id taken)))) (eqb-true listing.object object.object same)
       by false same = refl
 
   -- what the object writes through the listings of a region is what it writes through those that it paints
@@ -122,33 +122,33 @@ module _ (taken : Taken) (id : ℕ) (object : Object) (painter : Painter) (is : 
   listing_keeps content value listing = by (eqb listing.object object.object) refl
     where
       then_is : kept_listing (record { segments = content ∷ taken.segments }) id listing
-          ≡ record { listing = listing; painted = object_version (option_or (cond (eqb object.object listing.object) (Some object) None) (first_given (object_named listing.object) (since_region id taken))) }
-      then_is = λ i. record { listing = listing; painted = object_version (version_then content value listing.object i) }
+          ≡ record { listing = listing; painted = version_of_object (option_or (cond (eqb object.object listing.object) (Some object) None) (first_given (object_named listing.object) (since_region id taken))) }
+      then_is = λ i. record { listing = listing; painted = version_of_object (version_then content value listing.object i) }
 
       named_is : (named : Bool) → eqb listing.object object.object ≡ named → eqb object.object listing.object ≡ named
       named_is true e = grind (arith, nat_tests)
       named_is false e = grind (arith, nat_tests)
 
-      when_due : (due : Bool) → has_new_version painter.version (object_version (first_given (object_named listing.object) (since_region id taken))) ≡ due
+      when_due : (due : Bool) → has_new_version painter.version (version_of_object (first_given (object_named listing.object) (since_region id taken))) ≡ due
           → cond due (record { listing = listing; painted = Some painter.version }) (kept_listing taken id listing) ≡ record { listing = listing; painted = Some object.version }
       when_due true e = λ i. record { listing = listing; painted = Some (is.version i) }
       when_due false e =
-          λ i. record { listing = listing; painted = (same_version painter.version (object_version (first_given (object_named listing.object) (since_region id taken))) e ∙ ap Some is.version) i }
+          λ i. record { listing = listing; painted = (same_version painter.version (version_of_object (first_given (object_named listing.object) (since_region id taken))) e ∙ ap Some is.version) i }
 
       by : (named : Bool) → eqb listing.object object.object ≡ named → painted_listing painter (kept_listing taken id listing) ≡ kept_listing (record { segments = content ∷ taken.segments }) id listing
       by true e =
-          (λ i. cond (eqb listing.object (is.object i) && has_new_version painter.version (object_version (first_given (object_named listing.object) (since_region id taken))))
+          (λ i. cond (eqb listing.object (is.object i) && has_new_version painter.version (version_of_object (first_given (object_named listing.object) (since_region id taken))))
           (record { listing = listing; painted = Some painter.version }) (kept_listing taken id listing))
-          ∙ ap (λ (named : Bool). cond (named && has_new_version painter.version (object_version (first_given (object_named listing.object) (since_region id taken))))
+          ∙ ap (λ (named : Bool). cond (named && has_new_version painter.version (version_of_object (first_given (object_named listing.object) (since_region id taken))))
           (record { listing = listing; painted = Some painter.version }) (kept_listing taken id listing)) e
-          ∙ when_due (has_new_version painter.version (object_version (first_given (object_named listing.object) (since_region id taken)))) refl
-          ∙ sym (then_is ∙ ap (λ (named : Bool). record { listing = listing; painted = object_version (option_or (cond named (Some object) None) (first_given (object_named listing.object) (since_region id taken))) }) (named_is true e))
+          ∙ when_due (has_new_version painter.version (version_of_object (first_given (object_named listing.object) (since_region id taken)))) refl
+          ∙ sym (then_is ∙ ap (λ (named : Bool). record { listing = listing; painted = version_of_object (option_or (cond named (Some object) None) (first_given (object_named listing.object) (since_region id taken))) }) (named_is true e))
       by false e =
-          (λ i. cond (eqb listing.object (is.object i) && has_new_version painter.version (object_version (first_given (object_named listing.object) (since_region id taken))))
+          (λ i. cond (eqb listing.object (is.object i) && has_new_version painter.version (version_of_object (first_given (object_named listing.object) (since_region id taken))))
           (record { listing = listing; painted = Some painter.version }) (kept_listing taken id listing))
-          ∙ ap (λ (named : Bool). cond (named && has_new_version painter.version (object_version (first_given (object_named listing.object) (since_region id taken))))
+          ∙ ap (λ (named : Bool). cond (named && has_new_version painter.version (version_of_object (first_given (object_named listing.object) (since_region id taken))))
           (record { listing = listing; painted = Some painter.version }) (kept_listing taken id listing)) e
-          ∙ sym (then_is ∙ ap (λ (named : Bool). record { listing = listing; painted = object_version (option_or (cond named (Some object) None) (first_given (object_named listing.object) (since_region id taken))) }) (named_is false e))
+          ∙ sym (then_is ∙ ap (λ (named : Bool). record { listing = listing; painted = version_of_object (option_or (cond named (Some object) None) (first_given (object_named listing.object) (since_region id taken))) }) (named_is false e))
 
   pub object_keeps : (content : Content) → content.value ≡ of_object object → (listings : List Listing)
       → map (painted_listing painter) (map (kept_listing taken id) listings) ≡ map (kept_listing (record { segments = content ∷ taken.segments }) id) listings

@@ -7,9 +7,9 @@ use Rattle.decoder_model.specs.Readings.{Content, AreFields}
 use Rattle.decoder_model.specs.declared.set_fault.SetFault.{SetFault}
 use Rattle.page_core.specs.Handed.{AreContents}
 use Rattle.page_core.specs.Memory.{Memory, Holds}
-use Rattle.page_core.specs.RegionTests.{first_in}
-use Rattle.page_core.specs.SetSteps.{KeepsButObjects}
-use Rattle.page_core.specs.Walks.{is_object, IsNextOf}
+use Rattle.page_core.specs.Private.RegionTests.{first_in}
+use Rattle.page_core.specs.Private.SetSteps.{KeepsButObjects}
+use Rattle.page_core.specs.Private.Walks.{is_object, IsNextOf}
 use Rattle.page_core.proofs.Orders.{moved}
 
 -- a content of a set has the sub-blocks of its fields

@@ -6,7 +6,7 @@ use Rattle.decoder_model.specs.Contents.{display_of, page_of, region_of, clut_of
 use Rattle.decoder_model.specs.Faults.{first_fault_by}
 use Rattle.decoder_model.specs.Readings.{Content}
 use Rattle.decoder_model.specs.declared.set_fault.SetFault.{SetFault}
-use Rattle.page_core.specs.RegionTests.{first_in, IsQuiet, before_regions}
+use Rattle.page_core.specs.Private.RegionTests.{first_in, IsQuiet, before_regions}
 
 abbrev pub is_display : Content → Bool
 is_display content = is_some (display_of content)

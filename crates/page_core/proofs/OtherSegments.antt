@@ -9,7 +9,7 @@ use Rattle.decoder_model.specs.Contents.{region_of, clut_of, where_passes}
 use Rattle.decoder_model.specs.Nodes.{is_same, region_id, region_ids, clut_id, clut_ids, is_same_entry, entries_of_clut, table_entries, bytes_of_region, pixels_used, listing_count, listings_held}
 use Rattle.decoder_model.specs.Readings.{Content}
 use Rattle.decoder_model.specs.Taken.{Taken, is_taken, last_region, taken_among, taken_of, taken_region}
-use Rattle.page_core.specs.Walks.{is_region, is_clut}
+use Rattle.page_core.specs.Private.Walks.{is_region, is_clut}
 use Rattle.page_core.proofs.PixelRoom.{with_segment, of_segments}
 
 either_false : (a b : Bool) → (a || b) ≡ false → (a ≡ false) × (b ≡ false)

@@ -12,7 +12,8 @@ use Rattle.stream_syntax.specs.PixelCodes.{bits, bits_of}
 use Rattle.decoder_model.specs.PackedRows.{ArePacked}
 use Rattle.pixel_codes.proofs.Bits.{bits-add, bits-mod}
 use Rattle.segments.proofs.Bits.{bits_of-cons}
-use Rattle.pixel_store.specs.Codes.{codes_in_byte, code_in, packed_code, packed_length}
+use Rattle.pixel_store.specs.Codes.{codes_in_byte, code_in, packed_code}
+use Rattle.sub_base.specs.Depth.{packed_length}
 
 -- the codes of a byte, and of bytes
 abbrev codes_of_byte : Depth → ℕ → List ℕ

@@ -11,9 +11,9 @@ use Rattle.comp_pool.specs.Changes.{pushed, cleared}
 use Rattle.comp_pool.specs.declared.fault.Full.{Full}
 use Rattle.comp_pool.specs.declared.node.NodeId.{NodeId}
 use Rattle.page_core.specs.Composition.{Composition, with_entries}
-use Rattle.page_core.specs.Lists.{KeepsBeside}
-use Rattle.page_core.specs.Nodes.{AreKind, IsSorted, clut_node, colour_in, composition_of, entry_in, kept_in, listing_in, listings_list, region_kept, region_node}
-use Rattle.page_core.specs.PageEntries.{HasEntries}
+use Rattle.page_core.specs.Private.Lists.{KeepsBeside}
+use Rattle.page_core.specs.Private.Nodes.{AreKind, IsSorted, clut_node, colour_in, composition_of, entry_in, kept_in, listing_in, listings_list, region_kept, region_node}
+use Rattle.page_core.specs.Private.PageEntries.{HasEntries}
 use Rattle.page_core.specs.declared.node.Node.{Node}
 use Rattle.page_core.specs.declared.node.Node.TheVariants as node
 use Rattle.page_core.specs.declared.node.RegionNode.{RegionNode}

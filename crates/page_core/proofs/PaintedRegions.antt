@@ -7,10 +7,10 @@ use Rattle.sub_base.specs.Lists.{last_given}
 use Rattle.comp_pool.specs.declared.node.NodeId.{NodeId}
 use Rattle.decoder_model.proofs.Searches.{option_or-none}
 use Rattle.page_core.specs.Composition.{KeptListing}
-use Rattle.page_core.specs.Listings.{code_by_kept, painted_listing, code_by_node, code_by_pair, due_node, painted_node}
-use Rattle.page_core.specs.Lists.{with_changed}
-use Rattle.page_core.specs.Nodes.{kept_in, AreKind, listing_in, listing_kept}
-use Rattle.page_core.specs.Painted.{FieldRuns}
+use Rattle.page_core.specs.Private.Listings.{code_by_kept, painted_listing, code_by_node, code_by_pair, due_node, painted_node}
+use Rattle.page_core.specs.Private.Lists.{with_changed}
+use Rattle.page_core.specs.Private.Nodes.{kept_in, AreKind, listing_in, listing_kept}
+use Rattle.page_core.specs.Private.Painted.{FieldRuns}
 use Rattle.page_core.specs.declared.composition.listings.Painter.{Painter}
 use Rattle.page_core.specs.declared.node.Node.{Node}
 use Rattle.page_core.specs.declared.node.Node.TheVariants as node

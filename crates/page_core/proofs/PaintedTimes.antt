@@ -9,7 +9,7 @@ use Rattle.decoder_model.specs.Contents.{region_in, region_of}
 use Rattle.decoder_model.specs.Painting.{region_painting, set_painting}
 use Rattle.decoder_model.specs.Readings.{Content}
 use Rattle.page_core.specs.Handed.{AreContents}
-use Rattle.page_core.specs.Walks.{IsNextOf, is_region}
+use Rattle.page_core.specs.Private.Walks.{IsNextOf, is_region}
 
 -- the regions of a set are those of its region contents
 only_regions : (set : List Content) → filter_map region_of (filter is_region set) ≡ filter_map region_of set

@@ -13,8 +13,8 @@ use Rattle.decoder_model.specs.Verdict.{sets_with, sets_since, known_epoch, if_k
 use Rattle.decoder_model.specs.declared.set_end.SetEnd.{SetEnd}
 use Rattle.decoder_model.specs.Faults.{contents_in}
 use Rattle.decoder_model.specs.declared.set_end.SetEnd.TheVariants.{Shown, Waiting, Broken, NotLater}
-use Rattle.page_core.specs.Accepted.{IsBefore, IsBegun, IsEarly}
-use Rattle.page_core.specs.Epochs.{IsStart}
+use Rattle.page_core.specs.Private.Accepted.{IsBefore, IsBegun, IsEarly}
+use Rattle.page_core.specs.Private.Epochs.{IsStart}
 use Rattle.page_core.specs.declared.epoch.Start.{Start}
 use Rattle.page_core.specs.declared.epoch.Start.TheVariants.{Begins, GoesOn, Waits}
 use Rattle.page_core.proofs.Standings.{WaitsOrShows, waits_or_shows, no_epoch}

@@ -12,7 +12,7 @@ use Rattle.stream_syntax.specs.Segments.{SegmentValue, of_region, Region}
 use Rattle.stream_syntax.specs.declared.region.RegionHead.{RegionHead}
 use Rattle.decoder_model.specs.Contents.{region_in, region_named, region_of, where_passes, page_of, display_of}
 use Rattle.decoder_model.specs.Faults.{has_same_shape, changed_region, changed_from, region_changed, region_too_large, pixels_full, first_fault_by}
-use Rattle.decoder_model.specs.Nodes.{is_same, region_id, region_ids, pixel_bytes, bytes_of_region, pixels_used}
+use Rattle.decoder_model.specs.Nodes.{is_same, region_id, region_ids, region_bytes, bytes_of_region, pixels_used}
 use Rattle.decoder_model.specs.Readings.{Content}
 use Rattle.decoder_model.specs.Taken.{Taken, is_taken, last_region, taken_among, taken_of, taken_region}
 use Rattle.decoder_model.specs.declared.set_fault.SetFault.{SetFault}
@@ -20,8 +20,8 @@ use Rattle.decoder_model.specs.declared.set_fault.SetFault.TheVariants.{RegionCh
 use Rattle.page_core.specs.Composition.{Composition}
 use Rattle.page_core.specs.Handed.{AreContents}
 use Rattle.page_core.specs.Memory.{head_of}
-use Rattle.page_core.specs.RegionTests.{first_in, before_regions, AreApart, HasHeads, IsAsBefore, head_in, is_new, room_fault, room_left}
-use Rattle.page_core.specs.Walks.{is_region, IsNextOf}
+use Rattle.page_core.specs.Private.RegionTests.{first_in, before_regions, AreApart, HasHeads, IsAsBefore, head_in, is_new, room_fault, room_left}
+use Rattle.page_core.specs.Private.Walks.{is_region, IsNextOf}
 use Rattle.page_core.proofs.Defining.{any_reversed, any_of_none, no_region_in_page, no_region_in_display, no_region_in_clut, no_region_in_object}
 use Rattle.page_core.proofs.Orders.{first_of_regions}
 use Rattle.page_core.proofs.RegionLaws.{IsTested, starts, next_tested, passes, fails, ends, taken_by_head, changed_in_order}
@@ -113,19 +113,19 @@ apart_ids id segments none = id_among_different id (map region_id (filter_map re
 
 -- a region that is new takes its bytes
 pub used_with_new : (content : Content) (region : Region) (segments : List Content) → region_of content ≡ Some region → last_region region.head.region segments ≡ None
-    → pixels_used (with_segment content segments) ≡ pixel_bytes region.head + pixels_used (of_segments segments)
+    → pixels_used (with_segment content segments) ≡ region_bytes region.head + pixels_used (of_segments segments)
 used_with_new content region segments is none =
     let ids : region_ids (with_segment content segments) ≡ region.head.region ∷ region_ids (of_segments segments) =
     ids_with content region segments is ∙ ap (λ (last : Option Region). cond (is_some last) (region_ids (of_segments segments)) (region.head.region ∷ region_ids (of_segments segments))) none in
     let f : ℕ → ℕ = bytes_by (content ∷ segments) in
-    let here : f region.head.region ≡ pixel_bytes region.head = ap (λ (o : Option Region). bytes_of_region (option_or o (last_region region.head.region segments))) (named_same content region is) in
+    let here : f region.head.region ≡ region_bytes region.head = ap (λ (o : Option Region). bytes_of_region (option_or o (last_region region.head.region segments))) (named_same content region is) in
     let rest : sum_by f (region_ids (of_segments segments)) ≡ sum_by (bytes_by segments) (region_ids (of_segments segments)) =
     sum_apart f (bytes_by segments) region.head.region (region_ids (of_segments segments))
     (λ i other. ap (λ (o : Option Region). bytes_of_region (option_or o (last_region i segments))) (named_other content region i is other)) (apart_ids region.head.region segments none) in
     ap (sum_by f) ids ∙ sum_by-cons f region.head.region (region_ids (of_segments segments)) ∙ (λ i. here i + rest i)
 
 -- one of the size of the last one takes none
-pub used_with_same : (content : Content) (region last : Region) (segments : List Content) → region_of content ≡ Some region → last_region region.head.region segments ≡ Some last → pixel_bytes region.head ≡ pixel_bytes last.head
+pub used_with_same : (content : Content) (region last : Region) (segments : List Content) → region_of content ≡ Some region → last_region region.head.region segments ≡ Some last → region_bytes region.head ≡ region_bytes last.head
     → pixels_used (with_segment content segments) ≡ pixels_used (of_segments segments)
 used_with_same content region last segments is known size =
     let ids : region_ids (with_segment content segments) ≡ region_ids (of_segments segments) =
@@ -140,7 +140,7 @@ used_with_same content region last segments is known size =
     ap (sum_by (bytes_by (content ∷ segments))) ids ∙ (λ j. sum_by (λ i. same i j) (region_ids (of_segments segments)))
 
 -- any other segment takes none
-used_with_other : (content : Content) (segments : List Content) → region_of content ≡ None → pixels_used (with_segment content segments) ≡ pixels_used (of_segments segments)
+pub used_with_other : (content : Content) (segments : List Content) → region_of content ≡ None → pixels_used (with_segment content segments) ≡ pixels_used (of_segments segments)
 unfolding region_ids
 used_with_other content segments is =
     let ids : region_ids (with_segment content segments) ≡ region_ids (of_segments segments) = ap (λ (found : Option Region). different is_same (map region_id (cons_option found (filter_map region_of segments)))) is in
@@ -182,7 +182,7 @@ used_before_regions older set =
 
 -- ---- rooms
 
-pub same_bytes : (a b : RegionHead) → has_same_shape a b ≡ true → pixel_bytes a ≡ pixel_bytes b
+pub same_bytes : (a b : RegionHead) → has_same_shape a b ≡ true → region_bytes a ≡ region_bytes b
 same_bytes a b is =
     let first = both (a.width == b.width) ((a.height == b.height) && (depths.bits_of a.depth == depths.bits_of b.depth)) is in
     let second = both (a.height == b.height) (depths.bits_of a.depth == depths.bits_of b.depth) first.1 in
@@ -208,7 +208,7 @@ pub room_is : (profile : Profile) (older earlier : List Content) (content : Cont
     → IsAsBefore older earlier region.head.region → left ≡ profile.pixels - pixels_used (taken_of earlier)
     → room_fault region.head (head_in composition region.head.region) left ≡ pixels_full profile earlier content
 room_is profile older earlier content region composition left has is before free =
-    let need = pixel_bytes region.head in
+    let need = region_bytes region.head in
     ap (λ b. cond (b && nat_lt left need) (Some (PixelFull need left)) None)
     (ap is_none (known_head older earlier region composition has before) ∙ none_mapped head_of (taken_region region.head.region (taken_of earlier)))
     ∙ ap (λ n. cond (is_none (taken_region region.head.region (taken_of earlier)) && nat_lt n need) (Some (PixelFull need n)) None) free
@@ -241,7 +241,7 @@ left_is profile older earlier content region composition left has is before unch
     by None false known held head new =
         absurd (let e : is_taken earlier content.value ≡ true = new ∙ ap (λ (o : Option Region). is_new region.head (option_map head_of o)) known in let f = sym held ∙ e in cc)
     by None true known taken head new =
-        let used : pixels_used (taken_of (content ∷ earlier)) ≡ pixel_bytes region.head + pixels_used (taken_of earlier) = taken_or_held content earlier true taken ∙ used_with_new content region (taken_among earlier) of known in
+        let used : pixels_used (taken_of (content ∷ earlier)) ≡ region_bytes region.head + pixels_used (taken_of earlier) = taken_or_held content earlier true taken ∙ used_with_new content region (taken_among earlier) of known in
         ap (λ (o : Option RegionHead). room_left region.head o left) (head ∙ ap (option_map head_of) known) ∙ omega (arith, free, used)
     by (Some last) false known held head new =
         let used : pixels_used (taken_of (content ∷ earlier)) ≡ pixels_used (taken_of earlier) = taken_or_held content earlier false held in

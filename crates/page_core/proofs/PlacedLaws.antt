@@ -19,7 +19,7 @@ use Rattle.decoder_model.specs.Contents.{clut_of, where_passes}
 use Rattle.decoder_model.specs.Ink.{colour_by_clut, colour_by_entry, colour_by_segment, ink_of, is_in_table}
 use Rattle.decoder_model.specs.Nodes.{TableEntry, entries_of_clut, in_table, in_tables, is_same_entry, table_entries}
 use Rattle.decoder_model.specs.Readings.{Content}
-use Rattle.page_core.specs.ClutSteps.{Placed, colour_at, entries_placed, entry_of, in_depth, in_depths, placed_by, placed_colour, with_entries_of, with_segment}
+use Rattle.page_core.specs.Private.ClutSteps.{Placed, colour_at, entries_placed, entry_of, in_depth, in_depths, placed_by, placed_colour, with_entries_of, with_segment}
 use Rattle.page_core.proofs.DifferentItems.{among_different, as_many_different}
 use Rattle.page_core.proofs.MarkTables.{same_entry, same_itself}
 use Rattle.page_core.proofs.PixelRoom.{turned}

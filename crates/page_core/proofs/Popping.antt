@@ -8,7 +8,7 @@ use Rattle.comp_pool.specs.Places.{is_node, first_of}
 use Rattle.comp_pool.specs.Changes.{unlinked, without}
 use Rattle.comp_pool.proofs.PairLaws.{is_node_same, is_node_other}
 use Rattle.comp_pool.proofs.NodeLaws.{one_item}
-use Rattle.page_core.specs.Lists.{KeepsBeside, IsPopped}
+use Rattle.page_core.specs.Private.Lists.{KeepsBeside, IsPopped}
 
 module _ {T : Type 0} where
   -- a node that is not there is not taken out

@@ -12,22 +12,22 @@ use Rattle.decoder_model.specs.Faults.{display_in_force}
 use Rattle.decoder_model.specs.Ink.{ink_of}
 use Rattle.decoder_model.specs.Nodes.{region_ids, clut_ids, table_entries}
 use Rattle.stream_syntax.specs.PixelBlocks.{Part}
-use Rattle.decoder_model.specs.Pixels.{pixel_of, object_version}
+use Rattle.decoder_model.specs.Pixels.{pixel_of, version_of_object}
 use Rattle.decoder_model.specs.Readings.{Content}
 use Rattle.decoder_model.specs.Taken.{Taken, taken_among, taken_of, taken_region}
 use Rattle.page_core.specs.Memory.{Memory, Holds, kept_listing, showing}
 use Rattle.page_core.specs.Composition.{KeptListing}
-use Rattle.page_core.specs.RegionTests.{before_regions}
+use Rattle.page_core.specs.Private.RegionTests.{before_regions}
 
 -- a segment that is neither the region nor the object of a listing leaves it as it is painted
 pub listing_behind : (content : Content) (segments : List Content) (id : ℕ) (listing : Listing) → region_named id content ≡ None → object_named listing.object content ≡ None
     → kept_listing (record { segments = content ∷ segments }) id listing ≡ kept_listing (record { segments = segments }) id listing
 listing_behind content segments id listing no_region no_object =
     let since : Content → Bool = λ segment. is_none (region_named id segment) in
-    let painted : List Content → KeptListing = λ found. record { listing = listing; painted = object_version (first_given (object_named listing.object) found) } in
+    let painted : List Content → KeptListing = λ found. record { listing = listing; painted = version_of_object (first_given (object_named listing.object) found) } in
     ap painted (take_while-cons since content segments)
     ∙ ap (λ (o : Option Region). painted (cond (is_none o) (content ∷ take_while since segments) [])) no_region
-    ∙ ap (λ (o : Option Object). let kept : KeptListing = record { listing = listing; painted = object_version (option_or o (first_given (object_named listing.object) (take_while since segments))) } in kept) no_object
+    ∙ ap (λ (o : Option Object). let kept : KeptListing = record { listing = listing; painted = version_of_object (option_or o (first_given (object_named listing.object) (take_while since segments))) } in kept) no_object
 
 -- the same listings, by another list of segments
 pub listings_by : (taken other : Taken) (id : ℕ) (found : Option Region) → ((listing : Listing) → kept_listing other id listing ≡ kept_listing taken id listing)

@@ -13,10 +13,10 @@ use Rattle.decoder_model.specs.Nodes.{is_same, listing_count, listings_held, reg
 use Rattle.decoder_model.specs.Readings.{Content}
 use Rattle.decoder_model.specs.Taken.{is_taken, last_region, taken_among, taken_of, taken_region}
 use Rattle.page_core.specs.Composition.{KeptRegion}
-use Rattle.page_core.specs.Counting.{IsKeptOf, added_by, gone_by, of_taken, region_need}
+use Rattle.page_core.specs.Private.Counting.{IsKeptOf, added_by, gone_by, of_taken, region_need}
 use Rattle.page_core.specs.Memory.{head_of}
-use Rattle.page_core.specs.RegionTests.{IsAsBefore, is_new}
-use Rattle.page_core.specs.Walks.{is_region}
+use Rattle.page_core.specs.Private.RegionTests.{IsAsBefore, is_new}
+use Rattle.page_core.specs.Private.Walks.{is_region}
 use Rattle.page_core.proofs.ClutLaws.{taken_more, taken_same}
 use Rattle.page_core.proofs.PixelRoom.{apart_ids, ids_with, id_among, id_among_different, named_other, named_same, sum_apart}
 use Rattle.page_core.proofs.RegionLaws.{taken_by_head}

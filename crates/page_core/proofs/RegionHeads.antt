@@ -7,8 +7,8 @@ use Rattle.stream_syntax.specs.Fields.{Field, FitsFields}
 use Rattle.stream_syntax.specs.Segments.{SegmentValue, Region, of_page, of_region, of_clut, of_object, of_display, end_of_set, passed_over, region_fields, segment_fields, IsSegment}
 use Rattle.stream_syntax.specs.declared.region.RegionHead.{RegionHead}
 use Rattle.decoder_model.specs.Pixels.{fill_code}
-use Rattle.page_core.specs.Painted.{FitsHead}
-use Rattle.page_core.specs.RegionSteps.{IsRightHead, IsRightValue}
+use Rattle.page_core.specs.Private.Painted.{FitsHead}
+use Rattle.page_core.specs.Private.RegionSteps.{IsRightHead, IsRightValue}
 
 -- the numbers of a segment fit
 pub fields_of_head : (bytes : List ℕ) (region : Region) → IsSegment bytes (of_region region) → FitsHead region.head

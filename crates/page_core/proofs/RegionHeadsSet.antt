@@ -11,10 +11,10 @@ use Rattle.comp_pool.specs.declared.node.NodeId.{NodeId}
 use Rattle.comp_pool.proofs.ItemLaws.{in_list_from_item}
 use Rattle.comp_pool.proofs.WalkLaws.{set_split}
 use Rattle.page_core.specs.Composition.{AreIdsApart, Composition, KeptRegion, region_in}
-use Rattle.page_core.specs.Lists.{KeepsBeside}
-use Rattle.page_core.specs.Nodes.{AreKind, IsIndexed, IsSorted, clut_node, colour_in, composition_of, entry_in, is_clut_of, is_region_of, kept_in, listing_in, listings_list, node_of, region_kept, region_node}
-use Rattle.page_core.specs.PoolChanges.{IsItemSet, IsRegionSet}
-use Rattle.page_core.specs.RegionSteps.{changed_at, headed, slot_in, with_head}
+use Rattle.page_core.specs.Private.Lists.{KeepsBeside}
+use Rattle.page_core.specs.Private.Nodes.{AreKind, IsIndexed, IsSorted, clut_node, colour_in, composition_of, entry_in, is_clut_of, is_region_of, kept_in, listing_in, listings_list, node_of, region_kept, region_node}
+use Rattle.page_core.specs.Private.PoolChanges.{IsItemSet, IsRegionSet}
+use Rattle.page_core.specs.Private.RegionSteps.{changed_at, headed, slot_in, with_head}
 use Rattle.page_core.specs.declared.node.Node.{Node}
 use Rattle.page_core.specs.declared.node.Node.TheVariants as node
 use Rattle.page_core.specs.declared.node.RegionNode.{RegionNode}

@@ -6,7 +6,7 @@ use Rattle.std.proofs.lemmas.List.Elements.{All-cons, All-head, All-tail}
 use Rattle.std.proofs.lemmas.List.Sums.{sum_by-cons}
 use Rattle.std.proofs.lemmas.Map.Steps.{length-le_from_distinct_below}
 use Rattle.page_core.specs.Composition.{AreIdsApart, KeptRegion}
-use Rattle.page_core.specs.RegionSteps.{changed_at}
+use Rattle.page_core.specs.Private.RegionSteps.{changed_at}
 use Rattle.page_core.proofs.RegionLaws.{either_false}
 use Rattle.page_core.proofs.PixelRoom.{turned}
 

@@ -5,14 +5,14 @@ use Rattle.stream_syntax.specs.Segments.{SegmentValue, of_region, Region}
 use Rattle.decoder_model.specs.Contents.{region_in, region_named, page_of, display_of}
 use Rattle.decoder_model.specs.Faults.{first_fault_by, changed_region, changed_from, region_changed}
 use Rattle.decoder_model.specs.Readings.{Content}
-use Rattle.decoder_model.specs.Taken.{has_new_version, is_taken, last_region, region_version, taken_among, taken_of, taken_region}
+use Rattle.decoder_model.specs.Taken.{has_new_version, is_taken, last_region, version_of_region, taken_among, taken_of, taken_region}
 use Rattle.decoder_model.specs.declared.set_fault.SetFault.{SetFault}
 use Rattle.page_core.specs.Composition.{Composition}
 use Rattle.page_core.specs.Handed.{AreContents}
 use Rattle.page_core.specs.Memory.{head_of}
-use Rattle.page_core.specs.RegionTests.{first_in, IsQuiet, before_regions, AreApart, HasHeads, IsAsBefore, head_in, is_new, fault_behind_head, fault_of_head}
-use Rattle.page_core.specs.Seen.{defines}
-use Rattle.page_core.specs.Walks.{is_region, IsNextOf}
+use Rattle.page_core.specs.Private.RegionTests.{first_in, IsQuiet, before_regions, AreApart, HasHeads, IsAsBefore, head_in, is_new, fault_behind_head, fault_of_head}
+use Rattle.page_core.specs.Private.Seen.{defines}
+use Rattle.page_core.specs.Private.Walks.{is_region, IsNextOf}
 use Rattle.page_core.proofs.Defining.{any_reversed, any_of_none, no_region_in_page, no_region_in_clut, no_region_in_object, no_region_in_display, unnamed}
 use Rattle.page_core.proofs.Orders.{is_display, is_page, is_clut, is_object, first_of_regions}
 use Rattle.page_core.proofs.Versions.{version_of_taken, given_by}
@@ -64,7 +64,7 @@ as_before id set older mid none =
 
 -- ---- changed regions
 
-new_by_head : (region : Region) (last : Option Region) → has_new_version region.head.version (region_version last) ≡ is_new region.head (option_map head_of last)
+new_by_head : (region : Region) (last : Option Region) → has_new_version region.head.version (version_of_region last) ≡ is_new region.head (option_map head_of last)
 new_by_head region None = refl
 new_by_head region (Some last) = refl
 
@@ -76,7 +76,7 @@ changed_by_head region (Some last) = refl
 pub taken_by_head : (older earlier : List Content) (region : Region) → IsAsBefore older earlier region.head.region
     → is_taken earlier (of_region region) ≡ is_new region.head (option_map head_of (taken_region region.head.region (taken_of older)))
 taken_by_head older earlier region before =
-    ap (λ (last : Option Region). has_new_version region.head.version (region_version last)) before.last
+    ap (λ (last : Option Region). has_new_version region.head.version (version_of_region last)) before.last
     ∙ ap (has_new_version region.head.version) (sym (version_of_taken region.head.region older))
     ∙ new_by_head region (taken_region region.head.region (taken_of older))
 

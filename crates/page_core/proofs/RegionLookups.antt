@@ -7,7 +7,7 @@ use Rattle.std.proofs.lemmas.List.Folds.{find-append}
 use Rattle.stream_syntax.specs.declared.region.Listing.{Listing}
 use Rattle.stream_syntax.specs.declared.region.RegionHead.{RegionHead}
 use Rattle.page_core.specs.Composition.{Composition, KeptRegion, region_in}
-use Rattle.page_core.specs.RegionSteps.{changed_at, fresh, headed, listing_more, with_head, with_listings, with_region}
+use Rattle.page_core.specs.Private.RegionSteps.{changed_at, fresh, headed, listing_more, with_head, with_listings, with_region}
 use Rattle.decoder_model.proofs.Searches.{option_or-none}
 use Rattle.page_core.proofs.RegionIds.{changed_here, changed_other, found_changed, found_has, id_of, ids_kept}
 use Rattle.page_core.proofs.RegionsStored.{headed_found, one_found}

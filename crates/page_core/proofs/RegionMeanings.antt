@@ -12,9 +12,9 @@ use Rattle.decoder_model.specs.Taken.{Taken, taken_region}
 use Rattle.pixel_store.specs.Regions.{Regions, code_of, region_at}
 use Rattle.page_core.specs.Composition.{Composition, KeptRegion, region_in}
 use Rattle.page_core.specs.Memory.{head_of, kept_listing}
-use Rattle.page_core.specs.RegionSteps.{AwaitRegions, awaited, fresh, is_renewed}
-use Rattle.page_core.specs.RegionTests.{is_new}
-use Rattle.page_core.specs.Seen.{defines}
+use Rattle.page_core.specs.Private.RegionSteps.{AwaitRegions, awaited, fresh, is_renewed}
+use Rattle.page_core.specs.Private.RegionTests.{is_new}
+use Rattle.page_core.specs.Private.Seen.{defines}
 use Rattle.page_core.proofs.RegionLaws.{either_false}
 use Rattle.page_core.proofs.PixelRoom.{with_segment}
 use Rattle.page_core.proofs.RegionLookups.{IsLookedUp}

@@ -12,10 +12,10 @@ use Rattle.decoder_model.specs.Nodes.{is_same, listing_count, listings_held, reg
 use Rattle.decoder_model.specs.Readings.{Content}
 use Rattle.decoder_model.specs.Taken.{Taken, is_taken, last_region, taken_among, taken_of, taken_region}
 use Rattle.page_core.specs.Memory.{head_of}
-use Rattle.page_core.specs.RegionSteps.{is_renewed, nodes_needed, nodes_needed_for}
-use Rattle.page_core.specs.RegionTests.{AreApart, is_new}
-use Rattle.page_core.specs.Seen.{defines}
-use Rattle.page_core.specs.Walks.{is_region}
+use Rattle.page_core.specs.Private.RegionSteps.{is_renewed, nodes_needed, nodes_needed_for}
+use Rattle.page_core.specs.Private.RegionTests.{AreApart, is_new}
+use Rattle.page_core.specs.Private.Seen.{defines}
+use Rattle.page_core.specs.Private.Walks.{is_region}
 use Rattle.page_core.proofs.Orders.{moved}
 use Rattle.page_core.proofs.PixelRoom.{apart_ids, id_among, id_among_different, ids_with, named_same, of_segments, sum_apart, with_segment}
 use Rattle.page_core.proofs.RegionMeanings.{held_renewed, none_renewed, not_renewed}

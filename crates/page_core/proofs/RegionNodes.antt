@@ -8,8 +8,8 @@ use Rattle.comp_pool.specs.Pool.{PoolOf, list_of, IsInList, NoneTwice, nodes_of}
 use Rattle.comp_pool.proofs.PairLaws.{pair_node}
 use Rattle.comp_pool.proofs.NodeLaws.{one_item}
 use Rattle.page_core.specs.Composition.{Composition, KeptRegion, region_in}
-use Rattle.page_core.specs.Known.{IsRegionIn}
-use Rattle.page_core.specs.Nodes.{region_node, region_kept, kept_in, composition_of, is_region_of, node_of, IsRegionOf}
+use Rattle.page_core.specs.Private.Known.{IsRegionIn}
+use Rattle.page_core.specs.Private.Nodes.{region_node, region_kept, kept_in, composition_of, is_region_of, node_of, IsRegionOf}
 use Rattle.page_core.specs.declared.node.Node.{Node}
 use Rattle.page_core.specs.declared.node.RegionNode.{RegionNode}
 

@@ -10,10 +10,10 @@ use Rattle.comp_pool.specs.Changes.{cleared}
 use Rattle.comp_pool.specs.Pool.{PoolOf, list_of, node_count}
 use Rattle.comp_pool.specs.declared.node.NodeId.{NodeId}
 use Rattle.page_core.specs.Composition.{Composition, KeptRegion, region_in}
-use Rattle.page_core.specs.Lists.{KeepsBeside}
-use Rattle.page_core.specs.Nodes.{AreKind, IsIndexed, IsSorted, clut_node, colour_in, composition_of, entry_in, is_clut_of, is_region_of, kept_in, listing_in, listings_list, node_of, region_kept, region_node}
-use Rattle.page_core.specs.PoolChanges.{HasListings}
-use Rattle.page_core.specs.RegionSteps.{bare, changed_at, count_kept, fresh, listing_more, with_listings, with_regions, without_listings}
+use Rattle.page_core.specs.Private.Lists.{KeepsBeside}
+use Rattle.page_core.specs.Private.Nodes.{AreKind, IsIndexed, IsSorted, clut_node, colour_in, composition_of, entry_in, is_clut_of, is_region_of, kept_in, listing_in, listings_list, node_of, region_kept, region_node}
+use Rattle.page_core.specs.Private.PoolChanges.{HasListings}
+use Rattle.page_core.specs.Private.RegionSteps.{bare, changed_at, count_kept, fresh, listing_more, with_listings, with_regions, without_listings}
 use Rattle.page_core.specs.declared.node.Node.{Node}
 use Rattle.page_core.specs.declared.node.RegionNode.{RegionNode}
 

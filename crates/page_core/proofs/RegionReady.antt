@@ -11,7 +11,7 @@ use Rattle.stream_syntax.specs.Segments.{Region, of_region}
 use Rattle.stream_syntax.specs.declared.region.RegionHead.{RegionHead}
 use Rattle.decoder_model.specs.Contents.{region_in, region_named, region_of, where_passes}
 use Rattle.decoder_model.specs.Faults.{changed_from, changed_region, has_same_shape, pixels_full, region_changed, region_too_large}
-use Rattle.decoder_model.specs.Nodes.{pixel_bytes, pixels_used, region_ids}
+use Rattle.decoder_model.specs.Nodes.{region_bytes, pixels_used, region_ids}
 use Rattle.decoder_model.specs.Pixels.{code_by_fill, code_by_segment}
 use Rattle.decoder_model.specs.Readings.{Content}
 use Rattle.decoder_model.specs.Taken.{Taken, is_taken, taken_among, taken_of, taken_region}
@@ -21,11 +21,11 @@ use Rattle.page_core.specs.Composition.{Composition, KeptListing, KeptRegion}
 use Rattle.page_core.specs.Composition.{region_in as kept_in}
 use Rattle.page_core.specs.Handed.{AreContents}
 use Rattle.page_core.specs.Memory.{HasSides, head_of, kept_listing}
-use Rattle.page_core.specs.Painted.{HasRegion, IsWritten}
-use Rattle.page_core.specs.RegionSteps.{AreReady, AreStored, AwaitRegions, IsNewRegion, IsRegionTaken, IsTakenAgain, awaited, is_renewed, nodes_needed_by, nodes_needed_for, with_regions_of}
-use Rattle.page_core.specs.RegionTests.{AreApart, first_in, is_new}
-use Rattle.page_core.specs.Seen.{defines}
-use Rattle.page_core.specs.Walks.{IsNextOf, is_region}
+use Rattle.page_core.specs.Private.Painted.{HasRegion, IsWritten}
+use Rattle.page_core.specs.Private.RegionSteps.{AreReady, AreStored, AwaitRegions, IsNewRegion, IsRegionTaken, IsTakenAgain, awaited, is_renewed, nodes_needed_by, nodes_needed_for, with_regions_of}
+use Rattle.page_core.specs.Private.RegionTests.{AreApart, first_in, is_new}
+use Rattle.page_core.specs.Private.Seen.{defines}
+use Rattle.page_core.specs.Private.Walks.{IsNextOf, is_region}
 use Rattle.page_core.proofs.DrawnEntries.{placed_in_order}
 use Rattle.page_core.proofs.Finds.{found_all}
 use Rattle.page_core.proofs.ObjectSteps.{pixel_step}
@@ -148,13 +148,13 @@ needed_is segments content region taken known value is_taken_so known_so =
     ∙ (λ i. nodes_needed_by (is_taken_so i) (known_so i) region)
 
 -- a region that is new and has room
-fits_in : (profile : Profile) (taken : Taken) (region : Region) → taken_region region.head.region taken ≡ None → region_too_large profile taken region ≡ None → pixel_bytes region.head ≤ profile.pixels - pixels_used taken
+fits_in : (profile : Profile) (taken : Taken) (region : Region) → taken_region region.head.region taken ≡ None → region_too_large profile taken region ≡ None → region_bytes region.head ≤ profile.pixels - pixels_used taken
 fits_in profile taken region none fits =
-    by (nat_lt (profile.pixels - pixels_used taken) (pixel_bytes region.head)) refl
-    (sym (ap (λ (o : Option Region). cond (is_none o && nat_lt (profile.pixels - pixels_used taken) (pixel_bytes region.head)) (Some (PixelFull (pixel_bytes region.head) (profile.pixels - pixels_used taken))) None) none) ∙ fits)
+    by (nat_lt (profile.pixels - pixels_used taken) (region_bytes region.head)) refl
+    (sym (ap (λ (o : Option Region). cond (is_none o && nat_lt (profile.pixels - pixels_used taken) (region_bytes region.head)) (Some (PixelFull (region_bytes region.head) (profile.pixels - pixels_used taken))) None) none) ∙ fits)
   where
-    by : (large : Bool) → nat_lt (profile.pixels - pixels_used taken) (pixel_bytes region.head) ≡ large
-        → cond large (Some (PixelFull (pixel_bytes region.head) (profile.pixels - pixels_used taken))) None ≡ None → pixel_bytes region.head ≤ profile.pixels - pixels_used taken
+    by : (large : Bool) → nat_lt (profile.pixels - pixels_used taken) (region_bytes region.head) ≡ large
+        → cond large (Some (PixelFull (region_bytes region.head) (profile.pixels - pixels_used taken))) None ≡ None → region_bytes region.head ≤ profile.pixels - pixels_used taken
     by true is none = absurd (cc)
     by false is none = grind (arith, nat_tests)
 
@@ -212,7 +212,7 @@ module _ (profile : Profile) (segments left : List Content) (content : Content) 
           let needed = needed_is segments content region true None value is none in
           let fits = fits_in profile (taken_of segments) region none (sym (ap (option_and_then (region_too_large profile (taken_of segments))) of) ∙ rooms.0) in
           let put = step.first (ready.regions.heads region.head.region ∙ ap (option_map head_of) none) (omega (arith, ready.nodes, needed)) (omega (arith, fits, ready.free)) in
-          let used : pixels_used (with_segment content (taken_among segments)) ≡ pixel_bytes region.head + pixels_used (taken_of segments) = used_with_new content region (taken_among segments) of none in
+          let used : pixels_used (with_segment content (taken_among segments)) ≡ region_bytes region.head + pixels_used (taken_of segments) = used_with_new content region (taken_among segments) of none in
           record {
             regions = subst (λ (taken : Taken). AwaitRegions taken left new after) (sym (taken_then segments content is))
                 (first_means (taken_of segments) left content region value apart old new before after stored ready.regions none put);

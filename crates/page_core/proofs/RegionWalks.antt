@@ -10,11 +10,11 @@ use Rattle.decoder_model.specs.Nodes.{is_same, region_id}
 use Rattle.decoder_model.specs.Readings.{Content}
 use Rattle.decoder_model.specs.Taken.{taken_among}
 use Rattle.page_core.specs.Composition.{Composition, KeptRegion, region_in}
-use Rattle.page_core.specs.Counting.{AreKept, HasRegionNeed, added_by, gone_by, region_need}
+use Rattle.page_core.specs.Private.Counting.{AreKept, HasRegionNeed, added_by, gone_by, region_need}
 use Rattle.page_core.specs.Handed.{AreContents}
-use Rattle.page_core.specs.RegionTests.{AreApart, before_regions}
-use Rattle.page_core.specs.Seen.{defines}
-use Rattle.page_core.specs.Walks.{IsNextOf, is_region}
+use Rattle.page_core.specs.Private.RegionTests.{AreApart, before_regions}
+use Rattle.page_core.specs.Private.Seen.{defines}
+use Rattle.page_core.specs.Private.Walks.{IsNextOf, is_region}
 use Rattle.page_core.proofs.Defining.{any_of_none, any_reversed, no_region_in_display, no_region_in_page}
 use Rattle.page_core.proofs.Orders.{moved}
 use Rattle.page_core.proofs.PixelRoom.{turned}

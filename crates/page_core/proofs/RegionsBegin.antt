@@ -14,9 +14,9 @@ use Rattle.decoder_model.specs.Taken.{Taken, taken_of, taken_region}
 use Rattle.pixel_store.specs.Regions.{Regions, code_of, region_at}
 use Rattle.page_core.specs.Composition.{AreIdsApart, Composition, KeptRegion, region_in}
 use Rattle.page_core.specs.Memory.{Holds, IsWhole, Memory, head_of, kept_listing}
-use Rattle.page_core.specs.RegionSteps.{AreBare, AreReady, AreRegionsRight, AreStored, AwaitRegions, KeepsBesideRegions, awaited, bare_by, bare_where, is_renewed, listings_kept}
-use Rattle.page_core.specs.RegionTests.{AreApart}
-use Rattle.page_core.specs.Walks.{is_region}
+use Rattle.page_core.specs.Private.RegionSteps.{AreBare, AreReady, AreRegionsRight, AreStored, AwaitRegions, KeepsBesideRegions, awaited, bare_by, bare_where, is_renewed, listings_kept}
+use Rattle.page_core.specs.Private.RegionTests.{AreApart}
+use Rattle.page_core.specs.Private.Walks.{is_region}
 use Rattle.page_core.proofs.RegionIds.{found_mapped, has_id, ids_mapped, id_of, listings_at}
 use Rattle.page_core.proofs.RegionNeeds.{are_regions, count_awaited, count_by, counts, nodes_with}
 

@@ -11,13 +11,13 @@ use Rattle.decoder_model.specs.Faults.{display_in_force}
 use Rattle.decoder_model.specs.Ink.{ink_of}
 use Rattle.decoder_model.specs.Nodes.{TableEntry, clut_ids, is_same_entry, table_entries}
 use Rattle.decoder_model.specs.Readings.{Content}
-use Rattle.decoder_model.specs.Taken.{clut_version, is_taken, last_clut, taken_among, taken_of}
+use Rattle.decoder_model.specs.Taken.{version_of_clut, is_taken, last_clut, taken_among, taken_of}
 use Rattle.page_core.specs.Composition.{Composition, KeptClut}
 use Rattle.page_core.specs.Cores.{IsCore}
-use Rattle.page_core.specs.Marks.{AreMarked}
+use Rattle.page_core.specs.Private.Marks.{AreMarked}
 use Rattle.page_core.specs.declared.marks.Mark.{Mark}
 use Rattle.page_core.specs.Memory.{IsDisplayOf, AreInks, Holds, IsWhole, Memory, ink_in}
-use Rattle.page_core.specs.RegionSteps.{AreStored, AwaitRegions, KeepsBesideRegions, KeepsButRegions}
+use Rattle.page_core.specs.Private.RegionSteps.{AreStored, AwaitRegions, KeepsBesideRegions, KeepsButRegions}
 use Rattle.page_core.proofs.Orders.{moved}
 use Rattle.page_core.proofs.PixelRoom.{of_segments}
 use Rattle.page_core.proofs.RegionNeeds.{AreRegions}
@@ -91,7 +91,7 @@ held_behind older regions old new holds are keeps await =
       listings = await.listings;
       pixels = await.pixels;
       clut_ids = ap (map (λ (kept : KeptClut). kept.clut)) keeps.cluts ∙ holds.clut_ids ∙ ap reverse (sym same.clut_ids);
-      versions = λ id. (λ i. option_map (λ (kept : KeptClut). kept.version) (find (λ (kept : KeptClut). kept.clut == id) (keeps.cluts i))) ∙ holds.versions id ∙ ap clut_version (sym (same.cluts id));
+      versions = λ id. (λ i. option_map (λ (kept : KeptClut). kept.version) (find (λ (kept : KeptClut). kept.clut == id) (keeps.cluts i))) ∙ holds.versions id ∙ ap version_of_clut (sym (same.cluts id));
       inks = λ id depth number low few. ap (λ (inks : List Colour). ink_in inks id depth number) keeps.inks ∙ holds.inks id depth number low few ∙ sym (same.inks id depth number);
       set_entries = λ entry. ap (list_any (is_same_entry entry)) keeps.set_entries ∙ holds.set_entries entry ∙ ap (list_any (is_same_entry entry)) (sym same.entries);
       set_count = ap length keeps.set_entries ∙ holds.set_count ∙ ap length (sym same.entries);

@@ -18,8 +18,8 @@ use Rattle.pixel_store.specs.Regions.{KeepsOthers, PlacesOne, Regions, region_at
 use Rattle.pixel_store.specs.Regions.{Region as StoredRegion}
 use Rattle.page_core.specs.Composition.{Composition, KeptRegion, region_in}
 use Rattle.page_core.specs.Memory.{HasSides}
-use Rattle.page_core.specs.Painted.{HasRegion}
-use Rattle.page_core.specs.RegionSteps.{AreStored, IsRightHead, changed_at, fresh, headed, listing_more, with_head, with_listings, with_region, with_regions}
+use Rattle.page_core.specs.Private.Painted.{HasRegion}
+use Rattle.page_core.specs.Private.RegionSteps.{AreStored, IsRightHead, changed_at, fresh, headed, listing_more, with_head, with_listings, with_region, with_regions}
 use Rattle.page_core.proofs.DrawnEntries.{placed_in_order}
 use Rattle.page_core.proofs.Finds.{found_all}
 use Rattle.page_core.proofs.RegionIds.{all_with, apart_mapped, apart_with, changed_here, fewer, found_changed, found_has, id_of, id_kept, none_has, sum_with}

@@ -12,9 +12,9 @@ use Rattle.page_core.specs.Composition.{AreIdsApart, Composition, KeptRegion}
 use Rattle.page_core.specs.Composition.{region_in as kept_in}
 use Rattle.page_core.specs.Handed.{AreContents}
 use Rattle.page_core.specs.Memory.{HasSides}
-use Rattle.page_core.specs.RegionSteps.{AreBare, AreStored, KeepsBesideRegions, bare, bare_by, bare_where, changed_at, cleared_where, count_kept, is_renewed, renews, takes_place}
-use Rattle.page_core.specs.RegionTests.{head_in, is_new}
-use Rattle.page_core.specs.Walks.{IsNextOf, is_region}
+use Rattle.page_core.specs.Private.RegionSteps.{AreBare, AreStored, KeepsBesideRegions, bare, bare_by, bare_where, changed_at, cleared_where, count_kept, is_renewed, renews, takes_place}
+use Rattle.page_core.specs.Private.RegionTests.{head_in, is_new}
+use Rattle.page_core.specs.Private.Walks.{IsNextOf, is_region}
 use Rattle.page_core.proofs.RegionLaws.{either_false}
 use Rattle.page_core.proofs.Finds.{found_all}
 use Rattle.page_core.proofs.RegionIds.{apart_mapped, changed_here, changed_other, found_has, has_id, id_kept}

@@ -7,10 +7,10 @@ use Rattle.comp_pool.specs.Places.{first_of, behind}
 use Rattle.comp_pool.specs.Changes.{replaced}
 use Rattle.pixel_store.specs.Regions.{Regions}
 use Rattle.stream_syntax.specs.declared.region.RegionHead.{RegionHead}
-use Rattle.page_core.specs.Listings.{code_by_node, code_by_pair, painted_node}
-use Rattle.page_core.specs.Lists.{IsRewritten}
-use Rattle.page_core.specs.Nodes.{listing_in}
-use Rattle.page_core.specs.Painted.{FieldRuns, HasRegion, IsWritten}
+use Rattle.page_core.specs.Private.Listings.{code_by_node, code_by_pair, painted_node}
+use Rattle.page_core.specs.Private.Lists.{IsRewritten}
+use Rattle.page_core.specs.Private.Nodes.{listing_in}
+use Rattle.page_core.specs.Private.Painted.{FieldRuns, HasRegion, IsWritten}
 use Rattle.page_core.specs.declared.composition.listings.Painter.{Painter}
 use Rattle.page_core.specs.declared.node.Node.{Node}
 use Rattle.page_core.proofs.Rewriting.{IsRewriting, rewriting_begins, node_comes, item_comes, rewriting_goes_on, rewriting_ends}

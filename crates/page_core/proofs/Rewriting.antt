@@ -10,7 +10,7 @@ use Rattle.comp_pool.proofs.PairLaws.{AtOne, off_before, behind_split, is_node_o
 use Rattle.comp_pool.proofs.ItemLaws.{in_list_from_item, list_after_set, list_count_after_set}
 use Rattle.comp_pool.proofs.NodeLaws.{one_item, one_list, nodes_after_set}
 use Rattle.comp_pool.proofs.WalkLaws.{set_split, walk_step}
-use Rattle.page_core.specs.Lists.{KeepsBeside, with_changed, IsRewritten}
+use Rattle.page_core.specs.Private.Lists.{KeepsBeside, with_changed, IsRewritten}
 
 module _ {T : Type 0} where
   -- ---- other lists

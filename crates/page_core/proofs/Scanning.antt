@@ -10,11 +10,12 @@ use Rattle.decoder_model.specs.Readings.{Content, Reading, read, faulty, IsReadi
 use Rattle.decoder_model.specs.Received.{BeginsWith, AreRead}
 use Rattle.decoder_model.specs.declared.set_fault.SetFault.{SetFault}
 use Rattle.segments.specs.Contents.{contents}
+use Rattle.segments.specs.Framing.{IsFrameOf}
 use Rattle.segments.specs.declared.reading.Segment.{Segment}
 use Rattle.page_core.specs.declared.seen.Seen.{Seen}
 use Rattle.page_core.specs.Handed.{Matches, IsCutOff}
 use Rattle.page_core.specs.declared.front.Front.{Front}
-use Rattle.page_core.specs.Seen.{AreFlags, Sees, Progress, page_with, display_with, defines, fault_behind}
+use Rattle.page_core.specs.Private.Seen.{AreFlags, Sees, Progress, page_with, display_with, defines, fault_behind}
 
 or_assoc : {X : Type 0} (a b c : Option X) → option_or a (option_or b c) ≡ option_or (option_or a b) c
 or_assoc None b c = refl
@@ -26,8 +27,8 @@ Reads bytes found rest = (reading : Reading) (behind : List ℕ) → BeginsWith 
 
 -- as the front of bytes is cut off and read
 pub reads_front : (bytes : List ℕ) (front : Front) (found : Result Segment SegmentFault) → ((reading : Reading) (behind : List ℕ) → BeginsWith bytes reading behind → IsCutOff reading behind front)
-    → ((reading : Reading) → IsReading front.segment.now reading → Matches found reading) → Reads bytes found front.rest.now
-reads_front bytes front found cut one reading behind begins = let off = cut reading behind begins in (one reading off.is_reading, off.behind)
+    → ((segment : List ℕ) (reading : Reading) → IsFrameOf segment front.frame → IsReading segment reading → Matches found reading) → Reads bytes found front.rest.now
+reads_front bytes front found cut one reading behind begins = let off = cut reading behind begins in (one off.segment reading off.framed off.is_reading, off.behind)
 
 -- what is seen behind all that a walk may have passed
 abbrev pub SeesNext : Seen → Result Segment SegmentFault → Result Segment SetFault → Seen → Type 0

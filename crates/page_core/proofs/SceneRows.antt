@@ -6,7 +6,7 @@ use Rattle.std.specs.Option.{option_or}
 use Rattle.std.proofs.lemmas.Bool.{eqb-true}
 use Rattle.std.proofs.lemmas.Bool.Decides.{nat_tests}
 use Rattle.sub_base.specs.Colour.{clear}
-use Rattle.sub_base.specs.Depth.{code_count}
+use Rattle.sub_base.specs.Depth.{code_count, packed_length}
 use Rattle.sub_base.specs.Lists.{last_given}
 use Rattle.sub_base.specs.declared.depth.Depth.{Depth}
 use Rattle.stream_syntax.specs.Segments.{Page, Region, Display}
@@ -18,10 +18,10 @@ use Rattle.decoder_model.specs.Ink.{ink_of}
 use Rattle.decoder_model.specs.PackedRows.{ArePacked, codes_of_line, listed_region, IsPackedLine}
 use Rattle.decoder_model.specs.Pixels.{pixel_of}
 use Rattle.decoder_model.specs.Readings.{Content}
-use Rattle.decoder_model.specs.Shown.{Scene, window_of, is_in_window, is_inside, row_of, plane_of, scene_in, colour_at as colour_at_scene}
+use Rattle.decoder_model.specs.Shown.{Scene, window_of, is_in_window, row_of, plane_of, scene_in, colour_at as colour_at_scene}
 use Rattle.decoder_model.specs.Shown as shown
 use Rattle.decoder_model.specs.Taken.{Taken, segments_of, taken_of, taken_region, last_region}
-use Rattle.pixel_store.specs.Codes.{codes_in_byte, packed_code, packed_length}
+use Rattle.pixel_store.specs.Codes.{codes_in_byte, packed_code}
 use Rattle.pixel_store.specs.Regions.{region_at, IsPackedRow}
 use Rattle.page_core.specs.Composition.{KeptRegion, region_in}
 use Rattle.page_core.specs.Memory.{Memory, HasSides, IsWhole, Holds, head_of, code_in}
@@ -29,6 +29,7 @@ use Rattle.page_core.specs.Rows.{colour_in, colour_through, colour_by_entry, col
 use Rattle.page_core.proofs.DrawnEntries.{code_below}
 use Rattle.page_core.proofs.Finds.{found_all}
 use Rattle.page_core.proofs.PackedLines.{packed_line}
+use Rattle.sub_base.specs.Picture.{is_inside}
 
 -- ---- what is found
 

@@ -13,7 +13,7 @@ use Rattle.stream_syntax.specs.declared.region.Listing.{Listing}
 use Rattle.decoder_model.specs.Nodes.{TableEntry, is_same, is_same_entry}
 use Rattle.decoder_model.specs.Readings.{Content}
 use Rattle.page_core.specs.Handed.{AreContents}
-use Rattle.page_core.specs.Inks.{ink_count}
+use Rattle.page_core.specs.Private.Inks.{ink_count}
 use Rattle.page_core.specs.Memory.{IsInTable, ink_place}
 use Rattle.page_core.proofs.DifferentItems.{different_within, no_more_different}
 use Rattle.page_core.proofs.InkTables.{place_of_same}

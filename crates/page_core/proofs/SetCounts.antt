@@ -18,14 +18,14 @@ use Rattle.decoder_model.specs.Contents.{clut_in as value_clut, clut_of, display
 use Rattle.decoder_model.specs.Ink.{is_in_table}
 use Rattle.decoder_model.specs.Nodes.{TableEntry, clut_id, clut_ids, entries_of_clut, in_table, in_tables, is_same, is_same_entry, nodes_of, region_ids, listings_held, table_entries}
 use Rattle.decoder_model.specs.Readings.{Content}
-use Rattle.decoder_model.specs.Taken.{clut_version, is_taken, last_clut, segments_of, taken_among, taken_of}
-use Rattle.page_core.specs.ClutSteps.{HasColours, entry_of, placed_by, with_segment}
+use Rattle.decoder_model.specs.Taken.{version_of_clut, is_taken, last_clut, segments_of, taken_among, taken_of}
+use Rattle.page_core.specs.Private.ClutSteps.{HasColours, entry_of, placed_by, with_segment}
 use Rattle.page_core.specs.Composition.{Composition, clut_in}
-use Rattle.page_core.specs.Counting.{AreCounted, HasVersions, clut_need, region_need}
-use Rattle.page_core.specs.Inks.{ink_count}
-use Rattle.page_core.specs.Marks.{AreMarked, mark_for}
-use Rattle.page_core.specs.RegionTests.{before_regions}
-use Rattle.page_core.specs.Walks.{is_clut, is_object, is_region}
+use Rattle.page_core.specs.Private.Counting.{AreCounted, HasVersions, clut_need, region_need}
+use Rattle.page_core.specs.Private.Inks.{ink_count}
+use Rattle.page_core.specs.Private.Marks.{AreMarked, mark_for}
+use Rattle.page_core.specs.Private.RegionTests.{before_regions}
+use Rattle.page_core.specs.Private.Walks.{is_clut, is_object, is_region}
 use Rattle.page_core.specs.declared.marks.Mark.{Mark}
 use Rattle.page_core.proofs.ClutLaws.{clut_version_of_taken, taken_more, taken_same}
 use Rattle.page_core.proofs.ClutNodes.{version_of}
@@ -75,9 +75,9 @@ last_clut_behind id (content ∷ mid) base none =
     ap (λ (o : Option Clut). option_or (where_passes (λ clut. clut.clut == id) o) (last_clut id (mid ++ base))) (no_some (clut_of content) parts.0) ∙ last_clut_behind id mid base parts.1
 
 -- behind them the versions and what was placed are as they were
-pub versions_behind : (mid base : List Content) (composition : Composition) → list_any is_clut mid ≡ false → ((id : ℕ) → option_map version_of (clut_in composition id) ≡ clut_version (last_clut id (taken_of base).segments)) → HasVersions (mid ++ base) composition []
+pub versions_behind : (mid base : List Content) (composition : Composition) → list_any is_clut mid ≡ false → ((id : ℕ) → option_map version_of (clut_in composition id) ≡ version_of_clut (last_clut id (taken_of base).segments)) → HasVersions (mid ++ base) composition []
 versions_behind mid base composition none has id byte =
-    has id ∙ clut_version_of_taken id base ∙ ap clut_version (sym (last_clut_behind id mid base none)) ∙ sym (clut_version_of_taken id (mid ++ base))
+    has id ∙ clut_version_of_taken id base ∙ ap version_of_clut (sym (last_clut_behind id mid base none)) ∙ sym (clut_version_of_taken id (mid ++ base))
 
 pub counted_behind : (mid base : List Content) (composition : Composition) (inks : List Colour) (marks : List Mark) → list_any is_clut mid ≡ false → HasColours base composition inks → AreMarked composition.set_entries [] marks
     → AreCounted (placed_by (taken_among (mid ++ base))) composition.set_entries marks

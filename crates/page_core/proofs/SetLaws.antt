@@ -11,10 +11,10 @@ use Rattle.decoder_model.specs.Readings.{Content, Reading, read, faulty}
 use Rattle.decoder_model.specs.Received.{AreRead}
 use Rattle.decoder_model.specs.declared.set_fault.SetFault.{SetFault}
 use Rattle.decoder_model.specs.declared.set_fault.SetFault.TheVariants.{TwiceInSet, Segment}
-use Rattle.page_core.specs.RegionTests.{IsApart, AreApart}
-use Rattle.page_core.specs.Seen.{defines, fault_behind}
-use Rattle.page_core.specs.Sound.{IsSound}
-use Rattle.page_core.specs.Walks.{is_region}
+use Rattle.page_core.specs.Private.RegionTests.{IsApart, AreApart}
+use Rattle.page_core.specs.Private.Seen.{defines, fault_behind}
+use Rattle.page_core.specs.Private.Sound.{IsSound}
+use Rattle.page_core.specs.Private.Walks.{is_region}
 use Rattle.page_core.proofs.Defining.{any_of_all, unnamed, no_region}
 
 neither : {X : Type 0} (a b : Option X) → option_or a b ≡ None → (a ≡ None) × (b ≡ None)

@@ -10,9 +10,9 @@ use Rattle.std.specs.Prelude.{option_and_then}
 use Rattle.decoder_model.specs.Readings.{Content}
 use Rattle.decoder_model.specs.Taken.{taken_of, segments_of}
 use Rattle.decoder_model.specs.declared.set_fault.SetFault.{SetFault}
-use Rattle.page_core.specs.RegionTests.{first_in, IsQuiet, before_regions}
-use Rattle.page_core.specs.SetSteps.{before_cluts, before_objects}
-use Rattle.page_core.specs.Walks as walks
+use Rattle.page_core.specs.Private.RegionTests.{first_in, IsQuiet, before_regions}
+use Rattle.page_core.specs.Private.SetSteps.{before_cluts, before_objects}
+use Rattle.page_core.specs.Private.Walks as walks
 use Rattle.page_core.proofs.Defining.{any_reversed, any_of_none, no_region_in_clut, no_region_in_object}
 use Rattle.page_core.proofs.Orders.{is_display, is_page, is_region, is_clut, is_object, first_in-append, nothing_in}
 use Rattle.page_core.proofs.TestsInOrder.{segments_with}

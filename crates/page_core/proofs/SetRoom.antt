@@ -13,7 +13,7 @@ use Rattle.decoder_model.specs.Taken.{Taken, taken_of}
 use Rattle.decoder_model.specs.declared.set_fault.SetFault.TheVariants.{CompositionFull}
 use Rattle.page_core.specs.Composition.{KeptRegion}
 use Rattle.page_core.specs.Memory.{Memory, IsWhole, Holds}
-use Rattle.page_core.specs.Walks.{is_region}
+use Rattle.page_core.specs.Private.Walks.{is_region}
 use Rattle.page_core.proofs.HeldNodes.{nodes_counted, regions_counted, listings_counted, cluts_counted}
 use Rattle.page_core.proofs.OtherSegments.{HaveSameRegions, HaveSameCluts, regions_behind, same_listings, more_cluts}
 

@@ -15,10 +15,10 @@ use Rattle.decoder_model.specs.Verdict.{shown_unless, verdict_in_epoch, verdict_
 use Rattle.decoder_model.specs.declared.set_end.SetEnd.{SetEnd}
 use Rattle.decoder_model.specs.declared.set_end.SetEnd.TheVariants.{Shown}
 use Rattle.decoder_model.specs.declared.set_fault.SetFault.{SetFault}
-use Rattle.page_core.specs.Accepted.{IsBefore, IsBegun}
-use Rattle.page_core.specs.Judging.{fault_before_nodes}
+use Rattle.page_core.specs.Private.Accepted.{IsBefore, IsBegun}
+use Rattle.page_core.specs.Private.Judging.{fault_before_nodes}
 use Rattle.page_core.specs.Memory.{Memory, Holds, IsSameReceiver, Stands}
-use Rattle.page_core.specs.SetSteps.{HasEpoch}
+use Rattle.page_core.specs.Private.SetSteps.{HasEpoch}
 use Rattle.page_core.specs.declared.epoch.Start.{Start}
 use Rattle.page_core.specs.declared.epoch.Start.TheVariants.{Begins, GoesOn, Waits}
 

@@ -7,17 +7,17 @@ use Rattle.decoder_model.specs.Nodes.{nodes_of, pixels_used}
 use Rattle.decoder_model.specs.Readings.{Content}
 use Rattle.decoder_model.specs.Taken.{segments_of, taken_of}
 use Rattle.pixel_store.specs.Regions.{Regions}
-use Rattle.page_core.specs.Accepted.{IsBefore}
-use Rattle.page_core.specs.ClutSteps.{HasRoomForCluts, KeepsButColours}
+use Rattle.page_core.specs.Private.Accepted.{IsBefore}
+use Rattle.page_core.specs.Private.ClutSteps.{HasRoomForCluts, KeepsButColours}
 use Rattle.page_core.specs.Composition.{with_entries}
 use Rattle.page_core.specs.Handed.{AreContents}
-use Rattle.page_core.specs.Judging.{fault_before_nodes}
+use Rattle.page_core.specs.Private.Judging.{fault_before_nodes}
 use Rattle.page_core.specs.Memory.{Memory, IsWhole, Holds, showing}
-use Rattle.page_core.specs.RegionSteps.{AreRegionsRight, KeepsButRegions}
-use Rattle.page_core.specs.RegionTests.{AreApart, before_regions, first_in}
-use Rattle.page_core.specs.SetSteps.{before_cluts, before_objects, with_composition, KeepsButPage}
-use Rattle.page_core.specs.Sound.{IsSound}
-use Rattle.page_core.specs.Walks.{is_region, is_clut, is_object}
+use Rattle.page_core.specs.Private.RegionSteps.{AreRegionsRight, KeepsButRegions}
+use Rattle.page_core.specs.Private.RegionTests.{AreApart, before_regions, first_in}
+use Rattle.page_core.specs.Private.SetSteps.{before_cluts, before_objects, with_composition, KeepsButPage}
+use Rattle.page_core.specs.Private.Sound.{IsSound}
+use Rattle.page_core.specs.Private.Walks.{is_region, is_clut, is_object}
 use Rattle.page_core.proofs.OtherSegments.{regions_behind, cluts_behind, same_pixels}
 use Rattle.page_core.proofs.PixelRoom.{room_in_order, used_before_regions}
 use Rattle.page_core.proofs.RegionLaws.{changed_in_order}

@@ -8,7 +8,7 @@ use Rattle.comp_pool.specs.Pool.{PoolOf, list_of}
 use Rattle.comp_pool.specs.declared.node.NodeId.{NodeId}
 use Rattle.decoder_model.specs.Nodes.{is_same}
 use Rattle.page_core.specs.Composition.{AreIdsApart, Composition, KeptRegion, region_in, taken_nodes}
-use Rattle.page_core.specs.Nodes.{clut_node, colour_in, composition_of, entry_in, kept_in, listing_in, listings_list, region_kept, region_node}
+use Rattle.page_core.specs.Private.Nodes.{clut_node, colour_in, composition_of, entry_in, kept_in, listing_in, listings_list, region_kept, region_node}
 use Rattle.page_core.specs.declared.node.Node.{Node}
 use Rattle.page_core.specs.declared.node.RegionNode.{RegionNode}
 use Rattle.page_core.proofs.RegionIds.{none_has}

@@ -9,13 +9,13 @@ use Rattle.stream_syntax.specs.PixelBlocks.{Part}
 use Rattle.stream_syntax.specs.Segments.{Object, Region, SegmentValue, of_page, of_region, of_clut, of_object, of_display, end_of_set, passed_over}
 use Rattle.stream_syntax.specs.declared.region.Listing.{Listing}
 use Rattle.decoder_model.specs.Contents.{object_in, region_in, region_named, region_of, where_passes}
-use Rattle.decoder_model.specs.Pixels.{code_by_fill, code_by_listings, code_by_segment, depth_of, fill_code, is_painting, last_code, listings_by, object_version, painted_listings, pixel_of}
+use Rattle.decoder_model.specs.Pixels.{code_by_fill, code_by_listings, code_by_segment, depth_of, fill_code, is_painting, last_code, listings_by, version_of_object, painted_listings, pixel_of}
 use Rattle.decoder_model.specs.Readings.{Content}
 use Rattle.decoder_model.specs.Taken.{Taken, is_taken, last_region, taken_among, taken_of, taken_region}
 use Rattle.page_core.specs.Composition.{KeptListing}
 use Rattle.page_core.specs.Memory.{head_of, kept_listing}
-use Rattle.page_core.specs.RegionSteps.{fresh}
-use Rattle.page_core.specs.RegionTests.{is_new}
+use Rattle.page_core.specs.Private.RegionSteps.{fresh}
+use Rattle.page_core.specs.Private.RegionTests.{is_new}
 use Rattle.page_core.proofs.RegionLaws.{taken_by_head}
 use Rattle.page_core.proofs.PixelRoom.{named_other, named_same, neither, of_segments, with_segment}
 use Rattle.page_core.proofs.QuietSteps.{listing_behind}
@@ -85,7 +85,7 @@ module _ (content : Content) (region : Region) (value : of_region region ≡ con
   pub listing_then : (listing : Listing) → kept_listing (with_segment content taken.segments) region.head.region listing ≡ fresh listing
   listing_then listing =
       let since : Content → Bool = λ segment. is_none (region_named region.head.region segment) in
-      let painted : List Content → KeptListing = λ found. record { listing = listing; painted = object_version (first_given (λ (content : Content). where_passes (λ (object : Object). object.object == listing.object) (object_in content.value)) found) } in
+      let painted : List Content → KeptListing = λ found. record { listing = listing; painted = version_of_object (first_given (λ (content : Content). where_passes (λ (object : Object). object.object == listing.object) (object_in content.value)) found) } in
       ap painted (take_while-cons since content taken.segments)
       ∙ ap (λ (o : Option Region). painted (cond (is_none o) (content ∷ take_while since taken.segments) [])) (named_same content region is_region_of)
 

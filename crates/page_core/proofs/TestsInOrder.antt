@@ -8,19 +8,19 @@ use Rattle.stream_syntax.specs.Segments.{Display, Page, Region}
 use Rattle.decoder_model.specs.Contents.{display_in_set, in_order}
 use Rattle.decoder_model.specs.Faults.{display_fault, page_fault}
 use Rattle.decoder_model.specs.Readings.{Content}
-use Rattle.decoder_model.specs.Taken.{last_region, region_version, segments_of, taken_of, taken_region}
+use Rattle.decoder_model.specs.Taken.{last_region, version_of_region, segments_of, taken_of, taken_region}
 use Rattle.decoder_model.specs.declared.set_fault.SetFault.{SetFault}
 use Rattle.page_core.specs.Composition.{Composition, KeptRegion, region_in}
-use Rattle.page_core.specs.Judging.{KnowsRegions}
+use Rattle.page_core.specs.Private.Judging.{KnowsRegions}
 use Rattle.page_core.specs.Memory.{head_of}
-use Rattle.page_core.specs.RegionTests.{HasHeads}
+use Rattle.page_core.specs.Private.RegionTests.{HasHeads}
 use Rattle.page_core.proofs.Versions.{version_of_taken}
 
 some_mapped : {X Y : Type 0} (f : X → Y) (o : Option X) → is_some (option_map f o) ≡ is_some o
 some_mapped f None = refl
 some_mapped f (Some x) = refl
 
-some_version : (o : Option Region) → is_some (region_version o) ≡ is_some o
+some_version : (o : Option Region) → is_some (version_of_region o) ≡ is_some o
 some_version None = refl
 some_version (Some region) = refl
 

@@ -13,7 +13,7 @@ use Rattle.stream_syntax.specs.declared.region.RegionHead.{RegionHead}
 use Rattle.decoder_model.specs.Pixels.{is_covered, is_changed, code_by_run, code_by_field, code_by_listings, listings_naming}
 use Rattle.decoder_model.proofs.Searches.{option_or-none}
 use Rattle.pixel_store.specs.Regions.{Region, Regions, KeepsOthers, IsRunPainted, region_at, code_of}
-use Rattle.page_core.specs.Painted.{HasRegion, IsWritten, HaveCodes, FieldRuns, code_by_fields_in, field_runs}
+use Rattle.page_core.specs.Private.Painted.{HasRegion, IsWritten, HaveCodes, FieldRuns, code_by_fields_in, field_runs}
 
 -- ---- what is kept
 

@@ -1,5 +1,5 @@
--- The composition memory of a receiver (EN 300 743, clause 5.2): the page, the regions and CLUTs of the epoch, and what is set in
--- these. Each entry, region, listing, CLUT and set table entry takes one node.
+-- The composition memory of a receiver (EN 300 743, clause 5.2): the page, the regions and CLUTs of the epoch, and what
+-- is set in these. Each entry, region, listing, CLUT and set table entry takes one node.
 use Rattle.std.specs.Prelude.{◌≡◌, ℕ, ◌+◌, ◌-◌, ◌==◌, false, List, [], ◌∷◌, length, drop, find, sum_by, Option}
 use Rattle.std.specs.List.{list_any}
 use Rattle.stream_syntax.specs.declared.page.PageEntry.{PageEntry}
@@ -23,8 +23,8 @@ pub record KeptClut : Type 0 where
   pub clut : ℕ
   pub version : ℕ
 
--- how many nodes there are; the entries of the page; the regions and the CLUTs in the order in which the epoch defined them, each
--- once; the table entries that are set, each once; and how many nodes are free
+-- how many nodes there are; the entries of the page; the regions and the CLUTs in the order in which the epoch defined
+-- them, each once; the table entries that are set, each once; and how many nodes are free
 pub record Composition : Type 0 where
   pub size : ℕ
   pub entries : List PageEntry
@@ -47,7 +47,8 @@ clut_in composition id = find (λ (kept : KeptClut). kept.clut == id) compositio
 -- no two regions that are kept have one id
 abbrev pub AreIdsApart : List KeptRegion → Type 0
 AreIdsApart [] = Unit {0}
-AreIdsApart (kept ∷ regions) = (list_any (λ (other : KeptRegion). other.head.region == kept.head.region) regions ≡ false) × AreIdsApart regions
+AreIdsApart (kept ∷ regions) =
+    (list_any (λ (other : KeptRegion). other.head.region == kept.head.region) regions ≡ false) × AreIdsApart regions
 
 -- how many nodes are taken
 abbrev pub taken_nodes : Composition → ℕ

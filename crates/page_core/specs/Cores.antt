@@ -6,12 +6,13 @@ use Rattle.pixel_store.specs.Regions.{Regions}
 use Rattle.segments.specs.Contents.{display_value}
 use Rattle.segments.specs.declared.display.DisplaySeg.{DisplaySeg}
 use Rattle.page_core.specs.Composition.{Composition}
-use Rattle.page_core.specs.Marks.{AreMarked}
+use Rattle.page_core.specs.Private.Marks.{AreMarked}
 use Rattle.page_core.specs.Memory.{Memory, IsDisplayOf, IsWhole}
 use Rattle.page_core.specs.declared.marks.Mark.{Mark}
 
 -- the memory of a core
-abbrev pub memory_of : Profile → ℕ → ℕ → Option ℕ → Bool → ℕ → DisplaySeg → Composition → List Colour → Regions → Memory
+abbrev pub memory_of : Profile → ℕ → ℕ → Option ℕ → Bool → ℕ → DisplaySeg → Composition
+    → List Colour → Regions → Memory
 memory_of profile page anchor last known time_out display composition inks store = record {
   profile = profile;
   page = page;
@@ -25,9 +26,9 @@ memory_of profile page anchor last known time_out display composition inks store
   store = store;
 }
 
--- what a core keeps to: its memory is whole, its times are below the ends that are set to them, its marks tell which table entries
--- are set, and none of the others is counted; its nodes can be counted together with those that a set needs; and its display is one of
--- the profile
+-- what a core keeps to: its memory is whole, its times are below the ends that are set to them, its marks tell which
+-- table entries are set, and none of the others is counted; its nodes can be counted together with those that a set
+-- needs; and its display is one of the profile
 pub record IsCore (memory : Memory) (marks : List Mark) : Type 0 where
   pub whole : IsWhole memory
   pub anchored : memory.anchor < 2 ^ 34

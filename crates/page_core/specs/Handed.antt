@@ -4,8 +4,8 @@ use Rattle.stream_syntax.specs.Segments.{SegmentValue, of_page, of_region, of_cl
 use Rattle.stream_syntax.specs.declared.segment_fault.SegmentFault.{SegmentFault}
 use Rattle.decoder_model.specs.Readings.{Content, Reading, read, faulty, IsReading}
 use Rattle.decoder_model.specs.Received.{AreRead}
-use Rattle.stream_syntax.specs.Tests.{byte_at}
 use Rattle.segments.specs.Contents.{contents}
+use Rattle.segments.specs.Framing.{IsFrameOf}
 use Rattle.segments.specs.declared.reading.Segment.{Segment}
 use Rattle.page_core.specs.declared.front.Front.{Front}
 
@@ -20,10 +20,11 @@ Matches (Err found) (faulty fault) = found ≡ fault
 abbrev pub AreContents : List Content → List ℕ → Type 0
 AreContents set bytes = AreRead (map read set) bytes
 
--- what is cut off at the front of bytes is a segment that is read so, and its type; behind it come these bytes
+-- what is cut off at the front of bytes is the frame of a segment that is read so; behind it come these bytes
 pub record IsCutOff (reading : Reading) (rest : List ℕ) (front : Front) : Type 0 where
-  pub is_reading : IsReading front.segment.now reading
-  pub kind : front.kind ≡ byte_at 1 front.segment.now
+  pub segment : List ℕ
+  pub is_reading : IsReading segment reading
+  pub framed : IsFrameOf segment front.frame
   pub behind : front.rest.now ≡ rest
 
 -- the blocks of an object's two fields have lengths of 16 bits (7.2.5, top and bottom field data block length)

@@ -1,5 +1,5 @@
--- What a receiver keeps of the display sets and losses that it was handed, and what that has to do with them (EN 300 743, clauses
--- 5.1 and 5.2).
+-- What a receiver keeps of the display sets and losses that it was handed, and what that has to do with them (EN 300
+-- 743, clauses 5.1 and 5.2).
 use Rattle.std.specs.Prelude.{◌≡◌, ℕ, ◌+◌, ◌*◌, ◌<◌, ◌≤◌, ◌⊎◌, Bool, false, List, [], ◌∷◌, length, map, reverse, slice_index_or, Option, Some, None, option_map, unwrap_or, All}
 use Rattle.std.specs.List.{list_any, range_with_len}
 use Rattle.std.specs.Option.{is_some}
@@ -18,11 +18,11 @@ use Rattle.decoder_model.specs.Free.{free_nodes_after, free_pixels_after}
 use Rattle.decoder_model.specs.Ink.{ink_of}
 use Rattle.decoder_model.specs.Kept.{last_time}
 use Rattle.decoder_model.specs.Nodes.{TableEntry, is_same_entry, region_ids, clut_ids, table_entries}
-use Rattle.decoder_model.specs.Pixels.{object_version, since_region, pixel_of}
+use Rattle.decoder_model.specs.Pixels.{version_of_object, since_region, pixel_of}
 use Rattle.decoder_model.specs.Readings.{Content, Reading}
 use Rattle.decoder_model.specs.Sets.{Delivery}
 use Rattle.sub_base.specs.Lists.{first_given}
-use Rattle.decoder_model.specs.Taken.{Taken, segments_of, taken_of, taken_region, last_clut, clut_version}
+use Rattle.decoder_model.specs.Taken.{Taken, segments_of, taken_of, taken_region, last_clut, version_of_clut}
 use Rattle.decoder_model.specs.Verdict.{known_epoch}
 use Rattle.pixel_store.specs.Regions.{Regions, region_at, code_of, no_regions}
 use Rattle.pixel_store.specs.Regions.{Region as StoredRegion}
@@ -30,8 +30,9 @@ use Rattle.page_core.specs.Composition.{AreIdsApart, Composition, KeptListing, K
 
 -- ---- what is kept
 
--- the profile, page id and anchor of the receiver; the greatest lifted time so far; whether an epoch is known, and then the
--- time-out of its page in seconds; the display; the composition memory; the colours of all CLUTs; and the pixels of the regions
+-- the profile, page id and anchor of the receiver; the greatest lifted time so far; whether an epoch is known, and then
+-- the time-out of its page in seconds; the display; the composition memory; the colours of all CLUTs; and the pixels of
+-- the regions
 pub record Memory : Type 0 where
   pub profile : Profile
   pub page : ℕ
@@ -84,8 +85,10 @@ showing display memory = record {
 
 -- an entry that is not among those that are set has its default colour
 abbrev pub AreDefaultsBeside : List TableEntry → List Colour → Type 0
-AreDefaultsBeside set inks = (clut : ℕ) (depth : Depth) (number : ℕ) → clut < 256 → number < code_count depth →
-    list_any (is_same_entry (record { clut = clut; depth = depth; entry = number })) set ≡ false → ink_in inks clut depth number ≡ default_of depth number
+AreDefaultsBeside set inks =
+    (clut : ℕ) (depth : Depth) (number : ℕ) → clut < 256 → number < code_count depth →
+    list_any (is_same_entry (record { clut = clut; depth = depth; entry = number })) set ≡ false
+    → ink_in inks clut depth number ≡ default_of depth number
 
 -- an entry is one that a table has
 abbrev pub IsInTable : TableEntry → Type 0
@@ -97,21 +100,24 @@ pub record HasSides (head : RegionHead) (region : StoredRegion) : Type 0 where
   pub height : region.height ≡ head.height
   pub depth : region.depth ≡ head.depth
 
--- there is a colour for each entry of each table, the default one where it is not set; and what is set are entries of tables
+-- there is a colour for each entry of each table, the default one where it is not set; and what is set are entries of
+-- tables
 pub record AreInks (set : List TableEntry) (inks : List Colour) : Type 0 where
   pub tables : All IsInTable set
   pub count : length inks ≡ 256 * colours_of_clut
   pub defaults : AreDefaultsBeside set inks
 
--- what holds of the memory of every receiver: its nodes and bytes are those of the profile; the regions have the slots of the
--- store in order, each with its sides, and ids that are bytes, no two of them the same; and its colours are the default ones where
--- nothing is set
+-- what holds of the memory of every receiver: its nodes and bytes are those of the profile; the regions have the slots
+-- of the store in order, each with its sides, and ids that are bytes, no two of them the same; and its colours are the
+-- default ones where nothing is set
 pub record IsWhole (memory : Memory) : Type 0 where
   pub nodes : memory.composition.size ≡ memory.profile.nodes
   pub counted : memory.composition.free + taken_nodes memory.composition ≡ memory.composition.size
   pub size : memory.store.size ≡ memory.profile.pixels
-  pub slots : map (λ (kept : KeptRegion). kept.slot) memory.composition.regions ≡ range_with_len 0 (length memory.store.regions)
-  pub sides : All (λ (kept : KeptRegion). HasSides kept.head (region_at memory.store kept.slot)) memory.composition.regions
+  pub slots : map (λ (kept : KeptRegion). kept.slot) memory.composition.regions
+      ≡ range_with_len 0 (length memory.store.regions)
+  pub sides : All (λ (kept : KeptRegion). HasSides kept.head (region_at memory.store kept.slot))
+      memory.composition.regions
   pub cluts : All (λ (kept : KeptRegion). kept.head.clut < 256) memory.composition.regions
   pub inks : AreInks memory.composition.set_entries memory.inks
   pub ids : All (λ (kept : KeptRegion). kept.head.region < 256) memory.composition.regions
@@ -125,7 +131,8 @@ pub record IsSameReceiver (old new : Memory) : Type 0 where
 
 -- the profile holds the display, or it is the one where none is defined
 abbrev pub IsDisplayOf : Profile → Display → Type 0
-IsDisplayOf profile display = ((display.width ≤ profile.width) × (display.height ≤ profile.height)) ⊎ (display ≡ display_or_default None)
+IsDisplayOf profile display =
+    ((display.width ≤ profile.width) × (display.height ≤ profile.height)) ⊎ (display ≡ display_or_default None)
 
 -- no epoch is known; all nodes and all bytes of pixels are free, and all colours are the default ones
 pub record IsForgotten (memory : Memory) : Type 0 where
@@ -146,7 +153,11 @@ pub record Forgets (old new : Memory) : Type 0 where
 -- a listing of the region of that id, with the version of its object's last segment since the region's
 abbrev pub kept_listing : Taken → ℕ → Listing → KeptListing
 kept_listing taken id listing =
-    record { listing = listing; painted = object_version (first_given (object_named listing.object) (since_region id taken)) }
+    record {
+      listing = listing;
+      painted = version_of_object
+          (first_given (object_named listing.object) (since_region id taken));
+    }
 
 abbrev pub head_of : Region → RegionHead
 head_of region = region.head
@@ -155,23 +166,31 @@ head_of region = region.head
 pub record Holds (segments : List Content) (memory : Memory) : Type 0 where
   pub display : memory.display ≡ display_in_force segments
   -- the regions, in the order of their first segments, and each by its last taken one
-  pub region_ids : map (λ (kept : KeptRegion). kept.head.region) memory.composition.regions ≡ reverse (region_ids (taken_of segments))
+  pub region_ids : map (λ (kept : KeptRegion). kept.head.region) memory.composition.regions
+      ≡ reverse (region_ids (taken_of segments))
   pub heads : (id : ℕ) →
-      option_map (λ (kept : KeptRegion). kept.head) (region_in memory.composition id) ≡ option_map head_of (taken_region id (taken_of segments))
+      option_map (λ (kept : KeptRegion). kept.head) (region_in memory.composition id)
+      ≡ option_map head_of (taken_region id (taken_of segments))
   pub listings : (id : ℕ) →
       option_map (λ (kept : KeptRegion). kept.listings) (region_in memory.composition id)
-      ≡ option_map (λ (region : Region). map (kept_listing (taken_of segments) id) region.listings) (taken_region id (taken_of segments))
-  pub pixels : (id x y : ℕ) (kept : KeptRegion) → region_in memory.composition id ≡ Some kept → x < kept.head.width → y < kept.head.height →
+      ≡ option_map (λ (region : Region). map (kept_listing (taken_of segments) id) region.listings)
+      (taken_region id (taken_of segments))
+  pub pixels : (id x y : ℕ) (kept : KeptRegion) → region_in memory.composition id ≡ Some kept
+      → x < kept.head.width
+      → y < kept.head.height →
       code_in memory kept x y ≡ pixel_of (taken_of segments) id x y
   -- the CLUTs, in the order of their first segments, with the versions of their last taken ones
-  pub clut_ids : map (λ (kept : KeptClut). kept.clut) memory.composition.cluts ≡ reverse (clut_ids (taken_of segments))
+  pub clut_ids : map (λ (kept : KeptClut). kept.clut) memory.composition.cluts
+      ≡ reverse (clut_ids (taken_of segments))
   pub versions : (id : ℕ) →
-      option_map (λ (kept : KeptClut). kept.version) (clut_in memory.composition id) ≡ clut_version (last_clut id (taken_of segments).segments)
+      option_map (λ (kept : KeptClut). kept.version) (clut_in memory.composition id)
+      ≡ version_of_clut (last_clut id (taken_of segments).segments)
   pub inks : (id : ℕ) (depth : Depth) (number : ℕ) → id < 256 → number < code_count depth →
       ink_in memory.inks id depth number ≡ ink_of (taken_of segments) id depth number
   -- the table entries that are set: these, and as many
   pub set_entries : (entry : TableEntry) →
-      list_any (is_same_entry entry) memory.composition.set_entries ≡ list_any (is_same_entry entry) (table_entries (taken_of segments))
+      list_any (is_same_entry entry) memory.composition.set_entries
+      ≡ list_any (is_same_entry entry) (table_entries (taken_of segments))
   pub set_count : length memory.composition.set_entries ≡ length (table_entries (taken_of segments))
 
 -- ---- what it has to do with all that was handed
@@ -187,7 +206,8 @@ pub record Stands (past : List (Delivery Reading)) (memory : Memory) : Type 0 wh
   pub holds : Holds (known_segments memory.profile memory.anchor past) memory
   -- the page is that of the last set of the epoch
   pub time_out : (set : List Content) (before : List (List Content)) (page : Page) →
-      known_epoch memory.profile memory.anchor past ≡ Some (set ∷ before) → page_in_set set ≡ Some page → memory.time_out ≡ page.time_out
+      known_epoch memory.profile memory.anchor past ≡ Some (set ∷ before) → page_in_set set ≡ Some page
+      → memory.time_out ≡ page.time_out
   pub entries : (set : List Content) (before : List (List Content)) (page : Page) →
       known_epoch memory.profile memory.anchor past ≡ Some (set ∷ before) → page_in_set set ≡ Some page →
       memory.composition.entries ≡ page.entries

@@ -9,11 +9,11 @@ ghost use Rattle.decoder_model.specs.Nodes.{is_same_entry};
 ghost use Rattle.decoder_model.specs.Readings.{Content};
 ghost use Rattle.decoder_model.specs.Taken.{has_new_version};
 ghost use Rattle.segments.specs.Contents.{clut_value};
-ghost use Rattle.page_core.specs.ClutSteps.{AreColoured, HasColours, HasRoomFor, IsKeptBeside, IsKeptBut, SetsMore, in_depth, in_depths, with_entries_of, with_place, with_set};
+ghost use Rattle.page_core.specs.Private.ClutSteps.{AreColoured, HasColours, HasRoomFor, IsKeptBeside, IsKeptBut, SetsMore, in_depth, in_depths, with_entries_of, with_place, with_set};
 ghost use Rattle.page_core.specs.Handed.{AreContents};
-ghost use Rattle.page_core.specs.Marks.{AreMarked};
-ghost use Rattle.page_core.specs.Nodes.{place_kept};
-ghost use Rattle.page_core.specs.Walks.{is_clut};
+ghost use Rattle.page_core.specs.Private.Marks.{AreMarked};
+ghost use Rattle.page_core.specs.Private.Nodes.{place_kept};
+ghost use Rattle.page_core.specs.Private.Walks.{is_clut};
 
 use crate::composition::CompositionMemory;
 use crate::inks::Inks;
@@ -34,7 +34,8 @@ pub(crate) fn take_cluts(
     requires { AreColoured composition.old inks.old marks.old }
     ensures coloured { AreColoured composition.new inks.new marks.new }
     ensures keeps { IsKeptBeside composition.old composition.new }
-    ensures taken { (older set : List Content) → HasColours older composition.old inks.old → AreContents set bytes.now
+    ensures taken { (older set : List Content) → HasColours older composition.old inks.old
+        → AreContents set bytes.now
         → HasRoomFor (reverse (filter is_clut set) ++ older) composition.old
         → HasColours (reverse (filter is_clut set) ++ older) composition.new inks.new }
 {
@@ -55,8 +56,10 @@ fn take_clut(
     requires { AreColoured composition.old inks.old marks.old }
     ensures coloured { AreColoured composition.new inks.new marks.new }
     ensures keeps { IsKeptBeside composition.old composition.new }
-    ensures taken { (earlier : List Content) (content : Content) → of_clut (clut_value clut.now) ≡ content.value
-        → HasColours earlier composition.old inks.old → HasRoomFor (content ∷ earlier) composition.old
+    ensures taken { (earlier : List Content) (content : Content)
+        → of_clut (clut_value clut.now) ≡ content.value
+        → HasColours earlier composition.old inks.old
+        → HasRoomFor (content ∷ earlier) composition.old
         → HasColours (content ∷ earlier) composition.new inks.new }
 {
     if is_new_version(clut.version, composition.clut_version(clut.clut)) {
@@ -85,7 +88,8 @@ fn set_entries(
     requires { AreColoured composition.old inks.old marks.old }
     ensures coloured { AreColoured composition.new inks.new marks.new }
     ensures keeps { IsKeptBut composition.old composition.new }
-    ensures set { SetsMore (with_entries_of clut.now.clut (clut_value clut.now).entries) composition.old inks.old composition.new inks.new }
+    ensures set { SetsMore (with_entries_of clut.now.clut (clut_value clut.now).entries)
+        composition.old inks.old composition.new inks.new }
 {
     let mut items = clut.items();
     while let Some(entry) = items.next() {
@@ -104,7 +108,8 @@ fn set_entry(
     requires { AreColoured composition.old inks.old marks.old }
     ensures coloured { AreColoured composition.new inks.new marks.new }
     ensures keeps { IsKeptBut composition.old composition.new }
-    ensures set { SetsMore (in_depths clut entry) composition.old inks.old composition.new inks.new }
+    ensures set { SetsMore (in_depths clut entry) composition.old inks.old composition.new
+        inks.new }
 {
     set_in_depth(composition, inks, marks, clut, entry, Depth::Two);
     set_in_depth(composition, inks, marks, clut, entry, Depth::Four);
@@ -123,7 +128,8 @@ fn set_in_depth(
     requires { AreColoured composition.old inks.old marks.old }
     ensures coloured { AreColoured composition.new inks.new marks.new }
     ensures keeps { IsKeptBut composition.old composition.new }
-    ensures set { SetsMore (in_depth clut entry depth) composition.old inks.old composition.new inks.new }
+    ensures set { SetsMore (in_depth clut entry depth) composition.old inks.old composition.new
+        inks.new }
 {
     if is_in_depth(entry, depth) {
         let place = TablePlace {
@@ -165,7 +171,8 @@ fn set_place(
     requires table { place.entry < code_count place.depth }
     ensures coloured { AreColoured composition.new inks.new marks.new }
     ensures keeps { IsKeptBut composition.old composition.new }
-    ensures set { SetsMore (with_place (place_kept place) colour) composition.old inks.old composition.new inks.new }
+    ensures set { SetsMore (with_place (place_kept place) colour) composition.old inks.old
+        composition.new inks.new }
 {
     if add_entry(composition, marks, place) {
         inks.set(place.clut, place.depth, place.entry, colour);
@@ -179,7 +186,8 @@ fn add_entry(composition: &mut CompositionMemory, marks: &mut Marks, place: Tabl
     requires table { place.entry < code_count place.depth }
     ensures marks { AreMarked composition.new.set_entries [] marks.new }
     ensures added { composition.new ≡ with_set (place_kept place) composition.old }
-    ensures set { result ≡ list_any (is_same_entry (place_kept place)) composition.new.set_entries }
+    ensures set { result
+        ≡ list_any (is_same_entry (place_kept place)) composition.new.set_entries }
 {
     match marks.at(place) {
         Mark::Set => true,
@@ -190,12 +198,14 @@ fn add_entry(composition: &mut CompositionMemory, marks: &mut Marks, place: Tabl
 // One more entry of a table is set, where a node is free for it.
 fn push_entry(composition: &mut CompositionMemory, marks: &mut Marks, place: TablePlace) -> bool
     requires marks { AreMarked composition.old.set_entries [] marks.old }
-    requires new { list_any (is_same_entry (place_kept place)) composition.old.set_entries ≡ false }
+    requires new { list_any (is_same_entry (place_kept place)) composition.old.set_entries
+        ≡ false }
     requires clut { place.clut < 256 }
     requires table { place.entry < code_count place.depth }
     ensures marks { AreMarked composition.new.set_entries [] marks.new }
     ensures added { composition.new ≡ with_set (place_kept place) composition.old }
-    ensures set { result ≡ list_any (is_same_entry (place_kept place)) composition.new.set_entries }
+    ensures set { result
+        ≡ list_any (is_same_entry (place_kept place)) composition.new.set_entries }
 {
     match composition.push_colour(place) {
         None => false,

@@ -1,14 +1,15 @@
 //! Rows of packed codes turned into colours, byte by byte, through a table of a CLUT.
 
 ghost use Rattle.std.specs.Prelude.{◌≡◌, ◌+◌, ◌*◌, ◌/◌, ◌<◌, ◌≤◌, length};
-ghost use Rattle.sub_base.specs.Depth.{code_count};
+ghost use Rattle.sub_base.specs.Depth.{code_count, packed_length};
 ghost use Rattle.sub_base.specs.declared.depth.Depth.TheVariants.{Two, Four, Eight};
-ghost use Rattle.pixel_store.specs.Codes.{codes_in_byte, packed_code, packed_length};
+ghost use Rattle.pixel_store.specs.Codes.{codes_in_byte, packed_code};
 ghost use Rattle.page_core.specs.Coloured.{AreColouredTo, AreColoured, IsByteColoured};
 
 use sub_base::{Colour, Depth};
 
-/// Gives each place of a row the colour of the code there, by the colours of a CLUT for codes of that depth.
+/// Gives each place of a row the colour of the code there, by the colours of a CLUT for codes of
+/// that depth.
 pub(crate) fn colours_into(packed: &[u8], depth: Depth, colours: &[Colour], row: &mut [Colour])
     requires colours { length colours.now ≡ code_count depth }
     requires codes { packed_length depth (length row.old) ≤ length packed.now }

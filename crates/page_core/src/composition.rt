@@ -1,11 +1,12 @@
-//! The composition memory of a receiver (EN 300 743, clause 5.2): one fixed array of nodes for all of its lists.
+//! The composition memory of a receiver (EN 300 743, clause 5.2): one fixed array of nodes for all
+//! of its lists.
 
 ghost use Rattle.std.specs.Prelude.{◌≡◌, ◌<◌, ◌∷◌, [], ℕ, None, IfOk, IfSome, MatchOption, length, option_map, slice_index_or};
 ghost use Rattle.page_core.specs.Composition.{no_composition, without_colour};
-ghost use Rattle.page_core.specs.Nodes.{IsPoppedAs};
-ghost use Rattle.page_core.specs.Nodes.{AreKind, IsRegionOf, colour_in, place_kept, region_node};
+ghost use Rattle.page_core.specs.Private.Nodes.{IsPoppedAs};
+ghost use Rattle.page_core.specs.Private.Nodes.{AreKind, IsRegionOf, colour_in, place_kept, region_node};
 ghost use Rattle.comp_pool.specs.Pool.{IsInList, NoneTwice, list_of};
-ghost use Rattle.page_core.specs.Known.{IsRegionIn};
+ghost use Rattle.page_core.specs.Private.Known.{IsRegionIn};
 
 mod cluts;
 mod everywhere;
@@ -43,7 +44,7 @@ pub(crate) struct CompositionMemory {
 
 impl Model for CompositionMemory {
     ghost use Rattle.page_core.specs.Composition.{Composition};
-    ghost use Rattle.page_core.specs.Nodes.{composition_of, IsSorted, IsIndexed};
+    ghost use Rattle.page_core.specs.Private.Nodes.{composition_of, IsSorted, IsIndexed};
 
     ghost Value = { Composition };
 
@@ -71,8 +72,10 @@ impl CompositionMemory {
 
     /// Takes out the first of the table entries that are set; none where none is.
     pub fn take_colour(&mut self) -> Option<TablePlace>
-        ensures taken { MatchOption result ((self.old.set_entries ≡ []) × (self.new ≡ self.old))
-            (λ place. (self.old.set_entries ≡ place_kept place ∷ self.new.set_entries) × (self.new ≡ without_colour self.old)) }
+        ensures taken { MatchOption result
+            ((self.old.set_entries ≡ []) × (self.new ≡ self.old))
+            (λ place. (self.old.set_entries ≡ place_kept place ∷ self.new.set_entries)
+            × (self.new ≡ without_colour self.old)) }
     {
         pop_colour(&mut self.pool)
     }
@@ -136,7 +139,8 @@ fn region_in(node: Node) -> Option<RegionNode>
 fn pop_colour(pool: &mut Pool<Node>) -> Option<TablePlace>
     requires list { 3 < length pool.old.lists }
     requires kind { AreKind colour_in (list_of pool.old 3) }
-    ensures { MatchOption result ((list_of pool.old 3 ≡ []) × (pool.new ≡ pool.old)) (λ place. IsPoppedAs colour_in 3 (place_kept place) pool.old pool.new) }
+    ensures { MatchOption result ((list_of pool.old 3 ≡ []) × (pool.new ≡ pool.old))
+        (λ place. IsPoppedAs colour_in 3 (place_kept place) pool.old pool.new) }
 {
     match pop_front(pool, COLOURS) {
         None => None,

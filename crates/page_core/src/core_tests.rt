@@ -9,7 +9,8 @@ use std::test::Fail;
 use stream_syntax::{CodeFault, CodeKind, State};
 use sub_base::{Profile, ProfileName};
 
-/// Lifted times go on where presentation times go round, and are kept by refused sets alone: a loss changes none.
+/// Lifted times go on where presentation times go round, and are kept by refused sets alone: a loss
+/// changes none.
 #[test]
 #[tactic(auto, using(crate::proofs::ProfileNodes::few_nodes))]
 fn lifted_times(rt: HostRuntime) -> Result<(), Fail> {
@@ -68,9 +69,9 @@ fn free_memory(rt: HostRuntime) -> Result<(), Fail> {
     Ok(())
 }
 
-// Segments of page 1: a mode change that lists region 1, an acquisition that lists none, regions 1 of 2 by 1 and of 4 by 1 pixels
-// in 4 bits, a display of 720 by 576 and one of 721 by 576, an object of 2 bits, one of characters, one whose string has no end,
-// one of type FF, and the end.
+// Segments of page 1: a mode change that lists region 1, an acquisition that lists none, regions 1
+// of 2 by 1 and of 4 by 1 pixels in 4 bits, a display of 720 by 576 and one of 721 by 576, an
+// object of 2 bits, one of characters, one whose string has no end, one of type FF, and the end.
 const PAGE: &[u8] = &[15, 16, 0, 1, 0, 8, 10, 8, 1, 0, 0, 0, 0, 0];
 
 const NO_ENTRY: &[u8] = &[15, 16, 0, 1, 0, 2, 10, 4];
@@ -152,7 +153,8 @@ const LINES: &[u8] = &[15, 17, 0, 1, 0, 10, 2, 8, 2, 208, 0, 80, 108, 0, 0, 0];
 
 const MORE: &[u8] = &[15, 17, 0, 1, 0, 10, 3, 8, 2, 208, 0, 40, 108, 0, 0, 0];
 
-/// The first fault of a set by an epoch that has nothing before it, as far as its nodes are not counted.
+/// The first fault of a set by an epoch that has nothing before it, as far as its nodes are not
+/// counted.
 #[test]
 fn sets_in_a_new_epoch(rt: HostRuntime) -> Result<(), Fail> {
     let full = |need, free| Some(SetFault::PixelFull { need, free });
@@ -186,8 +188,8 @@ fn sets_in_a_new_epoch(rt: HostRuntime) -> Result<(), Fail> {
     Ok(())
 }
 
-// Region 1 with two listings. CLUT 7 of version 2 with entry 1 in the tables of 2 and 4 bits, twice, and with entry 5 in those two; of
-// version 3 with entry 1 in all tables; and CLUT 8.
+// Region 1 with two listings. CLUT 7 of version 2 with entry 1 in the tables of 2 and 4 bits,
+// twice, and with entry 5 in those two; of version 3 with entry 1 in all tables; and CLUT 8.
 const LISTING: &[u8] = &[
     15, 17, 0, 1, 0, 22, 1, 8, 0, 2, 0, 1, 36, 0, 0, 0, 0, 5, 0, 0, 0, 0, 0, 6, 0, 0, 0, 0,
 ];
@@ -202,7 +204,8 @@ const NEXT: &[u8] = &[15, 18, 0, 1, 0, 8, 7, 63, 1, 225, 81, 240, 90, 192];
 
 const OTHER: &[u8] = &[15, 18, 0, 1, 0, 8, 8, 47, 1, 193, 81, 240, 90, 192];
 
-/// The nodes that a set needs in an epoch that has nothing before it: a core without nodes tells them.
+/// The nodes that a set needs in an epoch that has nothing before it: a core without nodes tells
+/// them.
 #[test]
 fn nodes_of_sets(rt: HostRuntime) -> Result<(), Fail> {
     let full = |size| Some(SetFault::CompositionFull { size });

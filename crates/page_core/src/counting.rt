@@ -1,5 +1,5 @@
-//! How many nodes the composition memory needs for the regions and CLUTs of a set (EN 300 743, clause 5.2), before anything is
-//! changed.
+//! How many nodes the composition memory needs for the regions and CLUTs of a set (EN 300 743,
+//! clause 5.2), before anything is changed.
 
 ghost use Rattle.std.specs.Prelude.{◌≡◌, ◌+◌, ◌<◌, ◌^◌, ◌==◌, ◌∷◌, ◌++◌, [], ℕ, List, None, Some, filter, reverse, if◌then◌else◌, length, map, min, option_map, slice_index_or};
 ghost use Rattle.std.specs.Option.{option_or};
@@ -8,14 +8,14 @@ ghost use Rattle.decoder_model.specs.Readings.{Content};
 ghost use Rattle.decoder_model.specs.Taken.{taken_among};
 ghost use Rattle.segments.specs.Contents.{clut_value, region_value};
 ghost use Rattle.page_core.specs.Composition.{KeptClut, clut_in, region_in};
-ghost use Rattle.page_core.specs.Counting.{AreCounted, AreKept, CountsMore, HasRegionNeed, HasVersions, IsClutCounted, added_by, clut_need, gone_by, new_or_none, region_need};
+ghost use Rattle.page_core.specs.Private.Counting.{AreCounted, AreKept, CountsMore, HasRegionNeed, HasVersions, IsClutCounted, added_by, clut_need, gone_by, new_or_none, region_need};
 ghost use Rattle.sub_base.specs.Depth.{code_count};
 ghost use Rattle.sub_base.specs.declared.colour.Colour.{Colour as ColourOf};
-ghost use Rattle.page_core.specs.ClutSteps.{in_depth, in_depths, placed_by, with_entries_of, with_place};
-ghost use Rattle.page_core.specs.Marks.{uncounted};
-ghost use Rattle.page_core.specs.Nodes.{place_kept};
-ghost use Rattle.page_core.specs.RegionTests.{AreApart};
-ghost use Rattle.page_core.specs.Walks.{is_clut, is_region};
+ghost use Rattle.page_core.specs.Private.ClutSteps.{in_depth, in_depths, placed_by, with_entries_of, with_place};
+ghost use Rattle.page_core.specs.Private.Marks.{uncounted};
+ghost use Rattle.page_core.specs.Private.Nodes.{place_kept};
+ghost use Rattle.page_core.specs.Private.RegionTests.{AreApart};
+ghost use Rattle.page_core.specs.Private.Walks.{is_clut, is_region};
 ghost use Rattle.page_core.specs.Handed.{AreContents};
 
 use crate::cluts::{is_in_depth, is_new_version};
@@ -27,7 +27,8 @@ use segments::{ClutSeg, RegionSeg};
 use stream_syntax::ClutEntry;
 use sub_base::Depth;
 
-/// The nodes that the regions of a set need: those that are added, and those of listings that are taken away.
+/// The nodes that the regions of a set need: those that are added, and those of listings that are
+/// taken away.
 #[derive(Clone, Copy)]
 pub(crate) struct RegionNodes {
     pub added: u64,
@@ -37,7 +38,8 @@ pub(crate) struct RegionNodes {
 /// The nodes that the regions of a set add and take away.
 pub(crate) fn region_nodes(composition: &CompositionMemory, bytes: &[u8]) -> RegionNodes
     requires { composition.now.size < 2 ^ 31 }
-    ensures { (older set : List Content) → AreKept older composition.now → AreContents set bytes.now
+    ensures { (older set : List Content) → AreKept older composition.now
+        → AreContents set bytes.now
         → AreApart [] (filter is_region set) → region_need (taken_among older) < 2 ^ 32
         → HasRegionNeed older set result.added result.gone }
 {
@@ -57,8 +59,14 @@ fn with_region(
     nodes: RegionNodes,
 ) -> RegionNodes
     requires { composition.now.size < 2 ^ 31 }
-    ensures added { result.added ≡ min (nodes.added + min (added_by (region_value region.now) (region_in composition.now region.now.region)) 18446744073709551615) 18446744073709551615 }
-    ensures gone { result.gone ≡ min (nodes.gone + gone_by (region_value region.now) (region_in composition.now region.now.region)) 18446744073709551615 }
+    ensures added { result.added
+        ≡ min (nodes.added
+        + min (added_by (region_value region.now) (region_in composition.now region.now.region))
+        18446744073709551615) 18446744073709551615 }
+    ensures gone { result.gone
+        ≡ min (nodes.gone
+        + gone_by (region_value region.now) (region_in composition.now region.now.region))
+        18446744073709551615 }
 {
     RegionNodes {
         added: nodes.added.saturating_add(added_nodes(composition, region)),
@@ -70,7 +78,9 @@ fn with_region(
 
 // A region that is new has a node, and one that is new or of another version has its listings.
 fn added_nodes(composition: &CompositionMemory, region: &RegionSeg<'_>) -> u64
-    ensures { result ≡ min (added_by (region_value region.now) (region_in composition.now region.now.region)) 18446744073709551615 }
+    ensures { result
+        ≡ min (added_by (region_value region.now) (region_in composition.now region.now.region))
+        18446744073709551615 }
 {
     match composition.region(region.region) {
         None => (region.count() as u64).saturating_add(1),
@@ -82,7 +92,8 @@ fn added_nodes(composition: &CompositionMemory, region: &RegionSeg<'_>) -> u64
 // The listings of a region of another version are gone.
 fn gone_nodes(composition: &CompositionMemory, region: &RegionSeg<'_>) -> u32
     requires { composition.now.size < 2 ^ 31 }
-    ensures { result ≡ gone_by (region_value region.now) (region_in composition.now region.now.region) }
+    ensures { result
+        ≡ gone_by (region_value region.now) (region_in composition.now region.now.region) }
 {
     match composition.region(region.region) {
         None => 0,
@@ -91,12 +102,16 @@ fn gone_nodes(composition: &CompositionMemory, region: &RegionSeg<'_>) -> u32
     }
 }
 
-/// The nodes that the CLUTs of a set and the entries that they set are more. The entries are marked as counted.
+/// The nodes that the CLUTs of a set and the entries that they set are more. The entries are marked
+/// as counted.
 pub(crate) fn clut_nodes(composition: &CompositionMemory, marks: &mut Marks, bytes: &[u8]) -> u64
     ensures marks { map uncounted marks.new ≡ map uncounted marks.old }
-    ensures counted { (base set : List Content) → HasVersions base composition.now [] → AreCounted (placed_by (taken_among base)) composition.now.set_entries marks.old
-        → AreContents set bytes.now → clut_need (taken_among (reverse (filter is_clut set) ++ base)) < 2 ^ 63
-        → clut_need (taken_among (reverse (filter is_clut set) ++ base)) ≡ clut_need (taken_among base) + result }
+    ensures counted { (base set : List Content) → HasVersions base composition.now []
+        → AreCounted (placed_by (taken_among base)) composition.now.set_entries marks.old
+        → AreContents set bytes.now
+        → clut_need (taken_among (reverse (filter is_clut set) ++ base)) < 2 ^ 63
+        → clut_need (taken_among (reverse (filter is_clut set) ++ base))
+        ≡ clut_need (taken_among base) + result }
 {
     let mut versions = no_versions();
     let mut nodes = 0u64;
@@ -114,7 +129,8 @@ fn no_versions() -> [Option<u8>; 256]
     [None; 256]
 }
 
-// The nodes that one more CLUT segment needs: none, where its version is the last one of the set, or else the one that is kept.
+// The nodes that one more CLUT segment needs: none, where its version is the last one of the set,
+// or else the one that is kept.
 fn count_clut(
     composition: &CompositionMemory,
     marks: &mut Marks,
@@ -122,7 +138,8 @@ fn count_clut(
     clut: &ClutSeg<'_>,
 ) -> u64
     ensures marks { map uncounted marks.new ≡ map uncounted marks.old }
-    ensures counted { (earlier : List Content) (content : Content) → of_clut (clut_value clut.now) ≡ content.value
+    ensures counted { (earlier : List Content) (content : Content)
+        → of_clut (clut_value clut.now) ≡ content.value
         → HasVersions earlier composition.now versions.old
         → AreCounted (placed_by (taken_among earlier)) composition.now.set_entries marks.old
         → clut_need (taken_among (content ∷ earlier)) < 2 ^ 63
@@ -143,7 +160,9 @@ fn last_version(
     versions: &[Option<u8>; 256],
     clut: u8,
 ) -> Option<u8>
-    ensures version { result ≡ option_or (slice_index_or versions.now clut None) (option_map (λ (kept : KeptClut). kept.version) (clut_in composition.now clut)) }
+    ensures version { result
+        ≡ option_or (slice_index_or versions.now clut None)
+        (option_map (λ (kept : KeptClut). kept.version) (clut_in composition.now clut)) }
     ensures byte { clut < 256 }
 {
     match versions[usize::from(clut)] {
@@ -153,7 +172,9 @@ fn last_version(
 }
 
 fn set_version(versions: &mut [Option<u8>; 256], clut: u8, version: u8)
-    ensures { (other : ℕ) → other < 256 → slice_index_or versions.new other None ≡ (if clut == other then Some version else slice_index_or versions.old other None) }
+    ensures { (other : ℕ) → other < 256
+        → slice_index_or versions.new other None
+        ≡ (if clut == other then Some version else slice_index_or versions.old other None) }
 {
     versions[usize::from(clut)] = Some(version);
 }
@@ -171,7 +192,8 @@ fn new_or_none(known: Option<u8>) -> u64
 // Counts the entries of a CLUT segment that are neither set nor counted, and marks them.
 fn count_entries(marks: &mut Marks, clut: &ClutSeg<'_>) -> u64
     ensures marks { map uncounted marks.new ≡ map uncounted marks.old }
-    ensures counted { CountsMore (with_entries_of clut.now.clut (clut_value clut.now).entries) marks.old marks.new result }
+    ensures counted { CountsMore (with_entries_of clut.now.clut (clut_value clut.now).entries)
+        marks.old marks.new result }
 {
     let mut count = 0u64;
     let mut items = clut.items();
@@ -192,7 +214,8 @@ fn count_entry(marks: &mut Marks, clut: u8, entry: ClutEntry) -> u64
     two + four + eight
 }
 
-// Counts an entry in the table for codes of a depth, where it is flagged for it and the table has it.
+// Counts an entry in the table for codes of a depth, where it is flagged for it and the table has
+// it.
 fn count_in_depth(marks: &mut Marks, clut: u8, entry: ClutEntry, depth: Depth) -> u64
     ensures marks { map uncounted marks.new ≡ map uncounted marks.old }
     ensures counted { CountsMore (in_depth clut entry depth) marks.old marks.new result }
@@ -215,7 +238,8 @@ fn count_place(marks: &mut Marks, place: TablePlace) -> u64
     requires clut { place.clut < 256 }
     requires table { place.entry < code_count place.depth }
     ensures marks { map uncounted marks.new ≡ map uncounted marks.old }
-    ensures counted { (colour : ColourOf) → CountsMore (with_place (place_kept place) colour) marks.old marks.new result }
+    ensures counted { (colour : ColourOf)
+        → CountsMore (with_place (place_kept place) colour) marks.old marks.new result }
     ensures one { result < 2 }
 {
     match marks.at(place) {

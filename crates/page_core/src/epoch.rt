@@ -5,7 +5,7 @@ ghost use Rattle.std.specs.Option.{is_some};
 ghost use Rattle.stream_syntax.specs.Segments.{Page};
 ghost use Rattle.decoder_model.specs.Kept.{epoch_of};
 ghost use Rattle.decoder_model.specs.Readings.{Content};
-ghost use Rattle.page_core.specs.Epochs.{HasOnePage, IsStart};
+ghost use Rattle.page_core.specs.Private.Epochs.{HasOnePage, IsStart};
 
 use stream_syntax::State;
 

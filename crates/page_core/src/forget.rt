@@ -1,7 +1,7 @@
 //! The colours that a new epoch finds.
 
 ghost use Rattle.std.specs.Prelude.{◌≡◌, []};
-ghost use Rattle.page_core.specs.Marks.{AreMarked};
+ghost use Rattle.page_core.specs.Private.Marks.{AreMarked};
 ghost use Rattle.page_core.specs.Memory.{AreInks};
 
 use crate::composition::CompositionMemory;

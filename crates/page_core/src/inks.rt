@@ -3,7 +3,7 @@
 ghost use Rattle.std.specs.Prelude.{◌≡◌, ◌+◌, ◌<◌, ◌%◌, ◌*◌, [], ℕ, length, slice_set, slice_range, IfOk};
 ghost use Rattle.sub_base.specs.Colour.{default_of};
 ghost use Rattle.sub_base.specs.Depth.{code_count};
-ghost use Rattle.page_core.specs.Inks.{AreDefaults, default_ink as default_of_index, ink_count};
+ghost use Rattle.page_core.specs.Private.Inks.{AreDefaults, default_ink as default_of_index, ink_count};
 ghost use Rattle.page_core.specs.Memory.{AreInks, ink_place as place_of, first_of_table as first_of, colours_of_clut};
 
 use std::alloc::Global;
@@ -16,7 +16,8 @@ const CLUT_SIZE: usize = 276;
 /// How many entries the tables of all CLUTs have.
 pub(crate) const INKS: usize = 256 * CLUT_SIZE;
 
-/// The colours of all CLUTs. Contracts see them as a list, the three tables of a CLUT one after another.
+/// The colours of all CLUTs. Contracts see them as a list, the three tables of a CLUT one after
+/// another.
 #[derive(Drop)]
 pub(crate) struct Inks {
     colours: Vec<Colour>,
@@ -25,7 +26,7 @@ pub(crate) struct Inks {
 impl Model for Inks {
     ghost use Rattle.std.specs.Prelude.{◌≡◌, List, length};
     ghost use Rattle.sub_base.specs.declared.colour.Colour.{Colour};
-    ghost use Rattle.page_core.specs.Inks.{ink_count};
+    ghost use Rattle.page_core.specs.Private.Inks.{ink_count};
 
     ghost Value = { List Colour };
 
@@ -55,7 +56,9 @@ impl Inks {
     /// The table for codes of a depth of a CLUT.
     pub fn table(&self, clut: u8, depth: Depth) -> &[Colour]
         ensures count { length result.now ≡ code_count depth }
-        ensures colours { result.now ≡ slice_range self.now (place_of clut depth 0) (place_of clut depth 0 + code_count depth) }
+        ensures colours { result.now
+            ≡ slice_range self.now (place_of clut depth 0)
+            (place_of clut depth 0 + code_count depth) }
     {
         let start = ink_place(clut, depth, 0);
         &self.colours[start..start + usize::from(depth.code_count())]

@@ -1,4 +1,5 @@
-//! The tests of a set by its epoch, in the order of the standard (EN 300 743, clauses 5.1, 5.2 and 7.2).
+//! The tests of a set by its epoch, in the order of the standard (EN 300 743, clauses 5.1, 5.2 and
+//! 7.2).
 
 ghost use Rattle.std.specs.Prelude.{◌-◌, ◌≡◌, ◌++◌, List, None, option_and_then, option_map, reverse, slice_index_or, false, ◌<◌};
 ghost use Rattle.std.specs.Option.{is_none};
@@ -9,10 +10,10 @@ ghost use Rattle.decoder_model.specs.Taken.{last_region};
 ghost use Rattle.segments.specs.Contents.{display_value, page_value};
 ghost use Rattle.decoder_model.specs.Nodes.{pixels_used};
 ghost use Rattle.decoder_model.specs.Taken.{segments_of, taken_of};
-ghost use Rattle.page_core.specs.Judging.{AreDefined, KnowsRegions, fault_before_nodes as first_of_tests};
-ghost use Rattle.page_core.specs.RegionTests.{HasHeads};
-ghost use Rattle.page_core.specs.Seen.{IsFound};
-ghost use Rattle.page_core.specs.Sound.{IsSound};
+ghost use Rattle.page_core.specs.Private.Judging.{AreDefined, KnowsRegions, fault_before_nodes as first_of_tests};
+ghost use Rattle.page_core.specs.Private.RegionTests.{HasHeads};
+ghost use Rattle.page_core.specs.Private.Seen.{IsFound};
+ghost use Rattle.page_core.specs.Private.Sound.{IsSound};
 
 use crate::composition::CompositionMemory;
 use crate::region_tests::{changed_region, full_pixels};
@@ -21,8 +22,8 @@ use decoder_model::SetFault;
 use segments::{DisplaySeg, PageSeg};
 use sub_base::Profile;
 
-/// The first fault of a set by its display, by the regions of its page, and by its own regions, in this order. `free` is how
-/// many bytes of pixels are free before the set.
+/// The first fault of a set by its display, by the regions of its page, and by its own regions, in
+/// this order. `free` is how many bytes of pixels are free before the set.
 pub(crate) fn fault_before_nodes(
     profile: &Profile,
     composition: &CompositionMemory,
@@ -37,7 +38,8 @@ pub(crate) fn fault_before_nodes(
         → IsFound set found.now → IsSound set bytes.now
         → result ≡ first_of_tests profile.now before set (page_value page.now) }
     ensures display { result ≡ None
-        → option_and_then (fault_of_display profile.now) (option_map display_value found.now.display) ≡ None }
+        → option_and_then (fault_of_display profile.now)
+        (option_map display_value found.now.display) ≡ None }
 {
     if let Some(fault) = display_fault(profile, found.display) {
         return Some(fault);
@@ -53,7 +55,8 @@ pub(crate) fn fault_before_nodes(
 
 /// The display that a set defines is larger than the profile's.
 pub(crate) fn display_fault(profile: &Profile, display: Option<DisplaySeg>) -> Option<SetFault>
-    ensures { result ≡ option_and_then (fault_of_display profile.now) (option_map display_value display) }
+    ensures { result
+        ≡ option_and_then (fault_of_display profile.now) (option_map display_value display) }
 {
     let DisplaySeg { width, height, .. } = display?;
     if profile.width < width || profile.height < height {
@@ -69,7 +72,8 @@ pub(crate) fn page_fault(
     defined: &[bool; 256],
     page: &PageSeg<'_>,
 ) -> Option<SetFault>
-    ensures { (set older : List Content) → KnowsRegions older composition.now → AreDefined set defined.now
+    ensures { (set older : List Content) → KnowsRegions older composition.now
+        → AreDefined set defined.now
         → result ≡ fault_of_page (reverse (in_order set) ++ older) (page_value page.now) }
 {
     for i in 0..page.count() {
@@ -82,7 +86,8 @@ pub(crate) fn page_fault(
 }
 
 fn is_unknown(composition: &CompositionMemory, defined: &[bool; 256], id: u8) -> bool
-    ensures { (set older : List Content) → KnowsRegions older composition.now → AreDefined set defined.now
+    ensures { (set older : List Content) → KnowsRegions older composition.now
+        → AreDefined set defined.now
         → result ≡ is_none (last_region id (reverse (in_order set) ++ older)) }
 {
     !is_flagged(defined, id) && composition.region(id).is_none()

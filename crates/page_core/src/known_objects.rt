@@ -4,29 +4,17 @@ ghost use Rattle.std.specs.Prelude.{◌≡◌, ◌+◌, ◌≤◌, None, IfSome,
 ghost use Rattle.segments.specs.Contents.{object_value};
 ghost use Rattle.segments.specs.Reading.{object_in};
 ghost use Rattle.stream_syntax.specs.SegmentTests.{object_tests};
-ghost use Rattle.stream_syntax.specs.Segments.{IsSegment, Object, of_object};
+ghost use Rattle.stream_syntax.specs.Segments.{of_object};
 ghost use Rattle.stream_syntax.specs.Tests.{first_fault, word_at};
 ghost use Rattle.page_core.specs.Handed.{HasFieldSizes};
 
-use segments::{ObjectSeg, read_frame};
+use segments::ObjectSeg;
 
 /// The bytes of a body before the blocks.
 const FIXED: usize = 7;
 
-/// The object that whole bytes are, where they are a segment of one.
-pub(crate) fn known_object(bytes: &[u8]) -> Option<ObjectSeg<'_>>
-    ensures value { (value : Object) → IsSegment bytes.now (of_object value)
-        → IsSomeAnd result (λ object. object_value object ≡ value) }
-    ensures fields { IfSome result (λ object. HasFieldSizes (of_object (object_value object))) }
-{
-    match read_frame(bytes) {
-        Ok(frame) => object_of(frame.body),
-        Err(_) => None,
-    }
-}
-
 /// The object of a body that passes the tests of one.
-fn object_of(body: &[u8]) -> Option<ObjectSeg<'_>>
+pub(crate) fn known_object(body: &[u8]) -> Option<ObjectSeg<'_>>
     ensures value { first_fault (object_tests body.now) ≡ None
         → IsSomeAnd result (λ object. object_value object ≡ object_in body.now) }
     ensures fields { IfSome result (λ object. HasFieldSizes (of_object (object_value object))) }

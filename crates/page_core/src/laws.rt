@@ -8,25 +8,30 @@ ghost use Rattle.decoder_model.specs.Readings.{Content, Reading};
 ghost use Rattle.decoder_model.specs.Sets.{Delivery, whole};
 ghost use Rattle.decoder_model.specs.Verdict.{verdict_of};
 ghost use Rattle.decoder_model.specs.declared.set_end.SetEnd.{SetEnd};
-ghost use Rattle.page_core.specs.Losses.{IsAllFree};
+ghost use Rattle.page_core.specs.Private.Losses.{IsAllFree};
 ghost use Rattle.page_core.specs.Memory.{Holds, Memory, Stands, showing};
-ghost use Rattle.page_core.specs.RegionTests.{before_regions};
+ghost use Rattle.page_core.specs.Private.RegionTests.{before_regions};
 
 /// The display and the page of a set change nothing of a memory but the display.
 pub fn display_and_page()
     ensures { (older set : List Content) (memory : Memory) → Holds older memory
-        → Holds (before_regions older set) (showing (display_in_force (before_regions older set)) memory) }
+        → Holds (before_regions older set)
+        (showing (display_in_force (before_regions older set)) memory) }
 {}
 
-/// Behind a loss or a broken set, until a kept set comes that is not of state normal, no epoch is known, and all nodes and all
-/// bytes of pixels are free; and each kept set of state normal waits or is broken.
+/// Behind a loss or a broken set, until a kept set comes that is not of state normal, no epoch is
+/// known, and all nodes and all bytes of pixels are free; and each kept set of state normal waits
+/// or is broken.
 pub fn behind_a_loss()
     ensures free { (past : List (Delivery Reading)) (memory : Memory)
         → IsBehindLoss memory.profile memory.anchor past → Stands past memory
         → IsAllFree memory }
-    ensures waits { (past : List (Delivery Reading)) (memory : Memory) (pts size time : ℕ) (readings : List Reading)
+    ensures waits { (past : List (Delivery Reading)) (memory : Memory) (pts size time : ℕ)
+        (readings : List Reading)
         → IsBehindLoss memory.profile memory.anchor past
         → lifted_time memory.anchor past (whole pts size readings) ≡ Some time
         → IsNormal (contents_in readings)
-        → (verdict : SetEnd) × (verdict_of memory.profile memory.anchor past (whole pts size readings) ≡ Some verdict) × IsWaitingOrBroken verdict }
+        → (verdict : SetEnd)
+        × (verdict_of memory.profile memory.anchor past (whole pts size readings)
+        ≡ Some verdict) × IsWaitingOrBroken verdict }
 {}

@@ -1,6 +1,7 @@
-//! The page memory of a receiver of EN 300 743 subtitles: what it keeps of the display sets that it is handed (the composition
-//! memory, the pixels of regions, the colours of CLUTs), and the picture that it shows. All memory is taken when a core is
-//! made. Contracts see a core as a plain record, and say what this has to do with all that the core was handed.
+//! The page memory of a receiver of EN 300 743 subtitles: what it keeps of the display sets that it
+//! is handed (the composition memory, the pixels of regions, the colours of CLUTs), and the picture
+//! that it shows. All memory is taken when a core is made. Contracts see a core as a plain record,
+//! and say what this has to do with all that the core was handed.
 #![tactic(auto)]
 
 mod cluts;

@@ -1,9 +1,9 @@
-//! Marks at the entries of the tables of all CLUTs: they tell which are set without a walk over those that are, and which are
-//! counted already.
+//! Marks at the entries of the tables of all CLUTs: they tell which are set without a walk over
+//! those that are, and which are counted already.
 
 ghost use Rattle.std.specs.Prelude.{◌≡◌, ◌<◌, [], ℕ, length, map, replicate, slice_index_or, slice_set, IfOk};
-ghost use Rattle.page_core.specs.Inks.{ink_count};
-ghost use Rattle.page_core.specs.Marks.{AreMarked, AreSwept, IsStamp, all_set, mark_by, uncounted};
+ghost use Rattle.page_core.specs.Private.Inks.{ink_count};
+ghost use Rattle.page_core.specs.Private.Marks.{AreMarked, AreSwept, IsStamp, all_set, mark_by, uncounted};
 ghost use Rattle.page_core.specs.Memory.{ink_place as place_of};
 ghost use Rattle.page_core.specs.declared.marks.Mark.TheVariants.{Unset as unset};
 
@@ -25,18 +25,19 @@ pub(crate) enum Mark {
 /// The stamp of an entry that is set.
 const SET: u16 = 65_535;
 
-/// A mark at each entry of the tables of all CLUTs, the three tables of a CLUT one after another. Contracts see them as a list.
+/// A mark at each entry of the tables of all CLUTs, the three tables of a CLUT one after another.
+/// Contracts see them as a list.
 #[derive(Drop)]
 pub(crate) struct Marks {
-    // The current stamp is that of a counted entry, and all others but `SET` are those of entries that are not set: so counted
-    // marks are taken off by counting on.
+    // The current stamp is that of a counted entry, and all others but `SET` are those of entries
+    // that are not set: so counted marks are taken off by counting on.
     stamps: Vec<u16>,
     current: u16,
 }
 
 impl Model for Marks {
     ghost use Rattle.std.specs.Prelude.{List, map};
-    ghost use Rattle.page_core.specs.Marks.{AreStamps, mark_by};
+    ghost use Rattle.page_core.specs.Private.Marks.{AreStamps, mark_by};
     ghost use Rattle.page_core.specs.declared.marks.Mark.{Mark};
 
     ghost Value = { List Mark };
@@ -59,7 +60,8 @@ impl Marks {
 
     /// The mark at an entry.
     pub(crate) fn at(&self, place: TablePlace) -> Mark
-        ensures { result ≡ slice_index_or self.now (place_of place.clut place.depth place.entry) unset }
+        ensures { result
+            ≡ slice_index_or self.now (place_of place.clut place.depth place.entry) unset }
     {
         let index = ink_place(place.clut, place.depth, place.entry);
         mark_of(self.stamps[index], self.current)
@@ -67,7 +69,8 @@ impl Marks {
 
     /// Marks an entry.
     pub(crate) fn put(&mut self, place: TablePlace, mark: Mark)
-        ensures { self.new ≡ slice_set self.old (place_of place.clut place.depth place.entry) mark }
+        ensures { self.new
+            ≡ slice_set self.old (place_of place.clut place.depth place.entry) mark }
     {
         let index = ink_place(place.clut, place.depth, place.entry);
         self.stamps[index] = stamp_of(mark, self.current);

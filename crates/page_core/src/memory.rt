@@ -12,11 +12,11 @@ ghost use Rattle.decoder_model.specs.declared.set_end.SetEnd.{SetEnd as Verdict}
 ghost use Rattle.decoder_model.specs.declared.set_end.SetEnd.TheVariants.{Broken, NotLater};
 ghost use Rattle.decoder_model.specs.declared.set_fault.SetFault.{SetFault as WhyBroken};
 ghost use Rattle.segments.specs.Contents.{display_value, page_value};
-ghost use Rattle.page_core.specs.Judging.{fault_before_nodes as first_of_tests};
-ghost use Rattle.page_core.specs.Seen.{IsFound};
-ghost use Rattle.page_core.specs.Sound.{IsSound};
-ghost use Rattle.page_core.specs.Accepted.{IsBefore, IsBegun, IsEarly, IsTakenEarly};
-ghost use Rattle.page_core.specs.Epochs.{IsStart};
+ghost use Rattle.page_core.specs.Private.Judging.{fault_before_nodes as first_of_tests};
+ghost use Rattle.page_core.specs.Private.Seen.{IsFound};
+ghost use Rattle.page_core.specs.Private.Sound.{IsSound};
+ghost use Rattle.page_core.specs.Private.Accepted.{IsBefore, IsBegun, IsEarly, IsTakenEarly};
+ghost use Rattle.page_core.specs.Private.Epochs.{IsStart};
 ghost use Rattle.page_core.specs.declared.epoch.Start.TheVariants.{Waits};
 ghost use Rattle.page_core.specs.Memory.{Stands, IsForgotten, IsSameReceiver, Forgets};
 
@@ -41,10 +41,12 @@ pub use scene::Scene;
 use segments::DisplaySeg;
 use std::alloc::Global;
 use std::marker::Model;
+use stream_syntax::{DEFAULT_DISPLAY_HEIGHT, DEFAULT_DISPLAY_WIDTH};
 use sub_base::{NoMemory, Profile};
 
-/// The page memory of a receiver for one page (EN 300 743, clause 5). Contracts see what it keeps as a plain record, and say
-/// what that has to do with all sets and losses that the core was handed.
+/// The page memory of a receiver for one page (EN 300 743, clause 5). Contracts see what it keeps
+/// as a plain record, and say what that has to do with all sets and losses that the core was
+/// handed.
 #[derive(Drop)]
 pub struct Core {
     profile: Profile,
@@ -67,14 +69,18 @@ impl Model for Core {
 
     ghost Value = { Memory };
 
-    ghost view = { λ c. memory_of c.profile c.page c.anchor c.last c.known c.time_out c.display c.composition c.inks c.store };
+    ghost view = { λ c. memory_of c.profile c.page c.anchor c.last c.known c.time_out c.display
+        c.composition
+        c.inks c.store };
 
-    ghost invariant = { λ c. IsCore (memory_of c.profile c.page c.anchor c.last c.known c.time_out c.display c.composition c.inks c.store) c.marks };
+    ghost invariant = { λ c. IsCore
+        (memory_of c.profile c.page c.anchor c.last c.known c.time_out c.display c.composition
+        c.inks c.store) c.marks };
 }
 
 impl Core {
-    /// A core of a profile for the sets of a page that was handed nothing. Lifted times begin at the anchor. All memory is
-    /// taken here.
+    /// A core of a profile for the sets of a page that was handed nothing. Lifted times begin at
+    /// the anchor. All memory is taken here.
     pub fn make(alloc: Global, profile: &Profile, page: u16, anchor: u64) -> Result<Core, NoMemory>
         requires anchor { anchor < 2 ^ 34 }
         requires nodes { profile.now.nodes < 2 ^ 31 }
@@ -98,23 +104,26 @@ impl Core {
         })
     }
 
-    /// Something was lost between two sets: no epoch is known, and all nodes and pixel bytes are free.
+    /// Something was lost between two sets: no epoch is known, and all nodes and pixel bytes are
+    /// free.
     pub fn lose(&mut self)
-        ensures stands { (past : List (Delivery Reading)) → Stands past self.old → Stands (lost ∷ past) self.new }
+        ensures stands { (past : List (Delivery Reading)) → Stands past self.old
+            → Stands (lost ∷ past) self.new }
         ensures forgotten { IsForgotten self.new }
         ensures same { IsSameReceiver self.old self.new }
     {
         self.forget();
     }
 
-    /// A set of this page that was refused before it was whole. Where it is kept, it is broken with that fault, and the core
-    /// waits.
+    /// A set of this page that was refused before it was whole. Where it is kept, it is broken with
+    /// that fault, and the core waits.
     pub fn refuse_set(&mut self, pts: u64, fault: SetFault) -> SetEnd
         requires { pts < 2 ^ 33 }
         ensures stands { (past : List (Delivery Reading)) (size : ℕ) → Stands past self.old
             → Stands (refused pts size fault ∷ past) self.new }
         ensures answer { (past : List (Delivery Reading)) (size : ℕ) → Stands past self.old
-            → Some result ≡ verdict_of self.old.profile self.old.anchor past (refused pts size fault) }
+            → Some result
+            ≡ verdict_of self.old.profile self.old.anchor past (refused pts size fault) }
         ensures unchanged { (time : ℕ) → result ≡ NotLater time → self.new ≡ self.old }
         ensures broken { (why : WhyBroken) → result ≡ Broken why → IsForgotten self.new }
         ensures same { IsSameReceiver self.old self.new }
@@ -148,12 +157,13 @@ impl Core {
         self.forget();
     }
 
-    /// The lifted time that a set with that presentation time would have, if it came next. `None` exactly where it would not be
-    /// kept.
+    /// The lifted time that a set with that presentation time would have, if it came next. `None`
+    /// exactly where it would not be kept.
     pub fn lift(&self, pts: u64) -> Option<u64>
         requires { pts < 2 ^ 33 }
         ensures lifted { (past : List (Delivery Reading)) (size : ℕ) (readings : List Reading)
-            → Stands past self.now → result ≡ lifted_time self.now.anchor past (whole pts size readings) }
+            → Stands past self.now
+            → result ≡ lifted_time self.now.anchor past (whole pts size readings) }
         ensures bounded { IfSome result (λ time. time < 2 ^ 62) }
     {
         lifted_behind(self.anchor, self.last, pts)
@@ -177,11 +187,14 @@ impl Core {
         self.store.free()
     }
 
-    // A kept set up to the tests by its epoch: one that waits, or is broken by itself, leaves nothing.
+    // A kept set up to the tests by its epoch: one that waits, or is broken by itself, leaves
+    // nothing.
     fn take_early<'a>(&mut self, time: u64, bytes: &'a [u8]) -> Result<Accepted<'a>, SetEnd>
         requires { time < 2 ^ 62 }
-        ensures taken { (past : List (Delivery Reading)) (pts size : ℕ) (readings : List Reading) → Stands past self.old
-            → lifted_time self.old.anchor past (whole pts size readings) ≡ Some time → AreRead readings bytes.now
+        ensures taken { (past : List (Delivery Reading)) (pts size : ℕ) (readings : List Reading)
+            → Stands past self.old
+            → lifted_time self.old.anchor past (whole pts size readings) ≡ Some time
+            → AreRead readings bytes.now
             → IsTakenEarly self.old past pts size readings bytes.now self.new result }
         ensures start { IfOk result (λ accepted. accepted.start ≡ Waits → ⊥) }
         ensures early { IfErr result IsEarly }
@@ -203,10 +216,14 @@ impl Core {
 
     // The first fault of a set by its epoch, up to the count of nodes.
     fn fault_by_epoch(&self, accepted: &Accepted<'_>, bytes: &[u8]) -> Option<SetFault>
-        ensures fault { (set : List Content) (before : List (List Content)) → IsBefore before self.now → IsFound set accepted.now.found → IsSound set bytes.now
-            → result ≡ first_of_tests self.now.profile before set (page_value accepted.now.page) }
+        ensures fault { (set : List Content) (before : List (List Content))
+            → IsBefore before self.now → IsFound set accepted.now.found
+            → IsSound set bytes.now
+            → result ≡ first_of_tests self.now.profile before set
+            (page_value accepted.now.page) }
         ensures display { result ≡ None
-            → option_and_then (fault_of_display self.now.profile) (option_map display_value accepted.now.found.display) ≡ None }
+            → option_and_then (fault_of_display self.now.profile)
+            (option_map display_value accepted.now.found.display) ≡ None }
     {
         let free = self.store.free();
         fault_before_nodes(
@@ -223,10 +240,12 @@ impl Core {
     fn end_early(&mut self, time: u64)
         requires { time < 2 ^ 62 }
         ensures last { self.new.last ≡ Some time }
-        ensures stands { (past : List (Delivery Reading)) (pts size : ℕ) (readings : List Reading) (end : Verdict)
+        ensures stands { (past : List (Delivery Reading)) (pts size : ℕ) (readings : List Reading)
+            (end : Verdict)
             → Stands past self.old
             → lifted_time self.old.anchor past (whole pts size readings) ≡ Some time
-            → verdict_on_kept self.old.profile (sets_since self.old.profile self.old.anchor past) readings ≡ end
+            → verdict_on_kept self.old.profile (sets_since self.old.profile self.old.anchor past)
+            readings ≡ end
             → IsEarly end
             → Stands (whole pts size readings ∷ past) self.new }
         ensures same { IsSameReceiver self.old self.new }
@@ -240,7 +259,8 @@ impl Core {
         requires { time < 2 ^ 62 }
         ensures last { self.new.last ≡ Some time }
         ensures same { IsSameReceiver self.old self.new }
-        ensures begun { (past : List (Delivery Reading)) (set : List Content) → Stands past self.old
+        ensures begun { (past : List (Delivery Reading)) (set : List Content)
+            → Stands past self.old
             → IsStart (sets_since self.old.profile self.old.anchor past) set start
             → IsBegun (sets_since self.old.profile self.old.anchor past) set start self.new }
     {
@@ -269,8 +289,8 @@ fn usual_display() -> DisplaySeg
 {
     DisplaySeg {
         version: 0,
-        width: 720,
-        height: 576,
+        width: DEFAULT_DISPLAY_WIDTH,
+        height: DEFAULT_DISPLAY_HEIGHT,
         window: None,
     }
 }

@@ -1,11 +1,12 @@
-//! The pixel data of an object, checked for regions of a depth and painted into one (EN 300 743, clause 7.2.5).
+//! The pixel data of an object, checked for regions of a depth and painted into one (EN 300 743,
+//! clause 7.2.5).
 
 ghost use Rattle.std.specs.Prelude.{◌≡◌, None, ◌+◌, ◌<◌, ◌≤◌, ◌^◌, length, List, IfOk, IfErr};
 ghost use Rattle.stream_syntax.specs.PixelBlocks.{Part, AreParts};
 ghost use Rattle.stream_syntax.specs.Segments.{Object, of_object};
 ghost use Rattle.sub_base.specs.declared.depth.Depth.TheVariants.{Eight};
 ghost use Rattle.decoder_model.specs.Readings.{Content, AreFields};
-ghost use Rattle.page_core.specs.Painted.{HasRegion, IsWritten, HaveCodes, AreChecked, IsCheckedBlock, code_by_fields, field_runs};
+ghost use Rattle.page_core.specs.Private.Painted.{HasRegion, IsWritten, HaveCodes, AreChecked, IsCheckedBlock, code_by_fields, field_runs};
 
 use crate::node::RegionNode;
 use crate::painting::{FieldPlace, paint_field};
@@ -15,8 +16,8 @@ use std::marker::Model;
 use stream_syntax::{CodeFault, Listing, SegmentFault, SegmentKind};
 use sub_base::Depth;
 
-/// The blocks of an object's two fields, which are in the grammar for regions of a depth. Contracts see the depth and the
-/// runs of each field.
+/// The blocks of an object's two fields, which are in the grammar for regions of a depth. Contracts
+/// see the depth and the runs of each field.
 #[derive(Drop)]
 pub(crate) struct Fields<'a> {
     depth: Depth,
@@ -27,7 +28,7 @@ pub(crate) struct Fields<'a> {
 
 impl<'a> Model for Fields<'a> {
     ghost use Rattle.std.specs.Prelude.{unwrap_or};
-    ghost use Rattle.page_core.specs.Painted.{FieldRuns, HaveCodes};
+    ghost use Rattle.page_core.specs.Private.Painted.{FieldRuns, HaveCodes};
 
     ghost Value = { FieldRuns };
 
@@ -40,14 +41,15 @@ impl<'a> Model for Fields<'a> {
 fn check_field(bytes: &[u8], depth: Depth) -> Result<CodeBlock<'_>, CodeFault>
     requires { length bytes.now ≤ 65535 }
     ensures codes { IfOk result (HaveCodes depth) }
-    ensures checked { (parts : List Part) → AreParts Eight parts bytes.now → IsCheckedBlock depth parts result }
+    ensures checked { (parts : List Part) → AreParts Eight parts bytes.now
+        → IsCheckedBlock depth parts result }
     ensures within { IfErr result (λ found. found.place ≤ 65535) }
 {
     check_block(bytes, depth)
 }
 
-/// Checks the blocks of an object's two fields for regions of a depth, the top one first. An empty bottom block stands for
-/// the top block. Places count from the segment's first byte.
+/// Checks the blocks of an object's two fields for regions of a depth, the top one first. An empty
+/// bottom block stands for the top block. Places count from the segment's first byte.
 pub(crate) fn check_fields<'a>(
     top: &'a [u8],
     bottom: &'a [u8],
@@ -56,8 +58,10 @@ pub(crate) fn check_fields<'a>(
     requires top { length top.now ≤ 65535 }
     requires bottom { length bottom.now ≤ 65535 }
     ensures depth { IfOk result (λ fields. fields.depth ≡ depth) }
-    ensures checked { (content : Content) (object : Object) → top.now ≡ object.top → bottom.now ≡ object.bottom
-        → AreFields (of_object object) content.top content.bottom → AreChecked depth content object result }
+    ensures checked { (content : Content) (object : Object) → top.now ≡ object.top
+        → bottom.now ≡ object.bottom
+        → AreFields (of_object object) content.top content.bottom
+        → AreChecked depth content object result }
 {
     let top_block = match check_field(top, depth) {
         Ok(block) => block,
@@ -116,7 +120,9 @@ impl Fields<'_> {
     )
         requires region { HasRegion region.now.head region.now.slot store.old }
         requires depth { self.now.depth ≡ region.now.head.depth }
-        ensures { IsWritten region.now.slot (λ x y. code_by_fields see_through self.now x y listing) store.old store.new }
+        ensures { IsWritten region.now.slot
+            (λ x y. code_by_fields see_through self.now x y listing)
+            store.old store.new }
     {
         let top = FieldPlace {
             listing,

@@ -1,5 +1,5 @@
 ghost use Rattle.std.specs.Prelude.{◌≡◌, ◌<◌, ◌≤◌, length, IfOk};
-ghost use Rattle.page_core.specs.Painted.{FitsHead, HasRegion};
+ghost use Rattle.page_core.specs.Private.Painted.{FitsHead, HasRegion};
 
 use crate::node::RegionNode;
 use crate::painting::fill_region;
@@ -11,7 +11,8 @@ use std::test::Fail;
 use stream_syntax::{CodeFault, CodeKind, Listing, RegionHead, SegmentFault, SegmentKind};
 use sub_base::Depth;
 
-/// A line of the two bit codes 1, 2 and 3; of the four bit codes 1 and A; and of the eight bit codes 01 and C8.
+/// A line of the two bit codes 1, 2 and 3; of the four bit codes 1 and A; and of the eight bit
+/// codes 01 and C8.
 pub(crate) const TWO_BITS: [u8; 4] = [0x10, 0x6C, 0x00, 0xF0];
 
 const FOUR_BITS: [u8; 4] = [0x11, 0x1A, 0x00, 0xF0];
@@ -27,8 +28,8 @@ const SECOND_LINE: [u8; 5] = [0xF0, 0x10, 0x6C, 0x00, 0xF0];
 /// No pixels.
 const EMPTY_LINE: [u8; 1] = [0xF0];
 
-/// An object that is painted in a region of eight by three pixels, which has the fill code of its depth, and the packed rows of
-/// the region then.
+/// An object that is painted in a region of eight by three pixels, which has the fill code of its
+/// depth, and the packed rows of the region then.
 #[derive(Clone, Copy)]
 struct Painted<'a> {
     depth: Depth,
@@ -99,8 +100,8 @@ fn check_painted<R: Abort>(rt: &R, store: &mut Store, case: &Painted<'_>) -> Res
     Ok(())
 }
 
-/// A string of each depth in a region of each depth, by the default map tables. The bottom block is empty: the top block
-/// serves for both fields.
+/// A string of each depth in a region of each depth, by the default map tables. The bottom block is
+/// empty: the top block serves for both fields.
 #[test]
 fn strings_of_each_depth(rt: HostRuntime) -> Result<(), Fail> {
     let mut store = Store::make(rt.alloc(), 24)?;
@@ -179,7 +180,8 @@ fn strings_too_deep(rt: HostRuntime) -> Result<(), Fail> {
     Ok(())
 }
 
-/// A map table, code 1 left out as it is read, fields of their own, lines below the first one, and what passes the region.
+/// A map table, code 1 left out as it is read, fields of their own, lines below the first one, and
+/// what passes the region.
 #[test]
 fn objects_in_a_region(rt: HostRuntime) -> Result<(), Fail> {
     let mut store = Store::make(rt.alloc(), 24)?;

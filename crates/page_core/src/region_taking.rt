@@ -1,21 +1,22 @@
-//! The region segments of a set, taken (EN 300 743, clause 7.2.3): each that is new in the epoch, or has another version than the
-//! one before it.
+//! The region segments of a set, taken (EN 300 743, clause 7.2.3): each that is new in the epoch,
+//! or has another version than the one before it.
 
 ghost use Rattle.std.specs.Prelude.{◌≡◌, ◌+◌, ◌<◌, ◌≤◌, [], List, Some, None, filter, length, true, false};
 ghost use Rattle.sub_base.specs.declared.profile.Profile.{Profile};
 ghost use Rattle.decoder_model.specs.Faults.{has_same_shape as same_shape};
 ghost use Rattle.decoder_model.specs.Pixels.{code_by_fill};
 ghost use Rattle.decoder_model.specs.Readings.{Content};
-ghost use Rattle.pixel_store.specs.Regions.{Regions, need_of};
+ghost use Rattle.pixel_store.specs.Regions.{Regions};
 ghost use Rattle.segments.specs.Contents.{region_value};
 ghost use Rattle.page_core.specs.Composition.{AreIdsApart, region_in, taken_nodes};
 ghost use Rattle.page_core.specs.Handed.{AreContents};
-ghost use Rattle.page_core.specs.Known.{IsRegionIn};
-ghost use Rattle.page_core.specs.Painted.{HasRegion, IsWritten};
-ghost use Rattle.page_core.specs.RegionSteps.{AreBare, AreReady, AreStored, IsNewRegion, IsRegionTaken, IsRightHead, IsTakenAgain, KeepsBesideRegions};
-ghost use Rattle.page_core.specs.RegionSteps.{cleared_where, slot_in, takes_place, with_head, with_listings, with_region, with_regions_of};
-ghost use Rattle.page_core.specs.RegionTests.{AreApart, head_in, is_new};
-ghost use Rattle.page_core.specs.Walks.{is_region};
+ghost use Rattle.page_core.specs.Private.Known.{IsRegionIn};
+ghost use Rattle.page_core.specs.Private.Painted.{HasRegion, IsWritten};
+ghost use Rattle.page_core.specs.Private.RegionSteps.{AreBare, AreReady, AreStored, IsNewRegion, IsRegionTaken, IsRightHead, IsTakenAgain, KeepsBesideRegions};
+ghost use Rattle.page_core.specs.Private.RegionSteps.{cleared_where, slot_in, takes_place, with_head, with_listings, with_region, with_regions_of};
+ghost use Rattle.page_core.specs.Private.RegionTests.{AreApart, head_in, is_new};
+ghost use Rattle.page_core.specs.Private.Walks.{is_region};
+ghost use Rattle.sub_base.specs.Depth.{pixel_bytes};
 
 use crate::composition::CompositionMemory;
 use crate::node::RegionNode;
@@ -25,13 +26,15 @@ use crate::walking::next_region;
 use pixel_store::{Slot, Store};
 use segments::{RegionHead, RegionSeg};
 
-/// Frees the listings of all regions whose place a segment of a set takes. A set may give one region fewer listings and another
-/// more, so all are free before the first new one is put in.
+/// Frees the listings of all regions whose place a segment of a set takes. A set may give one
+/// region fewer listings and another more, so all are free before the first new one is put in.
 pub(crate) fn clear_renewed(composition: &mut CompositionMemory, bytes: &[u8])
     requires { AreIdsApart composition.old.regions }
-    ensures stored { (store : Regions) → AreStored composition.old store → AreStored composition.new store }
+    ensures stored { (store : Regions) → AreStored composition.old store
+        → AreStored composition.new store }
     ensures beside { KeepsBesideRegions composition.old composition.new }
-    ensures bare { (set : List Content) → AreContents set bytes.now → AreBare (filter is_region set) composition.old composition.new }
+    ensures bare { (set : List Content) → AreContents set bytes.now
+        → AreBare (filter is_region set) composition.old composition.new }
 {
     let mut rest = bytes;
     while let Some(next) = next_region(rest) {
@@ -42,7 +45,10 @@ pub(crate) fn clear_renewed(composition: &mut CompositionMemory, bytes: &[u8])
 
 // Frees the listings of a region whose place the segment takes.
 fn clear_if_renewed(composition: &mut CompositionMemory, region: &RegionSeg<'_>)
-    ensures { composition.new ≡ cleared_where (takes_place (region_value region.now).head (head_in composition.old region.now.region)) region.now.region composition.old }
+    ensures { composition.new
+        ≡ cleared_where
+        (takes_place (region_value region.now).head (head_in composition.old region.now.region))
+        region.now.region composition.old }
 {
     if is_renewing(composition, region) {
         composition.clear_listings(region.region);
@@ -50,7 +56,8 @@ fn clear_if_renewed(composition: &mut CompositionMemory, region: &RegionSeg<'_>)
 }
 
 fn is_renewing(composition: &CompositionMemory, region: &RegionSeg<'_>) -> bool
-    ensures { result ≡ takes_place (region_value region.now).head (head_in composition.now region.now.region) }
+    ensures { result
+        ≡ takes_place (region_value region.now).head (head_in composition.now region.now.region) }
 {
     match composition.region(region.region) {
         None => false,
@@ -64,8 +71,10 @@ pub(crate) fn take_all(composition: &mut CompositionMemory, store: &mut Store, b
     ensures stored { AreStored composition.new store.new }
     ensures beside { KeepsBesideRegions composition.old composition.new }
     ensures size { store.new.size ≡ store.old.size }
-    ensures taken { (profile : Profile) (older set : List Content) → AreContents set bytes.now → AreApart [] (filter is_region set)
-        → AreReady profile older (filter is_region set) composition.old store.old → AreReady profile (with_regions_of older set) [] composition.new store.new }
+    ensures taken { (profile : Profile) (older set : List Content) → AreContents set bytes.now
+        → AreApart [] (filter is_region set)
+        → AreReady profile older (filter is_region set) composition.old store.old
+        → AreReady profile (with_regions_of older set) [] composition.new store.new }
 {
     let mut rest = bytes;
     while let Some(next) = next_region(rest) {
@@ -74,12 +83,14 @@ pub(crate) fn take_all(composition: &mut CompositionMemory, store: &mut Store, b
     }
 }
 
-// Takes a region segment that is new in the epoch, or has another version than the last one. The tests before let no set through that
-// has no room, or that changes the size or depth of a region: nothing is done then.
+// Takes a region segment that is new in the epoch, or has another version than the last one. The
+// tests before let no set through that has no room, or that changes the size or depth of a region:
+// nothing is done then.
 fn take_one(composition: &mut CompositionMemory, store: &mut Store, region: &RegionSeg<'_>)
     requires stored { AreStored composition.old store.old }
     requires right { IsRightHead (region_value region.now).head }
-    ensures taken { IsRegionTaken (region_value region.now) composition.old store.old composition.new store.new }
+    ensures taken { IsRegionTaken (region_value region.now) composition.old store.old
+        composition.new store.new }
     ensures stored { AreStored composition.new store.new }
     ensures beside { KeepsBesideRegions composition.old composition.new }
     ensures size { store.new.size ≡ store.old.size }
@@ -95,8 +106,10 @@ fn take_first(composition: &mut CompositionMemory, store: &mut Store, region: &R
     requires stored { AreStored composition.old store.old }
     requires right { IsRightHead (region_value region.now).head }
     requires new { region_in composition.old region.now.region ≡ None }
-    ensures taken { 1 + length (region_value region.now).listings ≤ composition.old.free → need_of region.now.width region.now.height region.now.depth ≤ store.old.free
-        → IsNewRegion (region_value region.now) composition.old store.old composition.new store.new }
+    ensures taken { 1 + length (region_value region.now).listings ≤ composition.old.free
+        → pixel_bytes region.now.width region.now.height region.now.depth ≤ store.old.free
+        → IsNewRegion (region_value region.now) composition.old store.old composition.new
+        store.new }
     ensures stored { AreStored composition.new store.new }
     ensures beside { KeepsBesideRegions composition.old composition.new }
     ensures size { store.new.size ≡ store.old.size }
@@ -122,8 +135,12 @@ fn put_in(
     requires counted { composition.old.free + taken_nodes composition.old ≡ composition.old.size }
     requires apart { AreIdsApart composition.old.regions }
     requires room { 1 + length (region_value region.now).listings ≤ composition.old.free }
-    ensures composition { composition.new ≡ with_listings region.now.region (region_value region.now).listings (with_region (region_value region.now).head slot composition.old) }
-    ensures filled { IsWritten slot (λ x y. code_by_fill region.now.region (region_value region.now).head) store.old store.new }
+    ensures composition { composition.new
+        ≡ with_listings region.now.region (region_value region.now).listings
+        (with_region (region_value region.now).head slot composition.old) }
+    ensures filled { IsWritten slot
+        (λ x y. code_by_fill region.now.region (region_value region.now).head) store.old
+        store.new }
 {
     let node = RegionNode {
         head: head_of(region),
@@ -134,7 +151,8 @@ fn put_in(
     composition.add_listings(region);
 }
 
-// Takes a region segment for a region that is known, where it has another version, and the same size and depth.
+// Takes a region segment for a region that is known, where it has another version, and the same
+// size and depth.
 fn take_again(
     composition: &mut CompositionMemory,
     store: &mut Store,
@@ -144,9 +162,13 @@ fn take_again(
     requires stored { AreStored composition.old store.old }
     requires right { IsRightHead (region_value region.now).head }
     requires known { IsRegionIn composition.old region.now.region (Some known) }
-    ensures held { is_new (region_value region.now).head (Some known.head) ≡ false → (composition.new ≡ composition.old) × (store.new ≡ store.old) }
-    ensures taken { is_new (region_value region.now).head (Some known.head) ≡ true → same_shape (region_value region.now).head known.head ≡ true
-        → length (region_value region.now).listings ≤ composition.old.free → IsTakenAgain (region_value region.now) composition.old store.old composition.new store.new }
+    ensures held { is_new (region_value region.now).head (Some known.head) ≡ false
+        → (composition.new ≡ composition.old) × (store.new ≡ store.old) }
+    ensures taken { is_new (region_value region.now).head (Some known.head) ≡ true
+        → same_shape (region_value region.now).head known.head ≡ true
+        → length (region_value region.now).listings ≤ composition.old.free
+        → IsTakenAgain (region_value region.now) composition.old store.old composition.new
+        store.new }
     ensures stored { AreStored composition.new store.new }
     ensures beside { KeepsBesideRegions composition.old composition.new }
     ensures size { store.new.size ≡ store.old.size }
@@ -166,8 +188,12 @@ fn renew(composition: &mut CompositionMemory, store: &mut Store, region: &Region
     requires known { slot_in composition.old region.now.region ≡ Some slot }
     requires apart { AreIdsApart composition.old.regions }
     requires room { length (region_value region.now).listings ≤ composition.old.free }
-    ensures composition { composition.new ≡ with_listings region.now.region (region_value region.now).listings (with_head (region_value region.now).head composition.old) }
-    ensures filled { IsWritten slot (λ x y. code_by_fill region.now.region (region_value region.now).head) store.old store.new }
+    ensures composition { composition.new
+        ≡ with_listings region.now.region (region_value region.now).listings
+        (with_head (region_value region.now).head composition.old) }
+    ensures filled { IsWritten slot
+        (λ x y. code_by_fill region.now.region (region_value region.now).head) store.old
+        store.new }
 {
     let renewed = RegionNode {
         head: head_of(region),

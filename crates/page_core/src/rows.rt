@@ -1,5 +1,5 @@
-//! Rows of the picture: the lines of regions, drawn one over another within the window of the display (EN 300 743, clauses
-//! 7.2.1 and 7.2.2).
+//! Rows of the picture: the lines of regions, drawn one over another within the window of the
+//! display (EN 300 743, clauses 7.2.1 and 7.2.2).
 
 ghost use Rattle.std.specs.Prelude.{◌≡◌, ℕ, ◌+◌, ◌<◌, ◌≤◌, length, All, MatchOption, option_map};
 ghost use Rattle.sub_base.specs.Colour.{clear};
@@ -9,7 +9,7 @@ ghost use Rattle.segments.specs.Contents.{display_value};
 ghost use Rattle.pixel_store.specs.Regions.{region_at, IsPackedRow};
 ghost use Rattle.page_core.specs.Coloured.{colour_of};
 ghost use Rattle.page_core.specs.Memory.{Memory};
-ghost use Rattle.page_core.specs.Painted.{HasRegion};
+ghost use Rattle.page_core.specs.Private.Painted.{HasRegion};
 ghost use Rattle.page_core.specs.Rows.{IsDrawnOver, IsLineDrawn, IsKeptAs, colour_by_entry, colour_by_region, row_in, window_at, listed_in, IsLineLent};
 
 use crate::colours::colours_into;
@@ -41,7 +41,8 @@ pub(crate) fn row_into(
     row: &mut [Colour],
 )
     requires { All (λ kept. HasRegion kept.head kept.slot store.now) composition.now.regions }
-    ensures { (memory : Memory) → IsKeptAs memory composition.now store.now inks.now → memory.display ≡ display_value display
+    ensures { (memory : Memory) → IsKeptAs memory composition.now store.now inks.now
+        → memory.display ≡ display_value display
         → length row.old ≡ memory.display.width → row.new ≡ row_in memory y }
 {
     clear_row(row);
@@ -86,7 +87,8 @@ fn entry_into(
 )
     requires { All (λ kept. HasRegion kept.head kept.slot store.now) composition.now.regions }
     ensures { (memory : Memory) → IsKeptAs memory composition.now store.now inks.now
-        → IsDrawnOver (window_at place) place.y (λ x. colour_by_entry memory (window_at place) x place.y entry) row.old row.new }
+        → IsDrawnOver (window_at place) place.y
+        (λ x. colour_by_entry memory (window_at place) x place.y entry) row.old row.new }
 {
     if let Some(region) = composition.region(entry.region) {
         let colours = inks.table(region.head.clut, region.head.depth);
@@ -94,8 +96,8 @@ fn entry_into(
     }
 }
 
-/// Draws a region over a row of the display, as far as the window has it, with its corner at an entry of the page. The colours
-/// are those of its CLUT for codes of its depth.
+/// Draws a region over a row of the display, as far as the window has it, with its corner at an
+/// entry of the page. The colours are those of its CLUT for codes of its depth.
 pub(crate) fn region_into(
     store: &Store,
     region: &RegionNode,
@@ -106,7 +108,9 @@ pub(crate) fn region_into(
 )
     requires region { HasRegion region.now.head region.now.slot store.now }
     requires colours { length colours.now ≡ code_count region.now.head.depth }
-    ensures { IsDrawnOver (window_at place) place.y (λ x. colour_by_region region.now.head (region_at store.now region.now.slot) colours.now (place.left + entry.x) (place.top + entry.y) x place.y) row.old row.new }
+    ensures { IsDrawnOver (window_at place) place.y
+        (λ x. colour_by_region region.now.head (region_at store.now region.now.slot) colours.now
+        (place.left + entry.x) (place.top + entry.y) x place.y) row.old row.new }
 {
     let left = place.left as usize + usize::from(entry.x);
     let top = place.top as usize + usize::from(entry.y);
@@ -138,7 +142,8 @@ fn line_within(
     requires order { from ≤ to }
     requires wide { to ≤ from + region.now.head.width }
     requires row { to ≤ length row.old }
-    ensures { IsLineDrawn (region_at store.now region.now.slot) line colours.now from to row.old row.new }
+    ensures { IsLineDrawn (region_at store.now region.now.slot) line colours.now from to row.old
+        row.new }
 {
     line_into(store, region, line, colours, &mut row[from..to]);
 }
@@ -149,7 +154,8 @@ fn line_into(store: &Store, region: &RegionNode, line: u16, colours: &[Colour], 
     requires line { line < region.now.head.height }
     requires colours { length colours.now ≡ code_count region.now.head.depth }
     requires row { length row.old ≤ region.now.head.width }
-    ensures { IsLineDrawn (region_at store.now region.now.slot) line colours.now 0 (length row.old) row.old row.new }
+    ensures { IsLineDrawn (region_at store.now region.now.slot) line colours.now 0 (length row.old)
+        row.old row.new }
 {
     colours_into(
         store.packed_row(region.slot, line),
@@ -166,8 +172,8 @@ fn clear_row(row: &mut [Colour])
     row.fill(CLEAR);
 }
 
-/// Lends the packed bytes of a line of the region of that id. None exactly where the page lists no such region or the region has
-/// no such line.
+/// Lends the packed bytes of a line of the region of that id. None exactly where the page lists no
+/// such region or the region has no such line.
 pub(crate) fn packed_row<'a>(
     composition: &CompositionMemory,
     store: &'a Store,
@@ -175,7 +181,9 @@ pub(crate) fn packed_row<'a>(
     line: u16,
 ) -> Option<&'a [u8]>
     requires { All (λ kept. HasRegion kept.head kept.slot store.now) composition.now.regions }
-    ensures { (memory : Memory) → memory.composition ≡ composition.now → memory.store ≡ store.now → IsLineLent memory (listed_in memory id) line (option_map (λ bytes. bytes.now) result) }
+    ensures { (memory : Memory) → memory.composition ≡ composition.now
+        → memory.store ≡ store.now
+        → IsLineLent memory (listed_in memory id) line (option_map (λ bytes. bytes.now) result) }
 {
     if !composition.is_listed(id) {
         return None;
@@ -187,7 +195,9 @@ pub(crate) fn packed_row<'a>(
 /// Lends the packed bytes of a line of a region. None exactly where the region has no such line.
 pub(crate) fn packed_line<'a>(store: &'a Store, region: &RegionNode, line: u16) -> Option<&'a [u8]>
     requires { HasRegion region.now.head region.now.slot store.now }
-    ensures { MatchOption result (region.now.head.height ≤ line) (λ bytes. (line < region.now.head.height) × IsPackedRow (region_at store.now region.now.slot) line bytes.now) }
+    ensures { MatchOption result (region.now.head.height ≤ line)
+        (λ bytes. (line < region.now.head.height)
+        × IsPackedRow (region_at store.now region.now.slot) line bytes.now) }
 {
     if line < region.head.height {
         Some(store.packed_row(region.slot, line))

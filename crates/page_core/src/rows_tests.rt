@@ -8,7 +8,8 @@ use std::test::Fail;
 use stream_syntax::{Listing, PageEntry};
 use sub_base::{CLEAR, Colour, Depth};
 
-/// The default colours of a CLUT: 1, 2 and 3 of two bits; 1 and 9 of four bits; and 1 of eight bits.
+/// The default colours of a CLUT: 1, 2 and 3 of two bits; 1 and 9 of four bits; and 1 of eight
+/// bits.
 const WHITE: Colour = Colour {
     y: 235,
     cr: 128,
@@ -80,8 +81,8 @@ fn colours_of_packed_codes(rt: HostRuntime) -> Result<(), Fail> {
     Ok(())
 }
 
-/// Rows of a display of twelve columns, whose window has columns 2 to 8 and rows 1 to 3. A region of eight by three pixels has
-/// its corner at (3, 2), and, drawn before it, at (2, 2).
+/// Rows of a display of twelve columns, whose window has columns 2 to 8 and rows 1 to 3. A region
+/// of eight by three pixels has its corner at (3, 2), and, drawn before it, at (2, 2).
 #[test]
 fn rows_of_a_window(rt: HostRuntime) -> Result<(), Fail> {
     let mut store = Store::make(rt.alloc(), 6)?;

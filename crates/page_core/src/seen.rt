@@ -6,8 +6,8 @@ ghost use Rattle.segments.specs.Contents.{contents, page_value, display_value};
 ghost use Rattle.decoder_model.specs.declared.set_fault.SetFault.TheVariants.{TwiceInSet};
 ghost use Rattle.decoder_model.specs.Received.{AreRead};
 ghost use Rattle.page_core.specs.Handed.{Matches};
-ghost use Rattle.page_core.specs.Sound.{IsSound};
-ghost use Rattle.page_core.specs.Seen.{AreFlags, Sees, Scanned, page_with, display_with};
+ghost use Rattle.page_core.specs.Private.Sound.{IsSound};
+ghost use Rattle.page_core.specs.Private.Seen.{AreFlags, Sees, Scanned, page_with, display_with};
 
 use crate::front::{cut_front, read_one};
 use decoder_model::SetFault;
@@ -34,7 +34,8 @@ impl Seen {
         }
     }
 
-    /// The fault of a segment that stands a second time in its set, behind what was passed; the segment is passed then.
+    /// The fault of a segment that stands a second time in its set, behind what was passed; the
+    /// segment is passed then.
     fn pass(&mut self, segment: &Segment<'_>) -> Option<SetFault>
         ensures fault { (before : List Content) → AreFlags before self.old
             → result ≡ twice_among before (contents segment.now) }
@@ -107,7 +108,8 @@ fn see<'a>(
 }
 
 fn with_page<'a>(page: Option<PageSeg<'a>>, segment: &Segment<'a>) -> Option<PageSeg<'a>>
-    ensures { option_map page_value result ≡ page_with (option_map page_value page.entry) (contents segment.now) }
+    ensures { option_map page_value result
+        ≡ page_with (option_map page_value page.entry) (contents segment.now) }
 {
     match (page, segment) {
         (None, Segment::Page(found)) => Some(*found),
@@ -116,7 +118,8 @@ fn with_page<'a>(page: Option<PageSeg<'a>>, segment: &Segment<'a>) -> Option<Pag
 }
 
 fn with_display(display: Option<DisplaySeg>, segment: &Segment<'_>) -> Option<DisplaySeg>
-    ensures { option_map display_value result ≡ display_with (option_map display_value display) (contents segment.now) }
+    ensures { option_map display_value result
+        ≡ display_with (option_map display_value display) (contents segment.now) }
 {
     match (display, segment) {
         (None, Segment::Display(found)) => Some(*found),
@@ -132,9 +135,11 @@ pub(crate) struct Found<'a> {
     pub regions: [bool; 256],
 }
 
-/// Tests the segments of a set one by one, and looks what the set has; or the first fault of a segment.
+/// Tests the segments of a set one by one, and looks what the set has; or the first fault of a
+/// segment.
 pub(crate) fn scan(bytes: &[u8]) -> Result<Found<'_>, SetFault>
-    ensures found { (readings : List Reading) → AreRead readings bytes.now → Scanned result readings }
+    ensures found { (readings : List Reading) → AreRead readings bytes.now
+        → Scanned result readings }
     ensures sound { (readings : List Reading) → AreRead readings bytes.now
         → OnOk result (IsSound (contents_in readings) bytes.now) }
 {
@@ -143,7 +148,7 @@ pub(crate) fn scan(bytes: &[u8]) -> Result<Found<'_>, SetFault>
     let mut display = None;
     let mut rest = bytes;
     while let Some(front) = cut_front(rest) {
-        match see(&mut seen, read_one(front.segment)) {
+        match see(&mut seen, read_one(&front.frame)) {
             Ok(segment) => {
                 page = with_page(page, &segment);
                 display = with_display(display, &segment);

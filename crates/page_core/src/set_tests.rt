@@ -8,15 +8,17 @@ use std::test::Fail;
 use stream_syntax::{CodeFault, CodeKind};
 use sub_base::{CLEAR, Colour, Profile, ProfileName};
 
-// Segments of page 1. Pages: a mode change that lists region 1, the same of state normal, and one of state normal without entries.
+// Segments of page 1. Pages: a mode change that lists region 1, the same of state normal, and one
+// of state normal without entries.
 pub(crate) const PAGE: &[u8] = &[15, 16, 0, 1, 0, 8, 10, 8, 1, 0, 0, 0, 0, 0];
 
 pub(crate) const NORMAL: &[u8] = &[15, 16, 0, 1, 0, 8, 10, 0, 1, 0, 0, 0, 0, 0];
 
 pub(crate) const EMPTY_PAGE: &[u8] = &[15, 16, 0, 1, 0, 2, 10, 0];
 
-// Region 1 of 2 by 1 pixels in 2 bits that lists object 5: without a fill, in version 0; with a fill of code 1 in versions 0, 1
-// and 15, and with a fill of code 2 in version 0. Then one of 4 by 1 pixels in version 1, and one of 720 by 576 pixels in 8 bits.
+// Region 1 of 2 by 1 pixels in 2 bits that lists object 5: without a fill, in version 0; with a
+// fill of code 1 in versions 0, 1 and 15, and with a fill of code 2 in version 0. Then one of 4 by
+// 1 pixels in version 1, and one of 720 by 576 pixels in 8 bits.
 pub(crate) const REGION: &[u8] = &[
     15, 17, 0, 1, 0, 16, 1, 0, 0, 2, 0, 1, 0x24, 0, 0, 0, 0, 5, 0, 0, 0, 0,
 ];
@@ -50,8 +52,8 @@ const EIGHT_BITS: &[u8] = &[
     15, 17, 0, 1, 0, 16, 1, 0, 0, 2, 0, 1, 0x6C, 0, 0, 0, 0, 5, 0, 0, 0, 0,
 ];
 
-// Object 5: the codes 1 and 3 in 2 bits; two codes 2 in versions 0 and 1; the codes 1 and F in 4 bits, and 01 and FF in 8 bits; and
-// one of characters.
+// Object 5: the codes 1 and 3 in 2 bits; two codes 2 in versions 0 and 1; the codes 1 and F in 4
+// bits, and 01 and FF in 8 bits; and one of characters.
 pub(crate) const OBJECT: &[u8] = &[15, 19, 0, 1, 0, 11, 0, 5, 0, 0, 4, 0, 0, 16, 0x70, 0, 240];
 
 pub(crate) const OTHER: &[u8] = &[15, 19, 0, 1, 0, 11, 0, 5, 0, 0, 4, 0, 0, 16, 0xA0, 0, 240];
@@ -66,14 +68,16 @@ const EIGHT_BIT_OBJECT: &[u8] = &[
 
 pub(crate) const CHARACTERS: &[u8] = &[15, 19, 0, 1, 0, 3, 0, 5, 4];
 
-// CLUT 0 gives code 1 of 2 bits the colours (100, 128, 128, 0) and, in versions 0 and 1, (50, 128, 128, 0).
+// CLUT 0 gives code 1 of 2 bits the colours (100, 128, 128, 0) and, in versions 0 and 1, (50, 128,
+// 128, 0).
 pub(crate) const CLUT: &[u8] = &[15, 18, 0, 1, 0, 8, 0, 0, 1, 0x81, 100, 128, 128, 0];
 
 pub(crate) const CLUT_AGAIN: &[u8] = &[15, 18, 0, 1, 0, 8, 0, 0, 1, 0x81, 50, 128, 128, 0];
 
 const CLUT_NEXT: &[u8] = &[15, 18, 0, 1, 0, 8, 0, 16, 1, 0x81, 50, 128, 128, 0];
 
-// Displays of 4 by 2 and of 721 by 576 pixels, a segment of a type that is passed over, and the end.
+// Displays of 4 by 2 and of 721 by 576 pixels, a segment of a type that is passed over, and the
+// end.
 pub(crate) const SMALL_DISPLAY: &[u8] = &[15, 20, 0, 1, 0, 5, 0, 0, 3, 0, 1];
 
 const WIDE_DISPLAY: &[u8] = &[15, 20, 0, 1, 0, 5, 0, 2, 208, 2, 63];
@@ -118,7 +122,8 @@ pub(crate) fn take(core: &mut Core, pts: u32, parts: &[&[u8]]) -> SetEnd
     core.take_set(u64::from(pts), bytes.get(..size).unwrap_or(&[]))
 }
 
-// A set with a page of that state and so many entries, and region 1 of 2 by 1 pixels in that version with so many listings.
+// A set with a page of that state and so many entries, and region 1 of 2 by 1 pixels in that
+// version with so many listings.
 fn take_large(
     core: &mut Core,
     pts: u32,
@@ -174,8 +179,9 @@ pub(crate) fn in_segment(place: u32, kind: SegmentKind) -> SetEnd {
     SetEnd::Broken(SetFault::Segment(SegmentFault { place, kind }))
 }
 
-/// A set as a usual encoder makes it, one like it whose object has another coding method, and what follows; and each fault of a
-/// set by its epoch once, but the one of a full pool: the answers, and what is free.
+/// A set as a usual encoder makes it, one like it whose object has another coding method, and what
+/// follows; and each fault of a set by its epoch once, but the one of a full pool: the answers, and
+/// what is free.
 #[test]
 fn verdicts(rt: HostRuntime) -> Result<(), Fail> {
     let broken = |fault| SetEnd::Broken(fault);
@@ -292,7 +298,8 @@ fn verdicts(rt: HostRuntime) -> Result<(), Fail> {
     Ok(())
 }
 
-/// All nodes are taken, by listings or by entries of the page, whichever were there before; and one more is too many.
+/// All nodes are taken, by listings or by entries of the page, whichever were there before; and one
+/// more is too many.
 #[test]
 fn full_pools(rt: HostRuntime) -> Result<(), Fail> {
     let full = SetEnd::Broken(SetFault::CompositionFull { size: 513 });
@@ -314,7 +321,8 @@ fn full_pools(rt: HostRuntime) -> Result<(), Fail> {
     Ok(())
 }
 
-/// A string of each depth in a region of each depth: the packed row, or none where the string is too deep.
+/// A string of each depth in a region of each depth: the packed row, or none where the string is
+/// too deep.
 #[test]
 fn depths(rt: HostRuntime) -> Result<(), Fail> {
     let rows: [(&[u8], &[u8], Option<&[u8]>); 9] = [
@@ -339,8 +347,8 @@ fn depths(rt: HostRuntime) -> Result<(), Fail> {
     Ok(())
 }
 
-/// Versions: a region or an object with the version that is known is held, whatever it has; listings are unpainted behind a
-/// region's segment; and version 0 comes behind version 15.
+/// Versions: a region or an object with the version that is known is held, whatever it has;
+/// listings are unpainted behind a region's segment; and version 0 comes behind version 15.
 #[test]
 fn versions(rt: HostRuntime) -> Result<(), Fail> {
     let rows: [(&[&[u8]], u8); 8] = [
@@ -367,8 +375,8 @@ fn versions(rt: HostRuntime) -> Result<(), Fail> {
     Ok(())
 }
 
-/// Colours: a CLUT with the version that is known is held, and a new epoch has default colours. The display of an epoch stays
-/// where a set defines none.
+/// Colours: a CLUT with the version that is known is held, and a new epoch has default colours. The
+/// display of an epoch stays where a set defines none.
 #[test]
 fn colours_and_displays(rt: HostRuntime) -> Result<(), Fail> {
     let grey = |y| Colour {

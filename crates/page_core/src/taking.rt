@@ -6,7 +6,7 @@ ghost use Rattle.sub_base.specs.declared.profile.Profile.{Profile};
 ghost use Rattle.decoder_model.specs.Kept.{epoch_of};
 ghost use Rattle.decoder_model.specs.Readings.{Content, Reading};
 ghost use Rattle.decoder_model.specs.Received.{AreRead};
-ghost use Rattle.page_core.specs.Accepted.{IsAccepted, IsEarly};
+ghost use Rattle.page_core.specs.Private.Accepted.{IsAccepted, IsEarly};
 ghost use Rattle.page_core.specs.declared.epoch.Start.TheVariants.{Waits};
 
 use crate::epoch::{Start, start_of};
@@ -22,7 +22,8 @@ pub(crate) struct Accepted<'a> {
     pub start: Start,
 }
 
-/// Tests a kept set up to the tests by its epoch; the answer for a set that is broken by itself, or that waits.
+/// Tests a kept set up to the tests by its epoch; the answer for a set that is broken by itself, or
+/// that waits.
 pub(crate) fn accept(known: bool, bytes: &[u8]) -> Result<Accepted<'_>, SetEnd>
     ensures accepted { (profile : Profile) (sets : List (List Content)) (readings : List Reading)
         → known ≡ is_some (epoch_of sets) → AreRead readings bytes.now

@@ -3,15 +3,10 @@
 ghost use Rattle.std.specs.Prelude.{◌≡◌, ◌<◌, ◌^◌, IfSome};
 ghost use Rattle.decoder_model.specs.Kept.{ahead_of as ticks_ahead, lift_by as lifted_by, lifted_behind as lifted};
 
-use stream_syntax::TIME_ROUND;
+use stream_syntax::{HALF_ROUND, TICK_LIMIT, TIME_ROUND};
 
-/// The least number of ticks with which a set is not kept: half of the round.
-const TOO_FAR: u64 = 1 << 32;
-
-/// The number of ticks that no lifted time reaches.
-const LAST_TICK: u64 = 1 << 62;
-
-/// The lifted time of a set behind sets of which that is the greatest lifted time; none where the set is not kept.
+/// The lifted time of a set behind sets of which that is the greatest lifted time; none where the
+/// set is not kept.
 pub(crate) fn lifted_behind(anchor: u64, last: Option<u64>, time: u64) -> Option<u64>
     requires anchor { anchor < 2 ^ 34 }
     requires last { IfSome last (λ lifted. lifted < 2 ^ 62) }
@@ -31,7 +26,7 @@ fn lift_by(last: u64, ticks: u64) -> Option<u64>
     ensures lifted { result ≡ lifted_by last ticks }
     ensures bounded { IfSome result (λ lifted. lifted < 2 ^ 62) }
 {
-    if 1 <= ticks && ticks < TOO_FAR && last + ticks < LAST_TICK {
+    if 1 <= ticks && ticks < HALF_ROUND && last + ticks < TICK_LIMIT {
         Some(last + ticks)
     } else {
         None

@@ -1,13 +1,14 @@
-//! The segments of a type in a set of which no segment is refused, one after another. The others are passed over by their
-//! heads.
+//! The segments of a type in a set of which no segment is refused, one after another. The others
+//! are passed over by their heads.
 
 ghost use Rattle.std.specs.Prelude.{◌≡◌, ◌<◌, [], List, IfSome, MatchOption, filter, length};
 ghost use Rattle.stream_syntax.specs.Segments.{IsPassedOver, of_clut, of_object, of_region};
 ghost use Rattle.decoder_model.specs.Readings.{Content};
 ghost use Rattle.segments.specs.Contents.{clut_value, contents, object_value, region_value};
+ghost use Rattle.segments.specs.Framing.{IsFrame};
 ghost use Rattle.page_core.specs.Handed.{AreContents, HasFieldSizes};
-ghost use Rattle.page_core.specs.RegionSteps.{IsRightHead, IsRightValue};
-ghost use Rattle.page_core.specs.Walks.{IsNextFront, IsNextOf, is_clut, is_content_of, is_object, is_region};
+ghost use Rattle.page_core.specs.Private.RegionSteps.{IsRightHead, IsRightValue};
+ghost use Rattle.page_core.specs.Private.Walks.{IsNextFront, IsNextOf, is_clut, is_content_of, is_object, is_region};
 
 use crate::front::{Front, cut_front, read_one};
 use crate::known_objects::known_object;
@@ -26,11 +27,12 @@ fn next_front(bytes: &[u8], kind: u8) -> Option<Front<'_>>
     requires { IsPassedOver kind → ⊥ }
     ensures next { (set : List Content) → AreContents set bytes.now
         → MatchOption result (filter (is_content_of kind) set ≡ []) (IsNextFront kind set) }
+    ensures framed { IfSome result (λ front. IsFrame front.frame) }
     ensures shorter { IfSome result (λ front. length front.rest.now < length bytes.now) }
 {
     let mut rest = bytes;
     while let Some(front) = cut_front(rest) {
-        if front.kind == kind {
+        if front.frame.kind == kind {
             return Some(front);
         }
         rest = front.rest;
@@ -48,7 +50,7 @@ fn next_of(bytes: &[u8], kind: u8) -> Option<Next<'_, Segment<'_>>>
     ensures right { IfSome result (λ next. IsRightValue (contents next.segment)) }
 {
     let front = next_front(bytes, kind)?;
-    match read_one(front.segment) {
+    match read_one(&front.frame) {
         Ok(segment) => Some(Next {
             segment,
             rest: front.rest,
@@ -59,7 +61,8 @@ fn next_of(bytes: &[u8], kind: u8) -> Option<Next<'_, Segment<'_>>>
 
 /// The first region segment in the bytes; none where there is none.
 pub(crate) fn next_region(bytes: &[u8]) -> Option<Next<'_, RegionSeg<'_>>>
-    ensures next { (set : List Content) → AreContents set bytes.now → MatchOption result (filter is_region set ≡ [])
+    ensures next { (set : List Content) → AreContents set bytes.now
+        → MatchOption result (filter is_region set ≡ [])
         (λ next. IsNextOf is_region set (of_region (region_value next.segment)) next.rest.now) }
     ensures shorter { IfSome result (λ next. length next.rest.now < length bytes.now) }
     ensures right { IfSome result (λ next. IsRightHead (region_value next.segment).head) }
@@ -76,7 +79,8 @@ pub(crate) fn next_region(bytes: &[u8]) -> Option<Next<'_, RegionSeg<'_>>>
 
 /// The first CLUT segment in the bytes; none where there is none.
 pub(crate) fn next_clut(bytes: &[u8]) -> Option<Next<'_, ClutSeg<'_>>>
-    ensures next { (set : List Content) → AreContents set bytes.now → MatchOption result (filter is_clut set ≡ [])
+    ensures next { (set : List Content) → AreContents set bytes.now
+        → MatchOption result (filter is_clut set ≡ [])
         (λ next. IsNextOf is_clut set (of_clut (clut_value next.segment)) next.rest.now) }
     ensures shorter { IfSome result (λ next. length next.rest.now < length bytes.now) }
 {
@@ -90,15 +94,18 @@ pub(crate) fn next_clut(bytes: &[u8]) -> Option<Next<'_, ClutSeg<'_>>>
     }
 }
 
-/// The first object segment in the bytes, whose blocks are not walked again; none where there is none.
+/// The first object segment in the bytes, whose blocks are not walked again; none where there is
+/// none.
 pub(crate) fn next_object(bytes: &[u8]) -> Option<Next<'_, ObjectSeg<'_>>>
-    ensures next { (set : List Content) → AreContents set bytes.now → MatchOption result (filter is_object set ≡ [])
+    ensures next { (set : List Content) → AreContents set bytes.now
+        → MatchOption result (filter is_object set ≡ [])
         (λ next. IsNextOf is_object set (of_object (object_value next.segment)) next.rest.now) }
     ensures shorter { IfSome result (λ next. length next.rest.now < length bytes.now) }
-    ensures fields { IfSome result (λ next. HasFieldSizes (of_object (object_value next.segment))) }
+    ensures fields { IfSome result
+        (λ next. HasFieldSizes (of_object (object_value next.segment))) }
 {
     let front = next_front(bytes, OBJECT_DATA)?;
-    match known_object(front.segment) {
+    match known_object(front.frame.body) {
         Some(segment) => Some(Next {
             segment,
             rest: front.rest,

@@ -15,8 +15,8 @@ use Rattle.cue_list.specs.declared.epoch.ColourRow.{ColourRow}
 use Rattle.page_epoch.specs.declared.clut_changes.Change.{Change}
 use Rattle.page_epoch.specs.declared.clut_changes.ClutChanges.{ClutChanges}
 use Rattle.page_epoch.specs.SentCluts.{no_row, row_at, all_entries, rows_of_clut, defined_rows, is_changed, clut_with, rows_from}
-use Rattle.page_epoch.specs.Changes.{AreInOrder, change_at, AreTicksOf, AreChanges}
-use Rattle.page_epoch.proofs.MomentLaws.{contains_mapped}
+use Rattle.page_epoch.specs.Private.Changes.{AreInOrder, change_at, AreTicksOf, AreChanges}
+use Rattle.page_epoch.proofs.EventLaws.{contains_mapped}
 use Rattle.page_epoch.proofs.InstantLaws.{in_order}
 use Rattle.page_epoch.proofs.WalkLaws.{rows_back}
 use Rattle.page_epoch.proofs.RowLaws.{defined_same, defined_none, defined_in}

@@ -10,7 +10,7 @@ use Rattle.page_epoch.specs.declared.planned_set.SentClut.{SentClut}
 use Rattle.page_epoch.specs.declared.clut_changes.ClutChanges.{ClutChanges}
 use Rattle.page_epoch.specs.SentCluts.{is_changed, clut_version, clut_with, rows_from, defined_rows, sent_clut}
 use Rattle.page_epoch.specs.Needs.{clut_nodes}
-use Rattle.page_epoch.specs.Courses.{version_of_count, clut_course, clut_courses, clut_after, IsSmallVersion, sent_of, row_nodes}
+use Rattle.page_epoch.specs.EpochStates.{version_of_count, changed_version, changed_versions, clut_after, IsSmallVersion, sent_of, row_nodes}
 use Rattle.page_epoch.proofs.ListLaws.{flat_map_next}
 
 -- ---- one CLUT
@@ -35,9 +35,9 @@ count_step : (b : Bool) (n : ℕ) → version_of_count (cond b 1 0 + n) ≡ clut
 count_step true n = count_step_true n (grind arith)
 count_step false n = ap version_of_count (omega arith)
 
-pub clut_course-more : (colours : List ColourRow) (clut tick : ℕ) (seen : List ℕ) →
-    clut_course colours (tick ∷ seen) clut ≡ clut_after (is_changed colours clut tick) (clut_course colours seen clut)
-clut_course-more colours clut tick seen =
+pub changed_version-more : (colours : List ColourRow) (clut tick : ℕ) (seen : List ℕ) →
+    changed_version colours (tick ∷ seen) clut ≡ clut_after (is_changed colours clut tick) (changed_version colours seen clut)
+changed_version-more colours clut tick seen =
     ap version_of_count (sum_by-cons (λ tick. cond (is_changed colours clut tick) 1 0) tick seen) ∙ count_step (is_changed colours clut tick) (count_by (is_changed colours clut) seen)
 
 version_or_zero_by : (n : ℕ) → (n ≡ 0) ⊎ (0 < n) → unwrap_or (version_of_count n) 0 ≡ (n - 1) % 16
@@ -48,7 +48,7 @@ version_or_zero : (n : ℕ) → unwrap_or (version_of_count n) 0 ≡ (n - 1) % 1
 version_or_zero n = version_or_zero_by n (grind arith)
 
 -- the version that is sent
-pub version_sent : (colours : List ColourRow) (clut : ℕ) (seen : List ℕ) → unwrap_or (clut_course colours seen clut) 0 ≡ clut_version colours clut seen
+pub version_sent : (colours : List ColourRow) (clut : ℕ) (seen : List ℕ) → unwrap_or (changed_version colours seen clut) 0 ≡ clut_version colours clut seen
 version_sent colours clut seen = version_or_zero (count_by (is_changed colours clut) seen)
 
 pub nodes_with : (clut version : ℕ) (rows : List ℕ) → clut_nodes (clut_with clut version rows) ≡ row_nodes rows
@@ -65,17 +65,17 @@ nodes_joined xs ys =
 
 -- the first so many CLUTs were taken to the next instant
 pub record HaveStepped (colours : List ColourRow) (cluts : List ClutChanges) (versions : List (Option ℕ)) (tick : ℕ) (whole : Bool) (count : ℕ) (next : List (Option ℕ)) (sent : List SentClut) (nodes : ℕ) : Type 0 where
-  pub versions_are : (seen : List ℕ) → versions ≡ clut_courses colours seen cluts → next ≡ clut_courses colours (tick ∷ seen) (take count cluts)
-  pub sent_are : (seen : List ℕ) → versions ≡ clut_courses colours seen cluts → sent ≡ sent_of colours whole (tick ∷ seen) (take count cluts)
-  pub nodes_are : (seen : List ℕ) → versions ≡ clut_courses colours seen cluts → nodes ≡ clut_nodes (sent_of colours true (tick ∷ seen) (take count cluts))
+  pub versions_are : (seen : List ℕ) → versions ≡ changed_versions colours seen cluts → next ≡ changed_versions colours (tick ∷ seen) (take count cluts)
+  pub sent_are : (seen : List ℕ) → versions ≡ changed_versions colours seen cluts → sent ≡ sent_of colours whole (tick ∷ seen) (take count cluts)
+  pub nodes_are : (seen : List ℕ) → versions ≡ changed_versions colours seen cluts → nodes ≡ clut_nodes (sent_of colours true (tick ∷ seen) (take count cluts))
   pub long : length next ≡ count
   pub small : All IsSmallVersion next
   pub few : nodes ≤ 277 * count
 
 version_there : (colours : List ColourRow) (seen : List ℕ) (cluts : List ClutChanges) (versions : List (Option ℕ)) (i : ℕ) (clut : ClutChanges) →
-    versions ≡ clut_courses colours seen cluts → i < length cluts → clut ≡ get_or cluts i clut → get_or versions i None ≡ clut_course colours seen clut.clut
+    versions ≡ changed_versions colours seen cluts → i < length cluts → clut ≡ get_or cluts i clut → get_or versions i None ≡ changed_version colours seen clut.clut
 version_there colours seen cluts versions i clut e h r =
-    ap (λ xs. get_or xs i None) e ∙ get_or-map (λ (x : ClutChanges). clut_course colours seen x.clut) cluts i clut None h ∙ ap (λ (x : ClutChanges). clut_course colours seen x.clut) (sym r)
+    ap (λ xs. get_or xs i None) e ∙ get_or-map (λ (x : ClutChanges). changed_version colours seen x.clut) cluts i clut None h ∙ ap (λ (x : ClutChanges). changed_version colours seen x.clut) (sym r)
 
 pub HaveStepped-more : {colours : List ColourRow} {cluts : List ClutChanges} {versions : List (Option ℕ)} {tick : ℕ} {whole : Bool} {i : ℕ} {next : List (Option ℕ)} {sent : List SentClut} {nodes : ℕ}
     (clut : ClutChanges) (version : Option ℕ) (found : List SentClut) (own : ℕ) →
@@ -85,16 +85,16 @@ pub HaveStepped-more : {colours : List ColourRow} {cluts : List ClutChanges} {ve
     own ≡ row_nodes (defined_rows colours clut.clut tick) → own ≤ 277 →
     HaveStepped colours cluts versions tick whole (i + 1) (next ++ version ∷ []) (sent ++ found) (nodes + own)
 HaveStepped-more {colours} {cluts} {versions} {tick} {whole} {i} {next} {sent} {nodes} clut version found own before h r v small f n few =
-    let here : (seen : List ℕ) → versions ≡ clut_courses colours seen cluts → version ≡ clut_course colours (tick ∷ seen) clut.clut = λ seen e.
-    v ∙ ap (clut_after (is_changed colours clut.clut tick)) (version_there colours seen cluts versions i clut e h r) ∙ sym (clut_course-more colours clut.clut tick seen) in
+    let here : (seen : List ℕ) → versions ≡ changed_versions colours seen cluts → version ≡ changed_version colours (tick ∷ seen) clut.clut = λ seen e.
+    v ∙ ap (clut_after (is_changed colours clut.clut tick)) (version_there colours seen cluts versions i clut e h r) ∙ sym (changed_version-more colours clut.clut tick seen) in
     let sends = λ (all : Bool) (seen : List ℕ) (x : ClutChanges). sent_clut colours all (tick ∷ seen) x.clut in
-    let number : (seen : List ℕ) → versions ≡ clut_courses colours seen cluts → unwrap_or version 0 ≡ clut_version colours clut.clut (tick ∷ seen) = λ seen e.
+    let number : (seen : List ℕ) → versions ≡ changed_versions colours seen cluts → unwrap_or version 0 ≡ clut_version colours clut.clut (tick ∷ seen) = λ seen e.
     ap (λ x. unwrap_or x 0) (here seen e) ∙ version_sent colours clut.clut (tick ∷ seen) in
     record {
       versions_are = λ seen e.
           ap (λ xs. xs ++ version ∷ []) (before.versions_are seen e)
-          ∙ ap (λ x. clut_courses colours (tick ∷ seen) (take i cluts) ++ x ∷ []) (here seen e ∙ ap (λ (x : ClutChanges). clut_course colours (tick ∷ seen) x.clut) r)
-          ∙ sym (map_more (λ (x : ClutChanges). clut_course colours (tick ∷ seen) x.clut) cluts i clut h);
+          ∙ ap (λ x. changed_versions colours (tick ∷ seen) (take i cluts) ++ x ∷ []) (here seen e ∙ ap (λ (x : ClutChanges). changed_version colours (tick ∷ seen) x.clut) r)
+          ∙ sym (map_more (λ (x : ClutChanges). changed_version colours (tick ∷ seen) x.clut) cluts i clut h);
       sent_are = λ seen e.
           ap (λ xs. xs ++ found) (before.sent_are seen e)
           ∙ ap (λ xs. sent_of colours whole (tick ∷ seen) (take i cluts) ++ xs)

@@ -3,7 +3,7 @@ use Rattle.std.proofs.Common.{◌≡◌, ◌≢◌, ◌∙◌, ◌⊎◌, inl, i
 use Rattle.std.specs.List.{flat_map, range_with_len, list_any, Contains, AllPairs, AllAdjacentBelow}
 use Rattle.std.specs.List.Sorted.{IsStrictlyIncreasing}
 use Rattle.cue_list.specs.declared.epoch.Epoch.{Epoch}
-use Rattle.page_epoch.specs.declared.moments.Event.{Event}
+use Rattle.page_epoch.specs.declared.events.Event.{Event}
 use Rattle.page_epoch.specs.declared.instants.Instant.{Instant}
 use Rattle.std.proofs.lemmas.Bool.Decides.{nat_tests}
 use Rattle.std.proofs.lemmas.List.{append-nil, length_push, length-map, get_or-map, get_or_append_left, get_or_push, get_or_default, map-append}
@@ -13,9 +13,9 @@ use Rattle.std.proofs.lemmas.List.FromFn.{length-range_with_len, get_or-range_wi
 use Rattle.std.proofs.lemmas.List.Kept.{AllPairs-from_increasing}
 use Rattle.std.proofs.Math.Nat.{mul-le-mul_right}
 use Rattle.page_epoch.specs.Instants.{named_ticks, is_named, shows_cue, IsInstant, IsRefresh, AreNeighbours}
-use Rattle.page_epoch.specs.Rows.{events_of, IsLeastRow, AreMoments, event}
-use Rattle.page_epoch.specs.Steps.{refresh_at, HasRefreshes, instant_ticks, IsStep, KeepsRow, IsFirstNamed, AreSteps}
-use Rattle.page_epoch.proofs.MomentLaws.{contains_mapped, event_ticks}
+use Rattle.page_epoch.specs.Rows.{events_of, IsLeastRow, AreLeastEvents, event}
+use Rattle.page_epoch.specs.Private.RecordedInstants.{refresh_at, HasRefreshes, instant_ticks, IsRecordedInstant, KeepsRow, IsFirstNamed, AreRecordedInstants}
+use Rattle.page_epoch.proofs.EventLaws.{contains_mapped, event_ticks}
 use Rattle.page_epoch.proofs.ListLaws.{refreshes_more}
 
 -- so many refreshes were put behind, and the next one is due at a tick
@@ -74,7 +74,7 @@ is_named-no epochs tick none = none_here (named_ticks epochs) tick (λ k h e. no
 pub record AreGood (epochs : List Epoch) (refresh : ℕ) (instants : List Instant) : Type 0 where
   pub rise : AllPairs (λ (first second : Instant). first.tick < second.tick) instants
   pub instant : All (λ (x : Instant). IsInstant epochs refresh x.tick) instants
-  pub each : All (IsStep epochs) instants
+  pub each : All (IsRecordedInstant epochs) instants
   pub rows : AllAdjacentBelow KeepsRow instants (length instants)
   pub first : IsFirstNamed instants
 
@@ -94,14 +94,14 @@ keeps_by xs x k d (inr end) rows last =
     (subst From (sym (get_or_append_left xs (x ∷ []) d k (omega arith) ∙ ap (λ (j : ℕ). get_or xs j d) before)) (last (omega arith)))
 
 pub AreGood-push : {epochs : List Epoch} {refresh : ℕ} (xs : List Instant) (x : Instant) → AreGood epochs refresh xs → All (λ (y : Instant). y.tick < x.tick) xs →
-    IsInstant epochs refresh x.tick → IsStep epochs x → (length xs ≡ 0 → x.named ≡ true) → ((d : Instant) → 0 < length xs → KeepsRow (get_or xs (length xs - 1) d) x) →
+    IsInstant epochs refresh x.tick → IsRecordedInstant epochs x → (length xs ≡ 0 → x.named ≡ true) → ((d : Instant) → 0 < length xs → KeepsRow (get_or xs (length xs - 1) d) x) →
     AreGood epochs refresh (xs ++ x ∷ [])
 AreGood-push {epochs} {refresh} xs x good below instant step named last =
     let long = length_push xs x in
     record {
       rise = all_pairs_push (λ (first second : Instant). first.tick < second.tick) xs x good.rise below;
       instant = All-push (λ (y : Instant). IsInstant epochs refresh y.tick) xs x good.instant instant;
-      each = All-push (IsStep epochs) xs x good.each step;
+      each = All-push (IsRecordedInstant epochs) xs x good.each step;
       rows = λ k d h. keeps_by xs x k d (grind arith) good.rows (last d);
       first = first_stays xs x good.first named;
     }
@@ -147,12 +147,12 @@ grown_all {epochs} {refresh} {tick} {row} (suc n) xs often grown each =
 
 -- ---- named ticks in order
 
-abbrev pub moment_ticks : List Event → List ℕ
-moment_ticks moments = map (λ (e : Event). e.tick) moments
+abbrev pub ticks_of_events : List Event → List ℕ
+ticks_of_events least_events = map (λ (e : Event). e.tick) least_events
 
 -- the tick at a place
 abbrev pub tick_at : List Event → ℕ → ℕ
-tick_at moments k = get_or (moment_ticks moments) k 0
+tick_at least_events k = get_or (ticks_of_events least_events) k 0
 
 not_below : (xs : List ℕ) (i j : ℕ) → IsStrictlyIncreasing xs → (i < j) ⊎ (i ≡ j) → j < length xs → get_or xs i 0 ≤ get_or xs j 0
 not_below xs i j rise (inl h) short = let less = AllPairs-from_increasing xs rise i j 0 h short in omega arith
@@ -161,12 +161,12 @@ not_below xs i j rise (inr e) short = let same = ap (λ (k : ℕ). get_or xs k 0
 pub in_order : (xs : List ℕ) (i j : ℕ) → IsStrictlyIncreasing xs → i ≤ j → j < length xs → get_or xs i 0 ≤ get_or xs j 0
 in_order xs i j rise h short = not_below xs i j rise (grind arith) short
 
-pub named_there : (epochs : List Epoch) (moments : List Event) → AreMoments epochs moments → (k : ℕ) → k < length moments → Contains (named_ticks epochs) (tick_at moments k)
-named_there epochs moments are k h =
-    let m = get_or moments k (event 0 0) in
+pub named_there : (epochs : List Epoch) (least_events : List Event) → AreLeastEvents epochs least_events → (k : ℕ) → k < length least_events → Contains (named_ticks epochs) (tick_at least_events k)
+named_there epochs least_events are k h =
+    let m = get_or least_events k (event 0 0) in
     let found = contains_mapped (λ (e : Event). e.tick) (flat_map events_of epochs) (event m.tick m.row) (are.rows k (event 0 0) h).among in
     let Named : ℕ → Type 0 = λ t. Contains (named_ticks epochs) t in
-    subst Named (sym (get_or-map (λ (e : Event). e.tick) moments k (event 0 0) 0 h)) (subst (λ xs. Contains xs m.tick) (event_ticks epochs) found)
+    subst Named (sym (get_or-map (λ (e : Event). e.tick) least_events k (event 0 0) 0 h)) (subst (λ xs. Contains xs m.tick) (event_ticks epochs) found)
 
 beside : (xs : List ℕ) (k m t : ℕ) → IsStrictlyIncreasing xs → k + 1 < length xs → m < length xs → get_or xs m t ≡ t → (m ≤ k) ⊎ (k + 1 ≤ m) → (t ≤ get_or xs k 0) ⊎ (get_or xs (k + 1) 0 ≤ t)
 beside xs k m t rise h short e (inl low) = inl (let same = get_or_default xs m t 0 short in let less = in_order xs m k rise low (omega arith) in omega arith)
@@ -175,17 +175,17 @@ beside xs k m t rise h short e (inr high) = inr (let same = get_or_default xs m 
 beside_named : (xs : List ℕ) (k t : ℕ) → IsStrictlyIncreasing xs → k + 1 < length xs → Contains xs t → (t ≤ get_or xs k 0) ⊎ (get_or xs (k + 1) 0 ≤ t)
 beside_named xs k t rise h (m, short, e) = beside xs k m t rise h short e (grind arith)
 
-pub neighbours_at : (epochs : List Epoch) (moments : List Event) → AreMoments epochs moments → (k : ℕ) → k + 1 < length moments →
-    AreNeighbours (named_ticks epochs) (tick_at moments k) (tick_at moments (k + 1))
-neighbours_at epochs moments are k h =
-    let long = length-map moments (λ (e : Event). e.tick) in
-    let short : k + 1 < length (moment_ticks moments) = omega arith in
+pub neighbours_at : (epochs : List Epoch) (least_events : List Event) → AreLeastEvents epochs least_events → (k : ℕ) → k + 1 < length least_events →
+    AreNeighbours (named_ticks epochs) (tick_at least_events k) (tick_at least_events (k + 1))
+neighbours_at epochs least_events are k h =
+    let long = length-map least_events (λ (e : Event). e.tick) in
+    let short : k + 1 < length (ticks_of_events least_events) = omega arith in
     record {
-      has_first = named_there epochs moments are k (omega arith);
-      has_second = named_there epochs moments are (k + 1) h;
+      has_first = named_there epochs least_events are k (omega arith);
+      has_second = named_there epochs least_events are (k + 1) h;
       order = are.rise k short;
       between = λ j d inside.
-          beside_named (moment_ticks moments) k (get_or (named_ticks epochs) j d) are.rise short
+          beside_named (ticks_of_events least_events) k (get_or (named_ticks epochs) j d) are.rise short
           (are.all (get_or (named_ticks epochs) j d) (Contains-get_or (named_ticks epochs) j d inside));
     }
 
@@ -200,17 +200,17 @@ unnamed_between epochs first second t near low high =
 -- ---- all instants
 
 -- the instants up to one of the named ticks
-pub record AreStepsUpTo (epochs : List Epoch) (refresh : ℕ) (moments : List Event) (count : ℕ) (instants : List Instant) : Type 0 where
+pub record AreRecordedInstantsUpTo (epochs : List Epoch) (refresh : ℕ) (least_events : List Event) (count : ℕ) (instants : List Instant) : Type 0 where
   pub good : AreGood epochs refresh instants
-  pub below : (k : ℕ) → count ≤ k → k < length moments → All (λ (x : Instant). x.tick < tick_at moments k) instants
-  pub named : (k : ℕ) → k < count → Contains (instant_ticks instants) (tick_at moments k)
-  pub refreshed : (k times : ℕ) → k < count → k + 1 < length moments → shows_cue epochs (tick_at moments k) ≡ true → 1 ≤ times →
-      tick_at moments k + times * refresh + 3600 < tick_at moments (k + 1) → Contains (instant_ticks instants) (tick_at moments k + times * refresh)
+  pub below : (k : ℕ) → count ≤ k → k < length least_events → All (λ (x : Instant). x.tick < tick_at least_events k) instants
+  pub named : (k : ℕ) → k < count → Contains (instant_ticks instants) (tick_at least_events k)
+  pub refreshed : (k times : ℕ) → k < count → k + 1 < length least_events → shows_cue epochs (tick_at least_events k) ≡ true → 1 ≤ times →
+      tick_at least_events k + times * refresh + 3600 < tick_at least_events (k + 1) → Contains (instant_ticks instants) (tick_at least_events k + times * refresh)
   pub some : 1 ≤ count → 0 < length instants
   pub none : count ≡ 0 → length instants ≡ 0
 
-pub AreStepsUpTo-none : (epochs : List Epoch) (refresh : ℕ) (moments : List Event) → AreStepsUpTo epochs refresh moments 0 []
-AreStepsUpTo-none epochs refresh moments = record {
+pub AreRecordedInstantsUpTo-none : (epochs : List Epoch) (refresh : ℕ) (least_events : List Event) → AreRecordedInstantsUpTo epochs refresh least_events 0 []
+AreRecordedInstantsUpTo-none epochs refresh least_events = record {
   good = record {
     rise = λ i j d h short. absurd (omega arith);
     instant = λ k d h. absurd (omega arith);
@@ -226,21 +226,21 @@ AreStepsUpTo-none epochs refresh moments = record {
 }
 
 -- the named tick itself
-pub grown_first : (epochs : List Epoch) (refresh : ℕ) (moments : List Event) (i : ℕ) (xs : List Instant) (m : Event) → AreMoments epochs moments → AreStepsUpTo epochs refresh moments i xs → i < length moments →
-    m ≡ get_or moments i m → Grown epochs refresh (tick_at moments i) m.row 0 (xs ++ record { tick = m.tick; row = m.row; named = true } ∷ [])
-grown_first epochs refresh moments i xs m are before h r =
+pub grown_first : (epochs : List Epoch) (refresh : ℕ) (least_events : List Event) (i : ℕ) (xs : List Instant) (m : Event) → AreLeastEvents epochs least_events → AreRecordedInstantsUpTo epochs refresh least_events i xs → i < length least_events →
+    m ≡ get_or least_events i m → Grown epochs refresh (tick_at least_events i) m.row 0 (xs ++ record { tick = m.tick; row = m.row; named = true } ∷ [])
+grown_first epochs refresh least_events i xs m are before h r =
     let x : Instant = record { tick = m.tick; row = m.row; named = true } in
-    let here : tick_at moments i ≡ m.tick = get_or-map (λ (e : Event). e.tick) moments i m 0 h ∙ ap (λ (e : Event). e.tick) (sym r) in
+    let here : tick_at least_events i ≡ m.tick = get_or-map (λ (e : Event). e.tick) least_events i m 0 h ∙ ap (λ (e : Event). e.tick) (sym r) in
     let long = length_push xs x in
-    let named = subst (λ (t : ℕ). Contains (named_ticks epochs) t) here (named_there epochs moments are i h) in
+    let named = subst (λ (t : ℕ). Contains (named_ticks epochs) t) here (named_there epochs least_events are i h) in
     let low = before.below i (omega arith) h in
     let least = subst (λ (e : Event). IsLeastRow (flat_map events_of epochs) e.tick e.row) (sym r) (are.rows i m h) in
     record {
       good = AreGood-push xs x before.good
-          (All-weaker (λ (y : Instant). y.tick < tick_at moments i) (λ (y : Instant). y.tick < m.tick) (λ y less. omega arith) xs low)
+          (All-weaker (λ (y : Instant). y.tick < tick_at least_events i) (λ (y : Instant). y.tick < m.tick) (λ y less. omega arith) xs low)
           (inl named) (record { named = sym (is_named-yes epochs m.tick named); row = λ yes. least }) (λ none. refl) (λ d some unnamed. cc);
-      top = All-push (λ (y : Instant). y.tick ≤ tick_at moments i + 0 * refresh) xs x
-          (All-weaker (λ (y : Instant). y.tick < tick_at moments i) (λ (y : Instant). y.tick ≤ tick_at moments i + 0 * refresh) (λ y less. omega arith) xs low) (omega arith);
+      top = All-push (λ (y : Instant). y.tick ≤ tick_at least_events i + 0 * refresh) xs x
+          (All-weaker (λ (y : Instant). y.tick < tick_at least_events i) (λ (y : Instant). y.tick ≤ tick_at least_events i + 0 * refresh) (λ y less. omega arith) xs low) (omega arith);
       some = omega arith;
       row_is = λ d. ap (λ (y : Instant). y.row) (get_or_push xs x d (length (xs ++ x ∷ []) - 1) (omega arith));
     }
@@ -266,51 +266,51 @@ either_part : (xs zs : List Instant) (i k t : ℕ) → (k < i) ⊎ (k ≡ i) →
 either_part xs zs i k t (inl h) earlier here = left_part xs zs t (earlier h)
 either_part xs zs i k t (inr e) earlier here = right_part xs zs t (here e)
 
-pub AreStepsUpTo-more : (epochs : List Epoch) (refresh : ℕ) (moments : List Event) (i : ℕ) (xs ys : List Instant) (m : Event) (count : ℕ) → 1 ≤ refresh → AreMoments epochs moments →
-    AreStepsUpTo epochs refresh moments i xs → i < length moments → m ≡ get_or moments i m →
+pub AreRecordedInstantsUpTo-more : (epochs : List Epoch) (refresh : ℕ) (least_events : List Event) (i : ℕ) (xs ys : List Instant) (m : Event) (count : ℕ) → 1 ≤ refresh → AreLeastEvents epochs least_events →
+    AreRecordedInstantsUpTo epochs refresh least_events i xs → i < length least_events → m ≡ get_or least_events i m →
     ys ≡ (xs ++ record { tick = m.tick; row = m.row; named = true } ∷ []) ++ map (refresh_at m.tick m.row refresh) (range_with_len 1 count) →
-    (1 ≤ count → (i + 1 < length moments) × (shows_cue epochs m.tick ≡ true) × (m.tick + count * refresh + 3600 < tick_at moments (i + 1))) →
-    (i + 1 < length moments → shows_cue epochs m.tick ≡ true → (times : ℕ) → 1 ≤ times → m.tick + times * refresh + 3600 < tick_at moments (i + 1) → times ≤ count) →
-    AreStepsUpTo epochs refresh moments (i + 1) ys
-AreStepsUpTo-more epochs refresh moments i xs ys m count often are before h r is room complete =
+    (1 ≤ count → (i + 1 < length least_events) × (shows_cue epochs m.tick ≡ true) × (m.tick + count * refresh + 3600 < tick_at least_events (i + 1))) →
+    (i + 1 < length least_events → shows_cue epochs m.tick ≡ true → (times : ℕ) → 1 ≤ times → m.tick + times * refresh + 3600 < tick_at least_events (i + 1) → times ≤ count) →
+    AreRecordedInstantsUpTo epochs refresh least_events (i + 1) ys
+AreRecordedInstantsUpTo-more epochs refresh least_events i xs ys m count often are before h r is room complete =
     let x : Instant = record { tick = m.tick; row = m.row; named = true } in
     let front : List Instant = xs ++ x ∷ [] in
     let zs = map (refresh_at m.tick m.row refresh) (range_with_len 1 count) in
-    let here : tick_at moments i ≡ m.tick = get_or-map (λ (e : Event). e.tick) moments i m 0 h ∙ ap (λ (e : Event). e.tick) (sym r) in
-    let long = length-map moments (λ (e : Event). e.tick) in
-    let start = subst (λ (t : ℕ). Grown epochs refresh t m.row 0 front) here (grown_first epochs refresh moments i xs m are before h r) in
-    let near : i + 1 < length moments → AreNeighbours (named_ticks epochs) m.tick (tick_at moments (i + 1)) = λ short. subst (λ (t : ℕ). AreNeighbours (named_ticks epochs) t (tick_at moments (i + 1))) here (neighbours_at epochs moments are i short) in
+    let here : tick_at least_events i ≡ m.tick = get_or-map (λ (e : Event). e.tick) least_events i m 0 h ∙ ap (λ (e : Event). e.tick) (sym r) in
+    let long = length-map least_events (λ (e : Event). e.tick) in
+    let start = subst (λ (t : ℕ). Grown epochs refresh t m.row 0 front) here (grown_first epochs refresh least_events i xs m are before h r) in
+    let near : i + 1 < length least_events → AreNeighbours (named_ticks epochs) m.tick (tick_at least_events (i + 1)) = λ short. subst (λ (t : ℕ). AreNeighbours (named_ticks epochs) t (tick_at least_events (i + 1))) here (neighbours_at epochs least_events are i short) in
     let grown : Grown epochs refresh m.tick m.row count (front ++ zs) = grown_all count front often start (λ times some few.
     let inside = room (omega arith) in
     let least = mul-le-mul_right refresh some in
     let most = mul-le-mul_right refresh few in
     let neighbours = near inside.0 in (
-      inr (record { last = m.tick; next = tick_at moments (i + 1); times = times; neighbours = neighbours; shown = inside.1; some = some; after = refl; room = omega arith }),
-      unnamed_between epochs m.tick (tick_at moments (i + 1)) (m.tick + times * refresh) neighbours (omega arith) (omega arith),
+      inr (record { last = m.tick; next = tick_at least_events (i + 1); times = times; neighbours = neighbours; shown = inside.1; some = some; after = refl; room = omega arith }),
+      unnamed_between epochs m.tick (tick_at least_events (i + 1)) (m.tick + times * refresh) neighbours (omega arith) (omega arith),
     )) in
-    let all : AreStepsUpTo epochs refresh moments (i + 1) (front ++ zs) = record {
+    let all : AreRecordedInstantsUpTo epochs refresh least_events (i + 1) (front ++ zs) = record {
       good = grown.good;
       below = λ k low short.
           let order = (near (omega arith)).order in
-          let later = in_order (moment_ticks moments) (i + 1) k are.rise low (omega arith) in
-          let top = top_below m.tick count refresh (tick_at moments (i + 1)) (grind arith) order (λ some. (room some).2) in
-          All-weaker (λ (y : Instant). y.tick ≤ m.tick + count * refresh) (λ (y : Instant). y.tick < tick_at moments k) (λ y low. omega arith) (front ++ zs) grown.top;
+          let later = in_order (ticks_of_events least_events) (i + 1) k are.rise low (omega arith) in
+          let top = top_below m.tick count refresh (tick_at least_events (i + 1)) (grind arith) order (λ some. (room some).2) in
+          All-weaker (λ (y : Instant). y.tick ≤ m.tick + count * refresh) (λ (y : Instant). y.tick < tick_at least_events k) (λ y low. omega arith) (front ++ zs) grown.top;
       named = λ k low.
-          left_part front zs (tick_at moments k)
-          (either_part xs (x ∷ []) i k (tick_at moments k) (grind arith) (before.named k) (λ same. (0, omega arith, let e = ap (λ (j : ℕ). tick_at moments j) same in omega arith)));
+          left_part front zs (tick_at least_events k)
+          (either_part xs (x ∷ []) i k (tick_at least_events k) (grind arith) (before.named k) (λ same. (0, omega arith, let e = ap (λ (j : ℕ). tick_at least_events j) same in omega arith)));
       refreshed = λ k times low short shown some inside.
-          either_part front zs i k (tick_at moments k + times * refresh) (grind arith)
-          (λ earlier. left_part xs (x ∷ []) (tick_at moments k + times * refresh) (before.refreshed k times earlier short shown some inside))
+          either_part front zs i k (tick_at least_events k + times * refresh) (grind arith)
+          (λ earlier. left_part xs (x ∷ []) (tick_at least_events k + times * refresh) (before.refreshed k times earlier short shown some inside))
           (λ same.
           let Here : ℕ → Type 0 = λ (t : ℕ). Contains (instant_ticks zs) (t + times * refresh) in
-          let at : tick_at moments k ≡ m.tick = ap (λ (j : ℕ). tick_at moments j) same ∙ here in
-          let next = ap (λ (j : ℕ). tick_at moments (j + 1)) same in
+          let at : tick_at least_events k ≡ m.tick = ap (λ (j : ℕ). tick_at least_events j) same ∙ here in
+          let next = ap (λ (j : ℕ). tick_at least_events (j + 1)) same in
           subst Here (sym at) (refresh_there m.tick m.row refresh count times some
           (complete (omega arith) (subst (λ (t : ℕ). shows_cue epochs t ≡ true) at shown) times some (omega arith))));
       some = λ h. grown.some;
       none = λ h. absurd (omega arith);
     } in
-    subst (AreStepsUpTo epochs refresh moments (i + 1)) (sym is) all
+    subst (AreRecordedInstantsUpTo epochs refresh least_events (i + 1)) (sym is) all
 
 -- ---- at the end
 
@@ -339,15 +339,15 @@ closest : (first second next : ℕ) → first < next → next ≤ second → (ne
 closest first second next low high (inl h) = absurd (omega arith)
 closest first second next low high (inr h) = omega arith
 
-refresh_found : (epochs : List Epoch) (refresh : ℕ) (moments : List Event) (xs : List Instant) (tick : ℕ) → AreMoments epochs moments → AreStepsUpTo epochs refresh moments (length moments) xs →
-    (r : IsRefresh epochs refresh tick) → Contains (moment_ticks moments) r.last → Contains (moment_ticks moments) r.next → Contains (instant_ticks xs) tick
-refresh_found epochs refresh moments xs tick are up r (k, h, e) (m, short, f) =
-    let long = length-map moments (λ (x : Event). x.tick) in
-    let beyond = next_named (moment_ticks moments) k m r.last r.next are.rise h e short f r.neighbours.order (grind arith) in
-    let first : tick_at moments k ≡ r.last = sym (get_or_default (moment_ticks moments) k r.last 0 h) ∙ e in
+refresh_found : (epochs : List Epoch) (refresh : ℕ) (least_events : List Event) (xs : List Instant) (tick : ℕ) → AreLeastEvents epochs least_events → AreRecordedInstantsUpTo epochs refresh least_events (length least_events) xs →
+    (r : IsRefresh epochs refresh tick) → Contains (ticks_of_events least_events) r.last → Contains (ticks_of_events least_events) r.next → Contains (instant_ticks xs) tick
+refresh_found epochs refresh least_events xs tick are up r (k, h, e) (m, short, f) =
+    let long = length-map least_events (λ (x : Event). x.tick) in
+    let beyond = next_named (ticks_of_events least_events) k m r.last r.next are.rise h e short f r.neighbours.order (grind arith) in
+    let first : tick_at least_events k ≡ r.last = sym (get_or_default (ticks_of_events least_events) k r.last 0 h) ∙ e in
     let rises = are.rise k (omega arith) in
-    let named = named_there epochs moments are (k + 1) (omega arith) in
-    let next : tick_at moments (k + 1) ≡ r.next = closest r.last r.next (tick_at moments (k + 1)) (omega arith) beyond.1 (All-contains (λ (t : ℕ). (t ≤ r.last) ⊎ (r.next ≤ t)) (named_ticks epochs) (tick_at moments (k + 1)) r.neighbours.between named) in
+    let named = named_there epochs least_events are (k + 1) (omega arith) in
+    let next : tick_at least_events (k + 1) ≡ r.next = closest r.last r.next (tick_at least_events (k + 1)) (omega arith) beyond.1 (All-contains (λ (t : ℕ). (t ≤ r.last) ⊎ (r.next ≤ t)) (named_ticks epochs) (tick_at least_events (k + 1)) r.neighbours.between named) in
     let after = r.after in
     let room = r.room in
     let same = ap (λ (t : ℕ). t + r.times * refresh) first in
@@ -355,25 +355,25 @@ refresh_found epochs refresh moments xs tick are up r (k, h, e) (m, short, f) =
     subst Here (same ∙ sym after)
     (up.refreshed k r.times (omega arith) (omega arith) (subst (λ (t : ℕ). shows_cue epochs t ≡ true) (sym first) r.shown) r.some (omega arith))
 
-named_found : (epochs : List Epoch) (refresh : ℕ) (moments : List Event) (xs : List Instant) (tick : ℕ) → AreStepsUpTo epochs refresh moments (length moments) xs → Contains (moment_ticks moments) tick → Contains (instant_ticks xs) tick
-named_found epochs refresh moments xs tick up (k, h, e) =
-    let long = length-map moments (λ (x : Event). x.tick) in
-    let same : tick_at moments k ≡ tick = sym (get_or_default (moment_ticks moments) k tick 0 h) ∙ e in
+named_found : (epochs : List Epoch) (refresh : ℕ) (least_events : List Event) (xs : List Instant) (tick : ℕ) → AreRecordedInstantsUpTo epochs refresh least_events (length least_events) xs → Contains (ticks_of_events least_events) tick → Contains (instant_ticks xs) tick
+named_found epochs refresh least_events xs tick up (k, h, e) =
+    let long = length-map least_events (λ (x : Event). x.tick) in
+    let same : tick_at least_events k ≡ tick = sym (get_or_default (ticks_of_events least_events) k tick 0 h) ∙ e in
     let Here : ℕ → Type 0 = λ (t : ℕ). Contains (instant_ticks xs) t in
     subst Here same (up.named k (omega arith))
 
-instant_found : (epochs : List Epoch) (refresh : ℕ) (moments : List Event) (xs : List Instant) (tick : ℕ) → AreMoments epochs moments → AreStepsUpTo epochs refresh moments (length moments) xs →
+instant_found : (epochs : List Epoch) (refresh : ℕ) (least_events : List Event) (xs : List Instant) (tick : ℕ) → AreLeastEvents epochs least_events → AreRecordedInstantsUpTo epochs refresh least_events (length least_events) xs →
     IsInstant epochs refresh tick → Contains (instant_ticks xs) tick
-instant_found epochs refresh moments xs tick are up (inl named) = named_found epochs refresh moments xs tick up (are.all tick named)
-instant_found epochs refresh moments xs tick are up (inr r) =
-    refresh_found epochs refresh moments xs tick are up r (are.all r.last r.neighbours.has_first) (are.all r.next r.neighbours.has_second)
+instant_found epochs refresh least_events xs tick are up (inl named) = named_found epochs refresh least_events xs tick up (are.all tick named)
+instant_found epochs refresh least_events xs tick are up (inr r) =
+    refresh_found epochs refresh least_events xs tick are up r (are.all r.last r.neighbours.has_first) (are.all r.next r.neighbours.has_second)
 
-pub AreSteps-all : (epochs : List Epoch) (refresh : ℕ) (moments : List Event) (xs : List Instant) → AreMoments epochs moments → AreStepsUpTo epochs refresh moments (length moments) xs → AreSteps epochs refresh xs
-AreSteps-all epochs refresh moments xs are up = record {
+pub AreRecordedInstants-all : (epochs : List Epoch) (refresh : ℕ) (least_events : List Event) (xs : List Instant) → AreLeastEvents epochs least_events → AreRecordedInstantsUpTo epochs refresh least_events (length least_events) xs → AreRecordedInstants epochs refresh xs
+AreRecordedInstants-all epochs refresh least_events xs are up = record {
   ticks = record {
     rise = ticks_rise xs up.good.rise;
     each = All-map (λ (t : ℕ). IsInstant epochs refresh t) (λ (x : Instant). x.tick) xs up.good.instant;
-    all = λ tick instant. instant_found epochs refresh moments xs tick are up instant;
+    all = λ tick instant. instant_found epochs refresh least_events xs tick are up instant;
   };
   each = up.good.each;
   rows = up.good.rows;
@@ -386,30 +386,30 @@ few_by : (refresh times count : ℕ) → (times ≤ count) ⊎ (count + 1 ≤ ti
 few_by refresh times count (inl h) less = h
 few_by refresh times count (inr h) less = let more = mul-le-mul_right refresh h in absurd (omega arith)
 
-pub AreStepsUpTo-refreshed : (epochs : List Epoch) (refresh : ℕ) (moments : List Event) (i : ℕ) (xs front ys : List Instant) (m next : Event) → 1 ≤ refresh → AreMoments epochs moments →
-    AreStepsUpTo epochs refresh moments i xs → i + 1 < length moments → m ≡ get_or moments i m → next ≡ get_or moments (i + 1) next →
+pub AreRecordedInstantsUpTo-refreshed : (epochs : List Epoch) (refresh : ℕ) (least_events : List Event) (i : ℕ) (xs front ys : List Instant) (m next : Event) → 1 ≤ refresh → AreLeastEvents epochs least_events →
+    AreRecordedInstantsUpTo epochs refresh least_events i xs → i + 1 < length least_events → m ≡ get_or least_events i m → next ≡ get_or least_events (i + 1) next →
     front ≡ xs ++ record { tick = m.tick; row = m.row; named = true } ∷ [] → HasRefreshes front ys m.tick m.row next.tick refresh → shows_cue epochs m.tick ≡ true →
-    AreStepsUpTo epochs refresh moments (i + 1) ys
-AreStepsUpTo-refreshed epochs refresh moments i xs front ys m next often are before short r s push has shown =
-    let there : tick_at moments (i + 1) ≡ next.tick = get_or-map (λ (e : Event). e.tick) moments (i + 1) next 0 short ∙ ap (λ (e : Event). e.tick) (sym s) in
+    AreRecordedInstantsUpTo epochs refresh least_events (i + 1) ys
+AreRecordedInstantsUpTo-refreshed epochs refresh least_events i xs front ys m next often are before short r s push has shown =
+    let there : tick_at least_events (i + 1) ≡ next.tick = get_or-map (λ (e : Event). e.tick) least_events (i + 1) next 0 short ∙ ap (λ (e : Event). e.tick) (sym s) in
     let all = has.all in
-    AreStepsUpTo-more epochs refresh moments i xs ys m has.count often are before (omega arith) r
+    AreRecordedInstantsUpTo-more epochs refresh least_events i xs ys m has.count often are before (omega arith) r
     (has.is ∙ ap (λ zs. zs ++ map (refresh_at m.tick m.row refresh) (range_with_len 1 has.count)) push)
     (λ some. (short, shown, let last = has.last some in omega arith))
     (λ inside live times some room. few_by refresh times has.count (grind arith) (omega arith))
 
-pub AreStepsUpTo-alone : (epochs : List Epoch) (refresh : ℕ) (moments : List Event) (i : ℕ) (xs ys : List Instant) (m : Event) → 1 ≤ refresh → AreMoments epochs moments →
-    AreStepsUpTo epochs refresh moments i xs → i < length moments → m ≡ get_or moments i m →
-    ys ≡ xs ++ record { tick = m.tick; row = m.row; named = true } ∷ [] → (i + 1 < length moments → shows_cue epochs m.tick ≡ true → ⊥) →
-    AreStepsUpTo epochs refresh moments (i + 1) ys
-AreStepsUpTo-alone epochs refresh moments i xs ys m often are before short r push none =
-    AreStepsUpTo-more epochs refresh moments i xs ys m 0 often are before short r
+pub AreRecordedInstantsUpTo-alone : (epochs : List Epoch) (refresh : ℕ) (least_events : List Event) (i : ℕ) (xs ys : List Instant) (m : Event) → 1 ≤ refresh → AreLeastEvents epochs least_events →
+    AreRecordedInstantsUpTo epochs refresh least_events i xs → i < length least_events → m ≡ get_or least_events i m →
+    ys ≡ xs ++ record { tick = m.tick; row = m.row; named = true } ∷ [] → (i + 1 < length least_events → shows_cue epochs m.tick ≡ true → ⊥) →
+    AreRecordedInstantsUpTo epochs refresh least_events (i + 1) ys
+AreRecordedInstantsUpTo-alone epochs refresh least_events i xs ys m often are before short r push none =
+    AreRecordedInstantsUpTo-more epochs refresh least_events i xs ys m 0 often are before short r
     (push ∙ sym (append-nil (xs ++ record { tick = m.tick; row = m.row; named = true } ∷ [])))
     (λ some. absurd (omega arith)) (λ inside live times some room. absurd (none inside live))
 
-pub small_there : (epochs : List Epoch) (moments : List Event) → AreMoments epochs moments → All (λ (t : ℕ). t < 2 ^ 40) (named_ticks epochs) → (k : ℕ) (m : Event) → k < length moments → m ≡ get_or moments k m →
+pub small_there : (epochs : List Epoch) (least_events : List Event) → AreLeastEvents epochs least_events → All (λ (t : ℕ). t < 2 ^ 40) (named_ticks epochs) → (k : ℕ) (m : Event) → k < length least_events → m ≡ get_or least_events k m →
     m.tick < 2 ^ 40
-small_there epochs moments are small k m h r =
-    let here : tick_at moments k ≡ m.tick = get_or-map (λ (e : Event). e.tick) moments k m 0 h ∙ ap (λ (e : Event). e.tick) (sym r) in
-    let less = All-contains (λ (t : ℕ). t < 2 ^ 40) (named_ticks epochs) (tick_at moments k) small (named_there epochs moments are k h) in
+small_there epochs least_events are small k m h r =
+    let here : tick_at least_events k ≡ m.tick = get_or-map (λ (e : Event). e.tick) least_events k m 0 h ∙ ap (λ (e : Event). e.tick) (sym r) in
+    let less = All-contains (λ (t : ℕ). t < 2 ^ 40) (named_ticks epochs) (tick_at least_events k) small (named_there epochs least_events are k h) in
     omega arith

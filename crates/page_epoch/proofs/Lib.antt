@@ -1,3 +1,4 @@
+pub mod AnswerLaws
 pub mod ChangeLaws
 pub mod ClutLaws
 pub mod CountLaws
@@ -5,11 +6,11 @@ pub mod WalkLaws
 pub mod InstantLaws
 pub mod ListLaws
 pub mod LiveLaws
-pub mod MomentLaws
+pub mod EventLaws
 pub mod PlanLaws
 pub mod RegionLaws
 pub mod RowLaws
 pub mod SendLaws
 pub mod ShowLaws
 pub mod SoundLaws
-pub mod SweepLaws
+pub mod EpochWalkLaws

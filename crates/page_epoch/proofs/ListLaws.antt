@@ -1,7 +1,6 @@
 -- Facts on lists.
-use Rattle.std.proofs.Common.{◌≡◌, ◌≢◌, ◌∙◌, ℕ, zero, suc, ◌+◌, ◌%◌, ◌==◌, ◌<◌, ◌≤◌, Bool, true, false, cond, List, [], ◌∷◌, ◌++◌, map, filter, length, take, get_or, All, Result, Ok, Err, IfOk, sum_by, refl, sym, ap, subst, append_assoc, arith}
+use Rattle.std.proofs.Common.{◌≡◌, ◌∙◌, ℕ, zero, suc, ◌+◌, ◌%◌, ◌<◌, ◌≤◌, Bool, true, false, cond, List, [], ◌∷◌, ◌++◌, map, filter, length, take, get_or, All, Result, Ok, Err, IfOk, sum_by, refl, sym, ap, subst, append_assoc, arith}
 use Rattle.std.specs.List.{range_with_len, flat_map}
-use Rattle.std.proofs.lemmas.Bool.Decides.{nat_tests}
 use Rattle.std.proofs.lemmas.List.{map-id, map-append, append-nil, take_more, take_all, length-append}
 use Rattle.std.proofs.lemmas.List.Sums.{length-filter, count_by-le-length, sum_by-cons}
 use Rattle.std.proofs.lemmas.List.Concat.{flat_map-append}
@@ -149,12 +148,6 @@ flat_map_none [] = refl
 flat_map_none {X} {Y} (x ∷ xs) = flat_map_none {X = X} {Y = Y} xs
 
 -- ---- numbers
-
-pub equal : (a b : ℕ) → a ≡ b → (a == b) ≡ true
-equal a b h = grind (arith, nat_tests)
-
-pub unequal : (a b : ℕ) → a ≢ b → (a == b) ≡ false
-unequal a b h = grind (arith, nat_tests)
 
 -- a version counts modulo 16
 pub version_step : (b : Bool) (n : ℕ) → (cond b 1 0 + n) % 16 ≡ cond b ((n % 16 + 1) % 16) (n % 16)

@@ -13,10 +13,10 @@ use Rattle.std.proofs.lemmas.List.Sorted.{All-permutation, sum_by-IsPermutation,
 use Rattle.std.proofs.lemmas.List.Sums.{count_by-le-length}
 use Rattle.cue_list.specs.declared.epoch.Cue.{Cue}
 use Rattle.cue_list.specs.Authored.{is_live}
-use Rattle.page_epoch.specs.declared.live.Begin.{Begin}
-use Rattle.page_epoch.specs.Live.{cue_at, own_places, live_places, places_below, begun_by, times, begin_at, AreBegins}
+use Rattle.page_epoch.specs.declared.live.CueStart.{CueStart}
+use Rattle.page_epoch.specs.Live.{cue_at, own_places, live_places, places_below, started_by, times, start_at, AreStarts}
 use Rattle.page_epoch.specs.SentRegions.{live_before}
-use Rattle.page_epoch.specs.Courses.{begun_before, IsAfter}
+use Rattle.page_epoch.specs.EpochStates.{started_before, IsAfter}
 use Rattle.page_epoch.proofs.InstantLaws.{in_order}
 use Rattle.page_epoch.proofs.ListLaws.{length_kept_places}
 use Rattle.page_epoch.proofs.ShowLaws.{counted}
@@ -60,39 +60,39 @@ back P xs n all k d h = subst P (sym (get_or-drop n xs k d)) (all (n + k) d (ome
 middle : {X : Type 0} (P : X → Type 0) (xs : List X) (m n : ℕ) → AllWithin P xs m (length xs) → All P (slice_range xs m n)
 middle P xs m n all = All-take P (n - m) (drop m xs) (back P xs m all)
 
-starts_are : (cues : List Cue) (region : ℕ) (begins : List Begin) → AreBegins cues region begins → All (λ (begin : Begin). (cue_at cues begin.place).start ≡ begin.tick) begins
-starts_are cues region begins are =
-    All-permutation (λ (begin : Begin). (cue_at cues begin.place).start ≡ begin.tick) (map (begin_at cues) (own_places cues region)) begins are.same
-    (All-map (λ (begin : Begin). (cue_at cues begin.place).start ≡ begin.tick) (begin_at cues) (own_places cues region) (λ k d h. refl))
+starts_are : (cues : List Cue) (region : ℕ) (starts : List CueStart) → AreStarts cues region starts → All (λ (start : CueStart). (cue_at cues start.place).start ≡ start.tick) starts
+starts_are cues region starts are =
+    All-permutation (λ (start : CueStart). (cue_at cues start.place).start ≡ start.tick) (map (start_at cues) (own_places cues region)) starts are.same
+    (All-map (λ (start : CueStart). (cue_at cues start.place).start ≡ start.tick) (start_at cues) (own_places cues region) (λ k d h. refl))
 
 -- what is counted of a region's cues is counted of them in any order
-count_begins : (cues : List Cue) (region : ℕ) (begins : List Begin) (g : ℕ → Bool) → AreBegins cues region begins → count_by (λ (begin : Begin). g begin.place) begins ≡ count_by g (own_places cues region)
-count_begins cues region begins g are =
-    sum_by-IsPermutation (λ (begin : Begin). cond {A = ℕ} (g begin.place) 1 0) (map (begin_at cues) (own_places cues region)) begins are.same
-    ∙ count_map (λ (begin : Begin). g begin.place) (begin_at cues) (own_places cues region)
+count_starts : (cues : List Cue) (region : ℕ) (starts : List CueStart) (g : ℕ → Bool) → AreStarts cues region starts → count_by (λ (start : CueStart). g start.place) starts ≡ count_by g (own_places cues region)
+count_starts cues region starts g are =
+    sum_by-IsPermutation (λ (start : CueStart). cond {A = ℕ} (g start.place) 1 0) (map (start_at cues) (own_places cues region)) starts are.same
+    ∙ count_map (λ (start : CueStart). g start.place) (start_at cues) (own_places cues region)
 
-begun_count : (cues : List Cue) (region : ℕ) (begins : List Begin) (tick : ℕ) → AreBegins cues region begins → count_by (λ (begin : Begin). nat_le begin.tick tick) begins ≡ begun_by cues region tick
-begun_count cues region begins tick are =
-    count_agree (λ (begin : Begin). nat_le begin.tick tick) (λ (begin : Begin). nat_le (cue_at cues begin.place).start tick) begins
-    (All-weaker (λ (begin : Begin). (cue_at cues begin.place).start ≡ begin.tick) (λ (begin : Begin). nat_le begin.tick tick ≡ nat_le (cue_at cues begin.place).start tick) (λ begin e. ap (λ (t : ℕ). nat_le t tick) (sym e)) begins (starts_are cues region begins are))
-    ∙ count_begins cues region begins (λ place. nat_le (cue_at cues place).start tick) are
+started_count : (cues : List Cue) (region : ℕ) (starts : List CueStart) (tick : ℕ) → AreStarts cues region starts → count_by (λ (start : CueStart). nat_le start.tick tick) starts ≡ started_by cues region tick
+started_count cues region starts tick are =
+    count_agree (λ (start : CueStart). nat_le start.tick tick) (λ (start : CueStart). nat_le (cue_at cues start.place).start tick) starts
+    (All-weaker (λ (start : CueStart). (cue_at cues start.place).start ≡ start.tick) (λ (start : CueStart). nat_le start.tick tick ≡ nat_le (cue_at cues start.place).start tick) (λ start e. ap (λ (t : ℕ). nat_le t tick) (sym e)) starts (starts_are cues region starts are))
+    ∙ count_starts cues region starts (λ place. nat_le (cue_at cues place).start tick) are
 
 -- so many cues of these have started by a tick
-abbrev pub HaveBegun : List Begin → ℕ → ℕ → Type 0
-HaveBegun begins tick n = IsPartitionPoint (λ (begin : Begin). nat_le begin.tick tick ≡ true) (λ (begin : Begin). nat_le begin.tick tick ≡ false) begins n
+abbrev pub HaveStarted : List CueStart → ℕ → ℕ → Type 0
+HaveStarted starts tick n = IsPartitionPoint (λ (start : CueStart). nat_le start.tick tick ≡ true) (λ (start : CueStart). nat_le start.tick tick ≡ false) starts n
 
-pub begun_are : (cues : List Cue) (region : ℕ) (begins : List Begin) (tick n : ℕ) → AreBegins cues region begins → n ≤ length begins → HaveBegun begins tick n → n ≡ begun_by cues region tick
-begun_are cues region begins tick n are few point = sym (counted (λ (begin : Begin). nat_le begin.tick tick) begins n few point) ∙ begun_count cues region begins tick are
+pub started_are : (cues : List Cue) (region : ℕ) (starts : List CueStart) (tick n : ℕ) → AreStarts cues region starts → n ≤ length starts → HaveStarted starts tick n → n ≡ started_by cues region tick
+started_are cues region starts tick n are few point = sym (counted (λ (start : CueStart). nat_le start.tick tick) starts n few point) ∙ started_count cues region starts tick are
 
 -- ---- what is live
 
 -- those that had started, and those that start since
-record Parts (cues : List Cue) (begins : List Begin) (tick from to : ℕ) (s : ℕ → Bool) : Type 0 where
+record Parts (cues : List Cue) (starts : List CueStart) (tick from to : ℕ) (s : ℕ → Bool) : Type 0 where
   order : from ≤ to
-  few : to ≤ length begins
-  had : AllWithin (λ (begin : Begin). s begin.place ≡ true) begins 0 from
-  had_not : AllWithin (λ (begin : Begin). s begin.place ≡ false) begins from (length begins)
-  not_yet : AllWithin (λ (begin : Begin). is_live tick (cue_at cues begin.place) ≡ false) begins to (length begins)
+  few : to ≤ length starts
+  had : AllWithin (λ (start : CueStart). s start.place ≡ true) starts 0 from
+  had_not : AllWithin (λ (start : CueStart). s start.place ≡ false) starts from (length starts)
+  not_yet : AllWithin (λ (start : CueStart). is_live tick (cue_at cues start.place) ≡ false) starts to (length starts)
 
 not_had : (a b : Bool) → a ≡ true → (not a && b) ≡ false
 not_had true b e = refl
@@ -107,38 +107,38 @@ then_live : (a b : Bool) → a ≡ false → (not a && b) ≡ b
 then_live true b e = cc
 then_live false b e = refl
 
-since : (cues : List Cue) (region : ℕ) (begins : List Begin) (tick from to v : ℕ) (s : ℕ → Bool) → AreBegins cues region begins → Parts cues begins tick from to s →
+since : (cues : List Cue) (region : ℕ) (starts : List CueStart) (tick from to v : ℕ) (s : ℕ → Bool) → AreStarts cues region starts → Parts cues starts tick from to s →
     count_by (λ place. not (s place) && (is_live tick (cue_at cues place) && (place == v))) (own_places cues region)
-    ≡ times v (filter (λ place. is_live tick (cue_at cues place)) (map (λ (begin : Begin). begin.place) (slice_range begins from to)))
-since cues region begins tick from to v s are parts =
+    ≡ times v (filter (λ place. is_live tick (cue_at cues place)) (map (λ (start : CueStart). start.place) (slice_range starts from to)))
+since cues region starts tick from to v s are parts =
     let live = λ (place : ℕ). is_live tick (cue_at cues place) in
     let g = λ (place : ℕ). not (s place) && (live place && (place == v)) in
-    let p = λ (begin : Begin). g begin.place in
-    let run = slice_range begins from to in
-    let whole : begins ≡ take from begins ++ (run ++ drop to begins) = sym (take-append-drop from begins) ∙ ap (λ xs. take from begins ++ xs) (drop_split begins from to parts.order) in
-    let first : count_by p (take from begins) ≡ 0 = count_none p (take from begins)
-    (All-weaker (λ (begin : Begin). s begin.place ≡ true) (λ (begin : Begin). p begin ≡ false) (λ begin e. not_had (s begin.place) (live begin.place && (begin.place == v)) e) (take from begins) (front (λ (begin : Begin). s begin.place ≡ true) begins from parts.had)) in
-    let last : count_by p (drop to begins) ≡ 0 = count_none p (drop to begins)
-    (All-weaker (λ (begin : Begin). live begin.place ≡ false) (λ (begin : Begin). p begin ≡ false) (λ begin e. not_live (s begin.place) (live begin.place) (begin.place == v) e) (drop to begins) (back (λ (begin : Begin). live begin.place ≡ false) begins to parts.not_yet)) in
-    let inner : count_by p run ≡ count_by (λ (begin : Begin). live begin.place && (begin.place == v)) run = count_agree p (λ (begin : Begin). live begin.place && (begin.place == v)) run
-    (All-weaker (λ (begin : Begin). s begin.place ≡ false) (λ (begin : Begin). p begin ≡ (live begin.place && (begin.place == v))) (λ begin e. then_live (s begin.place) (live begin.place && (begin.place == v)) e) run (middle (λ (begin : Begin). s begin.place ≡ false) begins from to parts.had_not)) in
-    let sum = count_append p (take from begins) (run ++ drop to begins) in
-    let rest = count_append p run (drop to begins) in
-    let kept = count_filter (λ place. place == v) live (map (λ (begin : Begin). begin.place) run) ∙ count_map (λ place. live place && (place == v)) (λ (begin : Begin). begin.place) run in
-    sym (count_begins cues region begins g are) ∙ ap (count_by p) whole ∙ (let all : count_by p (take from begins ++ (run ++ drop to begins)) ≡ count_by (λ (begin : Begin). live begin.place && (begin.place == v)) run = omega arith in all) ∙ sym kept
+    let p = λ (start : CueStart). g start.place in
+    let run = slice_range starts from to in
+    let whole : starts ≡ take from starts ++ (run ++ drop to starts) = sym (take-append-drop from starts) ∙ ap (λ xs. take from starts ++ xs) (drop_split starts from to parts.order) in
+    let first : count_by p (take from starts) ≡ 0 = count_none p (take from starts)
+    (All-weaker (λ (start : CueStart). s start.place ≡ true) (λ (start : CueStart). p start ≡ false) (λ start e. not_had (s start.place) (live start.place && (start.place == v)) e) (take from starts) (front (λ (start : CueStart). s start.place ≡ true) starts from parts.had)) in
+    let last : count_by p (drop to starts) ≡ 0 = count_none p (drop to starts)
+    (All-weaker (λ (start : CueStart). live start.place ≡ false) (λ (start : CueStart). p start ≡ false) (λ start e. not_live (s start.place) (live start.place) (start.place == v) e) (drop to starts) (back (λ (start : CueStart). live start.place ≡ false) starts to parts.not_yet)) in
+    let inner : count_by p run ≡ count_by (λ (start : CueStart). live start.place && (start.place == v)) run = count_agree p (λ (start : CueStart). live start.place && (start.place == v)) run
+    (All-weaker (λ (start : CueStart). s start.place ≡ false) (λ (start : CueStart). p start ≡ (live start.place && (start.place == v))) (λ start e. then_live (s start.place) (live start.place && (start.place == v)) e) run (middle (λ (start : CueStart). s start.place ≡ false) starts from to parts.had_not)) in
+    let sum = count_append p (take from starts) (run ++ drop to starts) in
+    let rest = count_append p run (drop to starts) in
+    let kept = count_filter (λ place. place == v) live (map (λ (start : CueStart). start.place) run) ∙ count_map (λ place. live place && (place == v)) (λ (start : CueStart). start.place) run in
+    sym (count_starts cues region starts g are) ∙ ap (count_by p) whole ∙ (let all : count_by p (take from starts ++ (run ++ drop to starts)) ≡ count_by (λ (start : CueStart). live start.place && (start.place == v)) run = omega arith in all) ∙ sym kept
 
-live_next : (cues : List Cue) (region : ℕ) (begins : List Begin) (tick from to : ℕ) (s : ℕ → Bool) (old new : List ℕ) → AreBegins cues region begins → Parts cues begins tick from to s →
+live_next : (cues : List Cue) (region : ℕ) (starts : List CueStart) (tick from to : ℕ) (s : ℕ → Bool) (old new : List ℕ) → AreStarts cues region starts → Parts cues starts tick from to s →
     ((v : ℕ) → times v (filter (λ place. is_live tick (cue_at cues place)) old) ≡ count_by (λ place. s place && (is_live tick (cue_at cues place) && (place == v))) (own_places cues region)) →
     IsNonDecreasing new →
-    ((v : ℕ) → times v new ≡ times v (filter (λ place. is_live tick (cue_at cues place)) old) + times v (filter (λ place. is_live tick (cue_at cues place)) (map (λ (begin : Begin). begin.place) (slice_range begins from to)))) →
+    ((v : ℕ) → times v new ≡ times v (filter (λ place. is_live tick (cue_at cues place)) old) + times v (filter (λ place. is_live tick (cue_at cues place)) (map (λ (start : CueStart). start.place) (slice_range starts from to)))) →
     new ≡ live_places cues region tick
-live_next cues region begins tick from to s old new are parts stay rise same =
+live_next cues region starts tick from to s old new are parts stay rise same =
     same_sorted new (live_places cues region tick) rise (falls_not (live_places cues region tick) (live_rise cues region tick)) (λ v.
     let live = λ (place : ℕ). is_live tick (cue_at cues place) in
     let all = count_filter (λ place. place == v) live (own_places cues region) in
     let split = count_split s (λ place. live place && (place == v)) (own_places cues region) in
     let first = stay v in
-    let second = since cues region begins tick from to v s are parts in
+    let second = since cues region starts tick from to v s are parts in
     let sum = same v in
     omega arith)
 
@@ -147,10 +147,10 @@ live_next cues region begins tick from to s old new are parts stay rise same =
 late_live : (start end tick : ℕ) → nat_le start tick ≡ false → (nat_le start tick && nat_lt tick end) ≡ false
 late_live start end tick h = ap (λ b. b && nat_lt tick end) h
 
-not_yet_live : (cues : List Cue) (region : ℕ) (begins : List Begin) (tick to : ℕ) → AreBegins cues region begins → HaveBegun begins tick to → AllWithin (λ (begin : Begin). is_live tick (cue_at cues begin.place) ≡ false) begins to (length begins)
-not_yet_live cues region begins tick to are point k d low high =
-    let start = starts_are cues region begins are k d high in
-    let cue = cue_at cues (get_or begins k d).place in
+not_yet_live : (cues : List Cue) (region : ℕ) (starts : List CueStart) (tick to : ℕ) → AreStarts cues region starts → HaveStarted starts tick to → AllWithin (λ (start : CueStart). is_live tick (cue_at cues start.place) ≡ false) starts to (length starts)
+not_yet_live cues region starts tick to are point k d low high =
+    let start = starts_are cues region starts are k d high in
+    let cue = cue_at cues (get_or starts k d).place in
     late_live cue.start cue.end tick (ap (λ (t : ℕ). nat_le t tick) start ∙ point.1 k d low high)
 
 stays_by : (a b c d q : Bool) → (d ≡ true → b ≡ true) → ((a && b) && ((c && d) && q)) ≡ (a && ((c && d) && q))
@@ -163,37 +163,37 @@ stays_by true false true false q h = refl
 still_live : (tick before : ℕ) (cue : Cue) (q : Bool) → before ≤ tick → (is_live before cue && (is_live tick cue && q)) ≡ (nat_le cue.start before && (is_live tick cue && q))
 still_live tick before cue q low = stays_by (nat_le cue.start before) (nat_lt before cue.end) (nat_le cue.start tick) (nat_lt tick cue.end) q (λ h. grind (arith, nat_tests))
 
-order_by : (begins : List Begin) (before tick from to : ℕ) → before ≤ tick → from ≤ length begins → HaveBegun begins before from → HaveBegun begins tick to → (from ≤ to) ⊎ (to < from) → from ≤ to
-order_by begins before tick from to low few first second (inl h) = h
-order_by begins before tick from to low few first second (inr h) =
-    let d : Begin = record { tick = 0; place = 0 } in
+order_by : (starts : List CueStart) (before tick from to : ℕ) → before ≤ tick → from ≤ length starts → HaveStarted starts before from → HaveStarted starts tick to → (from ≤ to) ⊎ (to < from) → from ≤ to
+order_by starts before tick from to low few first second (inl h) = h
+order_by starts before tick from to low few first second (inr h) =
+    let d : CueStart = record { tick = 0; place = 0 } in
     let had = first.0 to d (omega arith) h in
     let not_had = second.1 to d (omega arith) (omega arith) in
     absurd (grind (arith, nat_tests))
 
 -- the new list is that of the tick
-pub live_on : (cues : List Cue) (region : ℕ) (begins : List Begin) (tick to : ℕ) (seen new : List ℕ) → AreBegins cues region begins → to ≤ length begins → HaveBegun begins tick to → IsAfter seen tick → IsNonDecreasing new →
+pub live_on : (cues : List Cue) (region : ℕ) (starts : List CueStart) (tick to : ℕ) (seen new : List ℕ) → AreStarts cues region starts → to ≤ length starts → HaveStarted starts tick to → IsAfter seen tick → IsNonDecreasing new →
     ((v : ℕ) → times v new ≡ times v (filter (λ place. is_live tick (cue_at cues place)) (live_before cues region seen))
-    + times v (filter (λ place. is_live tick (cue_at cues place)) (map (λ (begin : Begin). begin.place) (slice_range begins (begun_before cues region seen) to)))) →
+    + times v (filter (λ place. is_live tick (cue_at cues place)) (map (λ (start : CueStart). start.place) (slice_range starts (started_before cues region seen) to)))) →
     new ≡ live_places cues region tick
-live_on cues region begins tick to [] new are few point after rise same =
-    live_next cues region begins tick 0 to (λ place. false) [] new are
-    (record { order = omega arith; few = few; had = λ k d low high. absurd (omega arith); had_not = λ k d low high. refl; not_yet = not_yet_live cues region begins tick to are point })
+live_on cues region starts tick to [] new are few point after rise same =
+    live_next cues region starts tick 0 to (λ place. false) [] new are
+    (record { order = omega arith; few = few; had = λ k d low high. absurd (omega arith); had_not = λ k d low high. refl; not_yet = not_yet_live cues region starts tick to are point })
     (λ v. sym (count_none (λ place. false) (own_places cues region) (λ k d h. refl))) rise same
-live_on cues region begins tick to (before ∷ earlier) new are few point after rise same =
-    let from = begun_by cues region before in
+live_on cues region starts tick to (before ∷ earlier) new are few point after rise same =
+    let from = started_by cues region before in
     let s = λ (place : ℕ). nat_le (cue_at cues place).start before in
-    let count = begun_count cues region begins before are in
-    let had : HaveBegun begins before from = subst (HaveBegun begins before) count (point_of (λ (begin : Begin). begin.tick) before begins are.rise) in
-    let short : from ≤ length begins = let most = count_by-le-length (λ (begin : Begin). nat_le begin.tick before) begins in omega arith in
-    let starts = starts_are cues region begins are in
-    live_next cues region begins tick from to s (live_places cues region before) new are
+    let count = started_count cues region starts before are in
+    let had : HaveStarted starts before from = subst (HaveStarted starts before) count (point_of (λ (start : CueStart). start.tick) before starts are.rise) in
+    let short : from ≤ length starts = let most = count_by-le-length (λ (start : CueStart). nat_le start.tick before) starts in omega arith in
+    let own_starts = starts_are cues region starts are in
+    live_next cues region starts tick from to s (live_places cues region before) new are
     (record {
-      order = order_by begins before tick from to after short had point (grind arith);
+      order = order_by starts before tick from to after short had point (grind arith);
       few = few;
-      had = λ k d low high. ap (λ (t : ℕ). nat_le t before) (starts k d (omega arith)) ∙ had.0 k d low high;
-      had_not = λ k d low high. ap (λ (t : ℕ). nat_le t before) (starts k d high) ∙ had.1 k d low high;
-      not_yet = not_yet_live cues region begins tick to are point;
+      had = λ k d low high. ap (λ (t : ℕ). nat_le t before) (own_starts k d (omega arith)) ∙ had.0 k d low high;
+      had_not = λ k d low high. ap (λ (t : ℕ). nat_le t before) (own_starts k d high) ∙ had.1 k d low high;
+      not_yet = not_yet_live cues region starts tick to are point;
     })
     (λ v.
     let live = λ (place : ℕ). is_live tick (cue_at cues place) in
@@ -204,18 +204,18 @@ live_on cues region begins tick to (before ∷ earlier) new are few point after 
     rise same
 
 -- no fewer have started than at the instant before
-pub begun_order : (cues : List Cue) (region : ℕ) (begins : List Begin) (tick to : ℕ) (seen : List ℕ) → AreBegins cues region begins → to ≤ length begins → HaveBegun begins tick to → IsAfter seen tick → begun_before cues region seen ≤ to
-begun_order cues region begins tick to [] are few point after = omega arith
-begun_order cues region begins tick to (before ∷ earlier) are few point after =
-    let count = begun_count cues region begins before are in
-    let had : HaveBegun begins before (begun_by cues region before) = subst (HaveBegun begins before) count (point_of (λ (begin : Begin). begin.tick) before begins are.rise) in
-    let most = count_by-le-length (λ (begin : Begin). nat_le begin.tick before) begins in
-    order_by begins before tick (begun_by cues region before) to after (omega arith) had point (grind arith)
+pub started_order : (cues : List Cue) (region : ℕ) (starts : List CueStart) (tick to : ℕ) (seen : List ℕ) → AreStarts cues region starts → to ≤ length starts → HaveStarted starts tick to → IsAfter seen tick → started_before cues region seen ≤ to
+started_order cues region starts tick to [] are few point after = omega arith
+started_order cues region starts tick to (before ∷ earlier) are few point after =
+    let count = started_count cues region starts before are in
+    let had : HaveStarted starts before (started_by cues region before) = subst (HaveStarted starts before) count (point_of (λ (start : CueStart). start.tick) before starts are.rise) in
+    let most = count_by-le-length (λ (start : CueStart). nat_le start.tick before) starts in
+    order_by starts before tick (started_by cues region before) to after (omega arith) had point (grind arith)
 
-pub few_begins : (cues : List Cue) (region : ℕ) (begins : List Begin) → AreBegins cues region begins → length begins ≤ length cues
-few_begins cues region begins are =
-    let moved = length_permutation (map (begin_at cues) (own_places cues region)) begins are.same in
-    let mapped = length-map (own_places cues region) (begin_at cues) in
+pub few_begins : (cues : List Cue) (region : ℕ) (starts : List CueStart) → AreStarts cues region starts → length starts ≤ length cues
+few_begins cues region starts are =
+    let moved = length_permutation (map (start_at cues) (own_places cues region)) starts are.same in
+    let mapped = length-map (own_places cues region) (start_at cues) in
     let kept = length_kept_places (λ place. (cue_at cues place).region == region) (length cues) in
     omega arith
 

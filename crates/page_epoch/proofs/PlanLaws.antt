@@ -8,6 +8,7 @@ use Rattle.std.proofs.lemmas.List.{length_push, length-map, get_or-map, get_or_a
 use Rattle.std.proofs.lemmas.List.Elements.{All-push, All-weaker, All-contains, Contains-append_right}
 use Rattle.std.proofs.lemmas.List.Sums.{take_while-cons}
 use Rattle.std.proofs.lemmas.Option.{get_or_from_slice_get, slice_get-get_or, slice_get_within}
+use Rattle.std.proofs.lemmas.Bool.{false≢true}
 use Rattle.stream_syntax.specs.declared.page.State.{State}
 use Rattle.stream_syntax.specs.declared.page.State.TheVariants.{Normal}
 use Rattle.sub_base.specs.declared.profile.Profile.{Profile}
@@ -15,22 +16,22 @@ use Rattle.cue_list.specs.declared.epoch.Epoch.{Epoch}
 use Rattle.cue_list.specs.Sound.{ticks_of}
 use Rattle.page_epoch.specs.declared.planned_set.PlannedSet.{PlannedSet}
 use Rattle.page_epoch.specs.declared.instants.Instant.{Instant}
-use Rattle.page_epoch.specs.declared.course.Sweep.{Sweep}
-use Rattle.page_epoch.specs.declared.course.Step.{Step}
+use Rattle.page_epoch.specs.declared.epoch_state.EpochWalk.{EpochWalk}
+use Rattle.page_epoch.specs.declared.epoch_state.EpochStep.{EpochStep}
 use Rattle.page_epoch.specs.Instants.{named_ticks, is_named, IsInstant}
 use Rattle.page_epoch.specs.Rows.{events_of, IsLeastRow}
-use Rattle.page_epoch.specs.States.{is_whole, last_whole, is_due, state_of, seen_of, page_version}
+use Rattle.page_epoch.specs.States.{last_entry, is_due, state_of, seen_of, page_version}
 use Rattle.page_epoch.specs.Needs.{pixel_need, node_need}
-use Rattle.page_epoch.specs.Steps.{instant_ticks, IsStep, IsFirstNamed, AreSteps}
-use Rattle.page_epoch.specs.Courses.{is_first, IsAfter}
-use Rattle.page_epoch.specs.Layouts.{IsLayout}
-use Rattle.page_epoch.specs.Plan.{IsEpochAt, IsRowBefore, IsCarried, IsNext, Needs, Fits, Stands, AreFirstSets, ArePlanned}
+use Rattle.page_epoch.specs.Private.RecordedInstants.{instant_ticks, IsRecordedInstant, IsFirstNamed, AreRecordedInstants}
+use Rattle.page_epoch.specs.EpochStates.{is_first, IsAfter}
+use Rattle.page_epoch.specs.Private.Layouts.{IsLayout}
+use Rattle.page_epoch.specs.Plan.{IsEpochAt, IsRowBefore, IsCarried, IsNext, Needs, Fits, AllBehind, AreFirstSets, ArePlanned}
 use Rattle.page_epoch.specs.declared.fault.PlanFault.{PlanFault}
 use Rattle.page_epoch.specs.declared.fault.PlanFault.TheVariants.{Memory, DisplayTooLarge, PixelFull, CompositionFull}
 use Rattle.page_epoch.specs.Refusals.{IsFirstUnheld, IsNeedFault, IsSetCause}
-use Rattle.std.proofs.lemmas.Bool.{false≢true}
-use Rattle.page_epoch.specs.Sweeps.{IsSmallEpoch, IsPlain, IsSweep, IsCourse, IsSafe, IsTimely, IsSetOf, IsAdvanced, Enters, Stays, GoesOn}
+use Rattle.page_epoch.specs.EpochWalks.{IsSmallEpoch, IsPlain, IsEpochWalk, IsEpochState, IsSafe, IsTimely, IsSetOf, IsAdvanced, Enters, Stays, GoesOn}
 use Rattle.page_epoch.proofs.InstantLaws.{in_order}
+use Rattle.stream_syntax.specs.Segments.{is_entry_state}
 
 -- ---- starts and instants
 
@@ -74,7 +75,7 @@ below_34 epochs refresh tick early (inr r) =
 
 -- ---- one set more
 
-stands_at : (P : List PlannedSet → PlannedSet → Type 0) (sets : List PlannedSet) (set : PlannedSet) (n : ℕ) (other : PlannedSet) → Stands P sets → P (reverse sets) set →
+stands_at : (P : List PlannedSet → PlannedSet → Type 0) (sets : List PlannedSet) (set : PlannedSet) (n : ℕ) (other : PlannedSet) → AllBehind P sets → P (reverse sets) set →
     slice_get (sets ++ set ∷ []) n ≡ Some other → (n < length sets) ⊎ (n ≡ length sets) → P (reverse (take n (sets ++ set ∷ []))) other
 stands_at P sets set n other before here found (inl h) =
     let long = length_push sets set in
@@ -86,7 +87,7 @@ stands_at P sets set n other before here found (inr e) =
     let front : take n (sets ++ set ∷ []) ≡ sets = take-append-le n sets (set ∷ []) (omega arith) ∙ take_all n sets (omega arith) in
     subst (λ (xs : List PlannedSet). P (reverse xs) other) (sym front) (subst (λ (x : PlannedSet). P (reverse sets) x) same here)
 
-pub Stands-push : (P : List PlannedSet → PlannedSet → Type 0) (sets : List PlannedSet) (set : PlannedSet) → Stands P sets → P (reverse sets) set → Stands P (sets ++ set ∷ [])
+pub Stands-push : (P : List PlannedSet → PlannedSet → Type 0) (sets : List PlannedSet) (set : PlannedSet) → AllBehind P sets → P (reverse sets) set → AllBehind P (sets ++ set ∷ [])
 Stands-push P sets set before here n other found =
     let short = slice_get_within (sets ++ set ∷ []) n other found in
     let long = length_push sets set in
@@ -97,33 +98,33 @@ reverse_more sets set = reverse-append sets (set ∷ [])
 
 -- ---- where the walk stands
 
-pub record HavePlanned (epochs : List Epoch) (refresh : ℕ) (profile : Profile) (instants : List Instant) (count : ℕ) (sets : List PlannedSet) (sweep : Sweep) (whole : ℕ) : Type 0 where
+pub record HavePlanned (epochs : List Epoch) (refresh : ℕ) (profile : Profile) (instants : List Instant) (count : ℕ) (sets : List PlannedSet) (walk : EpochWalk) (whole : ℕ) : Type 0 where
   pub count_is : length sets ≡ count
   pub times : map (λ (set : PlannedSet). set.pts) sets ≡ take count (instant_ticks instants)
   pub rows : (k : ℕ) (d : PlannedSet) (e : Instant) → k < count → (get_or sets k d).row ≡ (get_or instants k e).row
-  pub each : Stands (IsNext epochs refresh) sets
-  pub fit : Stands (Fits epochs profile) sets
+  pub each : AllBehind (IsNext epochs refresh) sets
+  pub fit : AllBehind (Fits epochs profile) sets
   pub seen : List ℕ
-  pub stands : IsSweep epochs seen sweep
+  pub stands : IsEpochWalk epochs seen walk
   pub seen_is : seen ≡ take_while (nat_le stands.epoch.start) (map (λ (set : PlannedSet). set.pts) (reverse sets))
-  pub before_next : (next : Epoch) → slice_get epochs (sweep.place + 1) ≡ Some next → All (λ (set : PlannedSet). set.pts < next.start) sets
-  pub none : is_first seen ≡ true → (count ≡ 0) × (sweep.place ≡ 0)
-  pub whole_is : is_first seen ≡ false → (set : PlannedSet) × (last_whole (reverse sets) ≡ Some set) × (set.pts ≡ whole)
+  pub before_next : (next : Epoch) → slice_get epochs (walk.place + 1) ≡ Some next → All (λ (set : PlannedSet). set.pts < next.start) sets
+  pub none : is_first seen ≡ true → (count ≡ 0) × (walk.place ≡ 0)
+  pub whole_is : is_first seen ≡ false → (set : PlannedSet) × (last_entry (reverse sets) ≡ Some set) × (set.pts ≡ whole)
   pub small : whole < 2 ^ 40
 
 -- the walk at its next instant
-pub record IsReady (epochs : List Epoch) (refresh : ℕ) (instants : List Instant) (count : ℕ) (sets : List PlannedSet) (instant : Instant) (sweep : Sweep) (whole : ℕ) : Type 0 where
+pub record IsReady (epochs : List Epoch) (refresh : ℕ) (instants : List Instant) (count : ℕ) (sets : List PlannedSet) (instant : Instant) (walk : EpochWalk) (whole : ℕ) : Type 0 where
   pub seen : List ℕ
-  pub stands : IsSweep epochs seen sweep
+  pub stands : IsEpochWalk epochs seen walk
   pub seen_is : seen ≡ take_while (nat_le stands.epoch.start) (map (λ (set : PlannedSet). set.pts) (reverse sets))
   pub timely : IsTimely epochs stands.epoch.start seen instant
-  pub at : IsEpochAt epochs instant.tick sweep.place stands.epoch
-  pub whole_is : is_first seen ≡ false → (set : PlannedSet) × (last_whole (reverse sets) ≡ Some set) × (set.pts ≡ whole)
+  pub at : IsEpochAt epochs instant.tick walk.place stands.epoch
+  pub whole_is : is_first seen ≡ false → (set : PlannedSet) × (last_entry (reverse sets) ≡ Some set) × (set.pts ≡ whole)
 
 -- ---- at the beginning
 
-pub HavePlanned-none : (epochs : List Epoch) (refresh : ℕ) (profile : Profile) (instants : List Instant) (sweep : Sweep) → sweep.place ≡ 0 → IsSweep epochs [] sweep → HavePlanned epochs refresh profile instants 0 [] sweep 0
-HavePlanned-none epochs refresh profile instants sweep place stands = record {
+pub HavePlanned-none : (epochs : List Epoch) (refresh : ℕ) (profile : Profile) (instants : List Instant) (walk : EpochWalk) → walk.place ≡ 0 → IsEpochWalk epochs [] walk → HavePlanned epochs refresh profile instants 0 [] walk 0
+HavePlanned-none epochs refresh profile instants walk place stands = record {
   count_is = refl;
   times = refl;
   rows = λ k d e h. absurd (omega arith);
@@ -213,11 +214,11 @@ after_head : (start : ℕ) (xs seen : List ℕ) (tick : ℕ) → seen ≡ take_w
 after_head start [] seen tick e h = subst (λ (s : List ℕ). IsAfter s tick) (sym e) tt
 after_head start (x ∷ xs) seen tick e h = after_by start x tick xs seen (nat_le start x) (e ∙ take_while-cons (nat_le start) x xs) (h (omega arith))
 
-ready_stays : (epochs : List Epoch) (refresh : ℕ) (profile : Profile) (instants : List Instant) (count : ℕ) (sets : List PlannedSet) (instant : Instant) (old new : Sweep) (whole : ℕ) → IsPlain epochs refresh → AreSteps epochs refresh instants →
+ready_stays : (epochs : List Epoch) (refresh : ℕ) (profile : Profile) (instants : List Instant) (count : ℕ) (sets : List PlannedSet) (instant : Instant) (old new : EpochWalk) (whole : ℕ) → IsPlain epochs refresh → AreRecordedInstants epochs refresh instants →
     HavePlanned epochs refresh profile instants count sets old whole → count < length instants → instant ≡ get_or instants count instant → Stays epochs instant.tick old new → IsReady epochs refresh instants count sets instant new whole
 ready_stays epochs refresh profile instants count sets instant old new whole plain steps have h r stays =
     let epoch = have.stands.epoch in
-    let step = subst (IsStep epochs) (sym r) (steps.each count instant h) in
+    let step = subst (IsRecordedInstant epochs) (sym r) (steps.each count instant h) in
     let long = length-map instants (λ (x : Instant). x.tick) in
     let here : get_or (instant_ticks instants) count 0 ≡ instant.tick = get_or-map (λ (x : Instant). x.tick) instants count instant 0 h ∙ ap (λ (x : Instant). x.tick) (sym r) in
     let is_instant = subst (λ (t : ℕ). IsInstant epochs refresh t) here (steps.ticks.each count 0 (omega arith)) in
@@ -249,17 +250,17 @@ ready_stays epochs refresh profile instants count sets instant old new whole pla
       };
       whole_is = have.whole_is;
     } in
-    subst (λ (sweep : Sweep). IsReady epochs refresh instants count sets instant sweep whole) (sym stays.same) ready
+    subst (λ (walk : EpochWalk). IsReady epochs refresh instants count sets instant walk whole) (sym stays.same) ready
 
-ready_enters : (epochs : List Epoch) (refresh : ℕ) (profile : Profile) (instants : List Instant) (count : ℕ) (sets : List PlannedSet) (instant : Instant) (old new : Sweep) (whole : ℕ) → IsPlain epochs refresh → AreSteps epochs refresh instants →
+ready_enters : (epochs : List Epoch) (refresh : ℕ) (profile : Profile) (instants : List Instant) (count : ℕ) (sets : List PlannedSet) (instant : Instant) (old new : EpochWalk) (whole : ℕ) → IsPlain epochs refresh → AreRecordedInstants epochs refresh instants →
     HavePlanned epochs refresh profile instants count sets old whole → count < length instants → instant ≡ get_or instants count instant → Enters epochs instant.tick old new → IsReady epochs refresh instants count sets instant new whole
 ready_enters epochs refresh profile instants count sets instant old new whole plain steps have h r enters =
     let epoch = enters.stands.epoch in
-    let step = subst (IsStep epochs) (sym r) (steps.each count instant h) in
+    let step = subst (IsRecordedInstant epochs) (sym r) (steps.each count instant h) in
     let long = length-map instants (λ (x : Instant). x.tick) in
     let here : get_or (instant_ticks instants) count 0 ≡ instant.tick = get_or-map (λ (x : Instant). x.tick) instants count instant 0 h ∙ ap (λ (x : Instant). x.tick) (sym r) in
     let found : slice_get epochs (old.place + 1) ≡ Some epoch = ap (λ (k : ℕ). slice_get epochs k) (sym enters.place) ∙ enters.stands.found in
-    let begun : epoch.start ≤ instant.tick = let same : enters.next ≡ epoch = some_same enters.next epoch (sym enters.there ∙ found) in let e = ap (λ (x : Epoch). x.start) same in let b = enters.begun in omega arith in
+    let started : epoch.start ≤ instant.tick = let same : enters.next ≡ epoch = some_same enters.next epoch (sym enters.there ∙ found) in let e = ap (λ (x : Epoch). x.start) same in let b = enters.started in omega arith in
     let below = have.before_next epoch found in
     let sized = have.count_is in
     let d = no_set in
@@ -274,7 +275,7 @@ ready_enters epochs refresh profile instants count sets instant old new whole pl
       timely = record { named = step.named; at_start = λ first. same; later = λ first. cc; after = tt };
       at = record {
         found = enters.stands.found;
-        started = begun;
+        started = started;
         last = λ later other beyond there.
             let short = slice_get_within epochs later other there in
             let far = plain.rise new.place later other beyond short in
@@ -288,7 +289,7 @@ ready_enters epochs refresh profile instants count sets instant old new whole pl
       whole_is = λ first. cc;
     }
 
-pub ready_on : (epochs : List Epoch) (refresh : ℕ) (profile : Profile) (instants : List Instant) (count : ℕ) (sets : List PlannedSet) (instant : Instant) (old new : Sweep) (whole : ℕ) → IsPlain epochs refresh → AreSteps epochs refresh instants →
+pub ready_on : (epochs : List Epoch) (refresh : ℕ) (profile : Profile) (instants : List Instant) (count : ℕ) (sets : List PlannedSet) (instant : Instant) (old new : EpochWalk) (whole : ℕ) → IsPlain epochs refresh → AreRecordedInstants epochs refresh instants →
     HavePlanned epochs refresh profile instants count sets old whole → count < length instants → instant ≡ get_or instants count instant → GoesOn epochs instant.tick old new → IsReady epochs refresh instants count sets instant new whole
 ready_on epochs refresh profile instants count sets instant old new whole plain steps have h r (inl enters) = ready_enters epochs refresh profile instants count sets instant old new whole plain steps have h r enters
 ready_on epochs refresh profile instants count sets instant old new whole plain steps have h r (inr stays) = ready_stays epochs refresh profile instants count sets instant old new whole plain steps have h r stays
@@ -296,12 +297,12 @@ ready_on epochs refresh profile instants count sets instant old new whole plain 
 -- ---- the set of the instant
 
 -- the set of an instant was made
-pub record IsMade (epochs : List Epoch) (refresh : ℕ) (instants : List Instant) (count : ℕ) (sets : List PlannedSet) (instant : Instant) (sweep : Sweep) (whole : ℕ) (state : State) (step : Step) : Type 0 where
-  pub ready : IsReady epochs refresh instants count sets instant sweep whole
-  pub state_by : state ≡ state_of sweep.course.first instant.named (nat_le (whole + refresh) instant.tick)
-  pub set_of : IsSetOf instant state sweep.place step.set
-  pub advanced : IsAdvanced epochs ready.stands.epoch sweep.layout ready.seen instant.tick state step
-  pub safe : IsSafe sweep.layout step.course
+pub record IsMade (epochs : List Epoch) (refresh : ℕ) (instants : List Instant) (count : ℕ) (sets : List PlannedSet) (instant : Instant) (walk : EpochWalk) (whole : ℕ) (state : State) (step : EpochStep) : Type 0 where
+  pub ready : IsReady epochs refresh instants count sets instant walk whole
+  pub state_by : state ≡ state_of walk.current.first instant.named (nat_le (whole + refresh) instant.tick)
+  pub set_of : IsSetOf instant state walk.place step.set
+  pub advanced : IsAdvanced epochs ready.stands.epoch walk.layout ready.seen instant.tick state step
+  pub safe : IsSafe walk.layout step.current
 
 row_before : (past : List PlannedSet) (row : ℕ) (d : PlannedSet) → 0 < length past → row ≡ (get_or past 0 d).row → IsRowBefore past row
 row_before [] row d h e = absurd (omega arith)
@@ -319,10 +320,10 @@ starts_at : (start tick : ℕ) (first : Bool) → (first ≡ true → tick ≡ s
 starts_at start tick true same later = let e = same refl in grind (arith, nat_tests)
 starts_at start tick false same later = let h = later refl in grind (arith, nat_tests)
 
-due_same : (refresh tick whole : ℕ) (past : List PlannedSet) → (set : PlannedSet) × (last_whole past ≡ Some set) × (set.pts ≡ whole) → nat_le (whole + refresh) tick ≡ is_due refresh tick (last_whole past)
+due_same : (refresh tick whole : ℕ) (past : List PlannedSet) → (set : PlannedSet) × (last_entry past ≡ Some set) × (set.pts ≡ whole) → nat_le (whole + refresh) tick ≡ is_due refresh tick (last_entry past)
 due_same refresh tick whole past (set, is, time) = ap (λ (t : ℕ). nat_le (t + refresh) tick) (sym time) ∙ ap (is_due refresh tick) (sym is)
 
-named_row : (epochs : List Epoch) (sets : List PlannedSet) (instants : List Instant) (refresh count : ℕ) (instant : Instant) → AreSteps epochs refresh instants → count < length instants → instant ≡ get_or instants count instant → length sets ≡ count →
+named_row : (epochs : List Epoch) (sets : List PlannedSet) (instants : List Instant) (refresh count : ℕ) (instant : Instant) → AreRecordedInstants epochs refresh instants → count < length instants → instant ≡ get_or instants count instant → length sets ≡ count →
     ((k : ℕ) (d : PlannedSet) (e : Instant) → k < count → (get_or sets k d).row ≡ (get_or instants k e).row) → (count ≡ 0) ⊎ (0 < count) → instant.named ≡ false → IsRowBefore (reverse sets) instant.row
 named_row epochs sets instants refresh count instant steps h r long rows (inl none) unnamed =
     let named = first_named instants instant (omega arith) steps.first in
@@ -338,37 +339,37 @@ named_row epochs sets instants refresh count instant steps h r long rows (inr so
     let head : get_or (reverse sets) 0 no_set ≡ get_or sets (count - 1) no_set = get_or-reverse sets 0 no_set (omega arith) ∙ ap (λ (k : ℕ). get_or sets k no_set) (omega arith) in
     row_before (reverse sets) instant.row no_set short (ap (λ (x : Instant). x.row) (sym here) ∙ kept ∙ sym last ∙ ap (λ (x : PlannedSet). x.row) (sym head))
 
-pub next_made : (epochs : List Epoch) (refresh : ℕ) (profile : Profile) (instants : List Instant) (count : ℕ) (sets : List PlannedSet) (instant : Instant) (old sweep : Sweep) (whole : ℕ) (state : State) (step : Step) →
-    AreSteps epochs refresh instants → HavePlanned epochs refresh profile instants count sets old whole → count < length instants → instant ≡ get_or instants count instant →
-    IsMade epochs refresh instants count sets instant sweep whole state step → IsNext epochs refresh (reverse sets) step.set
-next_made epochs refresh profile instants count sets instant old sweep whole state step steps have h r made =
+pub next_made : (epochs : List Epoch) (refresh : ℕ) (profile : Profile) (instants : List Instant) (count : ℕ) (sets : List PlannedSet) (instant : Instant) (old walk : EpochWalk) (whole : ℕ) (state : State) (step : EpochStep) →
+    AreRecordedInstants epochs refresh instants → HavePlanned epochs refresh profile instants count sets old whole → count < length instants → instant ≡ get_or instants count instant →
+    IsMade epochs refresh instants count sets instant walk whole state step → IsNext epochs refresh (reverse sets) step.set
+next_made epochs refresh profile instants count sets instant old walk whole state step steps have h r made =
     let set = step.set in
     let ready = made.ready in
     let epoch = ready.stands.epoch in
     let time : instant.tick ≡ set.pts = sym made.set_of.pts in
-    let fact = subst (IsStep epochs) (sym r) (steps.each count instant h) in
+    let fact = subst (IsRecordedInstant epochs) (sym r) (steps.each count instant h) in
     let named : instant.named ≡ is_named epochs set.pts = fact.named ∙ ap (is_named epochs) time in
     let full : instant.tick ∷ ready.seen ≡ seen_of epoch.start (reverse sets) set.pts = ap (λ (t : ℕ). t ∷ ready.seen) time ∙ ap (λ (xs : List ℕ). set.pts ∷ xs) ready.seen_is in
     record {
       epoch = epoch;
-      place = subst (λ (place : ℕ). IsEpochAt epochs set.pts place epoch) (sym made.set_of.epoch) (subst (λ (t : ℕ). IsEpochAt epochs t sweep.place epoch) time ready.at);
+      place = subst (λ (place : ℕ). IsEpochAt epochs set.pts place epoch) (sym made.set_of.epoch) (subst (λ (t : ℕ). IsEpochAt epochs t walk.place epoch) time ready.at);
       row = record {
         of_named = λ yes. subst (λ (row : ℕ). IsLeastRow (flat_map events_of epochs) set.pts row) (sym made.set_of.row) (subst (λ (t : ℕ). IsLeastRow (flat_map events_of epochs) t instant.row) time (fact.row (named ∙ yes)));
         of_refresh = λ no. subst (λ (row : ℕ). IsRowBefore (reverse sets) row) (sym made.set_of.row) (named_row epochs sets instants refresh count instant steps h r have.count_is have.rows (grind arith) (named ∙ no));
       };
       state = made.set_of.state_is ∙ made.state_by
-          ∙ ap (λ (b : Bool). state_of b instant.named (nat_le (whole + refresh) instant.tick)) ready.stands.course.first
-          ∙ state_same (is_first ready.seen) (epoch.start == set.pts) instant.named (nat_le (whole + refresh) instant.tick) (is_due refresh set.pts (last_whole (reverse sets)))
+          ∙ ap (λ (b : Bool). state_of b instant.named (nat_le (whole + refresh) instant.tick)) ready.stands.current.first
+          ∙ state_same (is_first ready.seen) (epoch.start == set.pts) instant.named (nat_le (whole + refresh) instant.tick) (is_due refresh set.pts (last_entry (reverse sets)))
           (ap (λ (t : ℕ). epoch.start == t) (sym time) ∙ starts_at epoch.start instant.tick (is_first ready.seen) ready.timely.at_start ready.timely.later)
-          (λ first. due_same refresh instant.tick whole (reverse sets) (ready.whole_is first) ∙ ap (λ (t : ℕ). is_due refresh t (last_whole (reverse sets))) time)
-          ∙ ap (λ (b : Bool). state_of (epoch.start == set.pts) b (is_due refresh set.pts (last_whole (reverse sets)))) named;
+          (λ first. due_same refresh instant.tick whole (reverse sets) (ready.whole_is first) ∙ ap (λ (t : ℕ). is_due refresh t (last_entry (reverse sets))) time)
+          ∙ ap (λ (b : Bool). state_of (epoch.start == set.pts) b (is_due refresh set.pts (last_entry (reverse sets)))) named;
       version = made.advanced.version ∙ ap (λ (xs : List ℕ). page_version epochs epoch.start xs) full;
-      carried = subst (λ (x : State). IsCarried epoch (is_whole x) (seen_of epoch.start (reverse sets) set.pts) set) (sym made.set_of.state_is) (subst (λ (xs : List ℕ). IsCarried epoch (is_whole state) xs set) full made.advanced.carried);
+      carried = subst (λ (x : State). IsCarried epoch (is_entry_state x) (seen_of epoch.start (reverse sets) set.pts) set) (sym made.set_of.state_is) (subst (λ (xs : List ℕ). IsCarried epoch (is_entry_state state) xs set) full made.advanced.carried);
     }
 
-pub needs_made : (epochs : List Epoch) (refresh : ℕ) (instants : List Instant) (count : ℕ) (sets : List PlannedSet) (instant : Instant) (sweep : Sweep) (whole : ℕ) (state : State) (step : Step) (pixels : ℕ) →
-    (made : IsMade epochs refresh instants count sets instant sweep whole state step) → pixels ≡ pixel_need made.ready.stands.epoch.regions → Needs epochs (reverse sets) step.set pixels step.nodes
-needs_made epochs refresh instants count sets instant sweep whole state step pixels made is =
+pub needs_made : (epochs : List Epoch) (refresh : ℕ) (instants : List Instant) (count : ℕ) (sets : List PlannedSet) (instant : Instant) (walk : EpochWalk) (whole : ℕ) (state : State) (step : EpochStep) (pixels : ℕ) →
+    (made : IsMade epochs refresh instants count sets instant walk whole state step) → pixels ≡ pixel_need made.ready.stands.epoch.regions → Needs epochs (reverse sets) step.set pixels step.nodes
+needs_made epochs refresh instants count sets instant walk whole state step pixels made is =
     let set = step.set in
     let ready = made.ready in
     let epoch = ready.stands.epoch in
@@ -381,9 +382,9 @@ needs_made epochs refresh instants count sets instant sweep whole state step pix
     }
 
 -- the sets so far are the first ones
-pub first_sets : (epochs : List Epoch) (refresh : ℕ) (profile : Profile) (instants : List Instant) (count : ℕ) (sets : List PlannedSet) (sweep : Sweep) (whole : ℕ) → count ≤ length instants →
-    HavePlanned epochs refresh profile instants count sets sweep whole → AreFirstSets epochs refresh profile (instant_ticks instants) sets
-first_sets epochs refresh profile instants count sets sweep whole h have =
+pub first_sets : (epochs : List Epoch) (refresh : ℕ) (profile : Profile) (instants : List Instant) (count : ℕ) (sets : List PlannedSet) (walk : EpochWalk) (whole : ℕ) → count ≤ length instants →
+    HavePlanned epochs refresh profile instants count sets walk whole → AreFirstSets epochs refresh profile (instant_ticks instants) sets
+first_sets epochs refresh profile instants count sets walk whole h have =
     let long = length-map instants (λ (x : Instant). x.tick) in
     let sized = have.count_is in
     record {
@@ -393,22 +394,22 @@ first_sets epochs refresh profile instants count sets sweep whole h have =
       fit = have.fit;
     }
 
-pub planned_all : (epochs : List Epoch) (refresh : ℕ) (profile : Profile) (instants : List Instant) (count : ℕ) (sets : List PlannedSet) (sweep : Sweep) (whole : ℕ) → count ≡ length instants → AreSteps epochs refresh instants →
-    HavePlanned epochs refresh profile instants count sets sweep whole → ArePlanned epochs refresh profile sets
-planned_all epochs refresh profile instants count sets sweep whole all steps have =
+pub planned_all : (epochs : List Epoch) (refresh : ℕ) (profile : Profile) (instants : List Instant) (count : ℕ) (sets : List PlannedSet) (walk : EpochWalk) (whole : ℕ) → count ≡ length instants → AreRecordedInstants epochs refresh instants →
+    HavePlanned epochs refresh profile instants count sets walk whole → ArePlanned epochs refresh profile sets
+planned_all epochs refresh profile instants count sets walk whole all steps have =
     let long = length-map instants (λ (x : Instant). x.tick) in
     let sized = have.count_is in
     record {
       instants = instant_ticks instants;
       are_instants = steps.ticks;
-      first = first_sets epochs refresh profile instants count sets sweep whole (omega arith) have;
+      first = first_sets epochs refresh profile instants count sets walk whole (omega arith) have;
       all = omega arith;
     }
 
-pub unheld_made : (epochs : List Epoch) (refresh : ℕ) (profile : Profile) (instants : List Instant) (count : ℕ) (sets : List PlannedSet) (instant : Instant) (old sweep : Sweep) (whole : ℕ) (state : State) (step : Step) (pixels : ℕ) →
-    AreSteps epochs refresh instants → HavePlanned epochs refresh profile instants count sets old whole → count < length instants → instant ≡ get_or instants count instant →
-    (made : IsMade epochs refresh instants count sets instant sweep whole state step) → pixels ≡ pixel_need made.ready.stands.epoch.regions → IsFirstUnheld epochs refresh profile instant.row pixels step.nodes
-unheld_made epochs refresh profile instants count sets instant old sweep whole state step pixels steps have h r made is =
+pub unheld_made : (epochs : List Epoch) (refresh : ℕ) (profile : Profile) (instants : List Instant) (count : ℕ) (sets : List PlannedSet) (instant : Instant) (old walk : EpochWalk) (whole : ℕ) (state : State) (step : EpochStep) (pixels : ℕ) →
+    AreRecordedInstants epochs refresh instants → HavePlanned epochs refresh profile instants count sets old whole → count < length instants → instant ≡ get_or instants count instant →
+    (made : IsMade epochs refresh instants count sets instant walk whole state step) → pixels ≡ pixel_need made.ready.stands.epoch.regions → IsFirstUnheld epochs refresh profile instant.row pixels step.nodes
+unheld_made epochs refresh profile instants count sets instant old walk whole state step pixels steps have h r made is =
     let long = length-map instants (λ (x : Instant). x.tick) in
     let sized = have.count_is in
     let here : get_or (instant_ticks instants) count 0 ≡ instant.tick = get_or-map (λ (x : Instant). x.tick) instants count instant 0 h ∙ ap (λ (x : Instant). x.tick) (sym r) in
@@ -419,9 +420,9 @@ unheld_made epochs refresh profile instants count sets instant old sweep whole s
       first = first_sets epochs refresh profile instants count sets old whole (omega arith) have;
       set = step.set;
       time = ap (λ (k : ℕ). slice_get (instant_ticks instants) k) have.count_is ∙ slice_get-get_or (instant_ticks instants) count 0 (omega arith) ∙ ap (λ (t : ℕ). Some t) (here ∙ sym made.set_of.pts);
-      next = next_made epochs refresh profile instants count sets instant old sweep whole state step steps have h r made;
+      next = next_made epochs refresh profile instants count sets instant old walk whole state step steps have h r made;
       is_row = sym made.set_of.row;
-      needs = needs_made epochs refresh instants count sets instant sweep whole state step pixels made is;
+      needs = needs_made epochs refresh instants count sets instant walk whole state step pixels made is;
     }
 
 -- ---- one instant on
@@ -432,29 +433,29 @@ rows_by sets set instants count k d e long rows here (inl h) = ap (λ (x : Plann
 rows_by sets set instants count k d e long rows here (inr same) =
     ap (λ (x : PlannedSet). x.row) (get_or_push sets set d k (omega arith)) ∙ here ∙ ap (λ (j : ℕ). (get_or instants j e).row) (sym same)
 
-whole_after : (past : List PlannedSet) (set : PlannedSet) (state : State) (first : Bool) (whole tick next : ℕ) (b : Bool) → is_whole state ≡ b → set.state ≡ state → set.pts ≡ tick → next ≡ cond b tick whole → (b ≡ false → first ≡ false) →
-    (first ≡ false → (other : PlannedSet) × (last_whole past ≡ Some other) × (other.pts ≡ whole)) → (other : PlannedSet) × (last_whole (set ∷ past) ≡ Some other) × (other.pts ≡ next)
+whole_after : (past : List PlannedSet) (set : PlannedSet) (state : State) (first : Bool) (whole tick next : ℕ) (b : Bool) → is_entry_state state ≡ b → set.state ≡ state → set.pts ≡ tick → next ≡ cond b tick whole → (b ≡ false → first ≡ false) →
+    (first ≡ false → (other : PlannedSet) × (last_entry past ≡ Some other) × (other.pts ≡ whole)) → (other : PlannedSet) × (last_entry (set ∷ past) ≡ Some other) × (other.pts ≡ next)
 whole_after past set state first whole tick next true t s p n f before =
-    (set, ap (λ (b : Bool). cond b (Some set) (last_whole past)) (ap is_whole s ∙ t), p ∙ sym n)
+    (set, ap (λ (b : Bool). cond b (Some set) (last_entry past)) (ap is_entry_state s ∙ t), p ∙ sym n)
 whole_after past set state first whole tick next false t s p n f before =
     let old = before (f refl) in
-    (old.0, ap (λ (b : Bool). cond b (Some set) (last_whole past)) (ap is_whole s ∙ t) ∙ old.1, old.2 ∙ sym n)
+    (old.0, ap (λ (b : Bool). cond b (Some set) (last_entry past)) (ap is_entry_state s ∙ t) ∙ old.1, old.2 ∙ sym n)
 
 -- a set that is not whole does not begin an epoch
-not_begun : (first named due : Bool) (state : State) → state ≡ state_of first named due → is_whole state ≡ false → first ≡ false
-not_begun true named due state s w = absurd (false≢true (sym w ∙ ap is_whole s))
-not_begun false named due state s w = refl
+not_started : (first named due : Bool) (state : State) → state ≡ state_of first named due → is_entry_state state ≡ false → first ≡ false
+not_started true named due state s w = absurd (false≢true (sym w ∙ ap is_entry_state s))
+not_started false named due state s w = refl
 
 small_next : (b : Bool) (tick whole next : ℕ) → next ≡ cond b tick whole → tick < 2 ^ 40 → whole < 2 ^ 40 → next < 2 ^ 40
 small_next true tick whole next n h k = omega arith
 small_next false tick whole next n h k = omega arith
 
 -- the sets before are before the epoch that follows
-All-below : (epochs : List Epoch) (refresh : ℕ) (profile : Profile) (instants : List Instant) (count : ℕ) (sets : List PlannedSet) (old sweep : Sweep) (whole tick : ℕ) (later : Epoch) → IsPlain epochs refresh →
-    HavePlanned epochs refresh profile instants count sets old whole → GoesOn epochs tick old sweep → slice_get epochs (sweep.place + 1) ≡ Some later → All (λ (x : PlannedSet). x.pts < later.start) sets
-All-below epochs refresh profile instants count sets old sweep whole tick later plain have (inr stays) found =
-    have.before_next later (ap (λ (x : Sweep). slice_get epochs (x.place + 1)) (sym stays.same) ∙ found)
-All-below epochs refresh profile instants count sets old sweep whole tick later plain have (inl enters) found =
+All-below : (epochs : List Epoch) (refresh : ℕ) (profile : Profile) (instants : List Instant) (count : ℕ) (sets : List PlannedSet) (old walk : EpochWalk) (whole tick : ℕ) (later : Epoch) → IsPlain epochs refresh →
+    HavePlanned epochs refresh profile instants count sets old whole → GoesOn epochs tick old walk → slice_get epochs (walk.place + 1) ≡ Some later → All (λ (x : PlannedSet). x.pts < later.start) sets
+All-below epochs refresh profile instants count sets old walk whole tick later plain have (inr stays) found =
+    have.before_next later (ap (λ (x : EpochWalk). slice_get epochs (x.place + 1)) (sym stays.same) ∙ found)
+All-below epochs refresh profile instants count sets old walk whole tick later plain have (inl enters) found =
     let place = enters.place in
     let there : slice_get epochs (old.place + 1 + 1) ≡ Some later = ap (λ (k : ℕ). slice_get epochs (k + 1)) (sym place) ∙ found in
     let short = slice_get_within epochs (old.place + 1 + 1) later there in
@@ -464,12 +465,12 @@ All-below epochs refresh profile instants count sets old sweep whole tick later 
     let less : enters.next.start < later.start = subst (λ (x : Epoch). enters.next.start < x.start) second (subst (λ (x : Epoch). x.start < (get_or epochs (old.place + 1 + 1) later).start) first far) in
     All-weaker (λ (x : PlannedSet). x.pts < enters.next.start) (λ (x : PlannedSet). x.pts < later.start) (λ x below. omega arith) sets (have.before_next enters.next enters.there)
 
-pub HavePlanned-more : (epochs : List Epoch) (refresh : ℕ) (profile : Profile) (instants : List Instant) (count : ℕ) (sets : List PlannedSet) (instant : Instant) (old sweep : Sweep) (whole next : ℕ) (state : State) (step : Step) (pixels : ℕ) (b : Bool) →
-    IsPlain epochs refresh → AreSteps epochs refresh instants → HavePlanned epochs refresh profile instants count sets old whole → count < length instants → instant ≡ get_or instants count instant → GoesOn epochs instant.tick old sweep →
-    (made : IsMade epochs refresh instants count sets instant sweep whole state step) → pixels ≡ pixel_need made.ready.stands.epoch.regions → pixels ≤ profile.pixels → step.nodes ≤ profile.nodes →
-    is_whole state ≡ b → next ≡ cond b instant.tick whole →
-    HavePlanned epochs refresh profile instants (count + 1) (sets ++ step.set ∷ []) (record { place = sweep.place; layout = sweep.layout; course = step.course }) next
-HavePlanned-more epochs refresh profile instants count sets instant old sweep whole next state step pixels b plain steps have h r goes made is enough fits w n =
+pub HavePlanned-more : (epochs : List Epoch) (refresh : ℕ) (profile : Profile) (instants : List Instant) (count : ℕ) (sets : List PlannedSet) (instant : Instant) (old walk : EpochWalk) (whole next : ℕ) (state : State) (step : EpochStep) (pixels : ℕ) (b : Bool) →
+    IsPlain epochs refresh → AreRecordedInstants epochs refresh instants → HavePlanned epochs refresh profile instants count sets old whole → count < length instants → instant ≡ get_or instants count instant → GoesOn epochs instant.tick old walk →
+    (made : IsMade epochs refresh instants count sets instant walk whole state step) → pixels ≡ pixel_need made.ready.stands.epoch.regions → pixels ≤ profile.pixels → step.nodes ≤ profile.nodes →
+    is_entry_state state ≡ b → next ≡ cond b instant.tick whole →
+    HavePlanned epochs refresh profile instants (count + 1) (sets ++ step.set ∷ []) (record { place = walk.place; layout = walk.layout; current = step.current }) next
+HavePlanned-more epochs refresh profile instants count sets instant old walk whole next state step pixels b plain steps have h r goes made is enough fits w n =
     let set = step.set in
     let ready = made.ready in
     let epoch = ready.stands.epoch in
@@ -484,54 +485,54 @@ HavePlanned-more epochs refresh profile instants count sets instant old sweep wh
       times = map_push (λ (x : PlannedSet). x.pts) sets set ∙ ap (λ (xs : List ℕ). xs ++ set.pts ∷ []) have.times ∙ ap (λ (k : ℕ). take count (instant_ticks instants) ++ k ∷ []) (made.set_of.pts ∙ sym here)
           ∙ sym (take_more (instant_ticks instants) count 0 (omega arith));
       rows = λ k d e inside. rows_by sets set instants count k d e have.count_is have.rows (made.set_of.row ∙ ap (λ (x : Instant). x.row) (r ∙ get_or_default instants count instant e h)) (grind arith);
-      each = Stands-push (IsNext epochs refresh) sets set have.each (next_made epochs refresh profile instants count sets instant old sweep whole state step steps have h r made);
-      fit = Stands-push (Fits epochs profile) sets set have.fit (record { pixels = pixels; nodes = step.nodes; needs = needs_made epochs refresh instants count sets instant sweep whole state step pixels made is; has_pixels = enough; has_nodes = fits });
+      each = Stands-push (IsNext epochs refresh) sets set have.each (next_made epochs refresh profile instants count sets instant old walk whole state step steps have h r made);
+      fit = Stands-push (Fits epochs profile) sets set have.fit (record { pixels = pixels; nodes = step.nodes; needs = needs_made epochs refresh instants count sets instant walk whole state step pixels made is; has_pixels = enough; has_nodes = fits });
       seen = instant.tick ∷ ready.seen;
-      stands = record { epoch = epoch; found = ready.stands.found; layout = ready.stands.layout; course = made.advanced.course; safe = made.safe };
+      stands = record { epoch = epoch; found = ready.stands.found; layout = ready.stands.layout; current = made.advanced.current; safe = made.safe };
       seen_is = ap (λ (k : ℕ). k ∷ ready.seen) (sym made.set_of.pts) ∙ ap (λ (xs : List ℕ). set.pts ∷ xs) ready.seen_is
           ∙ sym (ap (λ (xs : List PlannedSet). take_while (nat_le epoch.start) (map (λ (x : PlannedSet). x.pts) xs)) (reverse_more sets set)
           ∙ take_while-cons (nat_le epoch.start) set.pts (map (λ (x : PlannedSet). x.pts) (reverse sets))
           ∙ ap (λ (c : Bool). cond c (set.pts ∷ take_while (nat_le epoch.start) (map (λ (x : PlannedSet). x.pts) (reverse sets))) []) t);
       before_next = λ later found.
-          All-push (λ (x : PlannedSet). x.pts < later.start) sets set (All-below epochs refresh profile instants count sets old sweep whole instant.tick later plain have goes found)
-          (let less = ready.at.last (sweep.place + 1) later (omega arith) found in let p = made.set_of.pts in omega arith);
+          All-push (λ (x : PlannedSet). x.pts < later.start) sets set (All-below epochs refresh profile instants count sets old walk whole instant.tick later plain have goes found)
+          (let less = ready.at.last (walk.place + 1) later (omega arith) found in let p = made.set_of.pts in omega arith);
       none = λ first. cc;
       whole_is = λ first.
-          subst (λ (xs : List PlannedSet). (other : PlannedSet) × (last_whole xs ≡ Some other) × (other.pts ≡ next)) (sym (reverse_more sets set))
+          subst (λ (xs : List PlannedSet). (other : PlannedSet) × (last_entry xs ≡ Some other) × (other.pts ≡ next)) (sym (reverse_more sets set))
           (whole_after (reverse sets) set state (is_first ready.seen) whole instant.tick next b w made.set_of.state_is made.set_of.pts n
-          (λ no. sym ready.stands.course.first ∙ not_begun sweep.course.first instant.named (nat_le (whole + refresh) instant.tick) state made.state_by (w ∙ no)) ready.whole_is);
+          (λ no. sym ready.stands.current.first ∙ not_started walk.current.first instant.named (nat_le (whole + refresh) instant.tick) state made.state_by (w ∙ no)) ready.whole_is);
       small = small_next b instant.tick whole next n (omega arith) have.small;
     }
 
 -- ---- what a step of the walk gives
 
-pub same_epoch : {epochs : List Epoch} {refresh : ℕ} {instants : List Instant} {count : ℕ} {sets : List PlannedSet} {instant : Instant} {sweep : Sweep} {whole : ℕ} (ready : IsReady epochs refresh instants count sets instant sweep whole) (epoch : Epoch) →
-    epoch ≡ get_or epochs sweep.place epoch → epoch ≡ ready.stands.epoch
-same_epoch {epochs} {refresh} {instants} {count} {sets} {instant} {sweep} {whole} ready epoch is = is ∙ get_or_from_slice_get epochs sweep.place ready.stands.epoch epoch ready.stands.found
+pub same_epoch : {epochs : List Epoch} {refresh : ℕ} {instants : List Instant} {count : ℕ} {sets : List PlannedSet} {instant : Instant} {walk : EpochWalk} {whole : ℕ} (ready : IsReady epochs refresh instants count sets instant walk whole) (epoch : Epoch) →
+    epoch ≡ get_or epochs walk.place epoch → epoch ≡ ready.stands.epoch
+same_epoch {epochs} {refresh} {instants} {count} {sets} {instant} {walk} {whole} ready epoch is = is ∙ get_or_from_slice_get epochs walk.place ready.stands.epoch epoch ready.stands.found
 
-pub place_within : {epochs : List Epoch} {refresh : ℕ} {instants : List Instant} {count : ℕ} {sets : List PlannedSet} {instant : Instant} {sweep : Sweep} {whole : ℕ} (ready : IsReady epochs refresh instants count sets instant sweep whole) → sweep.place < length epochs
-place_within {epochs} {refresh} {instants} {count} {sets} {instant} {sweep} {whole} ready = slice_get_within epochs sweep.place ready.stands.epoch ready.stands.found
+pub place_within : {epochs : List Epoch} {refresh : ℕ} {instants : List Instant} {count : ℕ} {sets : List PlannedSet} {instant : Instant} {walk : EpochWalk} {whole : ℕ} (ready : IsReady epochs refresh instants count sets instant walk whole) → walk.place < length epochs
+place_within {epochs} {refresh} {instants} {count} {sets} {instant} {walk} {whole} ready = slice_get_within epochs walk.place ready.stands.epoch ready.stands.found
 
-pub small_at : {epochs : List Epoch} {refresh : ℕ} {instants : List Instant} {count : ℕ} {sets : List PlannedSet} {instant : Instant} {sweep : Sweep} {whole : ℕ} (ready : IsReady epochs refresh instants count sets instant sweep whole) (epoch : Epoch) →
-    IsPlain epochs refresh → epoch ≡ get_or epochs sweep.place epoch → IsSmallEpoch epoch
-small_at {epochs} {refresh} {instants} {count} {sets} {instant} {sweep} {whole} ready epoch plain is = subst IsSmallEpoch (sym is) (plain.small sweep.place epoch (place_within ready))
+pub small_at : {epochs : List Epoch} {refresh : ℕ} {instants : List Instant} {count : ℕ} {sets : List PlannedSet} {instant : Instant} {walk : EpochWalk} {whole : ℕ} (ready : IsReady epochs refresh instants count sets instant walk whole) (epoch : Epoch) →
+    IsPlain epochs refresh → epoch ≡ get_or epochs walk.place epoch → IsSmallEpoch epoch
+small_at {epochs} {refresh} {instants} {count} {sets} {instant} {walk} {whole} ready epoch plain is = subst IsSmallEpoch (sym is) (plain.small walk.place epoch (place_within ready))
 
-pub layout_at : {epochs : List Epoch} {refresh : ℕ} {instants : List Instant} {count : ℕ} {sets : List PlannedSet} {instant : Instant} {sweep : Sweep} {whole : ℕ} (ready : IsReady epochs refresh instants count sets instant sweep whole) (epoch : Epoch) →
-    epoch ≡ get_or epochs sweep.place epoch → IsLayout epoch sweep.layout
-layout_at {epochs} {refresh} {instants} {count} {sets} {instant} {sweep} {whole} ready epoch is = subst (λ (x : Epoch). IsLayout x sweep.layout) (sym (same_epoch ready epoch is)) ready.stands.layout
+pub layout_at : {epochs : List Epoch} {refresh : ℕ} {instants : List Instant} {count : ℕ} {sets : List PlannedSet} {instant : Instant} {walk : EpochWalk} {whole : ℕ} (ready : IsReady epochs refresh instants count sets instant walk whole) (epoch : Epoch) →
+    epoch ≡ get_or epochs walk.place epoch → IsLayout epoch walk.layout
+layout_at {epochs} {refresh} {instants} {count} {sets} {instant} {walk} {whole} ready epoch is = subst (λ (x : Epoch). IsLayout x walk.layout) (sym (same_epoch ready epoch is)) ready.stands.layout
 
-pub made_from : {epochs : List Epoch} {refresh : ℕ} {instants : List Instant} {count : ℕ} {sets : List PlannedSet} {instant : Instant} {sweep : Sweep} {whole : ℕ} (ready : IsReady epochs refresh instants count sets instant sweep whole) (epoch : Epoch) (state : State) (step : Step) →
-    epoch ≡ get_or epochs sweep.place epoch → state ≡ state_of sweep.course.first instant.named (nat_le (whole + refresh) instant.tick) → IsSetOf instant state sweep.place step.set →
-    ((epochs : List Epoch) (seen : List ℕ) → IsCourse epochs epoch sweep.layout seen sweep.course → IsTimely epochs epoch.start seen instant → IsAdvanced epochs epoch sweep.layout seen instant.tick state step) →
-    IsSafe sweep.layout step.course → IsMade epochs refresh instants count sets instant sweep whole state step
-made_from {epochs} {refresh} {instants} {count} {sets} {instant} {sweep} {whole} ready epoch state step is by set_of advances safe =
+pub made_from : {epochs : List Epoch} {refresh : ℕ} {instants : List Instant} {count : ℕ} {sets : List PlannedSet} {instant : Instant} {walk : EpochWalk} {whole : ℕ} (ready : IsReady epochs refresh instants count sets instant walk whole) (epoch : Epoch) (state : State) (step : EpochStep) →
+    epoch ≡ get_or epochs walk.place epoch → state ≡ state_of walk.current.first instant.named (nat_le (whole + refresh) instant.tick) → IsSetOf instant state walk.place step.set →
+    ((epochs : List Epoch) (seen : List ℕ) → IsEpochState epochs epoch walk.layout seen walk.current → IsTimely epochs epoch.start seen instant → IsAdvanced epochs epoch walk.layout seen instant.tick state step) →
+    IsSafe walk.layout step.current → IsMade epochs refresh instants count sets instant walk whole state step
+made_from {epochs} {refresh} {instants} {count} {sets} {instant} {walk} {whole} ready epoch state step is by set_of advances safe =
     let same = same_epoch ready epoch is in
     record {
       ready = ready;
       state_by = by;
       set_of = set_of;
-      advanced = subst (λ (x : Epoch). IsAdvanced epochs x sweep.layout ready.seen instant.tick state step) same
-          (advances epochs ready.seen (subst (λ (x : Epoch). IsCourse epochs x sweep.layout ready.seen sweep.course) (sym same) ready.stands.course) (subst (λ (x : Epoch). IsTimely epochs x.start ready.seen instant) (sym same) ready.timely));
+      advanced = subst (λ (x : Epoch). IsAdvanced epochs x walk.layout ready.seen instant.tick state step) same
+          (advances epochs ready.seen (subst (λ (x : Epoch). IsEpochState epochs x walk.layout ready.seen walk.current) (sym same) ready.stands.current) (subst (λ (x : Epoch). IsTimely epochs x.start ready.seen instant) (sym same) ready.timely));
       safe = safe;
     }
 

@@ -19,19 +19,20 @@ use Rattle.page_epoch.specs.declared.planned_set.PlannedSet.{PlannedSet}
 use Rattle.page_epoch.specs.declared.planned_set.SentRegion.{SentRegion}
 use Rattle.page_epoch.specs.declared.planned_set.SentClut.{SentClut}
 use Rattle.cue_list.specs.Authored.{is_live}
-use Rattle.page_epoch.specs.Live.{has_some, cue_at, own_places, live_places, places_below}
-use Rattle.page_epoch.specs.SentRegions.{is_risen, is_extended, region_version, live_before, filled, extended, sent_region}
+use Rattle.page_epoch.specs.Live.{cue_at, own_places, live_places, places_below}
+use Rattle.page_epoch.specs.SentRegions.{is_redrawn, is_extended, region_version, live_before, filled, extended, sent_region}
 use Rattle.page_epoch.specs.SentCluts.{row_at, clut_count, defined_rows, clut_version, clut_with, rows_from, sent_clut, named_cluts, sent_cluts}
 use Rattle.page_epoch.specs.SentRegions.{listed_cues}
 use Rattle.sub_base.specs.declared.profile.Profile.{Profile}
 use Rattle.page_epoch.specs.Plan.{IsCarried, ArePlanned}
 use Rattle.page_epoch.proofs.PlanLaws.{below_34}
-use Rattle.page_epoch.specs.States.{is_whole}
 use Rattle.page_epoch.specs.Sendable.{HasRegion, HasCue, HasColour, IsSendableRegion, IsSendableClut, IsSendableIn, IsSendable}
-use Rattle.page_epoch.specs.Sweeps.{IsPlain, IsSmallEpoch, IsNumbered}
+use Rattle.page_epoch.specs.EpochWalks.{IsPlain, IsSmallEpoch, IsNumbered}
 use Rattle.page_epoch.proofs.ListLaws.{length_kept, length_kept_places, kept_within, twice_within, All-none, All-one, All-pieces, one_each}
 use Rattle.page_epoch.proofs.RowLaws.{defined_within, defined_few}
-use Rattle.page_epoch.proofs.SweepLaws.{count_is}
+use Rattle.page_epoch.proofs.EpochWalkLaws.{count_is}
+use Rattle.stream_syntax.specs.Segments.{is_entry_state}
+use Rattle.sub_base.specs.Lists.{has_some}
 
 -- ---- lists
 
@@ -104,7 +105,7 @@ region_fits epoch whole tick earlier region few has number =
     let small : version < 16 = region_version_small epoch.cues region.id (tick ∷ earlier) in
     let short : length new ≤ 4096 = let a = live_few epoch.cues region.id tick in let b = own_few epoch.cues region.id in omega arith in
     let within : All (HasCue epoch) new = live_within epoch.cues region.id tick in
-    send_by (IsSendableRegion epoch) whole (is_risen old new) (is_extended old new) (filled region.id version new) (extended region.id version old new)
+    send_by (IsSendableRegion epoch) whole (is_redrawn old new) (is_extended old new) (filled region.id version new) (extended region.id version old new)
     (filled_fits epoch region.id version new has number small short within) (extended_fits epoch region.id version old new has number small short within)
 
 one_region : (cues : List Cue) (whole : Bool) (tick : ℕ) (earlier : List ℕ) (region : Region) → length (sent_region cues whole (tick ∷ earlier) region.id) ≤ 1
@@ -112,7 +113,7 @@ one_region cues whole tick earlier region =
     let old = live_before cues region.id earlier in
     let new = live_places cues region.id tick in
     let version = region_version cues region.id (tick ∷ earlier) in
-    one_by whole (is_risen old new) (is_extended old new) (filled region.id version new) (extended region.id version old new)
+    one_by whole (is_redrawn old new) (is_extended old new) (filled region.id version new) (extended region.id version old new)
 
 listed_region : (cues : List Cue) (whole : Bool) (tick : ℕ) (earlier : List ℕ) (region : Region) → length (listed_cues (sent_region cues whole (tick ∷ earlier) region.id)) ≤ length (own_places cues region.id)
 listed_region cues whole tick earlier region =
@@ -120,7 +121,7 @@ listed_region cues whole tick earlier region =
     let new = live_places cues region.id tick in
     let version = region_version cues region.id (tick ∷ earlier) in
     let few = live_few cues region.id tick in
-    listed_by (length (own_places cues region.id)) whole (is_risen old new) (is_extended old new) (filled region.id version new) (extended region.id version old new) few
+    listed_by (length (own_places cues region.id)) whole (is_redrawn old new) (is_extended old new) (filled region.id version new) (extended region.id version old new) few
     (let e = length-drop (length old) new in omega arith)
 
 listed_few : (cues : List Cue) (whole : Bool) (tick : ℕ) (earlier : List ℕ) (ids : List Region) →
@@ -296,6 +297,6 @@ sendable_all script profile sets plain planned = λ k d h.
     record {
       epoch = epoch;
       found = next.place.found;
-      carried = sendable_in epoch (is_whole set.state) set.pts (take_while (nat_le epoch.start) (map (λ (x : PlannedSet). x.pts) (reverse (take k sets)))) set
+      carried = sendable_in epoch (is_entry_state set.state) set.pts (take_while (nat_le epoch.start) (map (λ (x : PlannedSet). x.pts) (reverse (take k sets)))) set
           (subst IsSmallEpoch there (plain.small set.epoch epoch short)) (subst IsNumbered there (plain.numbered set.epoch epoch short)) next.carried (omega arith) (omega arith);
     }

@@ -11,7 +11,7 @@ use Rattle.cue_list.specs.declared.epoch.Cue.{Cue}
 use Rattle.cue_list.specs.Authored.{is_live}
 use Rattle.page_epoch.specs.declared.cue_ticks.CueTicks.{CueTicks}
 use Rattle.page_epoch.specs.Instants.{shows_cue}
-use Rattle.page_epoch.specs.Showing.{starts_of, ends_of, AreLasting, AreCueTicks}
+use Rattle.page_epoch.specs.Private.Showing.{starts_of, ends_of, AreLasting, AreCueTicks}
 
 -- ---- counts
 

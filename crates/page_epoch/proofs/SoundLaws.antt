@@ -15,7 +15,7 @@ use Rattle.cue_list.specs.declared.epoch.ColourRow.{ColourRow}
 use Rattle.cue_list.specs.declared.epoch.Cue.{Cue}
 use Rattle.cue_list.specs.Sound.{IsSound, IsEpoch, IsRegion, IsColourRow, IsCue, ticks_of, ticks_of_cue}
 use Rattle.page_epoch.specs.Instants.{named_ticks}
-use Rattle.page_epoch.specs.Sweeps.{IsPlain}
+use Rattle.page_epoch.specs.EpochWalks.{IsPlain}
 
 cue_ticks : (P : ℕ → Type 0) (cues : List Cue) → All (λ (cue : Cue). P cue.start × P cue.end) cues → All P (flat_map ticks_of_cue cues)
 cue_ticks P [] all = λ k d h. absurd (omega arith)

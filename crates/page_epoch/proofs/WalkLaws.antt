@@ -8,6 +8,7 @@ use Rattle.std.proofs.lemmas.Bool.Decides.{nat_tests}
 use Rattle.std.proofs.lemmas.List.FromFn.{get_or-map-range_with_len}
 use Rattle.std.proofs.lemmas.List.{get_or_append_left, get_or-append_right, append-nil, length-map, length-take, length-drop, get_or-map, get_or-take, get_or-drop, get_or_default, get_or-set_same, get_or-set_other, take_more, map-append, take-append-drop, ext_get_or}
 use Rattle.std.proofs.lemmas.List.Elements.{All-head, All-tail, All-cons, All-weaker, All-filter, filter-append, filter_more, filter_agree}
+use Rattle.std.proofs.lemmas.Bool.{eq-eqb}
 use Rattle.sub_base.specs.declared.depth.Depth.TheVariants.{Two, Four, Eight}
 use Rattle.sub_base.specs.declared.depth.Depth.{Depth}
 use Rattle.sub_base.specs.Depth.{bits_of, code_count}
@@ -15,8 +16,8 @@ use Rattle.cue_list.specs.declared.epoch.ColourRow.{ColourRow}
 use Rattle.page_epoch.specs.declared.clut_rows.Entry.{Entry}
 use Rattle.page_epoch.specs.declared.clut_changes.Change.{Change}
 use Rattle.page_epoch.specs.SentCluts.{row_at, entries_at, all_entries, rows_of_clut, rows_of_entry, is_of_entry, later_place, latest_place, by_tick, defined_rows}
-use Rattle.page_epoch.specs.Changes.{AreInOrder, first_of, current_of, change_at}
-use Rattle.page_epoch.proofs.ListLaws.{All-none, equal, filter_none, flat_map_mapped}
+use Rattle.page_epoch.specs.Private.Changes.{AreInOrder, first_of, current_of, change_at}
+use Rattle.page_epoch.proofs.ListLaws.{All-none, filter_none, flat_map_mapped}
 use Rattle.page_epoch.proofs.InstantLaws.{in_order}
 use Rattle.page_epoch.proofs.RowLaws.{latest_in, entry_of, length-entries_at, length-all_entries}
 
@@ -43,7 +44,7 @@ latest_one : (colours : List ColourRow) (x : ℕ) (xs : List ℕ) → filter (λ
 unfolding latest_place
 latest_one colours x xs none =
     let kept = filter (λ place. tick_at colours place == tick_at colours x) xs in
-    ap (λ b. latest_place colours (cond b (x ∷ kept) kept)) (equal (tick_at colours x) (tick_at colours x) refl) ∙ ap (λ (ys : List ℕ). latest_place colours (x ∷ ys)) none
+    ap (λ b. latest_place colours (cond b (x ∷ kept) kept)) (eq-eqb (tick_at colours x) (tick_at colours x) refl) ∙ ap (λ (ys : List ℕ). latest_place colours (x ∷ ys)) none
 
 latest_kept : (colours : List ColourRow) (c : Bool) (x q : ℕ) (kept : List ℕ) → nat_le (tick_at colours x) (tick_at colours q) ≡ true → latest_place colours kept ≡ Some q → latest_place colours (cond c (x ∷ kept) kept) ≡ Some q
 unfolding latest_place

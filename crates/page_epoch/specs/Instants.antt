@@ -27,8 +27,8 @@ pub record AreNeighbours (ticks : List ℕ) (first second : ℕ) : Type 0 where
   pub order : first < second
   pub between : All (λ tick. (tick ≤ first) ⊎ (second ≤ tick)) ticks
 
--- the page that is shown from a named tick on is sent again: a whole number of refreshes later, and more than 3,600 ticks
--- before the next named tick
+-- the page that is shown from a named tick on is sent again: a whole number of refreshes later, and more than 3,600
+-- ticks before the next named tick
 pub record IsRefresh (epochs : List Epoch) (refresh tick : ℕ) : Type 0 where
   pub last : ℕ
   pub next : ℕ

@@ -8,9 +8,6 @@ pub mod Sendable
 pub mod SentCluts
 pub mod SentRegions
 pub mod States
-pub mod Changes
-pub mod Courses
-pub mod Layouts
-pub mod Showing
-pub mod Steps
-pub mod Sweeps
+pub mod EpochStates
+pub mod EpochWalks
+pub mod Private

@@ -8,17 +8,19 @@ use Rattle.cue_list.specs.declared.script.Script.{Script}
 use Rattle.page_epoch.specs.declared.planned_set.PlannedSet.{PlannedSet}
 use Rattle.page_epoch.specs.Instants.{is_named, AreInstants}
 use Rattle.page_epoch.specs.Rows.{events_of, IsLeastRow}
-use Rattle.page_epoch.specs.States.{is_whole, last_whole, is_due, state_of, seen_of, page_version}
+use Rattle.page_epoch.specs.States.{last_entry, is_due, state_of, seen_of, page_version}
 use Rattle.page_epoch.specs.SentRegions.{AreSentRegions, AreShown}
 use Rattle.page_epoch.specs.SentCluts.{sent_cluts}
 use Rattle.page_epoch.specs.SentRegions.{listed_cues}
 use Rattle.page_epoch.specs.Needs.{pixel_need, node_need}
+use Rattle.stream_syntax.specs.Segments.{is_entry_state}
 
 -- an epoch is the last one that has started by a tick
 pub record IsEpochAt (epochs : List Epoch) (tick place : ℕ) (epoch : Epoch) : Type 0 where
   pub found : slice_get epochs place ≡ Some epoch
   pub started : epoch.start ≤ tick
-  pub last : (later : ℕ) (other : Epoch) → place < later → slice_get epochs later ≡ Some other → tick < other.start
+  pub last : (later : ℕ) (other : Epoch) → place < later → slice_get epochs later ≡ Some other
+      → tick < other.start
 
 -- the record of the set before
 abbrev pub IsRowBefore : List PlannedSet → ℕ → Type 0
@@ -43,9 +45,10 @@ pub record IsNext (epochs : List Epoch) (refresh : ℕ) (past : List PlannedSet)
   pub epoch : Epoch
   pub place : IsEpochAt epochs set.pts set.epoch epoch
   pub row : IsRow epochs past set.pts set.row
-  pub state : set.state ≡ state_of (epoch.start == set.pts) (is_named epochs set.pts) (is_due refresh set.pts (last_whole past))
+  pub state : set.state
+      ≡ state_of (epoch.start == set.pts) (is_named epochs set.pts) (is_due refresh set.pts (last_entry past))
   pub version : set.page_version ≡ page_version epochs epoch.start (seen_of epoch.start past set.pts)
-  pub carried : IsCarried epoch (is_whole set.state) (seen_of epoch.start past set.pts) set
+  pub carried : IsCarried epoch (is_entry_state set.state) (seen_of epoch.start past set.pts) set
 
 -- what a set needs of a receiver: the bytes of its epoch's pixels, and its nodes
 pub record Needs (epochs : List Epoch) (past : List PlannedSet) (set : PlannedSet) (pixels nodes : ℕ) : Type 0 where
@@ -68,15 +71,16 @@ pub record HasDisplay (width height : ℕ) (profile : Profile) : Type 0 where
   pub down : height ≤ profile.height
 
 -- a set as it stands in a list, after those before it
-abbrev pub Stands : (List PlannedSet → PlannedSet → Type 0) → List PlannedSet → Type 0
-Stands P sets = (n : ℕ) (set : PlannedSet) → slice_get sets n ≡ Some set → P (reverse (take n sets)) set
+abbrev pub AllBehind : (List PlannedSet → PlannedSet → Type 0) → List PlannedSet → Type 0
+AllBehind P sets = (n : ℕ) (set : PlannedSet) → slice_get sets n ≡ Some set → P (reverse (take n sets)) set
 
 -- the sets of the first instants, each of which a receiver can hold
-pub record AreFirstSets (epochs : List Epoch) (refresh : ℕ) (profile : Profile) (instants : List ℕ) (sets : List PlannedSet) : Type 0 where
+pub record AreFirstSets (epochs : List Epoch) (refresh : ℕ) (profile : Profile) (instants : List ℕ)
+    (sets : List PlannedSet) : Type 0 where
   pub times : map (λ set. set.pts) sets ≡ take (length sets) instants
   pub few : length sets ≤ length instants
-  pub each : Stands (IsNext epochs refresh) sets
-  pub fit : Stands (Fits epochs profile) sets
+  pub each : AllBehind (IsNext epochs refresh) sets
+  pub fit : AllBehind (Fits epochs profile) sets
 
 -- the sets of all instants, each of which a receiver can hold
 pub record ArePlanned (epochs : List Epoch) (refresh : ℕ) (profile : Profile) (sets : List PlannedSet) : Type 0 where

@@ -1,5 +1,5 @@
 -- Why a script has no plan for a receiver.
-use Rattle.std.specs.Prelude.{◌≡◌, ℕ, ◌<◌, ◌≤◌, ◌⊎◌, List, length, reverse, slice_get, Some, ⊤}
+use Rattle.std.specs.Prelude.{◌≡◌, ℕ, ◌<◌, ◌≤◌, ◌⊎◌, List, length, reverse, slice_get, Some, Result, MatchResult, ⊤}
 use Rattle.sub_base.specs.declared.profile.Profile.{Profile}
 use Rattle.cue_list.specs.declared.epoch.Epoch.{Epoch}
 use Rattle.cue_list.specs.declared.script.Script.{Script}
@@ -10,7 +10,8 @@ use Rattle.page_epoch.specs.Instants.{AreInstants}
 use Rattle.page_epoch.specs.Plan.{HasDisplay, AreFirstSets, IsNext, Needs}
 
 -- the first set that a receiver cannot hold: it can hold all sets before
-pub record IsFirstUnheld (epochs : List Epoch) (refresh : ℕ) (profile : Profile) (row pixels nodes : ℕ) : Type 0 where
+pub record IsFirstUnheld (epochs : List Epoch) (refresh : ℕ) (profile : Profile)
+    (row pixels nodes : ℕ) : Type 0 where
   pub instants : List ℕ
   pub are_instants : AreInstants epochs refresh instants
   pub before : List PlannedSet
@@ -50,12 +51,20 @@ IsSetCause epochs refresh profile (CompositionFull row need) = IsCompositionFull
 abbrev pub IsCause : Script → Profile → PlanFault → Type 0
 IsCause script profile Memory = ⊤
 IsCause script profile (DisplayTooLarge row) = IsDisplayTooLarge script profile row
-IsCause script profile (PixelFull row need) = HasDisplay script.width script.height profile × IsPixelFull script.epochs script.refresh profile row need
-IsCause script profile (CompositionFull row need) = HasDisplay script.width script.height profile × IsCompositionFull script.epochs script.refresh profile row need
+IsCause script profile (PixelFull row need) =
+    HasDisplay script.width script.height profile × IsPixelFull script.epochs script.refresh profile row need
+IsCause script profile (CompositionFull row need) =
+    HasDisplay script.width script.height profile × IsCompositionFull script.epochs script.refresh profile row need
+
+-- this fault is answered, or want of memory
+abbrev pub IsRefusal : {T : Type 0} → PlanFault → Result T PlanFault → Type 0
+IsRefusal fault result = MatchResult result (λ _. ⊥) (λ told. (told ≡ Memory) ⊎ (told ≡ fault))
 
 -- a need that a profile has not, pixels before nodes
 abbrev pub IsNeedFault : Profile → ℕ → ℕ → ℕ → PlanFault → Type 0
 IsNeedFault profile pixels nodes row Memory = ⊥
 IsNeedFault profile pixels nodes row (DisplayTooLarge other) = ⊥
-IsNeedFault profile pixels nodes row (PixelFull other need) = (other ≡ row) × (need ≡ pixels) × (profile.pixels < need)
-IsNeedFault profile pixels nodes row (CompositionFull other need) = (other ≡ row) × (need ≡ nodes) × (pixels ≤ profile.pixels) × (profile.nodes < need)
+IsNeedFault profile pixels nodes row (PixelFull other need) =
+    (other ≡ row) × (need ≡ pixels) × (profile.pixels < need)
+IsNeedFault profile pixels nodes row (CompositionFull other need) =
+    (other ≡ row) × (need ≡ nodes) × (pixels ≤ profile.pixels) × (profile.nodes < need)

@@ -4,7 +4,7 @@ use Rattle.std.specs.List.Sorted.{IsStrictlyIncreasing}
 use Rattle.std.specs.List.{flat_map, Contains}
 use Rattle.cue_list.specs.declared.epoch.Epoch.{Epoch}
 use Rattle.cue_list.specs.declared.epoch.Cue.{Cue}
-use Rattle.page_epoch.specs.declared.moments.Event.{Event}
+use Rattle.page_epoch.specs.declared.events.Event.{Event}
 use Rattle.page_epoch.specs.Instants.{named_ticks}
 
 -- a tick that a record names
@@ -16,7 +16,9 @@ abbrev pub events_of_cue : Cue → List Event
 events_of_cue cue = event cue.start cue.row ∷ event cue.end cue.row ∷ []
 
 abbrev pub events_of : Epoch → List Event
-events_of epoch = event epoch.start epoch.row ∷ (map (λ row. event row.tick row.row) epoch.colours ++ flat_map events_of_cue epoch.cues)
+events_of epoch =
+    event epoch.start epoch.row
+    ∷ (map (λ row. event row.tick row.row) epoch.colours ++ flat_map events_of_cue epoch.cues)
 
 -- the least of the records that name a tick
 pub record IsLeastRow (events : List Event) (tick row : ℕ) : Type 0 where
@@ -30,14 +32,16 @@ least_of (Some known) row = min row known
 
 -- a table has the least record of each tick that is named, and no other ticks
 abbrev pub Noted : List Event → (ℕ → Option ℕ) → Type 0
-Noted events table = (tick : ℕ) → MatchOption (table tick) (All (λ other. other.tick ≢ tick) events) (IsLeastRow events tick)
+Noted events table =
+    (tick : ℕ) → MatchOption (table tick) (All (λ other. other.tick ≢ tick) events) (IsLeastRow events tick)
 
 -- an entry of the table
-abbrev pub moment : ℕ × ℕ → Event
-moment (tick, row) = event tick row
+abbrev pub least_event : ℕ × ℕ → Event
+least_event (tick, row) = event tick row
 
 -- the ticks that records name, each once and in order, with the least record of each
-pub record AreMoments (epochs : List Epoch) (moments : List Event) : Type 0 where
-  pub rise : IsStrictlyIncreasing (map (λ moment. moment.tick) moments)
-  pub rows : All (λ moment. IsLeastRow (flat_map events_of epochs) moment.tick moment.row) moments
-  pub all : (tick : ℕ) → Contains (named_ticks epochs) tick → Contains (map (λ moment. moment.tick) moments) tick
+pub record AreLeastEvents (epochs : List Epoch) (least_events : List Event) : Type 0 where
+  pub rise : IsStrictlyIncreasing (map (λ least_event. least_event.tick) least_events)
+  pub rows : All (λ least_event. IsLeastRow (flat_map events_of epochs) least_event.tick least_event.row) least_events
+  pub all : (tick : ℕ) → Contains (named_ticks epochs) tick
+      → Contains (map (λ least_event. least_event.tick) least_events) tick

@@ -1,8 +1,9 @@
--- The CLUTs that a set sends, their versions, and their entries. Colour rows are given by their places in the epoch's list.
+-- The CLUTs that a set sends, their versions, and their entries. Colour rows are given by their places in the epoch's
+-- list.
 use Rattle.std.specs.Prelude.{ℕ, ◌-◌, ◌%◌, ◌==◌, nat_le, Bool, ◌&&◌, if◌then◌else◌, List, [], ◌∷◌, ◌++◌, length, map, filter, count_by, Option, Some, None, slice_index_or}
 use Rattle.std.specs.List.{flat_map, list_any, range_with_len}
 use Rattle.std.specs.Option.{option_to_list}
-use Rattle.sub_base.specs.Depth.{bits_of, code_count}
+use Rattle.sub_base.specs.Depth.{code_count, is_same_depth}
 use Rattle.sub_base.specs.declared.depth.Depth.{Depth}
 use Rattle.sub_base.specs.declared.depth.Depth.TheVariants.{Two, Four, Eight}
 use Rattle.cue_list.specs.declared.epoch.ColourRow.{ColourRow}
@@ -12,7 +13,8 @@ use Rattle.page_epoch.specs.Live.{places_below}
 
 -- no colour row
 abbrev pub no_row : ColourRow
-no_row = record { tick = 0; row = 0; clut = 0; depth = Two; entry = 0; colour = record { y = 0; cr = 0; cb = 0; t = 0 } }
+no_row =
+    record { tick = 0; row = 0; clut = 0; depth = Two; entry = 0; colour = record { y = 0; cr = 0; cb = 0; t = 0 } }
 
 -- the colour row at a place
 abbrev pub row_at : List ColourRow → ℕ → ColourRow
@@ -36,11 +38,12 @@ rows_of_clut colours clut = filter (λ place. (row_at colours place).clut == clu
 
 -- a row sets that entry of its CLUT
 abbrev pub is_of_entry : Entry → ColourRow → Bool
-is_of_entry entry row = (bits_of row.depth == bits_of entry.depth) && (row.entry == entry.number)
+is_of_entry entry row = is_same_depth row.depth entry.depth && (row.entry == entry.number)
 
 -- the rows that set an entry of the CLUT, in the script's order
 abbrev pub rows_of_entry : List ColourRow → ℕ → Entry → List ℕ
-rows_of_entry colours clut entry = filter (λ place. is_of_entry entry (row_at colours place)) (rows_of_clut colours clut)
+rows_of_entry colours clut entry =
+    filter (λ place. is_of_entry entry (row_at colours place)) (rows_of_clut colours clut)
 
 -- of two rows the one with the later tick, and of equal ticks the second
 abbrev pub later_place : List ColourRow → ℕ → Option ℕ → ℕ
@@ -87,7 +90,8 @@ rows_from colours whole tick rows = if whole then rows else filter (λ place. (r
 abbrev pub sent_clut : List ColourRow → Bool → List ℕ → ℕ → List SentClut
 sent_clut colours whole [] clut = []
 sent_clut colours whole (tick ∷ earlier) clut =
-    clut_with clut (clut_version colours clut (tick ∷ earlier)) (rows_from colours whole tick (defined_rows colours clut tick))
+    clut_with clut (clut_version colours clut (tick ∷ earlier))
+    (rows_from colours whole tick (defined_rows colours clut tick))
 
 -- the CLUTs that the epoch's colour rows name, by their numbers
 abbrev pub named_cluts : List ColourRow → List ℕ

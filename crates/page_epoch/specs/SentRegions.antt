@@ -8,15 +8,16 @@ use Rattle.std.specs.Prelude.{nat_eq}
 use Rattle.cue_list.specs.declared.epoch.Cue.{Cue}
 use Rattle.cue_list.specs.declared.epoch.Region.{Region}
 use Rattle.page_epoch.specs.declared.planned_set.SentRegion.{SentRegion}
-use Rattle.page_epoch.specs.Live.{has_some, is_same, live_places}
+use Rattle.page_epoch.specs.Live.{are_same_places, live_places}
+use Rattle.sub_base.specs.Lists.{has_some}
 
 -- a region's live cues differ from those of the instant before, and it has some
-abbrev pub is_risen : List ℕ → List ℕ → Bool
-is_risen old new = not (is_same old new) && has_some new
+abbrev pub is_redrawn : List ℕ → List ℕ → Bool
+is_redrawn old new = not (are_same_places old new) && has_some new
 
 -- the same at an instant and the one before it
 abbrev pub rises : List Cue → ℕ → ℕ × ℕ → Bool
-rises cues region (tick, before) = is_risen (live_places cues region before) (live_places cues region tick)
+rises cues region (tick, before) = is_redrawn (live_places cues region before) (live_places cues region tick)
 
 -- the version of a region: at how many instants of the epoch it changed and was not left empty, modulo 16
 abbrev pub region_version : List Cue → ℕ → List ℕ → ℕ
@@ -28,8 +29,8 @@ live_before cues region [] = []
 live_before cues region (before ∷ earlier) = live_places cues region before
 
 -- the number of live cues at the latest instant at which there were some
-abbrev pub held : List Cue → ℕ → List ℕ → ℕ
-held cues region seen = option_map_or length (find has_some (map (live_places cues region) seen)) 0
+abbrev pub drawn_count : List Cue → ℕ → List ℕ → ℕ
+drawn_count cues region seen = option_map_or length (find has_some (map (live_places cues region) seen)) 0
 
 -- new cues were put behind old ones that stay
 abbrev pub is_extended : List ℕ → List ℕ → Bool
@@ -43,12 +44,12 @@ filled id version new = record { id = id; version = version; fill = true; cues =
 abbrev pub extended : ℕ → ℕ → List ℕ → List ℕ → SentRegion
 extended id version old new = record { id = id; version = version; fill = false; cues = drop (length old) new }
 
--- how a set sends a region, from the cues that were live at the instant before and those that are live now: a set that is
--- not normal draws each region anew, a normal set sends those that changed and have live cues
+-- how a set sends a region, from the cues that were live at the instant before and those that are live now: a set that
+-- is not normal draws each region anew, a normal set sends those that changed and have live cues
 abbrev pub region_from : ℕ → ℕ → Bool → List ℕ → List ℕ → List SentRegion
 region_from id version whole old new =
     if whole then filled id version new ∷ []
-    else if not (is_risen old new) then []
+    else if not (is_redrawn old new) then []
     else if is_extended old new then extended id version old new ∷ []
     else filled id version new ∷ []
 
@@ -56,7 +57,8 @@ region_from id version whole old new =
 abbrev pub sent_region : List Cue → Bool → List ℕ → ℕ → List SentRegion
 sent_region cues whole [] id = []
 sent_region cues whole (tick ∷ earlier) id =
-    region_from id (region_version cues id (tick ∷ earlier)) whole (live_before cues id earlier) (live_places cues id tick)
+    region_from id (region_version cues id (tick ∷ earlier)) whole (live_before cues id earlier)
+    (live_places cues id tick)
 
 -- these are the same, in rising order of a number that each has
 pub record AreOrdered {X : Type 0} (number : X → ℕ) (items ordered : List X) : Type 0 where
@@ -64,7 +66,8 @@ pub record AreOrdered {X : Type 0} (number : X → ℕ) (items ordered : List X)
   pub rise : IsNonDecreasingBy number ordered
 
 -- the regions that are sent, by their numbers
-pub record AreSentRegions (cues : List Cue) (regions : List Region) (whole : Bool) (seen : List ℕ) (sent : List SentRegion) : Type 0 where
+pub record AreSentRegions (cues : List Cue) (regions : List Region) (whole : Bool) (seen : List ℕ)
+    (sent : List SentRegion) : Type 0 where
   pub by_id : List Region
   pub ordered : AreOrdered (λ region. region.id) regions by_id
   pub is : sent ≡ flat_map (λ region. sent_region cues whole seen region.id) by_id

@@ -1,30 +1,25 @@
 -- How a set stands to the sets before it, which are given the latest first.
-use Rattle.std.specs.Prelude.{ℕ, ◌+◌, ◌%◌, nat_le, nat_lt, Bool, true, false, not, ◌&&◌, ◌||◌, if◌then◌else◌, List, ◌∷◌, map, Option, Some, None, find, count_by, take_while}
+use Rattle.std.specs.Prelude.{ℕ, ◌+◌, ◌%◌, nat_le, nat_lt, Bool, false, not, ◌&&◌, ◌||◌, if◌then◌else◌, List, ◌∷◌, map, Option, Some, None, find, count_by, take_while}
 use Rattle.stream_syntax.specs.declared.page.State.{State}
 use Rattle.stream_syntax.specs.declared.page.State.TheVariants.{Normal, Acquisition, ModeChange}
 use Rattle.cue_list.specs.declared.epoch.Epoch.{Epoch}
 use Rattle.page_epoch.specs.declared.planned_set.PlannedSet.{PlannedSet}
 use Rattle.page_epoch.specs.Instants.{is_named}
+use Rattle.stream_syntax.specs.Segments.{is_entry_state}
 
--- a receiver can begin at a set that is not normal
-abbrev pub is_whole : State → Bool
-is_whole Normal = false
-is_whole Acquisition = true
-is_whole ModeChange = true
-
--- the last set before that is not normal
-abbrev pub last_whole : List PlannedSet → Option PlannedSet
-last_whole past = find (λ set. is_whole set.state) past
+-- the last set before at which a receiver can begin
+abbrev pub last_entry : List PlannedSet → Option PlannedSet
+last_entry past = find (λ set. is_entry_state set.state) past
 
 -- that set lies a refresh or more before this tick
 abbrev pub is_due : ℕ → ℕ → Option PlannedSet → Bool
 is_due refresh tick None = false
 is_due refresh tick (Some set) = nat_le (set.pts + refresh) tick
 
--- the state of a set: a mode change where it begins an epoch; else an acquisition where no record names its tick, so that
--- it is a refresh, or where one is due; else normal
+-- the state of a set: a mode change where it begins an epoch; else an acquisition where no record names its tick, so
+-- that it is a refresh, or where one is due; else normal
 abbrev pub state_of : Bool → Bool → Bool → State
-state_of begins named due = if begins then ModeChange else if not named || due then Acquisition else Normal
+state_of starts named due = if starts then ModeChange else if not named || due then Acquisition else Normal
 
 -- the instants of an epoch up to this one, the latest first
 abbrev pub seen_of : ℕ → List PlannedSet → ℕ → List ℕ

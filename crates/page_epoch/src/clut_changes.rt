@@ -1,8 +1,9 @@
 ghost use Rattle.std.specs.Prelude.{◌≡◌, ◌==◌, ◌<◌, ◌≤◌, nat_le, true, false, length, map, All, IfOk};
 ghost use Rattle.std.specs.List.{list_any};
 ghost use Rattle.std.specs.List.Sorted.{IsNonDecreasingBy, IsPartitionPoint, IsStrictlyIncreasing};
+ghost use Rattle.cue_list.specs.declared.limits.TheConstants.{MOST_COLOURS};
 ghost use Rattle.page_epoch.specs.SentCluts.{row_at, all_entries as entries_of, named_cluts};
-ghost use Rattle.page_epoch.specs.Changes.{change_at, AreTicksOf, AreChanges};
+ghost use Rattle.page_epoch.specs.Private.Changes.{change_at, AreTicksOf, AreChanges};
 
 use crate::clut_rows::{
     Entry, all_entries, defined_rows, in_order, no_rows, rows_by, rows_of_clut, take_in,
@@ -43,7 +44,8 @@ fn ticks_of(alloc: Global, colours: &[ColourRow], own: &[u32]) -> Result<Vec<u64
     Ok(ticks)
 }
 
-/// The changes of a CLUT at these ticks, from its rows in order of theirs: each row is taken in once.
+/// The changes of a CLUT at these ticks, from its rows in order of theirs: each row is taken in
+/// once.
 fn changes_at(
     alloc: Global,
     colours: &[ColourRow],
@@ -55,20 +57,21 @@ fn changes_at(
     requires within { All (λ place. place < length colours.now) rows.now }
     requires rows { IsNonDecreasingBy (λ place. (row_at colours.now place).tick) rows.now }
     requires ticks { IsStrictlyIncreasing ticks.now }
-    ensures { IfOk result (λ changes. changes ≡ map (change_at colours.now entries_of rows.now) ticks.now) }
+    ensures { IfOk result
+        (λ changes. changes ≡ map (change_at colours.now entries_of rows.now) ticks.now) }
 {
     let mut current = no_rows(alloc, entries)?;
-    let mut come = 0;
+    let mut applied = 0;
     let mut changes = Vec::new(alloc);
     for tick in ticks {
         // Rows are in order of their ticks, so each is applied once, at the first tick that has it.
         let next = rows_by(colours, rows, *tick);
-        take_in(&mut current, colours, rows, come, next);
+        take_in(&mut current, colours, rows, applied, next);
         changes.push(Change {
             tick: *tick,
             rows: defined_rows(alloc, &current)?,
         })?;
-        come = next;
+        applied = next;
     }
     Ok(Items::new(alloc, changes))
 }
@@ -80,7 +83,7 @@ fn changes_of(
     entries: &[Entry],
     clut: u8,
 ) -> Result<ClutChanges, AllocError>
-    requires few { length colours.now ≤ 8192 }
+    requires few { length colours.now ≤ MOST_COLOURS }
     requires entries { entries.now ≡ entries_of }
     ensures clut { IfOk result (λ changes. changes.clut ≡ clut) }
     ensures changes { IfOk result (AreChanges colours.now) }
@@ -104,13 +107,15 @@ const CLUTS: u32 = 256;
 
 /// The CLUTs that colour rows name, and their changes, by their numbers.
 pub fn all_changes(alloc: Global, colours: &[ColourRow]) -> Result<Items<ClutChanges>, AllocError>
-    requires { length colours.now ≤ 8192 }
-    ensures named { IfOk result (λ cluts. map (λ clut. clut.clut) cluts ≡ named_cluts colours.now) }
+    requires { length colours.now ≤ MOST_COLOURS }
+    ensures named { IfOk result
+        (λ cluts. map (λ clut. clut.clut) cluts ≡ named_cluts colours.now) }
     ensures changes { IfOk result (All (AreChanges colours.now)) }
 {
     let entries = all_entries(alloc)?;
     let mut cluts = Vec::new(alloc);
-    // By number, as sets send them; a CLUT that no row names keeps its default colours and is not sent.
+    // By number, as sets send them; a CLUT that no row names keeps its default colours and is not
+    // sent.
     for clut in 0..CLUTS {
         if is_named(colours, clut as u8) {
             cluts.push(changes_of(alloc, colours, entries.as_slice(), clut as u8)?)?;
@@ -122,7 +127,9 @@ pub fn all_changes(alloc: Global, colours: &[ColourRow]) -> Result<Items<ClutCha
 /// How many of these changes, which are in order, have come by a tick.
 pub fn changes_by(changes: &[Change], tick: u64) -> usize
     ensures few { result ≤ length changes.now }
-    ensures point { IsNonDecreasingBy (λ change. change.tick) changes.now → IsPartitionPoint (λ change. nat_le change.tick tick ≡ true) (λ change. nat_le change.tick tick ≡ false) changes.now result }
+    ensures point { IsNonDecreasingBy (λ change. change.tick) changes.now
+        → IsPartitionPoint (λ change. nat_le change.tick tick ≡ true)
+        (λ change. nat_le change.tick tick ≡ false) changes.now result }
 {
     changes.partition_point(|change| change.tick <= tick)
 }

@@ -3,9 +3,10 @@ ghost use Rattle.std.specs.List.{flat_map};
 ghost use Rattle.std.specs.List.Sorted.{IsNonDecreasingBy, IsPartitionPoint};
 ghost use Rattle.std.specs.Option.{option_to_list};
 ghost use Rattle.cue_list.specs.declared.epoch.ColourRow.{ColourRow};
+ghost use Rattle.cue_list.specs.declared.limits.TheConstants.{MOST_COLOURS};
 ghost use Rattle.page_epoch.specs.declared.clut_rows.Entry.{Entry};
 ghost use Rattle.page_epoch.specs.SentCluts.{row_at, entries_at, all_entries as entries_of, rows_of_clut as clut_rows_of, is_of_entry as is_of};
-ghost use Rattle.page_epoch.specs.Changes.{first_of, current_of, AreInOrder};
+ghost use Rattle.page_epoch.specs.Private.Changes.{first_of, current_of, AreInOrder};
 
 use cue_list::ColourRow;
 use std::alloc::{AllocError, Global};
@@ -50,7 +51,7 @@ pub fn rows_of_clut(
     colours: &[ColourRow],
     clut: u8,
 ) -> Result<Items<u32>, AllocError>
-    requires few { length colours.now ≤ 8192 }
+    requires few { length colours.now ≤ MOST_COLOURS }
     ensures { IfOk result (λ own. own ≡ clut_rows_of colours.now clut) }
 {
     let mut own = Vec::new(alloc);
@@ -78,7 +79,8 @@ pub fn in_order(alloc: Global, colours: &[ColourRow], own: &[u32]) -> Result<Vec
     ensures { IfOk result (λ rows. AreInOrder colours.now own.now rows.items) }
 {
     let mut rows = Vec::from_slice(alloc, own)?;
-    // The sort is stable, so that of rows with one tick the later one in the script stays later, and counts.
+    // The sort is stable, so that of rows with one tick the later one in the script stays later,
+    // and counts.
     rows.sort_by_key(|place| tick_of(colours, *place))?;
     Ok(rows)
 }
@@ -86,14 +88,18 @@ pub fn in_order(alloc: Global, colours: &[ColourRow], own: &[u32]) -> Result<Vec
 /// How many of these rows, which are in order of their ticks, have come by a tick.
 pub fn rows_by(colours: &[ColourRow], rows: &[u32], tick: u64) -> usize
     ensures few { result ≤ length rows.now }
-    ensures point { IsNonDecreasingBy (λ place. (row_at colours.now place).tick) rows.now → IsPartitionPoint (λ place. nat_le (row_at colours.now place).tick tick ≡ true) (λ place. nat_le (row_at colours.now place).tick tick ≡ false) rows.now result }
+    ensures point { IsNonDecreasingBy (λ place. (row_at colours.now place).tick) rows.now
+        → IsPartitionPoint (λ place. nat_le (row_at colours.now place).tick tick ≡ true)
+        (λ place. nat_le (row_at colours.now place).tick tick ≡ false) rows.now result }
 {
     rows.partition_point(|place| tick_of(colours, *place) <= tick)
 }
 
 /// The current rows of entries before the first change: none.
 pub fn no_rows(alloc: Global, entries: &[Entry]) -> Result<Vec<Option<u32>>, AllocError>
-    ensures { IfOk result (λ current. (colours : List ColourRow) → current.items ≡ current_of colours entries.now []) }
+    ensures { IfOk result
+        (λ current. (colours : List ColourRow)
+        → current.items ≡ current_of colours entries.now []) }
 {
     let mut current = Vec::new(alloc);
     for _entry in entries {
@@ -117,7 +123,10 @@ fn first_entry(depth: Depth) -> usize
 fn note(current: &mut Vec<Option<u32>>, row: &ColourRow, place: u32)
     requires { length current.old.items ≡ 276 }
     ensures long { length current.new.items ≡ length current.old.items }
-    ensures each { (k : ℕ) (d : Entry) → k < length entries_of → get_or current.new.items k None ≡ (if is_of (get_or entries_of k d) row.now then Some place else get_or current.old.items k None) }
+    ensures each { (k : ℕ) (d : Entry) → k < length entries_of
+        → get_or current.new.items k None
+        ≡ (if is_of (get_or entries_of k d) row.now then Some place
+        else get_or current.old.items k None) }
 {
     // Each row of a script is such: the test is here so that nothing has to be asked of the rows.
     if u16::from(row.entry) < row.depth.code_count() {
@@ -125,22 +134,24 @@ fn note(current: &mut Vec<Option<u32>>, row: &ColourRow, place: u32)
     }
 }
 
-/// Applies the rows that have come due since `come`, up to `next`, in order of their ticks: the later one counts.
+/// Applies the rows behind the first `applied` up to `next`, in order of their ticks: of an entry's
+/// rows the later one counts.
 pub fn take_in(
     current: &mut Vec<Option<u32>>,
     colours: &[ColourRow],
     rows: &[u32],
-    come: usize,
+    applied: usize,
     next: usize,
 )
     requires within { All (λ place. place < length colours.now) rows.now }
     requires rows { IsNonDecreasingBy (λ place. (row_at colours.now place).tick) rows.now }
-    requires order { come ≤ next }
+    requires order { applied ≤ next }
     requires few { next ≤ length rows.now }
-    requires current { current.old.items ≡ current_of colours.now entries_of (take come rows.now) }
+    requires current { current.old.items
+        ≡ current_of colours.now entries_of (take applied rows.now) }
     ensures { current.new.items ≡ current_of colours.now entries_of (take next rows.now) }
 {
-    for i in come..next {
+    for i in applied..next {
         note(current, &colours[rows[i] as usize], rows[i]);
     }
 }
@@ -149,7 +160,8 @@ pub fn take_in(
 pub fn defined_rows(alloc: Global, current: &[Option<u32>]) -> Result<Items<u32>, AllocError>
     ensures { IfOk result (λ rows. rows ≡ flat_map option_to_list current.now) }
 {
-    // Counted first, so that the list is as long as it needs to be: there is one for each change of a CLUT.
+    // Counted first, so that the list is as long as it needs to be: there is one for each change of
+    // a CLUT.
     let count = current.iter().flatten().count();
     let mut rows = Vec::with_capacity(alloc, count)?;
     for found in current {
@@ -168,7 +180,8 @@ pub fn rows_of_tick(
     tick: u64,
 ) -> Result<Items<u32>, AllocError>
     requires { All (λ place. place < length colours.now) rows.now }
-    ensures { IfOk result (λ found. found ≡ filter (λ place. (row_at colours.now place).tick == tick) rows.now) }
+    ensures { IfOk result
+        (λ found. found ≡ filter (λ place. (row_at colours.now place).tick == tick) rows.now) }
 {
     let mut found = Vec::new(alloc);
     for place in rows {

@@ -1,14 +1,14 @@
 ghost use Rattle.std.specs.Prelude.{◌≡◌, ℕ, ◌*◌, ◌∷◌, ◌==◌, ◌<◌, ◌≤◌, true, false, List, length, All, IfOk, IfSome, unwrap_or};
 ghost use Rattle.std.specs.Option.{option_to_list};
 ghost use Rattle.page_epoch.specs.SentCluts.{row_at, clut_with as with_rows_of, rows_from, defined_rows as defined_rows_of, is_changed as is_changed_at};
-ghost use Rattle.page_epoch.specs.Changes.{AreChanges};
-ghost use Rattle.page_epoch.specs.Courses.{clut_after, clut_courses, IsSmallVersion, sent_of, row_nodes};
+ghost use Rattle.page_epoch.specs.Private.Changes.{AreChanges};
+ghost use Rattle.page_epoch.specs.EpochStates.{clut_after, changed_versions, IsSmallVersion, sent_of, row_nodes};
 ghost use Rattle.page_epoch.specs.Needs.{clut_nodes};
 
 use crate::clut_changes::{Change, ClutChanges, changes_by};
 use crate::clut_rows::rows_of_tick;
 use crate::planned_set::SentClut;
-use crate::region_course::push_some;
+use crate::region_state::push_some;
 use cue_list::ColourRow;
 use std::alloc::{AllocError, Global};
 use sub_base::Items;
@@ -72,7 +72,8 @@ fn sent_rows(
     change: &Change,
 ) -> Result<Items<u32>, AllocError>
     requires within { All (λ place. place < length colours.now) change.now.rows }
-    requires others { (change.now.tick == tick) ≡ false → All (λ place. ((row_at colours.now place).tick == tick) ≡ false) change.now.rows }
+    requires others { (change.now.tick == tick) ≡ false
+        → All (λ place. ((row_at colours.now place).tick == tick) ≡ false) change.now.rows }
     ensures { IfOk result (λ sent. sent ≡ rows_from colours.now whole tick change.now.rows) }
 {
     if whole {
@@ -92,7 +93,8 @@ fn next_version(changed: bool, version: Option<u8>) -> Option<u8>
     ensures { result ≡ clut_after changed version }
 {
     match version {
-        // A CLUT that is sent again has the version of before, so that a receiver that has it keeps it.
+        // A CLUT that is sent again has the version of before, so that a receiver that has it keeps
+        // it.
         _ if !changed => version,
         None => Some(0),
         Some(version) => Some((version + 1) % 16),
@@ -110,10 +112,16 @@ fn step_clut(
 ) -> Result<ClutStep, AllocError>
     requires changes { AreChanges colours.now clut.now }
     requires small { IsSmallVersion version }
-    ensures version { IfOk result (λ step. step.version ≡ clut_after (is_changed_at colours.now clut.now.clut tick) version) }
+    ensures version { IfOk result
+        (λ step. step.version
+        ≡ clut_after (is_changed_at colours.now clut.now.clut tick) version) }
     ensures small { IfOk result (λ step. IsSmallVersion step.version) }
-    ensures sent { IfOk result (λ step. option_to_list step.sent ≡ with_rows_of clut.now.clut (unwrap_or step.version 0) (rows_from colours.now whole tick (defined_rows_of colours.now clut.now.clut tick))) }
-    ensures nodes { IfOk result (λ step. step.nodes ≡ row_nodes (defined_rows_of colours.now clut.now.clut tick)) }
+    ensures sent { IfOk result
+        (λ step. option_to_list step.sent
+        ≡ with_rows_of clut.now.clut (unwrap_or step.version 0)
+        (rows_from colours.now whole tick (defined_rows_of colours.now clut.now.clut tick))) }
+    ensures nodes { IfOk result
+        (λ step. step.nodes ≡ row_nodes (defined_rows_of colours.now clut.now.clut tick)) }
     ensures few { IfOk result (λ step. step.nodes ≤ 277) }
 {
     let changes = clut.changes.as_slice();
@@ -148,9 +156,19 @@ pub fn step_cluts(
     requires few { length cluts.now ≤ 256 }
     requires long { length versions.now ≡ length cluts.now }
     requires small { All IsSmallVersion versions.now }
-    ensures versions { (seen : List ℕ) → versions.now ≡ clut_courses colours.now seen cluts.now → IfOk result (λ steps. steps.versions ≡ clut_courses colours.now (tick ∷ seen) cluts.now) }
-    ensures sent { (seen : List ℕ) → versions.now ≡ clut_courses colours.now seen cluts.now → IfOk result (λ steps. steps.sent ≡ sent_of colours.now whole (tick ∷ seen) cluts.now) }
-    ensures nodes { (seen : List ℕ) → versions.now ≡ clut_courses colours.now seen cluts.now → IfOk result (λ steps. steps.nodes ≡ clut_nodes (sent_of colours.now true (tick ∷ seen) cluts.now)) }
+    ensures versions { (seen : List ℕ)
+        → versions.now ≡ changed_versions colours.now seen cluts.now
+        → IfOk result
+        (λ steps. steps.versions ≡ changed_versions colours.now (tick ∷ seen) cluts.now) }
+    ensures sent { (seen : List ℕ)
+        → versions.now ≡ changed_versions colours.now seen cluts.now
+        → IfOk result
+        (λ steps. steps.sent ≡ sent_of colours.now whole (tick ∷ seen) cluts.now) }
+    ensures nodes { (seen : List ℕ)
+        → versions.now ≡ changed_versions colours.now seen cluts.now
+        → IfOk result
+        (λ steps. steps.nodes
+        ≡ clut_nodes (sent_of colours.now true (tick ∷ seen) cluts.now)) }
     ensures long { IfOk result (λ steps. length steps.versions ≡ length cluts.now) }
     ensures small { IfOk result (λ steps. All IsSmallVersion steps.versions) }
     ensures few { IfOk result (λ steps. steps.nodes ≤ 277 * 256) }

@@ -3,7 +3,7 @@ ghost use Rattle.std.specs.List.{count_by};
 ghost use Rattle.std.specs.List.Sorted.{IsNonDecreasing};
 ghost use Rattle.cue_list.specs.declared.epoch.Epoch.{Epoch as EpochValue};
 ghost use Rattle.page_epoch.specs.Instants.{shows_cue as shows_cue_at};
-ghost use Rattle.page_epoch.specs.Showing.{AreCueTicks, AreLasting};
+ghost use Rattle.page_epoch.specs.Private.Showing.{AreCueTicks, AreLasting};
 
 use cue_list::{Cue, Epoch};
 use std::alloc::{AllocError, Global};
@@ -20,8 +20,10 @@ pub struct CueTicks {
 
 /// Appends the ticks at which cues start, and those at which they end.
 fn push_ticks(starts: &mut Vec<u64>, ends: &mut Vec<u64>, cues: &[Cue]) -> Result<(), AllocError>
-    ensures starts { OnOk result (starts.new.items ≡ starts.old.items ++ map (λ cue. cue.start) cues.now) }
-    ensures ends { OnOk result (ends.new.items ≡ ends.old.items ++ map (λ cue. cue.end) cues.now) }
+    ensures starts { OnOk result
+        (starts.new.items ≡ starts.old.items ++ map (λ cue. cue.start) cues.now) }
+    ensures ends { OnOk result
+        (ends.new.items ≡ ends.old.items ++ map (λ cue. cue.end) cues.now) }
 {
     for cue in cues {
         starts.push(cue.start)?;
@@ -32,7 +34,8 @@ fn push_ticks(starts: &mut Vec<u64>, ends: &mut Vec<u64>, cues: &[Cue]) -> Resul
 
 /// How many of these ticks, which are in order, have come by a tick.
 fn count_by_tick(ticks: &[u64], tick: u64) -> usize
-    ensures { IsNonDecreasing ticks.now → result ≡ count_by (λ other. nat_le other tick) ticks.now }
+    ensures { IsNonDecreasing ticks.now
+        → result ≡ count_by (λ other. nat_le other tick) ticks.now }
 {
     ticks.partition_point(|other| *other <= tick)
 }
@@ -55,9 +58,11 @@ impl CueTicks {
         })
     }
 
-    /// Whether some cue is live at a tick: more have started by then than have ended, since each ends after its start.
+    /// Whether some cue is live at a tick: more have started by then than have ended, since each
+    /// ends after its start.
     pub fn show_cue(&self, tick: u64) -> bool
-        ensures { (epochs : List EpochValue) → AreCueTicks epochs self.now → AreLasting epochs → result ≡ shows_cue_at epochs tick }
+        ensures { (epochs : List EpochValue) → AreCueTicks epochs self.now → AreLasting epochs
+            → result ≡ shows_cue_at epochs tick }
     {
         count_by_tick(self.ends.as_slice(), tick) < count_by_tick(self.starts.as_slice(), tick)
     }

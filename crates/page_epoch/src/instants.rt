@@ -1,14 +1,15 @@
 ghost use Rattle.std.specs.Prelude.{◌<◌, ◌≤◌, ◌^◌, All, IfOk, OnOk};
 ghost use Rattle.page_epoch.specs.Instants.{named_ticks};
-ghost use Rattle.page_epoch.specs.Showing.{AreLasting};
-ghost use Rattle.page_epoch.specs.Steps.{HasRefreshes, AreSteps};
+ghost use Rattle.page_epoch.specs.Private.Showing.{AreLasting};
+ghost use Rattle.page_epoch.specs.Private.RecordedInstants.{HasRefreshes, AreRecordedInstants};
 
 use crate::cue_ticks::CueTicks;
-use crate::moments::{Event, moments_of};
+use crate::events::{Event, least_events_of};
 use cue_list::Epoch;
 use std::alloc::{AllocError, Global};
 
-/// How many ticks a refresh keeps from the next named tick: a set that comes so soon refreshes the page itself.
+/// How many ticks a refresh keeps from the next named tick: a set that comes so soon refreshes the
+/// page itself.
 pub const REFRESH_ROOM: u64 = 3_600;
 
 /// An instant at which a display set is shown.
@@ -25,21 +26,22 @@ pub struct Instant {
 /// Appends the refreshes between a named tick and the next one.
 fn push_refreshes(
     instants: &mut Vec<Instant>,
-    moment: Event,
+    event: Event,
     next: u64,
     refresh: u64,
 ) -> Result<(), AllocError>
     requires some { 1 ≤ refresh }
-    requires small { (moment.tick < 2 ^ 40) }
+    requires small { (event.tick < 2 ^ 40) }
     requires next { next < 2 ^ 40 }
     requires refresh { refresh < 2 ^ 40 }
-    ensures { OnOk result (HasRefreshes instants.old.items instants.new.items moment.tick moment.row next refresh) }
+    ensures { OnOk result
+        (HasRefreshes instants.old.items instants.new.items event.tick event.row next refresh) }
 {
-    let mut tick = moment.tick + refresh;
+    let mut tick = event.tick + refresh;
     while tick + REFRESH_ROOM < next {
         instants.push(Instant {
             tick,
-            row: moment.row,
+            row: event.row,
             named: false,
         })?;
         tick += refresh;
@@ -57,20 +59,21 @@ pub fn instants_of(
     requires refresh { refresh < 2 ^ 40 }
     requires small { All (λ tick. tick < 2 ^ 40) (named_ticks epochs.now) }
     requires lasting { AreLasting epochs.now }
-    ensures { IfOk result (λ instants. AreSteps epochs.now refresh instants.items) }
+    ensures { IfOk result (λ instants. AreRecordedInstants epochs.now refresh instants.items) }
 {
-    let moments = moments_of(alloc, epochs)?;
+    let events = least_events_of(alloc, epochs)?;
     let cues = CueTicks::of(alloc, epochs)?;
     let mut instants = Vec::new(alloc);
-    for (i, moment) in moments.iter().enumerate() {
+    for (i, event) in events.iter().enumerate() {
         instants.push(Instant {
-            tick: moment.tick,
-            row: moment.row,
+            tick: event.tick,
+            row: event.row,
             named: true,
         })?;
-        // A page without a cue shows nothing that a late receiver misses. No cue is live at the last tick, as it would end later.
-        if i + 1 < moments.len() && cues.show_cue(moment.tick) {
-            push_refreshes(&mut instants, *moment, moments[i + 1].tick, refresh)?;
+        // A page without a cue shows nothing that a late receiver misses. No cue is live at the
+        // last tick, as it would end later.
+        if i + 1 < events.len() && cues.show_cue(event.tick) {
+            push_refreshes(&mut instants, *event, events[i + 1].tick, refresh)?;
         }
     }
     Ok(instants)

@@ -1,5 +1,5 @@
-//! The plan of a programme: which display sets a script is sent as, when each is shown, and what it carries
-//! (EN 300 743, clauses 5 and 7).
+//! The plan of a programme: which display sets a script is sent as, when each is shown, and what it
+//! carries (EN 300 743, clauses 5 and 7).
 #![tactic(auto)]
 
 // What is planned, and why there is no plan.
@@ -8,8 +8,8 @@ mod planned_set;
 
 // The instants of a script.
 mod cue_ticks;
+mod events;
 mod instants;
-mod moments;
 
 // What stays in an epoch: regions with their cues, and CLUTs with their changes.
 mod clut_changes;
@@ -19,12 +19,13 @@ mod live;
 
 // An epoch from instant to instant: its regions, its CLUTs, and the set of each instant.
 mod clut_step;
-mod course;
-mod region_course;
+mod epoch_state;
+mod region_state;
 
 // The plan.
 mod plan;
 
+pub use epoch_state::is_entry_state;
 pub use fault::PlanFault;
 pub use plan::Plan;
 pub use planned_set::{PlannedSet, SentClut, SentRegion};

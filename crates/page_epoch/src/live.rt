@@ -1,7 +1,8 @@
 ghost use Rattle.std.specs.Prelude.{◌≡◌, ℕ, ◌+◌, ◌-◌, ◌++◌, ◌≤◌, nat_le, true, false, length, filter, IfOk, OnOk, map};
 ghost use Rattle.std.specs.List.{slice_range};
 ghost use Rattle.std.specs.List.Sorted.{IsNonDecreasing, IsNonDecreasingBy, IsPartitionPoint, IsStrictlyIncreasing};
-ghost use Rattle.page_epoch.specs.Live.{cue_at, times, AreBegins};
+ghost use Rattle.cue_list.specs.declared.limits.TheConstants.{MOST_CUES};
+ghost use Rattle.page_epoch.specs.Live.{cue_at, times, AreStarts};
 ghost use Rattle.cue_list.specs.Authored.{is_live as is_live_by};
 
 use cue_list::Cue;
@@ -10,7 +11,7 @@ use sub_base::Items;
 
 /// A cue of a region: the tick at which it starts, and its place.
 #[derive(Clone, Copy, Debug)]
-pub struct Begin {
+pub struct CueStart {
     /// The tick at which the cue starts.
     pub tick: u64,
     /// Its index in the epoch's list of cues.
@@ -29,34 +30,38 @@ fn is_live_at(cues: &[Cue], place: u32, tick: u64) -> bool
 }
 
 /// The cues of a region, in order of their starts.
-pub fn begins_of(alloc: Global, cues: &[Cue], region: u8) -> Result<Items<Begin>, AllocError>
-    requires few { length cues.now ≤ 4096 }
-    ensures { IfOk result (AreBegins cues.now region) }
+pub fn starts_of(alloc: Global, cues: &[Cue], region: u8) -> Result<Items<CueStart>, AllocError>
+    requires few { length cues.now ≤ MOST_CUES }
+    ensures { IfOk result (AreStarts cues.now region) }
 {
-    let mut begins = Vec::new(alloc);
+    let mut starts = Vec::new(alloc);
     for (place, cue) in cues.iter().enumerate() {
         if cue.region == region {
-            begins.push(Begin {
+            starts.push(CueStart {
                 tick: cue.start,
                 place: place as u32,
             })?;
         }
     }
-    begins.sort_by_key(|begin| begin.tick)?;
-    Ok(Items::new(alloc, begins))
+    starts.sort_by_key(|start| start.tick)?;
+    Ok(Items::new(alloc, starts))
 }
 
 /// How many of these cues, which are in order of their starts, have started by a tick.
-pub fn count_begun(begins: &[Begin], tick: u64) -> usize
-    ensures few { result ≤ length begins.now }
-    ensures point { IsNonDecreasingBy (λ begin. begin.tick) begins.now → IsPartitionPoint (λ begin. nat_le begin.tick tick ≡ true) (λ begin. nat_le begin.tick tick ≡ false) begins.now result }
+pub fn count_started(starts: &[CueStart], tick: u64) -> usize
+    ensures few { result ≤ length starts.now }
+    ensures point { IsNonDecreasingBy (λ start. start.tick) starts.now
+        → IsPartitionPoint (λ start. nat_le start.tick tick ≡ true)
+        (λ start. nat_le start.tick tick ≡ false) starts.now result }
 {
-    begins.partition_point(|begin| begin.tick <= tick)
+    starts.partition_point(|start| start.tick <= tick)
 }
 
 /// The cues of these that are live at a tick.
 fn live_of(alloc: Global, cues: &[Cue], places: &[u32], tick: u64) -> Result<Vec<u32>, AllocError>
-    ensures { IfOk result (λ live. live.items ≡ filter (λ place. is_live_by tick (cue_at cues.now place)) places.now) }
+    ensures { IfOk result
+        (λ live. live.items
+        ≡ filter (λ place. is_live_by tick (cue_at cues.now place)) places.now) }
 {
     let mut live = Vec::new(alloc);
     for place in places {
@@ -71,38 +76,47 @@ fn live_of(alloc: Global, cues: &[Cue], places: &[u32], tick: u64) -> Result<Vec
 fn push_live(
     live: &mut Vec<u32>,
     cues: &[Cue],
-    begins: &[Begin],
+    starts: &[CueStart],
     tick: u64,
 ) -> Result<(), AllocError>
-    ensures { OnOk result (live.new.items ≡ live.old.items ++ filter (λ place. is_live_by tick (cue_at cues.now place)) (map (λ begin. begin.place) begins.now)) }
+    ensures { OnOk result
+        (live.new.items ≡ live.old.items
+        ++ filter (λ place. is_live_by tick (cue_at cues.now place))
+        (map (λ start. start.place) starts.now)) }
 {
-    for begin in begins {
-        if is_live_at(cues, begin.place, tick) {
-            live.push(begin.place)?;
+    for start in starts {
+        if is_live_at(cues, start.place, tick) {
+            live.push(start.place)?;
         }
     }
     Ok(())
 }
 
-/// The live cues of a region at a tick, from those at an earlier one: which of them stay, and which of the cues that
-/// started since are live.
+/// The live cues of a region at a tick, from those at an earlier one: which of them stay, and which
+/// of the cues that started since are live.
 pub fn live_after(
     alloc: Global,
     cues: &[Cue],
-    begins: &[Begin],
+    starts: &[CueStart],
     old: &[u32],
     before: usize,
-    begun: usize,
+    started: usize,
     tick: u64,
 ) -> Result<Items<u32>, AllocError>
-    requires few { begun ≤ length begins.now }
-    ensures same { (place : ℕ) → IfOk result (λ live. times place live ≡ times place (filter (λ place. is_live_by tick (cue_at cues.now place)) old.now) + times place (filter (λ place. is_live_by tick (cue_at cues.now place)) (map (λ begin. begin.place) (slice_range begins.now before begun)))) }
+    requires few { started ≤ length starts.now }
+    ensures same { (place : ℕ)
+        → IfOk result
+        (λ live. times place live
+        ≡ times place (filter (λ place. is_live_by tick (cue_at cues.now place)) old.now)
+        + times place
+        (filter (λ place. is_live_by tick (cue_at cues.now place))
+        (map (λ start. start.place) (slice_range starts.now before started)))) }
     ensures order { IsStrictlyIncreasing old.now → IfOk result IsNonDecreasing }
-    ensures few { IfOk result (λ live. length live ≤ length old.now + (begun - before)) }
+    ensures few { IfOk result (λ live. length live ≤ length old.now + (started - before)) }
 {
     let mut live = live_of(alloc, cues, old, tick)?;
-    if before < begun {
-        push_live(&mut live, cues, &begins[before..begun], tick)?;
+    if before < started {
+        push_live(&mut live, cues, &starts[before..started], tick)?;
         // Cues are drawn in the script's order, and not in that of their starts.
         live.sort()?;
     }

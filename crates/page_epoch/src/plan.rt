@@ -1,11 +1,11 @@
-ghost use Rattle.std.specs.Prelude.{◌≡◌, ◌≤◌, All, IfOk, IfErr, OnOk};
+ghost use Rattle.std.specs.Prelude.{◌≡◌, ◌≢◌, ◌≤◌, List, All, IfOk, IfErr, IsOkUnless, OnOk};
 ghost use Rattle.page_epoch.specs.States.{state_of as state_by};
 ghost use Rattle.page_epoch.specs.Plan.{ArePlanned, IsPlan};
-ghost use Rattle.page_epoch.specs.Refusals.{IsCause, IsNeedFault, IsSetCause};
+ghost use Rattle.page_epoch.specs.Refusals.{IsCause, IsNeedFault, IsRefusal, IsSetCause};
 ghost use Rattle.page_epoch.specs.Sendable.{IsSendable};
-ghost use Rattle.page_epoch.specs.Sweeps.{IsPlain};
+ghost use Rattle.page_epoch.specs.EpochWalks.{IsPlain};
 
-use crate::course::{Sweep, is_whole};
+use crate::epoch_state::{EpochWalk, is_entry_state};
 use crate::fault::PlanFault;
 use crate::instants::instants_of;
 use crate::planned_set::PlannedSet;
@@ -22,30 +22,46 @@ pub struct Plan {
 }
 
 impl Plan {
-    /// The plan of a script for a receiver of a profile: one set for each instant. The display is tested first, then the
-    /// sets in order, the pixels of a set's epoch before its nodes.
+    /// The plan of a script for a receiver of a profile: one set for each instant. The display is
+    /// tested first, then the sets in order, the pixels of a set's epoch before its nodes.
     pub fn make(alloc: Global, script: &Script, profile: &Profile) -> Result<Plan, PlanFault>
         ensures plan { IfOk result (λ plan. IsPlan script.now profile.now plan.sets) }
         ensures sendable { IfOk result (λ plan. All (IsSendable script.now) plan.sets) }
         ensures cause { IfErr result (IsCause script.now profile.now) }
+
+        // But for want of memory each script with a plan is planned, and each other one is refused,
+        // for its one fault.
+        ensures every_plan { (sets : List PlannedSet) → IsPlan script.now profile.now sets
+            → IsOkUnless result PlanFault.Memory }
+        ensures every_fault { (fault : PlanFault) → IsCause script.now profile.now fault
+            → fault ≢ PlanFault.Memory → IsRefusal fault result }
     {
-        if u32::from(script.width) > profile.width || u32::from(script.height) > profile.height {
-            // The display is always the second record.
-            return Err(PlanFault::DisplayTooLarge { row: 2 });
-        }
-        let sets = plan_sets(alloc, script.epochs.as_slice(), script.refresh, profile)?;
-        Ok(Plan {
-            sets: Items::new(alloc, sets),
-        })
+        plan_script(alloc, script, profile)
     }
 }
 
-/// The page state of a set: a mode change where the epoch begins; an acquisition point at a refresh, or where an entry point is
-/// due; else normal.
-fn state_of(begins: bool, named: bool, due: bool) -> State
-    ensures { result ≡ state_by begins named due }
+/// The same, of a display that fits and of its sets.
+fn plan_script(alloc: Global, script: &Script, profile: &Profile) -> Result<Plan, PlanFault>
+    ensures plan { IfOk result (λ plan. IsPlan script.now profile.now plan.sets) }
+    ensures sendable { IfOk result (λ plan. All (IsSendable script.now) plan.sets) }
+    ensures cause { IfErr result (IsCause script.now profile.now) }
 {
-    if begins {
+    if u32::from(script.width) > profile.width || u32::from(script.height) > profile.height {
+        // The display is always the second record.
+        return Err(PlanFault::DisplayTooLarge { row: 2 });
+    }
+    let sets = plan_sets(alloc, script.epochs.as_slice(), script.refresh, profile)?;
+    Ok(Plan {
+        sets: Items::new(alloc, sets),
+    })
+}
+
+/// The page state of a set: a mode change where the epoch begins; an acquisition point at a
+/// refresh, or where an entry point is due; else normal.
+fn state_of(starts: bool, named: bool, due: bool) -> State
+    ensures { result ≡ state_by starts named due }
+{
+    if starts {
         State::ModeChange
     } else if !named || due {
         State::Acquisition
@@ -81,23 +97,24 @@ fn plan_sets(
 {
     let instants = instants_of(alloc, epochs, refresh)?;
     let mut sets = Vec::new(alloc);
-    let mut sweep = Sweep::begin(alloc, epochs, 0)?;
-    let mut whole = 0;
+    let mut walk = EpochWalk::begin(alloc, epochs, 0)?;
+    let mut last_entry = 0;
     for instant in &instants {
-        sweep = sweep.at(alloc, epochs, instant.tick)?;
-        let epoch = &epochs[sweep.place as usize];
-        // Named instants may come so thick that no refresh has room between them: then one of them is the entry point.
-        let due = whole + refresh <= instant.tick;
-        let state = state_of(sweep.course.first, instant.named, due);
-        let step = sweep
-            .course
-            .advance(alloc, epoch, &sweep.layout, sweep.place, *instant, state)?;
-        check_needs(profile, sweep.layout.pixels, step.nodes, instant.row)?;
-        if is_whole(state) {
-            whole = instant.tick;
+        walk = walk.at(alloc, epochs, instant.tick)?;
+        let epoch = &epochs[walk.place as usize];
+        // Named instants may come so thick that no refresh has room between them: then one of them
+        // is the entry point.
+        let due = last_entry + refresh <= instant.tick;
+        let state = state_of(walk.current.first, instant.named, due);
+        let step = walk
+            .current
+            .advance(alloc, epoch, &walk.layout, walk.place, *instant, state)?;
+        check_needs(profile, walk.layout.pixels, step.nodes, instant.row)?;
+        if is_entry_state(state) {
+            last_entry = instant.tick;
         }
         sets.push(step.set)?;
-        sweep.course = step.course;
+        walk.current = step.current;
     }
     Ok(sets)
 }

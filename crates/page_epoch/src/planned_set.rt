@@ -1,8 +1,8 @@
 use stream_syntax::State;
 use sub_base::Items;
 
-/// A display set: its presentation time, its page state, and what it carries. Cues and colours are indices into the lists of
-/// its epoch, from 0.
+/// A display set: its presentation time, its page state, and what it carries. Cues and colours are
+/// indices into the lists of its epoch, from 0.
 #[derive(Drop)]
 pub struct PlannedSet {
     /// The presentation time, in ticks.

@@ -85,12 +85,18 @@ fn plans_of_small_scripts(rt: HostRuntime) {
     check_plan(&rt, alloc, TWO_EPOCHS, &TWO_EPOCHS_SETS);
 }
 
-/// A cue of forty seconds is sent again each five seconds, by the record of the set before; where the eighth refresh would
-/// be, the cue ends: a receiver is due to begin there, so the region is sent too, which is empty then.
+/// A cue of forty seconds is sent again each five seconds, by the record of the set before; where
+/// the eighth refresh would be, the cue ends: a receiver is due to begin there, so the region is
+/// sent too, which is empty then.
 #[test]
 fn a_cue_of_forty_seconds(rt: HostRuntime) -> Result<(), Fail> {
-    let text =
-        "origin,0\ndisplay,8,8\nrefresh,5\nepoch,90000\nregion,0,0,0,8,8,4,0\npicture,a,4,1,1,3\nplace,90000,3690000,0,0,0,solid,a\n";
+    let text = "origin,0\n\
+         display,8,8\n\
+         refresh,5\n\
+         epoch,90000\n\
+         region,0,0,0,8,8,4,0\n\
+         picture,a,4,1,1,3\n\
+         place,90000,3690000,0,0,0,solid,a\n";
     let plan = plan_of(&rt, rt.alloc(), text)?;
     let sets = plan.sets.as_slice();
     assert_eq!(rt; sets.len(), 9);
@@ -167,8 +173,8 @@ fn versions_wrap(rt: HostRuntime) -> Result<(), Fail> {
     Ok(())
 }
 
-/// A region of 180 bytes by 576 rows does not fit the pixel buffer of 81,920 bytes; a region with two CLUTs of 276 entries
-/// each needs 1 + 2 * 277 nodes.
+/// A region of 180 bytes by 576 rows does not fit the pixel buffer of 81,920 bytes; a region with
+/// two CLUTs of 276 entries each needs 1 + 2 * 277 nodes.
 #[test]
 fn the_first_set_that_a_receiver_cannot_hold(rt: HostRuntime) -> Result<(), Fail> {
     let alloc = rt.alloc();

@@ -98,7 +98,8 @@ place,495000,585000,0,0,0,solid,a
 place,90000,675000,1,0,0,solid,a
 ";
 
-/// An acquisition point sends the region that is empty too. The one at 360,000 is a refresh, that at 585,000 is due.
+/// An acquisition point sends the region that is empty too. The one at 360,000 is a refresh, that
+/// at 585,000 is due.
 pub const EMPTY_REGION_SETS: [Wanted; 6] = [
     Wanted {
         pts: 90_000,
@@ -178,8 +179,9 @@ place,90000,600000,9,0,0,solid,a
 place,180000,600000,3,0,0,through,a
 ";
 
-/// Of two rows of an entry at a tick the second counts; a normal set sends the entries of its tick, and an acquisition
-/// point all that are defined, by depth and entry. The page shows regions from the top, and sends them by their numbers.
+/// Of two rows of an entry at a tick the second counts; a normal set sends the entries of its tick,
+/// and an acquisition point all that are defined, by depth and entry. The page shows regions from
+/// the top, and sends them by their numbers.
 pub const COLOURS_SETS: [Wanted; 5] = [
     Wanted {
         pts: 90_000,

@@ -1,11 +1,10 @@
 -- The tests of a reader and the layout of a PES packet say the same.
 use Rattle.std.proofs.Common.{◌≡◌, ℕ, ◌+◌, ◌/◌, ◌%◌, ◌≤◌, Bool, true, false, cond, ◌||◌, not, nat_eq, List, [], ◌∷◌, length, drop, get_or, Option, Some, None, refl, ap, eq-eqb}
-use Rattle.std.specs.Prelude.{find}
-use Rattle.std.specs.Option.{option_map}
 use Rattle.std.proofs.lemmas.Bool.{le-ltb, ltb-false, eqb-true}
 use Rattle.byteorder.specs.Endian.{big_number}
 use Rattle.stream_syntax.specs.declared.pes.PesFault.{PesFault}
 use Rattle.stream_syntax.specs.Pes.{field_place, pes_tests, pes_fault}
+use Rattle.stream_syntax.specs.Tests.{Test, first_fault}
 
 -- ---- tests
 
@@ -27,34 +26,28 @@ not_other a b e = eqb-true a b (not_not (nat_eq a b) e)
 same_not_other : (a b : ℕ) → a ≡ b → not (nat_eq a b) ≡ false
 same_not_other a b e = ap not (eq-eqb a b e)
 
-abbrev first_of : List (Bool × PesFault) → Option PesFault
-first_of tests = option_map (λ (test : Bool × PesFault). test.1) (find (λ (test : Bool × PesFault). test.0) tests)
-
-abbrev second : Bool × PesFault → PesFault
-second test = test.1
-
 -- each test is passed
-abbrev AllFalse : List (Bool × PesFault) → Type 0
+abbrev AllFalse : List (Test PesFault) → Type 0
 AllFalse [] = Unit {0}
-AllFalse (test ∷ tests) = (test.0 ≡ false) × AllFalse tests
+AllFalse (first ∷ tests) = (first.fails ≡ false) × AllFalse tests
 
-first_none : (failed : Bool) (test : Bool × PesFault) (others : Option (Bool × PesFault)) → option_map second (cond failed (Some test) others) ≡ None → (failed ≡ false) × (option_map second others ≡ None)
-first_none true test others e = absurd cc
-first_none false test others e = (refl, e)
+first_none : (failed : Bool) (fault : PesFault) (others : Option PesFault) → cond failed (Some fault) others ≡ None → (failed ≡ false) × (others ≡ None)
+first_none true fault others e = absurd cc
+first_none false fault others e = (refl, e)
 
-none_first : (failed : Bool) (test : Bool × PesFault) (others : Option (Bool × PesFault)) → failed ≡ false → option_map second others ≡ None → option_map second (cond failed (Some test) others) ≡ None
-none_first true test others e f = absurd cc
-none_first false test others e f = f
+none_first : (failed : Bool) (fault : PesFault) (others : Option PesFault) → failed ≡ false → others ≡ None → cond failed (Some fault) others ≡ None
+none_first true fault others e f = absurd cc
+none_first false fault others e f = f
 
-none_failed : (tests : List (Bool × PesFault)) → first_of tests ≡ None → AllFalse tests
+none_failed : (tests : List (Test PesFault)) → first_fault tests ≡ None → AllFalse tests
 none_failed [] e = tt
-none_failed (test ∷ tests) e =
-    let first = first_none test.0 test (find (λ (t : Bool × PesFault). t.0) tests) e in (first.0, none_failed tests first.1)
+none_failed (first ∷ tests) e =
+    let found = first_none first.fails first.fault (first_fault tests) e in (found.0, none_failed tests found.1)
 
-none_to_tell : (tests : List (Bool × PesFault)) → AllFalse tests → first_of tests ≡ None
+none_to_tell : (tests : List (Test PesFault)) → AllFalse tests → first_fault tests ≡ None
 none_to_tell [] passed = refl
-none_to_tell (test ∷ tests) passed =
-    none_first test.0 test (find (λ (t : Bool × PesFault). t.0) tests) passed.0 (none_to_tell tests passed.1)
+none_to_tell (first ∷ tests) passed =
+    none_first first.fails first.fault (first_fault tests) passed.0 (none_to_tell tests passed.1)
 
 -- what bytes have that pass each test
 pub record Passes (bytes : List ℕ) : Type 0 where

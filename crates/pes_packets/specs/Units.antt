@@ -39,9 +39,12 @@ pub record AreUnitLengths (segments lengths : List ℕ) : Type 0 where
   pub shared : IsSharedOut (λ bytes. bytes) segments units
   pub are : lengths ≡ map (unit_length (λ bytes. bytes)) units
 
--- segments of these lengths have been shared out so far: the last unit is open, with so many bytes of them, and these are the
--- lengths of the units before it, which are closed
+-- segments of these lengths have been shared out so far: the last unit is open, with so many bytes of them, and these
+-- are the lengths of the units before it, which are closed
 pub data IsOpenAfter (segments lengths : List ℕ) (bytes : ℕ) : Type 0 where
   no_segment : segments ≡ [] → lengths ≡ [] → bytes ≡ 0 → IsOpenAfter segments lengths bytes
-  some_segments : (closed : List (List ℕ)) (last : List ℕ) → IsSharedOut (λ bytes. bytes) segments (closed ++ last ∷ []) → 1 ≤ sum_by (λ bytes. bytes) last →
-      lengths ≡ map (unit_length (λ bytes. bytes)) closed → bytes ≡ sum_by (λ bytes. bytes) last → IsOpenAfter segments lengths bytes
+  some_segments : (closed : List (List ℕ)) (last : List ℕ)
+      → IsSharedOut (λ bytes. bytes) segments (closed ++ last ∷ [])
+      → 1 ≤ sum_by (λ bytes. bytes) last →
+      lengths ≡ map (unit_length (λ bytes. bytes)) closed → bytes ≡ sum_by (λ bytes. bytes) last
+      → IsOpenAfter segments lengths bytes

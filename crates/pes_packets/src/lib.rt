@@ -1,6 +1,7 @@
-//! PES packets of a subtitle stream, both ways (ISO/IEC 13818-1, 2.4.3.6; EN 300 743, 6): the bytes of a packet from
-//! its presentation time and data field, and from bytes the presentation time and the segments. Nothing is copied in reading.
-//! Segments that are too many for one packet are shared out to several.
+//! PES packets of a subtitle stream, both ways (ISO/IEC 13818-1, 2.4.3.6; EN 300 743, 6): the bytes
+//! of a packet from its presentation time and data field, and from bytes the presentation time and
+//! the segments. Nothing is copied in reading. Segments that are too many for one packet are shared
+//! out to several.
 #![tactic(auto)]
 
 // One packet, both ways.

@@ -4,12 +4,11 @@ ghost use Rattle.byteorder.specs.Endian.{big_number};
 ghost use Rattle.stream_syntax.specs.Pes.{Gives, IsPes, field_place, pes_fault, pes_of, pts_in, segments_in};
 ghost use Rattle.stream_syntax.specs.Pes.{lacks_prefix as prefix_fails, has_bad_head as head_fails, has_bad_header_length as header_length_fails, lacks_marker as marker_fails, is_other_field as field_fails};
 
-use crate::writing::PRIVATE_STREAM_1;
 use byteorder::{BigEndian, ByteOrder};
-use stream_syntax::PesFault;
+use stream_syntax::{DATA_IDENTIFIER, PRIVATE_STREAM_1, PesFault, SUBTITLE_STREAM};
 
-/// A PES packet of a subtitle stream: its presentation time in ticks of 90 kHz, and the bytes of its data field behind
-/// data identifier and subtitle stream id.
+/// A PES packet of a subtitle stream: its presentation time in ticks of 90 kHz, and the bytes of
+/// its data field behind data identifier and subtitle stream id.
 #[derive(Clone, Copy, Debug, PartialEq, Eq)]
 pub struct Pes<'a> {
     /// The presentation time, below 2^33.
@@ -55,7 +54,8 @@ fn read(bytes: &[u8]) -> Result<Pes<'_>, PesFault>
 /// The fault of the first test that the bytes fail.
 fn fault_of(bytes: &[u8]) -> Option<PesFault>
     ensures first { result ≡ pes_fault bytes.now }
-    ensures long { IfNone result ((field_place bytes.now + 2 ≤ length bytes.now) × (5 ≤ slice_index bytes.now 8)) }
+    ensures long { IfNone result
+        ((field_place bytes.now + 2 ≤ length bytes.now) × (5 ≤ slice_index bytes.now 8)) }
 {
     if lacks_prefix(bytes) {
         return Some(PesFault::NoPrefix);
@@ -93,7 +93,8 @@ fn lacks_prefix(bytes: &[u8]) -> bool
     bytes.len() < 6 || bytes[0] != 0 || bytes[1] != 0 || bytes[2] != 1
 }
 
-/// Whether the head is cut, the length field gives another count of bytes, or the header does not begin with the bits 10.
+/// Whether the head is cut, the length field gives another count of bytes, or the header does not
+/// begin with the bits 10.
 fn has_bad_head(bytes: &[u8]) -> bool
     requires { 6 ≤ length bytes.now }
     ensures exact { result ≡ head_fails bytes.now }
@@ -108,7 +109,8 @@ fn has_bad_head(bytes: &[u8]) -> bool
 fn has_bad_header_length(bytes: &[u8]) -> bool
     requires { 9 ≤ length bytes.now }
     ensures exact { result ≡ header_length_fails bytes.now }
-    ensures enough { OnFalse result ((field_place bytes.now + 2 ≤ length bytes.now) × (5 ≤ slice_index bytes.now 8)) }
+    ensures enough { OnFalse result
+        ((field_place bytes.now + 2 ≤ length bytes.now) × (5 ≤ slice_index bytes.now 8)) }
 {
     bytes[8] < 5 || bytes.len() < FIXED_LENGTH + usize::from(bytes[8]) + 2
 }
@@ -127,7 +129,7 @@ fn is_other_field(bytes: &[u8]) -> bool
     ensures exact { result ≡ field_fails bytes.now }
 {
     let field = FIXED_LENGTH + usize::from(bytes[8]);
-    bytes[field] != 0x20 || bytes[field + 1] != 0
+    bytes[field] != DATA_IDENTIFIER || bytes[field + 1] != SUBTITLE_STREAM
 }
 
 /// The presentation time in the header.

@@ -1,7 +1,8 @@
 use super::*;
 use std::test::Fail;
 
-/// The second packet of the first worked stream: its time is 180000, and it has a page segment and an end segment.
+/// The second packet of the first worked stream: its time is 180000, and it has a page segment and
+/// an end segment.
 const SECOND_UNIT: [u8; 31] = [
     0x00, 0x00, 0x01, 0xBD, 0x00, 0x19, 0x84, 0x80, 0x05, 0x21, 0x00, 0x0B, 0x7E, 0x41, 0x20, 0x00,
     0x0F, 0x10, 0x00, 0x01, 0x00, 0x02, 0x0C, 0x13, 0x0F, 0x80, 0x00, 0x01, 0x00, 0x00, 0xFF,
@@ -64,7 +65,8 @@ fn one_wrong_byte_is_the_first_fault(rt: HostRuntime) -> Result<(), Fail> {
     Ok(())
 }
 
-/// A unit takes segments up to 65,524 bytes, one more begins the next unit, and a longer segment stands alone.
+/// A unit takes segments up to 65,524 bytes, one more begins the next unit, and a longer segment
+/// stands alone.
 #[test]
 fn segments_are_shared_out_to_units(rt: HostRuntime) -> Result<(), Fail> {
     let mut out = Vec::new(rt.alloc());

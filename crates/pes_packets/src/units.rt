@@ -3,12 +3,13 @@ ghost use Rattle.pes_packets.specs.Units.{IsSharedOut, IsSegmentLength, IsOpenAf
 
 use sub_base::{NoMemory, UNIT_ROOM};
 
-/// The bytes of a PES packet that are no segments: its header, data identifier, subtitle stream id and end marker.
+/// The bytes of a PES packet that are no segments: its header, data identifier, subtitle stream id
+/// and end marker.
 pub const OTHER_BYTES: u64 = 17;
 
-/// The unit, the PES packet, that takes the next one of segments that are shared out by their lengths. A unit takes
-/// the segments in their order while it has room for them, and a segment that no unit has room for stands alone in
-/// its own.
+/// The unit, the PES packet, that takes the next one of segments that are shared out by their
+/// lengths. A unit takes the segments in their order while it has room for them, and a segment that
+/// no unit has room for stands alone in its own.
 #[derive(Clone, Copy, Debug, PartialEq, Eq)]
 pub struct OpenUnit {
     /// The bytes of its segments, 0 where there was no segment so far.
@@ -24,13 +25,16 @@ impl OpenUnit {
         OpenUnit { bytes: 0 }
     }
 
-    /// Takes the next segment, of so many bytes. Where the unit has no room for it, the unit is closed before it and its
-    /// length is the answer, and the segment is the first of the next unit.
+    /// Takes the next segment, of so many bytes. Where the unit has no room for it, the unit is
+    /// closed before it and its length is the answer, and the segment is the first of the next
+    /// unit.
     pub fn take(&mut self, segment: u32) -> Option<u32>
         requires segment { IsSegmentLength segment }
         requires short { self.old.bytes ≤ 2 ^ 31 }
-        ensures taken { (segments lengths : List ℕ) → IsOpenAfter segments lengths self.old.bytes
-            → IsOpenAfter (segments ++ segment ∷ []) (lengths ++ option_to_list result) self.new.bytes }
+        ensures taken { (segments lengths : List ℕ)
+            → IsOpenAfter segments lengths self.old.bytes
+            → IsOpenAfter (segments ++ segment ∷ []) (lengths ++ option_to_list result)
+            self.new.bytes }
         ensures short { self.new.bytes ≤ 2 ^ 31 }
 
         // A unit that is closed has segments, and bytes besides.
@@ -50,7 +54,8 @@ impl OpenUnit {
     /// The length of the unit; none where there was no segment.
     pub fn length(&self) -> Option<u32>
         requires short { self.now.bytes ≤ 2 ^ 31 }
-        ensures lengths { (segments lengths : List ℕ) → IsOpenAfter segments lengths self.now.bytes
+        ensures lengths { (segments lengths : List ℕ)
+            → IsOpenAfter segments lengths self.now.bytes
             → AreUnitLengths segments (lengths ++ option_to_list result) }
         ensures begun { IfSome result (λ unit. 0 < self.now.bytes) }
         ensures some { IfSome result (λ unit. OTHER_BYTES ≤ unit) }
@@ -62,13 +67,14 @@ impl OpenUnit {
     }
 }
 
-/// Whether a unit with so many bytes of segments takes one of that many more. The first one is always taken.
+/// Whether a unit with so many bytes of segments takes one of that many more. The first one is
+/// always taken.
 fn has_room(taken: u64, bytes: u64) -> bool
     requires { taken + bytes < 2 ^ 64 }
     ensures { IsTrue result ↔ (0 < taken → taken + bytes ≤ UNIT_ROOM) }
 {
-    // A segment that no unit has room for stands in one by itself, so that every set has a size. Such a set is refused by its
-    // longest segment later.
+    // A segment that no unit has room for stands in one by itself, so that every set has a size.
+    // Such a set is refused by its longest segment later.
     taken == 0 || taken + bytes <= UNIT_ROOM
 }
 
@@ -80,13 +86,18 @@ fn length_with(bytes: u64) -> u32
     (OTHER_BYTES + bytes) as u32
 }
 
-/// Appends the lengths of the units in which segments of these lengths are sent, all in bytes. After want of memory
+/// Appends the lengths of the units in which segments of these lengths are sent, all in bytes.
+/// After want of memory
 /// `out` is as before.
 pub fn unit_lengths(segments: &[u32], out: &mut Vec<u32>) -> Result<(), NoMemory>
     requires { All IsSegmentLength segments.now }
-    ensures units { OnOk result ((units : List (List ℕ)) × (IsSharedOut (λ bytes. bytes) segments.now units) × (out.new.items ≡ out.old.items ++ map (unit_length (λ bytes. bytes)) units)) }
-    ensures only { (units : List (List ℕ)) → IsSharedOut (λ bytes. bytes) segments.now units → OnOk result (out.new.items ≡ out.old.items ++ map (unit_length (λ bytes. bytes)) units) }
-    ensures err { OnErr result (out.new.items ≡ out.old.items) }
+    ensures units { OnOk result
+        ((units : List (List ℕ)) × (IsSharedOut (λ bytes. bytes) segments.now units)
+        × (out.new.items ≡ out.old.items ++ map (unit_length (λ bytes. bytes)) units)) }
+    ensures only { (units : List (List ℕ)) → IsSharedOut (λ bytes. bytes) segments.now units
+        → OnOk result
+        (out.new.items ≡ out.old.items ++ map (unit_length (λ bytes. bytes)) units) }
+    ensures kept { OnErr result (out.new.items ≡ out.old.items) }
 {
     out.reserve(segments.len())?;
     append_lengths(segments, out);
@@ -97,7 +108,8 @@ pub fn unit_lengths(segments: &[u32], out: &mut Vec<u32>) -> Result<(), NoMemory
 fn append_lengths(segments: &[u32], out: &mut Vec<u32>)
     requires segments { All IsSegmentLength segments.now }
     requires room { length out.old.items + length segments.now ≤ vec_capacity out.old }
-    ensures { (lengths : List ℕ) × (AreUnitLengths segments.now lengths) × (out.new.items ≡ out.old.items ++ lengths) }
+    ensures { (lengths : List ℕ) × (AreUnitLengths segments.now lengths)
+        × (out.new.items ≡ out.old.items ++ lengths) }
 {
     let mut unit = OpenUnit::new();
     for segment in segments {

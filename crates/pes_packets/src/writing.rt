@@ -3,37 +3,36 @@ ghost use Rattle.stream_syntax.specs.Cutting.{IsUnit};
 ghost use Rattle.stream_syntax.specs.Pes.{IsPes, pes_of, written_header, written_pes};
 
 use byteorder::{BigEndian, ByteOrder};
-use stream_syntax::{DATA_IDENTIFIER, END_OF_FIELD};
+use stream_syntax::{DATA_IDENTIFIER, END_OF_FIELD, PRIVATE_STREAM_1, SUBTITLE_STREAM};
 use sub_base::{NoMemory, UNIT_ROOM};
-
-/// The stream id of private data that is not in the form of audio or video, which subtitles have.
-pub const PRIVATE_STREAM_1: u8 = 0xBD;
 
 /// The bytes before the data field.
 const HEADER_LENGTH: usize = 14;
 
 /// The data field begins with the data identifier of subtitles and the number of their stream.
-const FIELD_START: [u8; 2] = [DATA_IDENTIFIER, 0x00];
+const FIELD_START: [u8; 2] = [DATA_IDENTIFIER, SUBTITLE_STREAM];
 
 /// The bytes behind the length field and before the data field.
 const LENGTH_BEFORE_FIELD: usize = 8;
 
-/// Appends one PES packet with this presentation time, in ticks of 90 kHz, and this data field, which begins with
-/// data identifier 20 and subtitle stream id 00.
+/// Appends one PES packet with this presentation time, in ticks of 90 kHz, and this data field,
+/// which begins with data identifier 20 and subtitle stream id 00.
 pub fn write_pes(pts: u64, field: &[u8], out: &mut Vec<u8>) -> Result<(), NoMemory>
     requires time { pts < 2 ^ 33 }
     requires fits { length field.now ≤ 65527 }
-    requires subtitles { take 2 field.now ≡ 0x20 ∷ 0 ∷ [] }
+    requires subtitles { take 2 field.now ≡ DATA_IDENTIFIER ∷ SUBTITLE_STREAM ∷ [] }
 
     ensures bytes { OnOk result (out.new.items ≡ out.old.items ++ written_pes pts field.now) }
-    ensures err { OnErr result (out.new.items ≡ out.old.items) }
+    ensures kept { OnErr result (out.new.items ≡ out.old.items) }
 
-    // The bytes are a PES packet of this time, which holds what follows the field's first two bytes.
+    // The bytes are a PES packet of this time, which holds what follows the field's first two
+    // bytes.
     ensures packet { IsPes (written_pes pts field.now) pts (drop 2 field.now) }
     ensures read_again { pes_of (written_pes pts field.now) ≡ Ok (pts, drop 2 field.now) }
 
     // It is a unit that a demultiplexer of that size or more hands out whole.
-    ensures unit { (size : ℕ) → 14 + length field.now ≤ size → IsUnit size (written_pes pts field.now) }
+    ensures unit { (size : ℕ) → 14 + length field.now ≤ size
+        → IsUnit size (written_pes pts field.now) }
     ensures size { length (written_pes pts field.now) ≡ 14 + length field.now }
 {
     // All memory first: nothing behind this can fail, and `out` is as before where this does.
@@ -44,13 +43,17 @@ pub fn write_pes(pts: u64, field: &[u8], out: &mut Vec<u8>) -> Result<(), NoMemo
     Ok(())
 }
 
-/// Appends the PES packet of a unit of a display set: with this presentation time, in ticks of 90 kHz, and a data field of
-/// these segments between data identifier 20, subtitle stream id 00, and the end marker (EN 300 743, 7.1).
+/// Appends the PES packet of a unit of a display set: with this presentation time, in ticks of 90
+/// kHz, and a data field of these segments between data identifier 20, subtitle stream id 00, and
+/// the end marker (EN 300 743, 7.1).
 pub fn write_unit(pts: u64, segments: &[u8], out: &mut Vec<u8>) -> Result<(), NoMemory>
     requires time { pts < 2 ^ 33 }
     requires fits { length segments.now ≤ UNIT_ROOM }
-    ensures bytes { OnOk result (out.new.items ≡ out.old.items ++ written_pes pts (0x20 ∷ 0 ∷ (segments.now ++ 0xFF ∷ []))) }
-    ensures err { OnErr result (out.new.items ≡ out.old.items) }
+    ensures bytes { OnOk result
+        (out.new.items ≡ out.old.items
+        ++ written_pes pts
+        (DATA_IDENTIFIER ∷ SUBTITLE_STREAM ∷ (segments.now ++ END_OF_FIELD ∷ []))) }
+    ensures kept { OnErr result (out.new.items ≡ out.old.items) }
 {
     let field_length = FIELD_START.len() + segments.len() + 1;
     out.reserve(HEADER_LENGTH + field_length)?;
@@ -67,8 +70,9 @@ fn header(pts: u64, packet_length: u16) -> [u8; HEADER_LENGTH]
     requires { pts < 2 ^ 33 }
     ensures { result ≡ written_header pts packet_length }
 {
-    // 84 says that nothing is scrambled and that the data field begins with a segment (data_alignment_indicator), 80 that there
-    // is a presentation time and no decoding time, and 5 is the length of that.
+    // 84 says that nothing is scrambled and that the data field begins with a segment
+    // (data_alignment_indicator), 80 that there is a presentation time and no decoding time, and 5
+    // is the length of that.
     let mut bytes = [
         0,
         0,

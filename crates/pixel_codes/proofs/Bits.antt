@@ -8,7 +8,7 @@ use Rattle.std.proofs.lemmas.Nat.{pow_pos, shr-shr, mod-pow-add, shr_high, mod_l
 use Rattle.std.proofs.Math.Nat.{mod-eq_of_lt}
 use Rattle.stream_syntax.specs.PixelCodes.{bits, bits_of}
 use Rattle.stream_syntax.specs.Fields.{number_of}
-use Rattle.pixel_codes.specs.Reading.{field_at}
+use Rattle.pixel_codes.specs.Private.Reading.{field_at}
 
 -- ---- bits
 

@@ -14,8 +14,8 @@ use Rattle.pixel_codes.specs.declared.part.Head.{Head}
 use Rattle.pixel_codes.specs.declared.part.Head.TheVariants.{PixelString, Table, LineEnd}
 use Rattle.pixel_codes.specs.declared.token.Token.{Token}
 use Rattle.pixel_codes.specs.declared.token.Token.TheVariants.{Pixels, End}
-use Rattle.pixel_codes.specs.Parts.{head_of}
-use Rattle.pixel_codes.specs.Reading.{token_at}
+use Rattle.pixel_codes.specs.Private.Parts.{head_of}
+use Rattle.pixel_codes.specs.Private.Reading.{token_at}
 use Rattle.pixel_codes.proofs.Bits.{IsBits-bits_of}
 use Rattle.pixel_codes.proofs.Tokens.{StandsAt, token_reads}
 use Rattle.pixel_codes.proofs.Strings.{Reached, reached_none, reached_more, string_found, no_string, read_further}

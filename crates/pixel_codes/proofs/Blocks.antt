@@ -7,7 +7,7 @@ use Rattle.stream_syntax.specs.PixelBlocks.{Part, IsPart, AreParts, IsRefused, I
 use Rattle.stream_syntax.specs.declared.pixel_run.Run.{Run}
 use Rattle.stream_syntax.specs.declared.code_fault.CodeFault.{CodeFault}
 use Rattle.stream_syntax.specs.declared.code_fault.CodeKind.{CodeKind}
-use Rattle.pixel_codes.specs.Walk.{runs_in}
+use Rattle.pixel_codes.specs.Private.Walk.{runs_in}
 use Rattle.pixel_codes.proofs.Parts.{AreParts-push, parts_not_refused}
 use Rattle.pixel_codes.proofs.Walk.{walk_block}
 

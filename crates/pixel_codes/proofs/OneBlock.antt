@@ -9,7 +9,7 @@ use Rattle.stream_syntax.specs.PixelCodes.{bits_of, Code, pixel, one_zero, two_z
 use Rattle.stream_syntax.specs.PixelBlocks.{Part, string, table, line_end, string_type, table_type, line_end_type, entries_of, IsPart, AreParts}
 use Rattle.stream_syntax.specs.declared.map_table.MapTable.{MapTable}
 use Rattle.stream_syntax.specs.declared.map_table.MapTable.TheVariants.{TwoToFour, TwoToEight, FourToEight}
-use Rattle.pixel_codes.specs.Spelling.{width_of}
+use Rattle.pixel_codes.specs.Private.Spelling.{width_of}
 use Rattle.pixel_codes.proofs.Strings.{string_of-cons, behind}
 use Rattle.pixel_codes.proofs.Tokens.{token_spelled, token_ending}
 use Rattle.pixel_codes.proofs.Parts.{same_part, no_part, same_depth}

@@ -7,8 +7,8 @@ use Rattle.sub_base.specs.Depth.{code_count}
 use Rattle.sub_base.specs.declared.depth.Depth.{Depth}
 use Rattle.sub_base.specs.declared.depth.Depth.TheVariants.{Two, Four, Eight}
 use Rattle.stream_syntax.specs.PixelCodes.{Span, ending, IsLeast, IsLeastSum, IsRowSize}
-use Rattle.pixel_codes.specs.Least.{table_bits, two_some, two_none, four_some, four_none, eight_some, eight_none}
-use Rattle.pixel_codes.specs.Rows.{runs_of}
+use Rattle.pixel_codes.specs.Private.Least.{table_bits, two_some, two_none, four_some, four_none, eight_some, eight_none}
+use Rattle.pixel_codes.specs.Private.Rows.{runs_of}
 use Rattle.pixel_codes.proofs.Chosen.{table_least}
 use Rattle.pixel_codes.proofs.Rows.{next_run, taken_front, front}
 use Rattle.pixel_codes.proofs.RowStrings.{runs_of-maximal}

@@ -9,9 +9,9 @@ use Rattle.sub_base.specs.Depth.{code_count}
 use Rattle.sub_base.specs.declared.depth.Depth.{Depth}
 use Rattle.sub_base.specs.declared.depth.Depth.TheVariants.{Two, Four, Eight}
 use Rattle.stream_syntax.specs.PixelCodes.{bits, Code, pixel, one_zero, two_zeros, zeros, short_run, middle_run, long_run, IsCode, pixel_count, spelled, ending, string_of, Span}
-use Rattle.pixel_codes.specs.Least.{first_code, chosen_within, chosen}
-use Rattle.pixel_codes.specs.Rows.{span_of, extended, runs_of, codes_of}
-use Rattle.pixel_codes.specs.Spelling.{width_of, value_of}
+use Rattle.pixel_codes.specs.Private.Least.{first_code, chosen_within, chosen}
+use Rattle.pixel_codes.specs.Private.Rows.{span_of, extended, runs_of, codes_of}
+use Rattle.pixel_codes.specs.Private.Spelling.{width_of, value_of}
 use Rattle.pixel_codes.proofs.Bits.{bits-join}
 use Rattle.pixel_codes.proofs.First.{first_is}
 

@@ -5,7 +5,7 @@ use Rattle.std.proofs.lemmas.Bool.{ne_eqb}
 use Rattle.std.proofs.lemmas.List.Elements.{All-head, All-tail}
 use Rattle.sub_base.specs.declared.depth.Depth.{Depth}
 use Rattle.stream_syntax.specs.PixelCodes.{Span, AreApart, AreMaximalRuns, IsLeast, IsLeastSum, IsRowSize}
-use Rattle.pixel_codes.specs.Rows.{span_of, runs_of}
+use Rattle.pixel_codes.specs.Private.Rows.{span_of, runs_of}
 use Rattle.pixel_codes.proofs.RowStrings.{joined, runs_of-more, apart_rest}
 
 -- a first run that is apart from the next joins nothing

@@ -13,10 +13,10 @@ use Rattle.pixel_codes.specs.declared.part.Head.{Head}
 use Rattle.pixel_codes.specs.declared.part.Head.TheVariants.{Table}
 use Rattle.pixel_codes.specs.declared.token.Token.{Token}
 use Rattle.pixel_codes.specs.declared.token.Token.TheVariants.{Pixels, End}
-use Rattle.pixel_codes.specs.Reading.{token_at}
-use Rattle.pixel_codes.specs.Parts.{head_of}
-use Rattle.pixel_codes.specs.Walk.{Maps, with_table, mapped_by, Pen, run_of, runs_after_head, runs_at_token, runs_within, runs_left}
-use Rattle.pixel_codes.specs.Cursor.{bits_left}
+use Rattle.pixel_codes.specs.Private.Reading.{token_at}
+use Rattle.pixel_codes.specs.Private.Parts.{head_of}
+use Rattle.pixel_codes.specs.Private.Walk.{Maps, with_table, mapped_by, Pen, run_of, runs_after_head, runs_at_token, runs_within, runs_left}
+use Rattle.pixel_codes.specs.Private.Cursor.{bits_left}
 use Rattle.pixel_codes.proofs.Bits.{IsBits-bits_of, length-bits_of}
 use Rattle.pixel_codes.proofs.Tokens.{token_reads, width_some}
 use Rattle.pixel_codes.proofs.Walk.{step_part, step_token}

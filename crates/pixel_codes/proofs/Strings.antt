@@ -8,7 +8,7 @@ use Rattle.sub_base.specs.declared.depth.Depth.{Depth}
 use Rattle.stream_syntax.specs.PixelCodes.{bits_of, Code, IsCode, pixel_count, colour_of, pixels_of, spelled, ending, string_of, IsString, IsRowString, IsReadAs}
 use Rattle.pixel_codes.specs.declared.token.Token.{Token}
 use Rattle.pixel_codes.specs.declared.token.Token.TheVariants.{Pixels, End}
-use Rattle.pixel_codes.specs.Reading.{token_at}
+use Rattle.pixel_codes.specs.Private.Reading.{token_at}
 use Rattle.pixel_codes.proofs.Bits.{length-bits_of, bits_of-append, IsBits-bits_of, drop-next}
 use Rattle.pixel_codes.proofs.Tokens.{width_of, length-spelled, length-ending, token_spelled, token_ending, token_reads, StandsAt, width_some}
 

@@ -15,9 +15,9 @@ use Rattle.pixel_codes.specs.declared.part.Head.{Head}
 use Rattle.pixel_codes.specs.declared.part.Head.TheVariants.{PixelString, Table, LineEnd}
 use Rattle.pixel_codes.specs.declared.token.Token.{Token}
 use Rattle.pixel_codes.specs.declared.token.Token.TheVariants.{Pixels, End}
-use Rattle.pixel_codes.specs.Reading.{token_at}
-use Rattle.pixel_codes.specs.Parts.{head_of}
-use Rattle.pixel_codes.specs.Walk.{half_of, mapped_by, with_table, Pen, start_pen, Onward, run_of, runs_after_token, runs_at_token, runs_after_head, runs_within, runs_left, runs_in}
+use Rattle.pixel_codes.specs.Private.Reading.{token_at}
+use Rattle.pixel_codes.specs.Private.Parts.{head_of}
+use Rattle.pixel_codes.specs.Private.Walk.{half_of, mapped_by, with_table, Pen, start_pen, Onward, run_of, runs_after_token, runs_at_token, runs_after_head, runs_within, runs_left, runs_in}
 use Rattle.pixel_codes.proofs.Bits.{length-bits_of, bits_of-append, IsBits-bits_of}
 use Rattle.pixel_codes.proofs.Tokens.{width_of, end_width, length-spelled, length-ending, token_spelled, token_ending, token_reads, StandsAt, width_some}
 use Rattle.pixel_codes.proofs.Strings.{string_of-cons, behind}

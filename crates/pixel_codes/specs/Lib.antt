@@ -1,13 +1,4 @@
-pub mod Reading
-pub mod Least
-pub mod Parts
-pub mod Walk
 pub use Rattle.stream_syntax.specs.PixelCodes
 pub use Rattle.stream_syntax.specs.PixelBlocks
-pub mod Tables
-pub mod Cursor
 pub mod Lists
-pub mod Stream
-pub mod Spelling
-pub mod Rows
-pub mod Maximal
+pub mod Private

@@ -9,7 +9,8 @@ use std::marker::Model;
 use stream_syntax::CodeFault;
 use sub_base::Depth;
 
-/// A pixel data block that is in the grammar, for a region of a depth. It is seen as the list of its runs.
+/// A pixel data block that is in the grammar, for a region of a depth. It is seen as the list of
+/// its runs.
 #[derive(Drop)]
 pub struct CodeBlock<'a> {
     bytes: &'a [u8],
@@ -19,7 +20,7 @@ pub struct CodeBlock<'a> {
 impl<'a> Model for CodeBlock<'a> {
     ghost use Rattle.std.specs.Prelude.{List, ◌≤◌, length};
     ghost use Rattle.stream_syntax.specs.declared.pixel_run.Run.{Run};
-    ghost use Rattle.pixel_codes.specs.Walk.{runs_in};
+    ghost use Rattle.pixel_codes.specs.Private.Walk.{runs_in};
 
     ghost Value = { List Run };
 
@@ -37,15 +38,18 @@ impl<'a> CodeBlock<'a> {
     }
 }
 
-/// Checks a pixel data block against the grammar, with no string deeper than `depth`, the region's (EN 300 743,
-/// pixel-data sub-block). Else it answers the first sub-block that is not in the grammar.
+/// Checks a pixel data block against the grammar, with no string deeper than `depth`, the region's
+/// (EN 300 743, pixel-data sub-block). Else it answers the first sub-block that is not in the
+/// grammar.
 pub fn check_block(bytes: &[u8], depth: Depth) -> Result<CodeBlock<'_>, CodeFault>
     requires { length bytes.now ≤ 65535 }
     ensures block { IfOk result (IsBlock depth bytes.now) }
     ensures fault { IfErr result (IsBlockFault depth bytes.now) }
     // Bytes are not both, and have one list of runs or one fault.
-    ensures every_block { (runs : List Run) → IsBlock depth bytes.now runs → result ≡ Ok runs }
-    ensures every_fault { (fault : CodeFault) → IsBlockFault depth bytes.now fault → result ≡ Err fault }
+    ensures every_block { (runs : List Run) → IsBlock depth bytes.now runs
+        → result ≡ Ok runs }
+    ensures every_fault { (fault : CodeFault) → IsBlockFault depth bytes.now fault
+        → result ≡ Err fault }
 {
     let mut place = 0;
     while place < bytes.len() {

@@ -1,8 +1,8 @@
 ghost use Rattle.std.specs.Prelude.{◌≡◌, ◌+◌, ◌*◌, ◌<◌, ◌≤◌};
 ghost use Rattle.sub_base.specs.Depth.{code_count};
 ghost use Rattle.sub_base.specs.declared.depth.Depth.TheVariants.{Two, Four, Eight};
-ghost use Rattle.pixel_codes.specs.Least as least;
-ghost use Rattle.pixel_codes.specs.Spelling.{Spells};
+ghost use Rattle.pixel_codes.specs.Private.Least as least;
+ghost use Rattle.pixel_codes.specs.Private.Spelling.{Spells};
 
 use sub_base::Depth;
 
@@ -14,8 +14,8 @@ pub(crate) struct Spelling {
     pub(crate) pixels: usize,
 }
 
-/// The first code of the string of a run: of the strings with the least bits, the one with the greatest lengths
-/// begins with it.
+/// The first code of the string of a run: of the strings with the least bits, the one with the
+/// greatest lengths begins with it.
 #[inline(always)]
 pub(crate) fn first_spelling(depth: Depth, code: u8, count: usize) -> Spelling
     requires some { 1 ≤ count }
@@ -98,7 +98,8 @@ fn eight_bit_spelling(code: u8, count: usize) -> Spelling
     requires { 1 ≤ count }
     ensures { Spells Eight (least.first_code Eight code count) result }
 {
-    // The greatest length comes first: of the strings with the least bits that is the one that is wanted.
+    // The greatest length comes first: of the strings with the least bits that is the one that is
+    // wanted.
     let most = count.min(127);
     match (code, count) {
         (0, _) => single(most as u8, 16, most),
@@ -126,7 +127,8 @@ fn run(form: u32, codes: u32, field: usize, code: u8, width: u32, pixels: usize)
     requires form { form ≤ 61440 }
     requires codes { codes ≤ 256 }
     requires field { field ≤ 255 }
-    ensures { result ≡ record { bits = form + codes * field + code; width = width; pixels = pixels } }
+    ensures { result
+        ≡ record { bits = form + codes * field + code; width = width; pixels = pixels } }
 {
     Spelling {
         bits: form + codes * field as u32 + u32::from(code),

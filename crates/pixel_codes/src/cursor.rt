@@ -1,7 +1,7 @@
 ghost use Rattle.std.specs.Prelude.{◌≡◌, ◌+◌, ◌-◌, ◌*◌, ◌≤◌, [], ◌∷◌, length, Some, None, MatchOption};
 ghost use Rattle.std.specs.Option.{ForNone};
 ghost use Rattle.stream_syntax.specs.PixelCodes.{bits_of};
-ghost use Rattle.pixel_codes.specs.Reading.{token_at};
+ghost use Rattle.pixel_codes.specs.Private.Reading.{token_at};
 ghost use Rattle.pixel_codes.specs.declared.token.Token.TheVariants.{Pixels};
 
 use crate::part::{Head, head_of, size_of_table};
@@ -16,7 +16,8 @@ pub(crate) struct Cursor<'a> {
     pub(crate) region: Depth,
     /// The depth of the string in which the place lies, if it lies in one.
     pub(crate) string: Option<Depth>,
-    /// From the first byte of that string on, else from the next sub-block on, to the end of the block.
+    /// From the first byte of that string on, else from the next sub-block on, to the end of the
+    /// block.
     pub(crate) rest: &'a [u8],
     /// How many bits of that string are read.
     pub(crate) place: usize,
@@ -38,8 +39,8 @@ pub(crate) enum Step {
 }
 
 impl<'a> Cursor<'a> {
-    ghost use Rattle.pixel_codes.specs.Cursor.{left_of, to_go, Says};
-    ghost use Rattle.pixel_codes.specs.Walk.{runs_in};
+    ghost use Rattle.pixel_codes.specs.Private.Cursor.{left_of, to_go, Says};
+    ghost use Rattle.pixel_codes.specs.Private.Walk.{runs_in};
 
     /// The start of a block.
     pub(crate) fn start(bytes: &'a [u8], region: Depth) -> Cursor<'a>
@@ -60,7 +61,8 @@ impl<'a> Cursor<'a> {
     /// The next run; none at the end of the block.
     #[inline(always)]
     pub(crate) fn next_run(&mut self) -> Option<Run>
-        ensures { MatchOption result ((left_of self.old ≡ []) × (left_of self.new ≡ [])) (λ run. left_of self.old ≡ run ∷ left_of self.new) }
+        ensures { MatchOption result ((left_of self.old ≡ []) × (left_of self.new ≡ []))
+            (λ run. left_of self.old ≡ run ∷ left_of self.new) }
     {
         loop {
             match self.step() {
@@ -105,7 +107,8 @@ impl<'a> Cursor<'a> {
     #[inline(always)]
     fn draw(&mut self, depth: Depth, length: u32, code: u8, next: usize) -> Step
         requires string { self.old.string ≡ Some depth }
-        requires read { token_at depth (bits_of self.old.rest.now) self.old.place ≡ Some (Pixels length code, next) }
+        requires read { token_at depth (bits_of self.old.rest.now) self.old.place
+            ≡ Some (Pixels length code, next) }
         ensures { Says result self.old self.new }
     {
         self.place = next;

@@ -1,20 +1,21 @@
 ghost use Rattle.std.specs.Prelude.{◌≡◌, ◌<◌, ◌≤◌};
 ghost use Rattle.sub_base.specs.Depth.{code_count};
 ghost use Rattle.stream_syntax.specs.PixelCodes.{IsLeast};
-ghost use Rattle.pixel_codes.specs.Least as least;
+ghost use Rattle.pixel_codes.specs.Private.Least as least;
 ghost use Rattle.sub_base.specs.declared.depth.Depth.TheVariants.{Two, Four, Eight};
 
 use sub_base::Depth;
 
-/// The least number of bits of any sequence of codes of a depth that gives `length` pixels of `code` (EN 300 743,
-/// pixel code strings). The end of a string is not counted.
+/// The least number of bits of any sequence of codes of a depth that gives `length` pixels of
+/// `code` (EN 300 743, pixel code strings). The end of a string is not counted.
 #[inline(always)]
 pub fn run_bits(depth: Depth, code: u8, length: u32) -> u64
     requires long { 1 ≤ length }
     requires code { code < code_count depth }
     ensures { IsLeast depth code length result }
 {
-    // Among the strings with the least bits there is always one that has as many longest codes as fit.
+    // Among the strings with the least bits there is always one that has as many longest codes as
+    // fit.
     let most = longest(depth);
     longest_bits(depth, code) * u64::from(length / most) + rest_bits(depth, code, length % most)
 }
@@ -56,7 +57,7 @@ fn rest_bits(depth: Depth, code: u8, rest: u32) -> u64
 }
 
 #[inline(always)]
-#[tactic(auto, unfolding(crate::specs::Least::two_some, crate::specs::Least::two_none))]
+#[tactic(auto, unfolding(crate::specs::Private::Least::two_some, crate::specs::Private::Least::two_none))]
 fn two_bit_rest(code: u8, rest: u32) -> u64
     ensures { result ≡ least.rest_bits Two code rest }
 {
@@ -78,7 +79,7 @@ fn two_bit_rest(code: u8, rest: u32) -> u64
 }
 
 #[inline(always)]
-#[tactic(auto, unfolding(crate::specs::Least::four_some, crate::specs::Least::four_none))]
+#[tactic(auto, unfolding(crate::specs::Private::Least::four_some, crate::specs::Private::Least::four_none))]
 fn four_bit_rest(code: u8, rest: u32) -> u64
     ensures { result ≡ least.rest_bits Four code rest }
 {
@@ -94,7 +95,7 @@ fn four_bit_rest(code: u8, rest: u32) -> u64
 }
 
 #[inline(always)]
-#[tactic(auto, unfolding(crate::specs::Least::eight_some, crate::specs::Least::eight_none))]
+#[tactic(auto, unfolding(crate::specs::Private::Least::eight_some, crate::specs::Private::Least::eight_none))]
 fn eight_bit_rest(code: u8, rest: u32) -> u64
     ensures { result ≡ least.rest_bits Eight code rest }
 {

@@ -1,6 +1,6 @@
-//! Pixel code strings and pixel data blocks of DVB subtitles (EN 300 743), both ways: a row of pixel codes is written
-//! as the string that is least in bits, and a pixel data block is checked against the grammar and read as the runs
-//! that it draws, in place.
+//! Pixel code strings and pixel data blocks of DVB subtitles (EN 300 743), both ways: a row of
+//! pixel codes is written as the string that is least in bits, and a pixel data block is checked
+//! against the grammar and read as the runs that it draws, in place.
 #![tactic(auto)]
 
 // Writing a row: the next code of a run, the bits that wait, and the size.

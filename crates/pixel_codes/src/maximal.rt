@@ -1,7 +1,7 @@
 ghost use Rattle.std.specs.Prelude.{◌≡◌, ◌==◌, ◌+◌, ◌<◌, ◌≤◌, length, slice_index, take_while, map, drop};
 ghost use Rattle.std.specs.List.{prefix_len};
 ghost use Rattle.std.specs.Simd.Lanes.{mask_l};
-ghost use Rattle.pixel_codes.specs.Maximal.{is_code, differs};
+ghost use Rattle.pixel_codes.specs.Private.Maximal.{is_code, differs};
 
 use std::simd::prelude::*;
 
@@ -9,7 +9,8 @@ use std::simd::prelude::*;
 #[inline]
 pub fn run_length(codes: &[u8]) -> usize
     requires { 0 < length codes.now }
-    ensures count { result ≡ length (take_while (λ code. code == slice_index codes.now 0) codes.now) }
+    ensures count { result
+        ≡ length (take_while (λ code. code == slice_index codes.now 0) codes.now) }
     ensures short { result ≤ length codes.now }
 {
     let first = codes[0];

@@ -1,10 +1,13 @@
 ghost use Rattle.std.specs.Prelude.{◌≡◌, ℕ, ◌+◌, ◌<◌, ◌≤◌, length, take, IsTrue, ◌↔◌, IfOk, IfErr, IfSome, IfNone, List, ◌∷◌, ◌++◌};
 ghost use Rattle.stream_syntax.specs.PixelCodes.{Code, IsString};
 ghost use Rattle.stream_syntax.specs.PixelBlocks.{Part, IsPart, IsRefused, IsNoDeeper, table_size};
-ghost use Rattle.pixel_codes.specs.Parts as parts;
+ghost use Rattle.pixel_codes.specs.Private.Parts as parts;
 
 use crate::token::{Token, read_token};
-use stream_syntax::{CodeKind, MapTable};
+use stream_syntax::{
+    CodeKind, EIGHT_BIT_STRING, END_OF_LINE, FOUR_BIT_STRING, FOUR_TO_EIGHT_TABLE, MapTable,
+    TWO_BIT_STRING, TWO_TO_EIGHT_TABLE, TWO_TO_FOUR_TABLE,
+};
 use sub_base::Depth;
 
 /// What the type byte of a sub-block says.
@@ -20,13 +23,13 @@ pub(crate) fn head_of(first: u8) -> Option<Head>
     ensures { result ≡ parts.head_of first }
 {
     match first {
-        0x10 => Some(Head::PixelString(Depth::Two)),
-        0x11 => Some(Head::PixelString(Depth::Four)),
-        0x12 => Some(Head::PixelString(Depth::Eight)),
-        0x20 => Some(Head::Table(MapTable::TwoToFour)),
-        0x21 => Some(Head::Table(MapTable::TwoToEight)),
-        0x22 => Some(Head::Table(MapTable::FourToEight)),
-        0xF0 => Some(Head::LineEnd),
+        TWO_BIT_STRING => Some(Head::PixelString(Depth::Two)),
+        FOUR_BIT_STRING => Some(Head::PixelString(Depth::Four)),
+        EIGHT_BIT_STRING => Some(Head::PixelString(Depth::Eight)),
+        TWO_TO_FOUR_TABLE => Some(Head::Table(MapTable::TwoToFour)),
+        TWO_TO_EIGHT_TABLE => Some(Head::Table(MapTable::TwoToEight)),
+        FOUR_TO_EIGHT_TABLE => Some(Head::Table(MapTable::FourToEight)),
+        END_OF_LINE => Some(Head::LineEnd),
         _ => None,
     }
 }
@@ -56,8 +59,12 @@ pub fn is_no_deeper(depth: Depth, region: Depth) -> bool
 /// The bytes of the string that begins these, with its end and the fill; none where no end comes.
 fn string_size(body: &[u8], depth: Depth) -> Option<usize>
     requires { length body.now ≤ 65535 }
-    ensures found { IfSome result (λ size. (size ≤ length body.now) × (codes : List Code) × IsString depth codes (take size body.now)) }
-    ensures none { IfNone result ((codes : List Code) (front : List ℕ) (rest : List ℕ) → body.now ≡ front ++ rest → IsString depth codes front → ⊥) }
+    ensures found { IfSome result
+        (λ size. (size ≤ length body.now) × (codes : List Code)
+        × IsString depth codes (take size body.now)) }
+    ensures none { IfNone result
+        ((codes : List Code) (front : List ℕ) (rest : List ℕ) → body.now ≡ front ++ rest
+        → IsString depth codes front → ⊥) }
 {
     match depth {
         Depth::Two => string_size_of(body, Depth::Two),
@@ -70,8 +77,12 @@ fn string_size(body: &[u8], depth: Depth) -> Option<usize>
 #[inline(always)]
 fn string_size_of(body: &[u8], depth: Depth) -> Option<usize>
     requires { length body.now ≤ 65535 }
-    ensures found { IfSome result (λ size. (size ≤ length body.now) × (codes : List Code) × IsString depth codes (take size body.now)) }
-    ensures none { IfNone result ((codes : List Code) (front : List ℕ) (rest : List ℕ) → body.now ≡ front ++ rest → IsString depth codes front → ⊥) }
+    ensures found { IfSome result
+        (λ size. (size ≤ length body.now) × (codes : List Code)
+        × IsString depth codes (take size body.now)) }
+    ensures none { IfNone result
+        ((codes : List Code) (front : List ℕ) (rest : List ℕ) → body.now ≡ front ++ rest
+        → IsString depth codes front → ⊥) }
 {
     let mut place = 0;
     while let Some((token, next)) = read_token(body, place, depth) {
@@ -86,7 +97,9 @@ fn string_size_of(body: &[u8], depth: Depth) -> Option<usize>
 /// The bytes of the sub-block with this type byte and what follows it, or why none begins so.
 pub(crate) fn part_size(first: u8, body: &[u8], region: Depth) -> Result<usize, CodeKind>
     requires { length body.now ≤ 65534 }
-    ensures part { IfOk result (λ size. (1 ≤ size) × (size ≤ length body.now + 1) × (part : Part) × IsPart region part (take size (first ∷ body.now))) }
+    ensures part { IfOk result
+        (λ size. (1 ≤ size) × (size ≤ length body.now + 1) × (part : Part)
+        × IsPart region part (take size (first ∷ body.now))) }
     ensures refused { IfErr result (λ kind. IsRefused region kind (first ∷ body.now)) }
 {
     match head_of(first) {

@@ -14,7 +14,7 @@ pub(crate) struct Pending {
 }
 
 impl Pending {
-    ghost use Rattle.pixel_codes.specs.Stream.{stream};
+    ghost use Rattle.pixel_codes.specs.Private.Stream.{stream};
 
     /// No bits.
     pub(crate) fn none() -> Pending
@@ -24,17 +24,20 @@ impl Pending {
         Pending { value: 0, count: 0 }
     }
 
-    /// Puts the low `width` bits of a number behind the bits so far, and four bytes that are full at the end of `out`.
+    /// Puts the low `width` bits of a number behind the bits so far, and four bytes that are full
+    /// at the end of `out`.
     #[inline(always)]
     pub(crate) fn push(&mut self, value: u32, width: u32, out: &mut Vec<u8>) -> Result<(), NoMemory>
         requires width { width ≤ 24 }
         requires value { value < 2 ^ width }
-        ensures text { OnOk result (stream out.new.items self.new ≡ stream out.old.items self.old ++ bits width value) }
+        ensures text { OnOk result
+            (stream out.new.items self.new ≡ stream out.old.items self.old ++ bits width value) }
         ensures extends { Extends out.old.items out.new.items }
     {
         let all = (self.value << width) + u64::from(value);
         let count = self.count + width;
-        // Four bytes are put out at once: runs of text take few bits, and a call on the vector for each byte costs more.
+        // Four bytes are put out at once: runs of text take few bits, and a call on the vector for
+        // each byte costs more.
         if count < 32 {
             self.value = all;
             self.count = count;
@@ -50,7 +53,9 @@ impl Pending {
 
     /// Writes what is left, the last byte filled with bits 0.
     pub(crate) fn finish(self, out: &mut Vec<u8>) -> Result<(), NoMemory>
-        ensures text { OnOk result ((fill : ℕ) × (fill < 8) × (bits_of out.new.items ≡ stream out.old.items self ++ replicate fill 0)) }
+        ensures text { OnOk result
+            ((fill : ℕ) × (fill < 8)
+            × (bits_of out.new.items ≡ stream out.old.items self ++ replicate fill 0)) }
         ensures extends { Extends out.old.items out.new.items }
     {
         let mut value = self.value;

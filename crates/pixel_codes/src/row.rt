@@ -1,19 +1,20 @@
 ghost use Rattle.std.specs.Prelude.{◌≡◌, ℕ, ◌==◌, ◌+◌, ◌*◌, ◌<◌, ◌≤◌, List, ◌++◌, length, replicate, flat_map, All, OnOk, OnErr};
 ghost use Rattle.sub_base.specs.Depth.{code_count};
 ghost use Rattle.stream_syntax.specs.PixelCodes.{bits, bits_of, spelled, ending, string_of, IsRowString, IsRowSize, IsReadAs};
-ghost use Rattle.pixel_codes.specs.Least.{chosen};
+ghost use Rattle.pixel_codes.specs.Private.Least.{chosen};
 ghost use Rattle.pixel_codes.specs.Lists.{Extends};
-ghost use Rattle.pixel_codes.specs.Rows.{runs_of, codes_of};
-ghost use Rattle.pixel_codes.specs.Stream.{stream};
+ghost use Rattle.pixel_codes.specs.Private.Rows.{runs_of, codes_of};
+ghost use Rattle.pixel_codes.specs.Private.Stream.{stream};
 
 use crate::choice::first_spelling;
 use crate::maximal::run_length;
 use crate::pending::Pending;
 use sub_base::{Depth, NoMemory};
 
-/// Appends the pixel code string of a row of pixel codes with its end code, filled with bits 0 to whole bytes
-/// (EN 300 743, 2-bit, 4-bit and 8-bit pixel code strings). Of all strings that spell the row it has the least bits,
-/// and of those for each maximal run the greatest list of lengths. After want of memory `out` is as before.
+/// Appends the pixel code string of a row of pixel codes with its end code, filled with bits 0 to
+/// whole bytes (EN 300 743, 2-bit, 4-bit and 8-bit pixel code strings). Of all strings that spell
+/// the row it has the least bits, and of those for each maximal run the greatest list of lengths.
+/// After want of memory `out` is as before.
 pub fn write_row(depth: Depth, codes: &[u8], out: &mut Vec<u8>) -> Result<(), NoMemory>
     requires { All (λ code. code < code_count depth) codes.now }
     ensures row { OnOk result ((bytes : List ℕ) × (out.new.items ≡ out.old.items ++ bytes)
@@ -21,10 +22,12 @@ pub fn write_row(depth: Depth, codes: &[u8], out: &mut Vec<u8>) -> Result<(), No
     ensures kept { OnErr result (out.new.items ≡ out.old.items) }
 
     // Whatever follows, the string is read back as codes that give the row.
-    ensures read_back { OnOk result ((bytes : List ℕ) × (out.new.items ≡ out.old.items ++ bytes)
+    ensures read_back { OnOk result
+        ((bytes : List ℕ) × (out.new.items ≡ out.old.items ++ bytes)
         × IsReadAs depth codes.now bytes) }
     // One and a half bytes a pixel, and three more, are enough.
-    ensures short { OnOk result (2 * length out.new.items ≤ 2 * length out.old.items + 3 * length codes.now + 6) }
+    ensures short { OnOk result
+        (2 * length out.new.items ≤ 2 * length out.old.items + 3 * length codes.now + 6) }
 {
     let before = out.len();
     let written = append_row(depth, codes, out);
@@ -37,7 +40,8 @@ pub fn write_row(depth: Depth, codes: &[u8], out: &mut Vec<u8>) -> Result<(), No
 fn append_row(depth: Depth, codes: &[u8], out: &mut Vec<u8>) -> Result<(), NoMemory>
     requires { All (λ code. code < code_count depth) codes.now }
     ensures text { OnOk result ((fill : ℕ) × (fill < 8)
-        × (bits_of out.new.items ≡ bits_of out.old.items ++ (string_of depth (codes_of depth (runs_of codes.now)) ++ replicate fill 0))) }
+        × (bits_of out.new.items ≡ bits_of out.old.items
+        ++ (string_of depth (codes_of depth (runs_of codes.now)) ++ replicate fill 0))) }
     ensures extends { Extends out.old.items out.new.items }
 {
     match depth {
@@ -52,7 +56,8 @@ fn append_row(depth: Depth, codes: &[u8], out: &mut Vec<u8>) -> Result<(), NoMem
 fn append_row_of(depth: Depth, codes: &[u8], out: &mut Vec<u8>) -> Result<(), NoMemory>
     requires { All (λ code. code < code_count depth) codes.now }
     ensures text { OnOk result ((fill : ℕ) × (fill < 8)
-        × (bits_of out.new.items ≡ bits_of out.old.items ++ (string_of depth (codes_of depth (runs_of codes.now)) ++ replicate fill 0))) }
+        × (bits_of out.new.items ≡ bits_of out.old.items
+        ++ (string_of depth (codes_of depth (runs_of codes.now)) ++ replicate fill 0))) }
     ensures extends { Extends out.old.items out.new.items }
 {
     let mut pending = Pending::none();
@@ -77,7 +82,8 @@ fn append_run(
 ) -> Result<(), NoMemory>
     requires { code < code_count depth }
     ensures text { OnOk result (stream out.new.items pending.new
-        ≡ stream out.old.items pending.old ++ flat_map (spelled depth) (chosen depth code count)) }
+        ≡ stream out.old.items pending.old
+        ++ flat_map (spelled depth) (chosen depth code count)) }
     ensures extends { Extends out.old.items out.new.items }
 {
     let mut left = count;
@@ -91,7 +97,8 @@ fn append_run(
 
 /// Appends the end of a string.
 fn append_end(depth: Depth, pending: &mut Pending, out: &mut Vec<u8>) -> Result<(), NoMemory>
-    ensures text { OnOk result (stream out.new.items pending.new ≡ stream out.old.items pending.old ++ ending depth) }
+    ensures text { OnOk result
+        (stream out.new.items pending.new ≡ stream out.old.items pending.old ++ ending depth) }
     ensures extends { Extends out.old.items out.new.items }
 {
     pending.push(0, end_width(depth), out)

@@ -5,8 +5,8 @@ use std::marker::Model;
 use stream_syntax::Run;
 use sub_base::Depth;
 
-/// The runs of a pixel data block, one after another, read in place: nothing is copied and nothing is allocated. It
-/// is seen as the list of the runs that come.
+/// The runs of a pixel data block, one after another, read in place: nothing is copied and nothing
+/// is allocated. It is seen as the list of the runs that come.
 #[derive(Drop)]
 pub struct Runs<'a> {
     cursor: Cursor<'a>,
@@ -18,13 +18,13 @@ impl<'a> Model for Runs<'a> {
 
     ghost Value = { List Run };
 
-    ghost use Rattle.pixel_codes.specs.Cursor.{left_of};
+    ghost use Rattle.pixel_codes.specs.Private.Cursor.{left_of};
 
     ghost view = { λ runs. left_of runs.cursor };
 }
 
 impl<'a> Runs<'a> {
-    ghost use Rattle.pixel_codes.specs.Walk.{runs_in};
+    ghost use Rattle.pixel_codes.specs.Private.Walk.{runs_in};
 
     /// The runs of a block, for a region of a depth.
     pub(crate) fn of_block(bytes: &'a [u8], region: Depth) -> Runs<'a>
@@ -39,7 +39,8 @@ impl<'a> Runs<'a> {
     /// The next run; none exactly after the last one.
     #[inline(always)]
     pub fn next_run(&mut self) -> Option<Run>
-        ensures { MatchOption result ((self.old ≡ []) × (self.new ≡ [])) (λ run. self.old ≡ run ∷ self.new) }
+        ensures { MatchOption result ((self.old ≡ []) × (self.new ≡ []))
+            (λ run. self.old ≡ run ∷ self.new) }
     {
         self.cursor.next_run()
     }

@@ -1,7 +1,7 @@
 ghost use Rattle.std.specs.Prelude.{◌≡◌, ℕ, ◌+◌, ◌*◌, ◌<◌, ◌≤◌, List, length, All};
 ghost use Rattle.sub_base.specs.Depth.{code_count};
 ghost use Rattle.stream_syntax.specs.PixelCodes.{IsLeastSum, IsRowString, IsRowSize};
-ghost use Rattle.pixel_codes.specs.Rows.{runs_of};
+ghost use Rattle.pixel_codes.specs.Private.Rows.{runs_of};
 
 use crate::least::run_bits;
 use crate::maximal::run_length;
@@ -13,7 +13,8 @@ pub fn row_size(depth: Depth, codes: &[u8]) -> u64
     requires short { length codes.now ≤ 65535 }
     requires each { All (λ code. code < code_count depth) codes.now }
     ensures size { IsRowSize depth codes.now result }
-    ensures written { (bytes : List ℕ) → IsRowString depth codes.now bytes → result ≡ length bytes }
+    ensures written { (bytes : List ℕ) → IsRowString depth codes.now bytes
+        → result ≡ length bytes }
     ensures short { result ≤ 2 * length codes.now + 3 }
 {
     (row_bits(depth, codes) + u64::from(end_width(depth)) + 7) / 8

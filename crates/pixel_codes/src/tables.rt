@@ -1,12 +1,13 @@
 ghost use Rattle.std.specs.Prelude.{◌≡◌, ◌<◌, length};
 ghost use Rattle.sub_base.specs.Depth.{code_count};
 ghost use Rattle.stream_syntax.specs.PixelBlocks.{table_size};
-ghost use Rattle.pixel_codes.specs.Walk.{half_of};
+ghost use Rattle.pixel_codes.specs.Private.Walk.{half_of};
 
 use stream_syntax::MapTable;
 use sub_base::Depth;
 
-// The default contents of the map tables (EN 300 743, clause 10). The first one has two entries in a byte.
+// The default contents of the map tables (EN 300 743, clause 10). The first one has two entries in
+// a byte.
 static TWO_TO_FOUR: [u8; 2] = [0x07, 0x8F];
 
 static TWO_TO_EIGHT: [u8; 4] = [0x00, 0x77, 0x88, 0xFF];
@@ -27,8 +28,8 @@ pub(crate) struct Tables<'a> {
 }
 
 impl<'a> Tables<'a> {
-    ghost use Rattle.pixel_codes.specs.Tables.{maps_of};
-    ghost use Rattle.pixel_codes.specs.Walk.{default_maps, mapped_by, with_table};
+    ghost use Rattle.pixel_codes.specs.Private.Tables.{maps_of};
+    ghost use Rattle.pixel_codes.specs.Private.Walk.{default_maps, mapped_by, with_table};
 
     /// The tables at the start of a block.
     pub(crate) fn default_tables() -> Tables<'a>

@@ -1,6 +1,6 @@
 ghost use Rattle.std.specs.Prelude.{◌≡◌, ◌+◌, ◌*◌, ◌^◌, ◌<◌, ◌≤◌, length, IfSome};
 ghost use Rattle.stream_syntax.specs.PixelCodes.{bits_of};
-ghost use Rattle.pixel_codes.specs.Reading.{two_at, two_long_at, four_at, four_run_at, eight_at, token_at};
+ghost use Rattle.pixel_codes.specs.Private.Reading.{two_at, two_long_at, four_at, four_run_at, eight_at, token_at};
 
 use crate::field::field;
 use sub_base::Depth;
@@ -12,7 +12,8 @@ pub(crate) enum Token {
     End,
 }
 
-/// The code at bit `place` of a string of a depth, and the place after it; none where the bytes end before.
+/// The code at bit `place` of a string of a depth, and the place after it; none where the bytes end
+/// before.
 #[inline(always)]
 pub(crate) fn read_token(bytes: &[u8], place: usize, depth: Depth) -> Option<(Token, usize)>
     requires bytes { length bytes.now ≤ 65535 }
@@ -27,7 +28,7 @@ pub(crate) fn read_token(bytes: &[u8], place: usize, depth: Depth) -> Option<(To
 }
 
 #[inline(always)]
-#[tactic(auto, unfolding(crate::specs::Reading::two_at))]
+#[tactic(auto, unfolding(crate::specs::Private::Reading::two_at))]
 fn two_bit_token(bytes: &[u8], place: usize) -> Option<(Token, usize)>
     requires bytes { length bytes.now ≤ 65535 }
     requires place { place ≤ 8 * length bytes.now }
@@ -53,7 +54,7 @@ fn two_bit_token(bytes: &[u8], place: usize) -> Option<(Token, usize)>
 
 /// The rest of a 2 bit code behind four bits 0.
 #[inline(always)]
-#[tactic(auto, unfolding(crate::specs::Reading::two_long_at))]
+#[tactic(auto, unfolding(crate::specs::Private::Reading::two_long_at))]
 fn two_bit_long_token(bytes: &[u8], place: usize) -> Option<(Token, usize)>
     requires bytes { length bytes.now ≤ 65535 }
     requires place { place ≤ 8 * length bytes.now }
@@ -77,7 +78,7 @@ fn two_bit_long_token(bytes: &[u8], place: usize) -> Option<(Token, usize)>
 }
 
 #[inline(always)]
-#[tactic(auto, unfolding(crate::specs::Reading::four_at))]
+#[tactic(auto, unfolding(crate::specs::Private::Reading::four_at))]
 fn four_bit_token(bytes: &[u8], place: usize) -> Option<(Token, usize)>
     requires bytes { length bytes.now ≤ 65535 }
     requires place { place ≤ 8 * length bytes.now }
@@ -99,7 +100,7 @@ fn four_bit_token(bytes: &[u8], place: usize) -> Option<(Token, usize)>
 
 /// The rest of a 4 bit code behind four bits 0 and a bit 1, whose next three bits are `form`.
 #[inline(always)]
-#[tactic(auto, unfolding(crate::specs::Reading::four_run_at))]
+#[tactic(auto, unfolding(crate::specs::Private::Reading::four_run_at))]
 fn four_bit_run_token(bytes: &[u8], place: usize, form: u8) -> Option<(Token, usize)>
     requires bytes { length bytes.now ≤ 65535 }
     requires place { place ≤ 8 * length bytes.now }
@@ -126,7 +127,7 @@ fn four_bit_run_token(bytes: &[u8], place: usize, form: u8) -> Option<(Token, us
 }
 
 #[inline(always)]
-#[tactic(auto, unfolding(crate::specs::Reading::eight_at))]
+#[tactic(auto, unfolding(crate::specs::Private::Reading::eight_at))]
 fn eight_bit_token(bytes: &[u8], place: usize) -> Option<(Token, usize)>
     requires bytes { length bytes.now ≤ 65535 }
     requires place { place ≤ 8 * length bytes.now }

@@ -1,7 +1,8 @@
-//! A benchmark: codes pictures and reads the blocks of their top fields again, as many times as its first word says,
-//! and tells on standard error how many million pixels a second that was. The pictures are those of the script that
-//! its second word names, all of one depth; without it a text-like picture of rows of 720 pixels at each depth.
-//! Standard output has the counts, which are the same in each run.
+//! A benchmark: codes pictures and reads the blocks of their top fields again, as many times as its
+//! first word says, and tells on standard error how many million pixels a second that was. The
+//! pictures are those of the script that its second word names, all of one depth; without it a
+//! text-like picture of rows of 720 pixels at each depth. Standard output has the counts, which are
+//! the same in each run.
 #![tactic(auto)]
 
 mod letters;

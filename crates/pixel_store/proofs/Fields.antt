@@ -2,7 +2,7 @@ use Rattle.std.proofs.Common.{◌≡◌, ◌∙◌, sym, ap, subst, ℕ, ◌+◌
 use Rattle.std.proofs.lemmas.Nat.{pow_pos, pow-add, shr-shr, field_of, shr_high, mod_low, mod-pow-add, mod_below, shr_below, mul-add-lt}
 use Rattle.std.proofs.Math.Nat.{add-mul, mul_assoc, mul_comm}
 use Rattle.pixel_store.specs.Codes.{bits_at}
-use Rattle.pixel_store.specs.Painting.{splice}
+use Rattle.pixel_store.specs.Private.Painting.{splice}
 
 -- cutting off twice is cutting off once
 mod-mod : (n j k : ℕ) → n % 2 ^ (j + k) % 2 ^ k ≡ n % 2 ^ k

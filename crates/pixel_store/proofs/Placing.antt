@@ -6,9 +6,9 @@ use Rattle.sub_base.specs.declared.depth.Depth.{Depth}
 use Rattle.sub_base.specs.declared.depth.Depth.TheVariants.{Two, Four, Eight}
 use Rattle.pixel_store.specs.declared.extent.Extent.{Extent}
 use Rattle.pixel_store.specs.Codes.{codes_in_byte, code_in}
-use Rattle.pixel_store.specs.Extents.{stride_of, room_of, size_of, row_start}
+use Rattle.pixel_store.specs.Private.Extents.{stride_of, room_of, size_of, row_start}
 use Rattle.pixel_store.specs.Regions.{Region, with_region}
-use Rattle.pixel_store.specs.Stores.{region_in, no_extent, Adjoin, IsTidy, extent_at, IsStore, regions_in}
+use Rattle.pixel_store.specs.Private.Stores.{region_in, no_extent, Adjoin, IsTidy, extent_at, IsStore, regions_in}
 use Rattle.pixel_store.proofs.Bytes.{each_digit}
 use Rattle.pixel_store.proofs.Rows.{column-below, in_byte}
 use Rattle.pixel_store.proofs.Slots.{Adjoin-at, window_at, region_same, slot_fits}

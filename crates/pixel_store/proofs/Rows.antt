@@ -4,10 +4,10 @@ use Rattle.std.proofs.lemmas.Bool.{cases_lt, cases_order}
 use Rattle.sub_base.specs.declared.depth.Depth.{Depth}
 use Rattle.sub_base.specs.declared.depth.Depth.TheVariants.{Two, Four, Eight}
 use Rattle.pixel_store.specs.declared.extent.Extent.{Extent}
-use Rattle.pixel_store.specs.Codes.{codes_in_byte, code_in, packed_length}
-use Rattle.pixel_store.specs.Extents.{stride_of, room_of, size_of, row_start, pixel, Fits}
-use Rattle.pixel_store.specs.Painting.{ones_of, code_number, Paints, PaintsRow, Fills}
-use Rattle.sub_base.specs.Depth.{code_count}
+use Rattle.pixel_store.specs.Codes.{codes_in_byte, code_in}
+use Rattle.pixel_store.specs.Private.Extents.{stride_of, room_of, size_of, row_start, pixel, Fits}
+use Rattle.pixel_store.specs.Private.Painting.{ones_of, code_number, Paints, PaintsRow, Fills}
+use Rattle.sub_base.specs.Depth.{code_count, packed_length}
 use Rattle.pixel_store.proofs.Bytes.{each_digit}
 
 spot : (depth : Depth) (start x : ℕ) → code_number depth (start + x / codes_in_byte depth) (x % codes_in_byte depth) ≡ start * codes_in_byte depth + x

@@ -7,10 +7,10 @@ use Rattle.std.proofs.Math.ListN.{get_or-eq_default}
 use Rattle.pixel_store.specs.declared.extent.Extent.{Extent}
 use Rattle.sub_base.specs.declared.depth.Depth.TheVariants.{Two}
 use Rattle.pixel_store.specs.Codes.{codes_in_byte, code_in}
-use Rattle.pixel_store.specs.Extents.{stride_of, room_of, size_of, row_start, pixel, Fits}
-use Rattle.pixel_store.specs.Painting.{PaintsRow, Fills}
+use Rattle.pixel_store.specs.Private.Extents.{stride_of, room_of, size_of, row_start, pixel, Fits}
+use Rattle.pixel_store.specs.Private.Painting.{PaintsRow, Fills}
 use Rattle.pixel_store.specs.Regions.{Region, code_of, row_of, blank, region_at, KeepsOthers, IsRunPainted, IsFilled, IsPackedRow, need_in}
-use Rattle.pixel_store.specs.Stores.{region_in, regions_in, no_extent, extent_at, Adjoin, IsTidy, IsStore}
+use Rattle.pixel_store.specs.Private.Stores.{region_in, regions_in, no_extent, extent_at, Adjoin, IsTidy, IsStore}
 use Rattle.pixel_store.proofs.Rows.{row_inside, column-below, wide_enough, other_row}
 
 Adjoin-le : (start : ℕ) (ps : List Extent) (end : ℕ) → Adjoin start ps end → start ≤ end

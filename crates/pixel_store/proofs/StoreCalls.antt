@@ -6,13 +6,14 @@ use Rattle.sub_base.specs.declared.depth.Depth.{Depth}
 use Rattle.sub_base.specs.declared.depth.Depth.TheVariants.{Two}
 use Rattle.pixel_store.specs.declared.extent.Extent.{Extent}
 use Rattle.pixel_store.specs.Codes.{codes_in_byte, code_in}
-use Rattle.pixel_store.specs.Extents.{stride_of, room_of, size_of, row_start, pixel, Fits}
-use Rattle.pixel_store.specs.Painting.{PaintsRow, Fills}
-use Rattle.pixel_store.specs.Regions.{Region, Regions, IsPlaced, region_at, code_of, blank, need_of, need_in, with_region, PlacesOne, KeepsOthers, IsFilled, IsRunPainted, IsPackedRow}
-use Rattle.pixel_store.specs.Stores.{region_in, regions_in, extent_at, IsTidy, IsStore}
+use Rattle.pixel_store.specs.Private.Extents.{stride_of, room_of, size_of, row_start, pixel, Fits}
+use Rattle.pixel_store.specs.Private.Painting.{PaintsRow, Fills}
+use Rattle.pixel_store.specs.Regions.{Region, Regions, IsPlaced, region_at, code_of, blank, need_in, with_region, PlacesOne, KeepsOthers, IsFilled, IsRunPainted, IsPackedRow}
+use Rattle.pixel_store.specs.Private.Stores.{region_in, regions_in, extent_at, IsTidy, IsStore}
 use Rattle.pixel_store.proofs.Rows.{column-below, wide_enough, in_byte}
 use Rattle.pixel_store.proofs.Slots.{slot_fits, region_at_is, code_of-region, row_of-region, packed_row_is, row_untouched, still_tidy, run_painted, fill_painted, fill_tidy, needs_adjoin, window_at, changed_store, changed_others}
 use Rattle.pixel_store.proofs.Placing.{zero_code}
+use Rattle.sub_base.specs.Depth.{pixel_bytes}
 
 module _ (xs : List ℕ) (used : ℕ) (extents : List Extent) (store : Regions) (view : regions_in xs used extents ≡ store) (is : IsStore xs used extents)
     (slot : ℕ) (placed : IsPlaced store slot) (p : Extent) (here : p ≡ extent_at extents slot) where
@@ -93,14 +94,14 @@ blank_code : (width height : ℕ) (depth : Depth) (x y : ℕ) → x < width → 
 blank_code width height depth x y column row =
     let p : Extent = record { offset = 0; width = width; height = height; depth = depth } in
     let inside : x < room_of p = omega (arith, column, wide_enough p) in
-    let index : y * stride_of p + x / codes_in_byte depth < need_of width height depth =
+    let index : y * stride_of p + x / codes_in_byte depth < pixel_bytes width height depth =
     omega (arith, column-below p x inside, row_fits_turned y (stride_of p) (stride_of p) height row (omega arith)) in
     ap (code_in depth (x % codes_in_byte depth))
-    (window_at (replicate (need_of width height depth) 0) (y * stride_of p) (stride_of p) (x / codes_in_byte depth) (column-below p x inside)
-    ∙ get_or-replicate (need_of width height depth) (y * stride_of p + x / codes_in_byte depth) 0 0 index)
+    (window_at (replicate (pixel_bytes width height depth) 0) (y * stride_of p) (stride_of p) (x / codes_in_byte depth) (column-below p x inside)
+    ∙ get_or-replicate (pixel_bytes width height depth) (y * stride_of p + x / codes_in_byte depth) 0 0 index)
     ∙ zero_code depth (x % codes_in_byte depth) (in_byte depth x)
 
-pub places_one : (width height : ℕ) (depth : Depth) (slot : ℕ) (old new : Regions) → slot ≡ length old.regions → need_of width height depth ≤ old.free →
+pub places_one : (width height : ℕ) (depth : Depth) (slot : ℕ) (old new : Regions) → slot ≡ length old.regions → pixel_bytes width height depth ≤ old.free →
     new ≡ with_region width height depth old → PlacesOne width height depth slot old new
 places_one width height depth slot old new at room is =
     let region = blank width height depth in

@@ -1,10 +1,11 @@
 -- What a store has after any calls since its last reset: each code is that of the last call that covers its pixel.
 use Rattle.std.specs.Prelude.{◌≡◌, ℕ, ◌+◌, ◌<◌, ◌==◌, ◌&&◌, nat_le, nat_lt, Bool, true, false, List, ◌∷◌, length, find, filter, sum_by, Option, Some, None}
 use Rattle.sub_base.specs.declared.depth.Depth.{Depth}
-use Rattle.pixel_store.specs.Regions.{Region, Regions, IsPlaced, region_at, code_of, need_of}
+use Rattle.pixel_store.specs.Regions.{Region, Regions, IsPlaced, region_at, code_of}
+use Rattle.sub_base.specs.Depth.{pixel_bytes}
 
--- a call of a store that gave codes to pixels of a slot: a region of that width, height and depth was placed there, it was
--- filled with a code, or a run was painted: its first column, its row, how many pixels it has, its code
+-- a call of a store that gave codes to pixels of a slot: a region of that width, height and depth was placed there, it
+-- was filled with a code, or a run was painted: its first column, its row, how many pixels it has, its code
 pub data Call : Type 0 where
   Place : ℕ → ℕ → ℕ → Depth → Call
   Fill : ℕ → ℕ → Call
@@ -14,7 +15,8 @@ pub data Call : Type 0 where
 abbrev pub covers : ℕ → ℕ → ℕ → Call → Bool
 covers slot x y (Place placed width height depth) = placed == slot
 covers slot x y (Fill filled code) = filled == slot
-covers slot x y (PaintRun painted left row count code) = (painted == slot) && ((row == y) && (nat_le left x && nat_lt x (left + count)))
+covers slot x y (PaintRun painted left row count code) =
+    (painted == slot) && ((row == y) && (nat_le left x && nat_lt x (left + count)))
 
 -- the code that it gives: 0 where a region is placed
 abbrev pub code_given : Option Call → ℕ
@@ -39,7 +41,7 @@ is_place_of slot (PaintRun painted left row count code) = false
 
 -- the bytes that the call takes
 abbrev pub bytes_taken : Call → ℕ
-bytes_taken (Place slot width height depth) = need_of width height depth
+bytes_taken (Place slot width height depth) = pixel_bytes width height depth
 bytes_taken (Fill slot code) = 0
 bytes_taken (PaintRun slot left row count code) = 0
 
@@ -47,12 +49,15 @@ bytes_taken (PaintRun slot left row count code) = 0
 abbrev pub placing : ℕ → Region → Call
 placing slot region = Place slot region.width region.height region.depth
 
--- the store is one after these calls since its last reset, the latest first: it has the regions that they placed, with their
--- sides and depths; each pixel has the code of the last write to it; and what is free and what they took is the whole store
+-- the store is one after these calls since its last reset, the latest first: it has the regions that they placed, with
+-- their sides and depths; each pixel has the code of the last write to it; and what is free and what they took is the
+-- whole store
 pub record IsAfter (past : List Call) (store : Regions) : Type 0 where
   pub count : length store.regions ≡ length (filter is_place past)
-  pub placed : (slot : ℕ) → IsPlaced store slot → find (is_place_of slot) past ≡ Some (placing slot (region_at store slot))
-  pub codes : (slot x y : ℕ) → IsPlaced store slot → x < (region_at store slot).width → y < (region_at store slot).height →
+  pub placed : (slot : ℕ) → IsPlaced store slot
+      → find (is_place_of slot) past ≡ Some (placing slot (region_at store slot))
+  pub codes : (slot x y : ℕ) → IsPlaced store slot → x < (region_at store slot).width
+      → y < (region_at store slot).height →
       code_of (region_at store slot) x y ≡ last_write slot x y past
   pub bytes : store.free + sum_by bytes_taken past ≡ store.size
 

@@ -21,7 +21,3 @@ code_in depth j byte = bits_at (bits_of depth) (8 - bits_of depth * (j + 1)) byt
 -- code x of the codes that packed bytes have, one after another
 abbrev pub packed_code : Depth → List ℕ → ℕ → ℕ
 packed_code depth bytes x = code_in depth (x % codes_in_byte depth) (slice_index bytes (x / codes_in_byte depth))
-
--- the bytes of so many codes, rounded up to whole bytes
-abbrev pub packed_length : Depth → ℕ → ℕ
-packed_length depth count = (count * bits_of depth + 7) / 8

@@ -1,6 +1,4 @@
 pub mod Codes
 pub mod Regions
 pub mod Calls
-pub mod Stores
-pub mod Extents
-pub mod Painting
+pub mod Private

@@ -2,7 +2,8 @@
 use Rattle.std.specs.Prelude.{◌≡◌, ◌≢◌, ℕ, ◌+◌, ◌-◌, ◌*◌, ◌<◌, ◌≤◌, ◌⊎◌, List, [], ◌∷◌, ◌++◌, length, slice_index_or, slice_range, replicate}
 use Rattle.sub_base.specs.declared.depth.Depth.{Depth}
 use Rattle.sub_base.specs.declared.depth.Depth.TheVariants.{Two}
-use Rattle.pixel_store.specs.Codes.{packed_code, packed_length, codes_in_byte}
+use Rattle.pixel_store.specs.Codes.{packed_code, codes_in_byte}
+use Rattle.sub_base.specs.Depth.{packed_length, pixel_bytes}
 
 -- a region: its sides in pixels, its depth, and its packed rows, one after another
 pub record Region : Type 0 where
@@ -23,16 +24,13 @@ row_of region y = slice_range region.bytes (y * row_length region) (y * row_leng
 abbrev pub code_of : Region → ℕ → ℕ → ℕ
 code_of region x y = packed_code region.depth (row_of region y) x
 
--- the bytes that a region of these sides takes
-abbrev pub need_of : ℕ → ℕ → Depth → ℕ
-need_of width height depth = packed_length depth width * height
-
 abbrev pub need_in : Region → ℕ
-need_in region = need_of region.width region.height region.depth
+need_in region = pixel_bytes region.width region.height region.depth
 
 -- a region of zeros
 abbrev pub blank : ℕ → ℕ → Depth → Region
-blank width height depth = record { width = width; height = height; depth = depth; bytes = replicate (need_of width height depth) 0 }
+blank width height depth =
+    record { width = width; height = height; depth = depth; bytes = replicate (pixel_bytes width height depth) 0 }
 
 -- a store: its bytes, the regions in it, each named by its index, and the bytes that no region takes
 pub record Regions : Type 0 where
@@ -57,12 +55,13 @@ with_region width height depth store =
     record {
       size = store.size;
       regions = store.regions ++ blank width height depth ∷ [];
-      free = store.free - need_of width height depth;
+      free = store.free - pixel_bytes width height depth;
     }
 
 -- a region needs more bytes than are free, and these are the two numbers
 abbrev pub IsOver : ℕ → ℕ → Depth → Regions → ℕ → ℕ → Type 0
-IsOver width height depth store need free = (need ≡ need_of width height depth) × (free ≡ store.free) × (free < need)
+IsOver width height depth store need free =
+    (need ≡ pixel_bytes width height depth) × (free ≡ store.free) × (free < need)
 
 -- a further region was placed: it is of zeros, and the regions before it are as they were
 pub record PlacesOne (width height : ℕ) (depth : Depth) (slot : ℕ) (old new : Regions) : Type 0 where
@@ -72,7 +71,7 @@ pub record PlacesOne (width height : ℕ) (depth : Depth) (slot : ℕ) (old new 
   pub placed : region_at new slot ≡ blank width height depth
   pub zeros : (x y : ℕ) → x < width → y < height → code_of (region_at new slot) x y ≡ 0
   pub size : new.size ≡ old.size
-  pub free : new.free + need_of width height depth ≡ old.free
+  pub free : new.free + pixel_bytes width height depth ≡ old.free
 
 -- nothing but the codes of one region may have changed
 pub record KeepsOthers (slot : ℕ) (old new : Regions) : Type 0 where
@@ -91,12 +90,15 @@ IsFilled code region = (x y : ℕ) → x < region.width → y < region.height �
 -- the pixels of row `row` from column `left` on, `count` of them as far as the region has them, have that code, and all
 -- others are as they were
 pub record IsRunPainted (left row count code : ℕ) (old new : Region) : Type 0 where
-  pub covered : (x : ℕ) → x < old.width → row < old.height → left ≤ x → x < left + count → code_of new x row ≡ code
-  pub outside : (x y : ℕ) → x < old.width → y < old.height → (y ≢ row) ⊎ ((x < left) ⊎ (left + count ≤ x)) →
+  pub covered : (x : ℕ) → x < old.width → row < old.height → left ≤ x → x < left + count
+      → code_of new x row ≡ code
+  pub outside : (x y : ℕ) → x < old.width → y < old.height → (y ≢ row)
+      ⊎ ((x < left) ⊎ (left + count ≤ x)) →
       code_of new x y ≡ code_of old x y
 
 -- packed bytes have the codes of a row of the region, and behind the last of them zeros
 pub record IsPackedRow (region : Region) (y : ℕ) (bytes : List ℕ) : Type 0 where
   pub whole : length bytes ≡ row_length region
   pub codes : (x : ℕ) → x < region.width → packed_code region.depth bytes x ≡ code_of region x y
-  pub zeros : (x : ℕ) → region.width ≤ x → x < length bytes * codes_in_byte region.depth → packed_code region.depth bytes x ≡ 0
+  pub zeros : (x : ℕ) → region.width ≤ x → x < length bytes * codes_in_byte region.depth
+      → packed_code region.depth bytes x ≡ 0

@@ -3,7 +3,7 @@
 ghost use Rattle.std.specs.Prelude.{◌≡◌, ◌+◌, ◌-◌, ◌*◌, ◌/◌, ◌%◌, ◌<◌, ◌≤◌};
 ghost use Rattle.sub_base.specs.Depth.{code_count};
 ghost use Rattle.pixel_store.specs.Codes.{codes_in_byte, code_in};
-ghost use Rattle.pixel_store.specs.Painting.{ones_of, splice, PaintsByte};
+ghost use Rattle.pixel_store.specs.Private.Painting.{ones_of, splice, PaintsByte};
 
 use sub_base::Depth;
 
@@ -70,7 +70,7 @@ pub(crate) fn code(depth: Depth, byte: u8, index: usize) -> u8
 }
 
 // The byte, but the bits from `low` up to `high` from the pattern.
-#[tactic(auto, unfolding(crate::specs::Painting::splice))]
+#[tactic(auto, unfolding(crate::specs::Private::Painting::splice))]
 fn spliced(byte: u8, pattern: u8, high: u32, low: u32) -> u8
     requires order { low ≤ high }
     requires high { high ≤ 8 }

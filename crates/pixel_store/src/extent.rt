@@ -3,8 +3,8 @@
 ghost use Rattle.std.specs.Prelude.{◌≡◌, ℕ, ◌+◌, ◌*◌, ◌%◌, ◌<◌, ◌≤◌, ◌⊎◌, ◌^◌, length, slice_index, slice_range};
 ghost use Rattle.sub_base.specs.Depth.{code_count};
 ghost use Rattle.pixel_store.specs.Codes.{codes_in_byte};
-ghost use Rattle.pixel_store.specs.Extents.{stride_of, size_of, row_start as start_of, pixel, Fits};
-ghost use Rattle.pixel_store.specs.Painting.{PaintsRow, Fills};
+ghost use Rattle.pixel_store.specs.Private.Extents.{stride_of, size_of, row_start as start_of, pixel, Fits};
+ghost use Rattle.pixel_store.specs.Private.Painting.{PaintsRow, Fills};
 
 use crate::byte::{code, codes_over, pattern, whole_bytes};
 use crate::span::{fill, paint};
@@ -57,14 +57,15 @@ pub(crate) fn code_at(bytes: &[u8], extent: Extent, x: u16, y: u16) -> u8
 pub(crate) fn packed_row(bytes: &[u8], extent: Extent, y: u16) -> &[u8]
     requires fits { Fits bytes.now extent }
     requires y { y < extent.height }
-    ensures { result.now ≡ slice_range bytes.now (start_of extent y) (start_of extent y + stride_of extent) }
+    ensures { result.now
+        ≡ slice_range bytes.now (start_of extent y) (start_of extent y + stride_of extent) }
 {
     let start = row_start(extent, y);
     &bytes[start..start + stride(extent)]
 }
 
-// Paints the columns from `from` up to `to` of a row. What works on the slice of the whole buffer has a function of its own,
-// so that callers see the buffer as one list.
+// Paints the columns from `from` up to `to` of a row. What works on the slice of the whole buffer
+// has a function of its own, so that callers see the buffer as one list.
 fn paint_row_in(bytes: &mut [u8], extent: Extent, y: u16, from: usize, to: usize, code: u8)
     requires fits { Fits bytes.old extent }
     requires y { y < extent.height }
@@ -76,7 +77,8 @@ fn paint_row_in(bytes: &mut [u8], extent: Extent, y: u16, from: usize, to: usize
     paint(bytes, extent.depth, row_start(extent, y), from, to, code);
 }
 
-// Paints all rows, where they have no bits behind their last pixels: they are one span of equal bytes.
+// Paints all rows, where they have no bits behind their last pixels: they are one span of equal
+// bytes.
 fn fill_whole(bytes: &mut [u8], extent: Extent, code: u8)
     requires fits { Fits bytes.old extent }
     requires full { extent.width % codes_in_byte extent.depth ≡ 0 }
@@ -147,7 +149,8 @@ pub(crate) fn clear(bytes: &mut Vec<u8>, from: usize, to: usize)
     requires order { from ≤ to }
     requires to { to ≤ length bytes.old.items }
     ensures inside { (i : ℕ) → from ≤ i → i < to → slice_index bytes.new.items i ≡ 0 }
-    ensures outside { (i : ℕ) → (i < from) ⊎ (to ≤ i) → slice_index bytes.new.items i ≡ slice_index bytes.old.items i }
+    ensures outside { (i : ℕ) → (i < from) ⊎ (to ≤ i)
+        → slice_index bytes.new.items i ≡ slice_index bytes.old.items i }
     ensures length { length bytes.new.items ≡ length bytes.old.items }
 {
     fill(bytes.as_mut_slice(), from, to, 0);

@@ -1,9 +1,9 @@
 ghost use Rattle.std.specs.Prelude.{◌≡◌, ◌+◌, ◌<◌, ◌≤◌, List, [], length, sum_by, IfOk, IfErr, IsOk};
-ghost use Rattle.sub_base.specs.Depth.{code_count};
-ghost use Rattle.pixel_store.specs.Regions.{IsPlaced, region_at, code_of, no_regions, need_of, need_in, with_region};
+ghost use Rattle.sub_base.specs.Depth.{code_count, pixel_bytes};
+ghost use Rattle.pixel_store.specs.Regions.{IsPlaced, region_at, code_of, no_regions, need_in, with_region};
 ghost use Rattle.pixel_store.specs.Regions.{IsOver, PlacesOne, KeepsOthers, IsFilled, IsRunPainted, IsPackedRow};
 ghost use Rattle.pixel_store.specs.Calls.{Call, Place, Fill, PaintRun, last_write, IsAfter, Follows};
-ghost use Rattle.pixel_store.specs.Stores.{extent_at as extent_of};
+ghost use Rattle.pixel_store.specs.Private.Stores.{extent_at as extent_of};
 
 use crate::extent::{Extent, clear, code_at, fill_rows, packed_row, paint_row, size};
 use std::alloc::Global;
@@ -37,8 +37,8 @@ pub struct StoreFull {
     pub free: u64,
 }
 
-/// Regions of packed pixels, the first pixel of a byte in its highest bits. They stay where they are placed until all are
-/// dropped at once.
+/// Regions of packed pixels, the first pixel of a byte in its highest bits. They stay where they
+/// are placed until all are dropped at once.
 #[derive(Drop)]
 pub struct Store {
     bytes: Vec<u8>,
@@ -49,7 +49,7 @@ pub struct Store {
 impl Model for Store {
     ghost use Rattle.std.specs.Prelude.{◌≤◌, vec_capacity};
     ghost use Rattle.pixel_store.specs.Regions.{Regions};
-    ghost use Rattle.pixel_store.specs.Stores.{regions_in, IsStore};
+    ghost use Rattle.pixel_store.specs.Private.Stores.{regions_in, IsStore};
 
     ghost Value = { Regions };
 
@@ -58,7 +58,8 @@ impl Model for Store {
     ghost invariant = { λ s. IsStore s.bytes.items s.used s.extents.items × (256 ≤ vec_capacity s.extents) };
 }
 
-/// At most so many regions are placed at a time: region ids have 8 bits (EN 300 743, region composition segment).
+/// At most so many regions are placed at a time: region ids have 8 bits (EN 300 743, region
+/// composition segment).
 const MOST_REGIONS: usize = 256;
 
 impl Store {
@@ -74,17 +75,20 @@ impl Store {
         })
     }
 
-    /// Places a region of that width and height in pixels, whose codes are all 0. Each row takes whole bytes. After a
-    /// refusal the store is as it was.
+    /// Places a region of that width and height in pixels, whose codes are all 0. Each row takes
+    /// whole bytes. After a refusal the store is as it was.
     pub fn place(&mut self, width: u16, height: u16, depth: Depth) -> Result<Slot, StoreFull>
         requires few { length self.old.regions < 256 }
         requires wide { 1 ≤ width }
         requires high { 1 ≤ height }
-        ensures placed { IfOk result (λ slot. self.new ≡ with_region width height depth self.old) }
+        ensures placed { IfOk result
+            (λ slot. self.new ≡ with_region width height depth self.old) }
         ensures slot { IfOk result (λ slot. PlacesOne width height depth slot self.old self.new) }
-        ensures after { IfOk result (λ slot. Follows (Place slot width height depth) self.old self.new) }
-        ensures succeeds { need_of width height depth ≤ self.old.free → IsOk result }
-        ensures full { IfErr result (λ full. IsOver width height depth self.old full.need full.free) }
+        ensures after { IfOk result
+            (λ slot. Follows (Place slot width height depth) self.old self.new) }
+        ensures succeeds { pixel_bytes width height depth ≤ self.old.free → IsOk result }
+        ensures full { IfErr result
+            (λ full. IsOver width height depth self.old full.need full.free) }
         ensures unchanged { IfErr result (λ full. self.new ≡ self.old) }
     {
         let extent = Extent {
@@ -127,7 +131,8 @@ impl Store {
         requires slot { IsPlaced self.old slot }
         requires code { code < code_count (region_at self.old slot).depth }
         ensures others { KeepsOthers slot self.old self.new }
-        ensures painted { IsRunPainted x y length code (region_at self.old slot) (region_at self.new slot) }
+        ensures painted { IsRunPainted x y length code (region_at self.old slot)
+            (region_at self.new slot) }
         ensures after { Follows (PaintRun slot x y length code) self.old self.new }
     {
         let extent = extent_at(&self.extents, slot);
@@ -145,7 +150,8 @@ impl Store {
         requires x { x < (region_at self.now slot).width }
         requires y { y < (region_at self.now slot).height }
         ensures code { result ≡ code_of (region_at self.now slot) x y }
-        ensures last { (past : List Call) → IsAfter past self.now → result ≡ last_write slot x y past }
+        ensures last { (past : List Call) → IsAfter past self.now
+            → result ≡ last_write slot x y past }
     {
         code_at(&self.bytes, extent_at(&self.extents, slot), x, y)
     }

@@ -1,5 +1,5 @@
 -- A segment is read in one way, and so are sets and losses.
-use Rattle.std.proofs.Common.{◌≡◌, ◌∙◌, ℕ, List, [], ◌∷◌, length, refl, sym, ap, subst, arith, Err}
+use Rattle.std.proofs.Common.{◌≡◌, ◌∙◌, ℕ, List, [], ◌∷◌, length, refl, sym, ap, subst, arith}
 use Rattle.std.proofs.Math.Seq.{take-length}
 use Rattle.sub_base.specs.declared.depth.Depth.TheVariants.{Eight}
 use Rattle.stream_syntax.specs.PixelBlocks.{Part}
@@ -9,7 +9,7 @@ use Rattle.stream_syntax.specs.declared.segment_fault.SegmentFault.{SegmentFault
 use Rattle.decoder_model.specs.Readings.{Content, Reading, read, faulty, AreFields, IsContent, IsReading, AreReadings, IsDeliveryRead, AreDeliveriesRead}
 use Rattle.decoder_model.specs.Sets.{Delivery, lost, whole, refused}
 use Rattle.pixel_codes.proofs.OneBlock.{one_block}
-use Rattle.segments.proofs.Readings.{Outcome, every_segment, every_fault, one_reading}
+use Rattle.segments.proofs.Readings.{no_fault_there, same_segment_fault, one_reading}
 
 -- ---- contents
 
@@ -38,14 +38,8 @@ one_content bytes one other h k =
 no_fault_too : (bytes : List ℕ) (content : Content) (fault : SegmentFault) → IsContent bytes content
     → IsSegmentFault bytes fault → ⊥
 no_fault_too bytes content fault h bad =
-    every_segment bytes (Err fault) tt bad content.value (length bytes) (omega arith)
-    (subst (λ (all : List ℕ). IsSegment all content.value) (sym (take-length bytes)) h.segment)
-
--- nor for two
-one_fault : (bytes : List ℕ) (one other : SegmentFault) → IsSegmentFault bytes one → IsSegmentFault bytes other
-    → one ≡ other
-one_fault bytes one other h k = let e : ◌≡◌ {A = Outcome} (Err one) (Err other) =
-    every_fault bytes (Err one) tt h other k in cc
+    no_fault_there bytes (length bytes) content.value fault (omega arith)
+    (subst (λ (all : List ℕ). IsSegment all content.value) (sym (take-length bytes)) h.segment) bad
 
 -- ---- readings
 
@@ -53,7 +47,7 @@ pub same_reading : (bytes : List ℕ) (one other : Reading) → IsReading bytes 
 same_reading bytes (read content) (read other) h k = ap read (one_content bytes content other h k)
 same_reading bytes (read content) (faulty fault) h k = absurd (no_fault_too bytes content fault h k)
 same_reading bytes (faulty fault) (read content) h k = absurd (no_fault_too bytes content fault k h)
-same_reading bytes (faulty fault) (faulty other) h k = ap faulty (one_fault bytes fault other h k)
+same_reading bytes (faulty fault) (faulty other) h k = ap faulty (same_segment_fault bytes fault other h k)
 
 same_readings : (segments : List (List ℕ)) (one other : List Reading) → AreReadings segments one
     → AreReadings segments other → one ≡ other

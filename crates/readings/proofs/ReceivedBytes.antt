@@ -5,8 +5,9 @@ use Rattle.std.specs.List.{AllByRecursion, filter_map, list_any}
 use Rattle.std.specs.Option.{option_map}
 use Rattle.std.proofs.lemmas.List.Elements.{All-nil, All-append, All-take, All-drop}
 use Rattle.stream_syntax.specs.TransportPackets.{has_error_flag, has_start_flag, has_payload, pid_of, counter_of, control_of, field_length_of, payload_of}
-use Rattle.stream_syntax.specs.Units.{Succession, Next, Again, Missing, succession, Part, Begins, Adds, Breaks, payload_part, part_after, part_of, last_counter, each_after, parts_of, begins_unit, bytes_in, Fate, Waits, Whole, Over, need_of, is_unbounded, fate_of, last_unit, gathered, stays_in_hand, unit_in_hand, hand_after, joined, handed_out, unit_at}
+use Rattle.stream_syntax.specs.Units.{Succession, Next, Again, Missing, succession, UnitPart, Begins, Adds, Breaks, payload_part, part_after, part_of, last_counter, each_after, parts_of, begins_unit, bytes_in, Fate, Waits, Whole, Over, is_unbounded, fate_of, last_unit, gathered, stays_in_hand, unit_in_hand, hand_after, joined, handed_out, unit_at}
 use Rattle.decoder_model.proofs.SentSets.{all-append}
+use Rattle.stream_syntax.specs.Pes.{need_of}
 
 -- ---- of any items
 
@@ -64,10 +65,10 @@ each_all P f holds before (packet ∷ packets) earlier h = (
 
 -- ---- parts
 
-abbrev IsPart : Part → Type 0
+abbrev IsPart : UnitPart → Type 0
 IsPart part = OfBytes (bytes_in part)
 
-begun_part : (payload : List ℕ) (other : Part) (start : Bool) → OfBytes payload → IsPart other
+begun_part : (payload : List ℕ) (other : UnitPart) (start : Bool) → OfBytes payload → IsPart other
     → IsPart (if start then Begins payload else other)
 begun_part payload other true h k = h
 begun_part payload other false h k = k
@@ -96,7 +97,7 @@ parts_bytes pid packets h =
     (each_all (OfSome IsPart) (part_of pid)
     (λ before packet earlier own. part_bytes pid (last_counter pid before) packet own) [] packets tt h)
 
-last_parts : (parts : List Part) → AllByRecursion IsPart parts → AllByRecursion IsPart (last_unit parts)
+last_parts : (parts : List UnitPart) → AllByRecursion IsPart parts → AllByRecursion IsPart (last_unit parts)
 last_parts [] h = tt
 last_parts (part ∷ parts) h =
     either_way (AllByRecursion IsPart) (list_any begins_unit parts) (last_unit parts) _ (last_parts parts h.1)
@@ -104,11 +105,11 @@ last_parts (part ∷ parts) h =
 
 -- ---- units
 
-gathered_bytes : (parts : List Part) → AllByRecursion IsPart parts → OfBytes (gathered parts)
+gathered_bytes : (parts : List UnitPart) → AllByRecursion IsPart parts → OfBytes (gathered parts)
 gathered_bytes [] h = no_bytes
 gathered_bytes (part ∷ parts) h = bytes_joined (bytes_in part) (gathered parts) h.0 (gathered_bytes parts h.1)
 
-in_hand : (size : ℕ) (parts : List Part) → AllByRecursion IsPart parts → OfSome OfBytes (unit_in_hand size parts)
+in_hand : (size : ℕ) (parts : List UnitPart) → AllByRecursion IsPart parts → OfSome OfBytes (unit_in_hand size parts)
 in_hand size [] h = tt
 in_hand size (part ∷ parts) h =
     either_way (OfSome OfBytes) (stays_in_hand size (part ∷ parts)) (Some (gathered (part ∷ parts))) None
@@ -125,7 +126,7 @@ more_bytes : (hand : Option (List ℕ)) (payload : List ℕ) → OfSome OfBytes 
 more_bytes None payload h k = tt
 more_bytes (Some bytes) payload h k = bytes_joined bytes payload h k
 
-joined_bytes : (hand : Option (List ℕ)) (part : Option Part) → OfSome OfBytes hand → OfSome IsPart part
+joined_bytes : (hand : Option (List ℕ)) (part : Option UnitPart) → OfSome OfBytes hand → OfSome IsPart part
     → OfSome OfBytes (joined hand part)
 joined_bytes hand None h k = tt
 joined_bytes hand (Some (Begins payload)) h k = k

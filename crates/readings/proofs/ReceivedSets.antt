@@ -5,9 +5,9 @@ use Rattle.std.specs.List.{AllByRecursion, prefix_len}
 use Rattle.std.specs.Option.{option_or, is_none}
 use Rattle.std.proofs.lemmas.List.{get_or-take, length-take-le}
 use Rattle.sub_base.specs.Lists.{prefixes}
-use Rattle.stream_syntax.specs.DataField.{Frame, segment, broken, segment_size, AreFrames, no_more, cut_off, one_more, frames_of}
+use Rattle.stream_syntax.specs.DataField.{Frame, segment, broken, AreFrames, no_more, cut_off, one_more, frames_of}
 use Rattle.stream_syntax.specs.Pes as pes
-use Rattle.stream_syntax.specs.SegmentTests.{frame_tests}
+use Rattle.stream_syntax.specs.SegmentTests.{frame_tests, segment_size}
 use Rattle.stream_syntax.specs.Tests.{byte_at, word_at, first_fault}
 use Rattle.stream_syntax.specs.TransportPackets.{packet_fault}
 use Rattle.stream_syntax.specs.Units.{each_after, event_at, unit_at, is_loss}
@@ -17,10 +17,10 @@ use Rattle.decoder_model.specs.Frames.{counts_for, segments_in}
 use Rattle.decoder_model.specs.Received.{IsFramed}
 use Rattle.decoder_model.specs.Sets.{Stretch, loss_between, run, joined_to, runs_of, is_ended, frames_in, size_in, units_to_end, Delivery, lost, whole, refused, first_fault_in, excess_in, handed, is_followed, set_of, sets_in, has_ended, sets_of}
 use Rattle.decoder_model.specs.declared.set_fault.SetFault.{SetFault}
-use Rattle.decoder_model.proofs.FieldFrames.{frames_are}
+use Rattle.stream_syntax.proofs.FrameLaws.{frames_are}
 use Rattle.decoder_model.proofs.Growth.{found_is_front}
 use Rattle.decoder_model.proofs.SentSets.{all-append}
-use Rattle.segments.proofs.Frames.{head_asks, head_passes}
+use Rattle.segments.proofs.WholeSegments.{head_asks, head_passes}
 use Rattle.readings.proofs.ReceivedBytes.{either_way, OfSome, OfBytes, bytes_behind, bytes_ahead, each_all, unit_bytes}
 
 -- ---- of any items

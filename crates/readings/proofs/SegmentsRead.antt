@@ -14,7 +14,7 @@ use Rattle.stream_syntax.specs.declared.segment_fault.SegmentFault.{SegmentFault
 use Rattle.decoder_model.specs.Readings.{Reading, read, faulty, AreFields, IsReading}
 use Rattle.decoder_model.specs.Received.{IsFramed}
 use Rattle.segments.specs.Reading.{value_in}
-use Rattle.segments.proofs.Frames.{is_segment}
+use Rattle.segments.proofs.WholeSegments.{is_segment}
 use Rattle.segments.proofs.Shapes.{AreBytes, AreBytes-drop, AreBytes-take}
 use Rattle.segments.proofs.Whole.{Laid, body_laid}
 use Rattle.pixel_codes.proofs.BlockParts.{parts_or_fault}

@@ -18,8 +18,10 @@ pub fn one_reading()
     ensures segment { (bytes : List ℕ) (one other : Reading)
         → IsReading bytes one → IsReading bytes other → one ≡ other }
     ensures sets { (deliveries : List (Delivery (List ℕ))) (one other : List (Delivery Reading))
-        → AreDeliveriesRead deliveries one → AreDeliveriesRead deliveries other → one ≡ other }
-    ensures packets { (profile : Profile) (pid page : ℕ) (ended : Bool) (packets : List (List ℕ))
+        → AreDeliveriesRead deliveries one → AreDeliveriesRead deliveries other
+        → one ≡ other }
+    ensures packets { (profile : Profile) (pid page : ℕ) (ended : Bool)
+        (packets : List (List ℕ))
         (one other : List (Delivery Reading))
         → HasReceived profile pid page ended packets one
         → HasReceived profile pid page ended packets other → one ≡ other }

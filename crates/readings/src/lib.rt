@@ -1,5 +1,5 @@
-//! How what a receiver of EN 300 743 subtitles has received is read: laws that every segment and every
-//! list of packets is read, and in one way. There is no code here.
+//! How what a receiver of EN 300 743 subtitles has received is read: laws that every segment and
+//! every list of packets is read, and in one way. There is no code here.
 #![tactic(auto)]
 
 mod laws;

@@ -1,7 +1,7 @@
 -- What a packet brings to the coded data buffer, by its event.
 use Rattle.std.proofs.Common.{◌≡◌, ◌∙◌, ℕ, Bool, true, false, cond, not, eqb, ◌==◌, ◌&&◌, List, ◌++◌, length, Option, Some, None, option_map, refl, sym, ap, subst}
 use Rattle.stream_syntax.specs.TransportPackets.{pid_of, has_error_flag, has_payload, has_start_flag, counter_of, payload_of}
-use Rattle.stream_syntax.specs.Units.{Fate, Waits, Whole, Over, Part, Begins, Adds, Breaks, Succession, Next, Again, Missing, succession, fate_of, followed, begun, added, joined, payload_part, payload_event, part_after, event_after, last_counter, hand_after, part_of, event_at}
+use Rattle.stream_syntax.specs.Units.{Fate, Waits, Whole, Over, UnitPart, Begins, Adds, Breaks, Succession, Next, Again, Missing, succession, fate_of, followed, begun, added, joined, payload_part, payload_event, part_after, event_after, last_counter, hand_after, part_of, event_at}
 use Rattle.stream_syntax.specs.declared.transport.Event.{Event}
 use Rattle.stream_syntax.specs.declared.transport.Event.TheVariants as event
 use Rattle.decoder_model.specs.Arrivals.{is_over, ends_too_long}
@@ -9,7 +9,7 @@ use Rattle.decoder_model.specs.PacketArrivals.{bytes_of_part}
 use Rattle.receiver.specs.Arrived.{bytes_by, too_long_by}
 
 -- what is said of one packet
-record Brings (size : ℕ) (hand : Option (List ℕ)) (packet : List ℕ) (part : Option Part) (event : Event) : Type 0 where
+record Brings (size : ℕ) (hand : Option (List ℕ)) (packet : List ℕ) (part : Option UnitPart) (event : Event) : Type 0 where
   bytes : bytes_by event packet ≡ bytes_of_part hand part
   too_long : too_long_by size event packet ≡ is_over (option_map (fate_of size) (joined hand part))
 

@@ -15,7 +15,7 @@ use Rattle.display_sets.specs.declared.hand.UnitEnd.{UnitEnd}
 use Rattle.display_sets.proofs.PacketLaws.{arrivals_grow, none_arrived, taken_more}
 use Rattle.page_core.specs.Memory.{IsSameReceiver}
 use Rattle.receiver.specs.Arrived.{bytes_by, too_long_by}
-use Rattle.receiver.specs.Ends.{IsEndBehind, end_drops, end_parts}
+use Rattle.receiver.specs.Private.Ends.{IsEndBehind, end_drops, end_parts}
 use Rattle.receiver.specs.Receiving.{AreLosses, Gathers, IsReceiver, IsSame, Receiving, Stands}
 use Rattle.receiver.specs.Showing as pictures
 use Rattle.receiver.specs.Showing.{Showing}

@@ -18,7 +18,7 @@ use Rattle.display_sets.specs.Standing as sets
 use Rattle.display_sets.specs.Standing.{IsUnitEnd}
 use Rattle.display_sets.specs.declared.hand.UnitEnd.{UnitEnd}
 use Rattle.display_sets.proofs.Standings.{aside_stands}
-use Rattle.receiver.specs.Ends.{IsEndOf}
+use Rattle.receiver.specs.Private.Ends.{IsEndOf}
 use Rattle.receiver.specs.Receiving.{AreLosses, Gathers, lost_with}
 use Rattle.receiver.specs.Showing as pictures
 use Rattle.receiver.specs.Showing.{Showing}

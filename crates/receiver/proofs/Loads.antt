@@ -21,7 +21,7 @@ use Rattle.display_sets.specs.Standing.{IsReady}
 use Rattle.display_sets.proofs.ReadLaws.{bytes_read}
 use Rattle.page_core.specs.Handed.{AreContents}
 use Rattle.page_core.proofs.SetLaws.{sound}
-use Rattle.receiver.specs.Verdicts.{IsVerdictOf}
+use Rattle.receiver.specs.Private.Verdicts.{IsVerdictOf}
 
 -- ---- verdicts
 

@@ -15,8 +15,8 @@ arrival_value arrival = record { bytes = arrival.bytes; before = arrival.before;
 abbrev pub bytes_at_start : List ℕ → ℕ
 bytes_at_start packet = if has_start_flag packet then length (payload_of packet) else 0
 
--- how many bytes of a packet begin or continue a unit, by its event: behind missing packets, or where a unit is in hand, only one
--- that begins a unit has any
+-- how many bytes of a packet begin or continue a unit, by its event: behind missing packets, or where a unit is in
+-- hand, only one that begins a unit has any
 abbrev pub bytes_by : Event → List ℕ → ℕ
 bytes_by event.Followed packet = length (payload_of packet)
 bytes_by event.Other packet = 0

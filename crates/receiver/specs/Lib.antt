@@ -1,9 +1,7 @@
 pub mod Showing
 pub mod Slots
 pub mod Lent
-pub mod Screens
 pub mod Arrived
 pub mod Receiving
 pub mod Taking
-pub mod Ends
-pub mod Verdicts
+pub mod Private

@@ -19,8 +19,8 @@ use Rattle.receiver.specs.Showing.{Showing}
 
 -- ---- what is kept
 
--- the units in hand, the sets in hand, the page memory with its pictures, what the last packet brought, and what the last set that
--- was taken asked
+-- the units in hand, the sets in hand, the page memory with its pictures, what the last packet brought, and what the
+-- last set that was taken asked
 pub record Receiving : Type 0 where
   pub demux : Demuxing
   pub sets : Gathered
@@ -28,8 +28,8 @@ pub record Receiving : Type 0 where
   pub arrival : PacketArrival
   pub load : SetLoad
 
--- a set asks less than 2^62 ticks, and has less than 2^32 bytes of units for each byte of the coded data buffer, and for the
--- unit with which it ends
+-- a set asks less than 2^62 ticks, and has less than 2^32 bytes of units for each byte of the coded data buffer, and
+-- for the unit with which it ends
 pub record IsLoadOf (coded : ℕ) (load : SetLoad) : Type 0 where
   pub pts : load.pts < 2 ^ 62
   pub painted : load.painted < 2 ^ 62
@@ -45,14 +45,18 @@ pub record IsReceiver (receiving : Receiving) : Type 0 where
 
 -- ---- what it has to do with all that came
 
--- sets were gathered from these arrivals, of which these sets and losses were given, and the pictures are those after these
-pub record Gathers (arrivals : List Arrival) (ended : Bool) (given : List (Delivery (List ℕ))) (gathered : Gathered) (showing : Showing) : Type 0 where
+-- sets were gathered from these arrivals, of which these sets and losses were given, and the pictures are those after
+-- these
+pub record Gathers (arrivals : List Arrival) (ended : Bool) (given : List (Delivery (List ℕ))) (gathered : Gathered)
+    (showing : Showing) : Type 0 where
   pub sets : sets.Stands arrivals ended given gathered
-  pub shows : (past : List (Delivery Reading)) → AreDeliveriesRead (reverse given) past → pictures.Stands past showing
+  pub shows : (past : List (Delivery Reading)) → AreDeliveriesRead (reverse given) past
+      → pictures.Stands past showing
 
--- the receiver was fed these packets, each of which it took, and the stream has ended with them or not; these sets and losses were
--- taken from it
-pub record Stands (ended : Bool) (fed : List (List ℕ)) (given : List (Delivery (List ℕ))) (receiving : Receiving) : Type 0 where
+-- the receiver was fed these packets, each of which it took, and the stream has ended with them or not; these sets and
+-- losses were taken from it
+pub record Stands (ended : Bool) (fed : List (List ℕ)) (given : List (Delivery (List ℕ)))
+    (receiving : Receiving) : Type 0 where
   pub taken : packets_taken receiving.demux.pid fed ≡ fed
   pub demux : packets.Stands receiving.demux fed
   pub gathers : Gathers
@@ -76,7 +80,11 @@ pub record IsSame (old new : Receiving) : Type 0 where
 abbrev pub set_time : ReadySet → ℕ
 set_time set = set.time
 
--- a receiver that was fed these packets, of which these sets and losses were taken, has this set or loss next, and then the rest
-pub record IsNext (ended : Bool) (fed : List (List ℕ)) (given : List (Delivery (List ℕ))) (next : Delivery (List ℕ)) (rest : List (Delivery (List ℕ))) (receiving : Receiving) : Type 0 where
+-- a receiver that was fed these packets, of which these sets and losses were taken, has this set or loss next, and then
+-- the rest
+pub record IsNext (ended : Bool) (fed : List (List ℕ)) (given : List (Delivery (List ℕ)))
+    (next : Delivery (List ℕ))
+    (rest : List (Delivery (List ℕ))) (receiving : Receiving) : Type 0 where
   pub stands : Stands ended fed given receiving
-  pub all : sets_of receiving.showing.core.profile.coded receiving.demux.pid receiving.showing.core.page ended fed ≡ given ++ next ∷ rest
+  pub all : sets_of receiving.showing.core.profile.coded receiving.demux.pid receiving.showing.core.page ended fed
+      ≡ given ++ next ∷ rest

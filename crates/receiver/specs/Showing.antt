@@ -1,7 +1,9 @@
--- What a receiver's pictures show, and what that has to do with all sets and losses that it was handed, the latest first.
+-- What a receiver's pictures show, and what that has to do with all sets and losses that it was handed, the latest
+-- first.
 use Rattle.std.specs.Prelude.{◌≡◌, ℕ, ◌*◌, ◌≤◌, max, nat_le, List, [], ◌∷◌, Option, Some, None, unwrap_or, if◌then◌else◌}
 use Rattle.std.specs.Option.{is_some}
 use Rattle.sub_base.specs.declared.profile.Profile.{Profile}
+use Rattle.stream_syntax.specs.declared.wire.TheConstants.{DEFAULT_DISPLAY_HEIGHT, DEFAULT_DISPLAY_WIDTH}
 use Rattle.decoder_model.specs.Kept.{last_time, lifted_time}
 use Rattle.decoder_model.specs.Readings.{Reading}
 use Rattle.decoder_model.specs.Sets.{Delivery}
@@ -26,7 +28,7 @@ pub record Showing : Type 0 where
 
 -- how many places a plane for each picture of a profile has
 abbrev pub places_of : Profile → ℕ
-places_of profile = max (profile.width * profile.height) 414720
+places_of profile = max (profile.width * profile.height) (DEFAULT_DISPLAY_WIDTH * DEFAULT_DISPLAY_HEIGHT)
 
 -- the picture of a page memory
 abbrev pub plane_in : Memory → Plane
@@ -44,7 +46,8 @@ view_in slot tick = view_until slot.until tick slot.plane
 
 -- what is shown at a tick from the current picture's time on
 abbrev pub shown_at : Showing → ℕ → View
-shown_at showing tick = if nat_le showing.pending.time tick then view_in showing.pending tick else view_in showing.current tick
+shown_at showing tick =
+    if nat_le showing.pending.time tick then view_in showing.pending tick else view_in showing.current tick
 
 -- ---- what it has to do with all that was handed
 
@@ -61,4 +64,5 @@ pub record Stands (past : List (Delivery Reading)) (showing : Showing) : Type 0 
   -- the pending picture is that of the last kept set, and the current one that of the kept set before it
   pub latest : showing.pending.time ≡ unwrap_or showing.core.last 0
   pub earlier : showing.current.time ≡ unwrap_or (time_before_last showing.core.anchor past) 0
-  pub shows : (tick : ℕ) → showing.current.time ≤ tick → shown_at showing tick ≡ view_at showing.core.profile showing.core.anchor tick past
+  pub shows : (tick : ℕ) → showing.current.time ≤ tick
+      → shown_at showing tick ≡ view_at showing.core.profile showing.core.anchor tick past

@@ -17,16 +17,18 @@ use stream_syntax::Event;
 pub struct Arrival {
     /// Its payload bytes, where it begins or continues a unit.
     pub bytes: u32,
-    /// Whether its unit has another time than the set in hand, which is ready by that: this set stands before the bytes.
+    /// Whether its unit has another time than the set in hand, which is ready by that: this set
+    /// stands before the bytes.
     pub before: bool,
-    /// Whether its unit is dropped behind these bytes: it is too long, refused, passed over, or stands behind the end of its set.
+    /// Whether its unit is dropped behind these bytes: it is too long, refused, passed over, or
+    /// stands behind the end of its set.
     pub dropped: bool,
 }
 
 impl Outcome {
     ghost use Rattle.std.specs.Prelude.{◌≡◌, ◌||◌};
     ghost use Rattle.receiver.specs.Arrived.{arrival_value, bytes_by, too_long_by};
-    ghost use Rattle.receiver.specs.Ends.{end_drops, end_parts};
+    ghost use Rattle.receiver.specs.Private.Ends.{end_drops, end_parts};
 
     /// What the packet brought to a coded data buffer of that size.
     pub(crate) fn arrival(self, coded: u64, packet: &[u8; 188]) -> Arrival
@@ -63,7 +65,8 @@ fn bytes_taken(event: Event, packet: &[u8; 188]) -> u32
     }
 }
 
-/// Whether the unit of a packet is dropped since it needs more bytes than there are, by what became of the packet.
+/// Whether the unit of a packet is dropped since it needs more bytes than there are, by what became
+/// of the packet.
 fn is_too_long(size: u64, event: Event, packet: &[u8; 188]) -> bool
     ensures { result ≡ too_long_by size event packet.now }
 {

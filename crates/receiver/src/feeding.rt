@@ -10,7 +10,7 @@ ghost use Rattle.decoder_model.specs.PacketArrivals.{last_run};
 ghost use Rattle.decoder_model.specs.Sets.{Delivery};
 ghost use Rattle.display_sets.specs.Gathered.{ready_sets};
 ghost use Rattle.page_core.specs.Memory.{IsSameReceiver};
-ghost use Rattle.receiver.specs.Ends.{IsEndBehind};
+ghost use Rattle.receiver.specs.Private.Ends.{IsEndBehind};
 ghost use Rattle.receiver.specs.Receiving.{AreLosses, Gathers};
 
 use crate::screen::Screen;
@@ -36,17 +36,26 @@ pub(crate) fn feed(
     requires none { ready_sets sets.old ≡ [] }
     ensures fault { MatchResult result (λ _. packet_fault demux.old.pid packet.now ≡ None)
         (λ fault. packet_fault demux.old.pid packet.now ≡ Some fault) }
-    ensures unchanged { IfErr result (λ fault. (demux.new ≡ demux.old) × (sets.new ≡ sets.old) × (screen.new ≡ screen.old)) }
+    ensures unchanged { IfErr result
+        (λ fault. (demux.new ≡ demux.old) × (sets.new ≡ sets.old)
+        × (screen.new ≡ screen.old)) }
     ensures goes_on { OnOk result (GoesOn demux.old demux.new packet.now) }
-    ensures event { IfOk result (λ outcome. (before : List (List ℕ)) → packets.Stands demux.old before
+    ensures event { IfOk result
+        (λ outcome. (before : List (List ℕ)) → packets.Stands demux.old before
         → outcome.event ≡ event_at demux.old.pid demux.old.size before packet.now) }
-    ensures gathers { OnOk result ((before : List (List ℕ)) (arrivals : List Arrival) (given : List (Delivery (List ℕ)))
+    ensures gathers { OnOk result
+        ((before : List (List ℕ)) (arrivals : List Arrival) (given : List (Delivery (List ℕ)))
         → packets.Stands demux.old before → Gathers arrivals false given sets.old screen.old
         → (losses : List (Delivery (List ℕ))) × AreLosses losses
-        × Gathers (arrivals ++ arrivals_at demux.old.size demux.old.pid sets.old.page before packet.now) false (given ++ losses) sets.new screen.new) }
-    ensures end { IfOk result (λ outcome. (before : List (List ℕ)) (arrivals : List Arrival) (given : List (Delivery (List ℕ)))
+        × Gathers
+        (arrivals ++ arrivals_at demux.old.size demux.old.pid sets.old.page before packet.now)
+        false (given ++ losses) sets.new screen.new) }
+    ensures end { IfOk result
+        (λ outcome. (before : List (List ℕ)) (arrivals : List Arrival)
+        (given : List (Delivery (List ℕ)))
         → packets.Stands demux.old before → Gathers arrivals false given sets.old screen.old
-        → IsEndBehind sets.old.coded demux.old.size demux.old.pid sets.old.page before packet.now arrivals outcome.end) }
+        → IsEndBehind sets.old.coded demux.old.size demux.old.pid sets.old.page before packet.now
+        arrivals outcome.end) }
     ensures page { sets.new.page ≡ sets.old.page }
     ensures coded { sets.new.coded ≡ sets.old.coded }
     ensures same { IsSameReceiver screen.old.core screen.new.core }

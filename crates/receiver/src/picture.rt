@@ -1,4 +1,5 @@
-//! The pictures of a receiver: one plane each, made once, and drawn anew for each set that is shown.
+//! The pictures of a receiver: one plane each, made once, and drawn anew for each set that is
+//! shown.
 
 ghost use Rattle.std.specs.Prelude.{◌≡◌, ◌*◌, ◌≤◌, IfOk, List, None, Some, length, take, true, vec_len};
 ghost use Rattle.decoder_model.specs.Readings.{Reading};
@@ -17,17 +18,19 @@ use page_core::{Core, Scene};
 use std::alloc::Global;
 use std::mem;
 use std::thread::Threads;
+use stream_syntax::{DEFAULT_DISPLAY_HEIGHT, DEFAULT_DISPLAY_WIDTH};
 use sub_base::{BandGate, CLEAR, Colour, NoMemory, Profile};
 
-/// The pixels of the display where none is defined, 720 by 576 (EN 300 743, clause 7.2.1).
-const USUAL_PLACES: u64 = 414_720;
+/// The pixels of the display where none is defined.
+const USUAL_PLACES: u64 = DEFAULT_DISPLAY_WIDTH as u64 * DEFAULT_DISPLAY_HEIGHT as u64;
 
 /// What is shown from a lifted time on, until a time-out.
 #[derive(Drop)]
 pub(crate) struct Picture {
     pub(crate) time: u64,
     pub(crate) until: Option<u64>,
-    /// Whether the front of the plane is shown, with these sides; else the video is seen everywhere.
+    /// Whether the front of the plane is shown, with these sides; else the video is seen
+    /// everywhere.
     pub(crate) shown: bool,
     pub(crate) width: u32,
     pub(crate) height: u32,
@@ -37,7 +40,8 @@ pub(crate) struct Picture {
 impl Picture {
     /// Nothing, from the first tick on, with room for each picture of a profile.
     pub(crate) fn clear(alloc: Global, profile: &Profile) -> Result<Picture, NoMemory>
-        ensures slot { IfOk result (λ picture. slot_of picture ≡ record { time = 0; until = None; plane = None }) }
+        ensures slot { IfOk result
+            (λ picture. slot_of picture ≡ record { time = 0; until = None; plane = None }) }
         ensures places { IfOk result (HasPlaces profile.now) }
         ensures inside { IfOk result IsInPlane }
     {
@@ -63,9 +67,17 @@ impl Picture {
         requires places { HasPlaces core.now.profile self.old }
         requires some { 1 ≤ bands }
         requires few { bands ≤ 64 }
-        ensures slot { slot_of self.new ≡ record { time = self.old.time; until = until_in core.now; plane = Some (plane_in core.now) } }
+        ensures slot { slot_of self.new
+            ≡ record {
+              time = self.old.time;
+              until = until_in core.now;
+              plane = Some
+                  (plane_in core.now);
+            } }
         ensures shown { (past : List (Delivery Reading)) → Stands past core.now
-            → (standing : Standing) × (standing_after core.now.profile core.now.anchor past ≡ Some standing) × Shows standing core.now }
+            → (standing : Standing)
+            × (standing_after core.now.profile core.now.anchor past ≡ Some standing)
+            × Shows standing core.now }
         ensures places { HasPlaces core.now.profile self.new }
         ensures inside { IsInPlane self.new }
     {
@@ -118,7 +130,8 @@ fn is_over(until: Option<u64>, tick: u64) -> bool
     }
 }
 
-/// How many places a plane has: those of the greatest display of a profile, and of the display where none is defined.
+/// How many places a plane has: those of the greatest display of a profile, and of the display
+/// where none is defined.
 fn places(profile: &Profile) -> usize
     ensures { result ≡ places_of profile.now }
 {
@@ -144,7 +157,8 @@ fn draw_front<R: Threads + Sync, G: BandGate + Sync>(
     requires room { scene.now.display.width * scene.now.display.height ≤ length plane.old }
     requires some { 1 ≤ bands }
     requires few { bands ≤ 64 }
-    ensures front { take (scene.now.display.width * scene.now.display.height) plane.new ≡ picture_in scene.now }
+    ensures front { take (scene.now.display.width * scene.now.display.height) plane.new
+        ≡ picture_in scene.now }
     ensures length { length plane.new ≡ length plane.old }
 {
     let places = scene.width() as usize * scene.height() as usize;

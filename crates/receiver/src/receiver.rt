@@ -116,7 +116,8 @@ impl Receiver {
     /// taken leaves the receiver as it was.
     pub fn feed(&mut self, packet: &[u8; 188]) -> Result<Event, PacketFault>
         requires none { ready_sets self.old.sets ≡ [] }
-        ensures fault { MatchResult result (λ _. packet_fault self.old.demux.pid packet.now ≡ None)
+        ensures fault { MatchResult result
+            (λ _. packet_fault self.old.demux.pid packet.now ≡ None)
             (λ fault. packet_fault self.old.demux.pid packet.now ≡ Some fault) }
         ensures unchanged { IfErr result (λ _. self.new ≡ self.old) }
         ensures stands { OnOk result ((fed : List (List ℕ)) (given : List (Delivery (List ℕ)))
@@ -181,10 +182,12 @@ impl Receiver {
             (lifted_behind self.now.showing.core.anchor
             (last_time self.now.showing.core.anchor past))
             (option_map set_time (first_ready (ready_sets self.now.sets))) }
-        ensures next { (fed : List (List ℕ)) (ended : Bool) (given rest : List (Delivery (List ℕ)))
+        ensures next { (fed : List (List ℕ)) (ended : Bool)
+            (given rest : List (Delivery (List ℕ)))
             (next : Delivery (List ℕ)) (past : List (Delivery Reading)) (one : Delivery Reading)
             → IsNext ended fed given next rest self.now → AreDeliveriesRead (reverse given) past
-            → IsDeliveryRead next one → result ≡ lifted_time self.now.showing.core.anchor past one }
+            → IsDeliveryRead next one
+            → result ≡ lifted_time self.now.showing.core.anchor past one }
     {
         let ready = self.sets.ready()?;
         self.screen.core().lift(ready.time)
@@ -209,14 +212,17 @@ impl Receiver {
         ensures answer { (ended : Bool) (fed : List (List ℕ))
             (given rest : List (Delivery (List ℕ))) (delivery : Delivery (List ℕ))
             (past : List (Delivery Reading)) (one : Delivery Reading)
-            → IsNext ended fed given delivery rest self.old → AreDeliveriesRead (reverse given) past
+            → IsNext ended fed given delivery rest self.old
+            → AreDeliveriesRead (reverse given) past
             → IsDeliveryRead delivery one
-            → Some result ≡ verdict_of self.old.showing.core.profile self.old.showing.core.anchor
+            → Some result
+            ≡ verdict_of self.old.showing.core.profile self.old.showing.core.anchor
             past one }
         ensures load { (ended : Bool) (fed : List (List ℕ))
             (given rest : List (Delivery (List ℕ))) (delivery : Delivery (List ℕ))
             (past : List (Delivery Reading)) (one : Delivery Reading)
-            → IsNext ended fed given delivery rest self.old → AreDeliveriesRead (reverse given) past
+            → IsNext ended fed given delivery rest self.old
+            → AreDeliveriesRead (reverse given) past
             → IsDeliveryRead delivery one
             → Some self.new.load ≡ set_load self.old.showing.core.profile
             self.old.showing.core.anchor past one }
@@ -239,7 +245,8 @@ impl Receiver {
     /// on it is known what is shown; 0 before two sets were kept.
     pub fn from(&self) -> u64
         ensures time { result ≡ self.now.showing.current.time }
-        ensures earlier { (fed : List (List ℕ)) (ended : Bool) (given : List (Delivery (List ℕ)))
+        ensures earlier { (fed : List (List ℕ)) (ended : Bool)
+            (given : List (Delivery (List ℕ)))
             (past : List (Delivery Reading))
             → Stands ended fed given self.now → AreDeliveriesRead (reverse given) past
             → result ≡ unwrap_or (time_before_last self.now.showing.core.anchor past) 0 }
@@ -266,7 +273,8 @@ impl Receiver {
             → IsShown self.now.showing.core.profile self.now.demux.pid self.now.showing.core.page
             self.now.showing.core.anchor ended fed tick shown
             → view_lent result ≡ shown }
-        ensures ahead { (fed : List (List ℕ)) (ended : Bool) (given rest : List (Delivery (List ℕ)))
+        ensures ahead { (fed : List (List ℕ)) (ended : Bool)
+            (given rest : List (Delivery (List ℕ)))
             (next : Delivery (List ℕ)) (lifted : ℕ) (shown : Shows)
             → IsNext ended fed given next rest self.now
             → ((past : List (Delivery Reading)) (one : Delivery Reading)

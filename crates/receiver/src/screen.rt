@@ -1,4 +1,5 @@
-//! The page memory of a receiver and its two pictures: that of the last kept set, and that of the one before it.
+//! The page memory of a receiver and its two pictures: that of the last kept set, and that of the
+//! one before it.
 
 ghost use Rattle.std.specs.Prelude.{◌≡◌, ◌<◌, ◌≤◌, ◌^◌, ◌∷◌, [], IfOk, List, Some, ℕ};
 ghost use Rattle.decoder_model.specs.Readings.{Reading};
@@ -29,11 +30,16 @@ pub(crate) struct Screen {
 impl Model for Screen {
     ghost use Rattle.receiver.specs.Showing.{Showing};
     ghost use Rattle.receiver.specs.Slots.{slot_of};
-    ghost use Rattle.receiver.specs.Screens.{IsScreen};
+    ghost use Rattle.receiver.specs.Private.Screens.{IsScreen};
 
     ghost Value = { Showing };
 
-    ghost view = { λ s. record { core = s.core; pending = slot_of s.pending; current = slot_of s.current } };
+    ghost view = { λ s. record {
+      core = s.core;
+      pending = slot_of s.pending;
+      current = slot_of
+          s.current;
+    } };
 
     ghost invariant = { λ s. IsScreen s.core s.pending s.current };
 }
@@ -72,10 +78,14 @@ impl Screen {
         requires pts { pts < 2 ^ 33 }
         requires some { 1 ≤ bands }
         requires few { bands ≤ 64 }
-        ensures stands { (past : List (Delivery Reading)) (size : ℕ) (readings : List Reading) → Stands past self.old → AreRead readings bytes.now
+        ensures stands { (past : List (Delivery Reading)) (size : ℕ) (readings : List Reading)
+            → Stands past self.old → AreRead readings bytes.now
             → Stands (whole pts size readings ∷ past) self.new }
-        ensures answer { (past : List (Delivery Reading)) (size : ℕ) (readings : List Reading) → Stands past self.old → AreRead readings bytes.now
-            → Some result ≡ verdict_of self.old.core.profile self.old.core.anchor past (whole pts size readings) }
+        ensures answer { (past : List (Delivery Reading)) (size : ℕ) (readings : List Reading)
+            → Stands past self.old → AreRead readings bytes.now
+            → Some result
+            ≡ verdict_of self.old.core.profile self.old.core.anchor past
+            (whole pts size readings) }
         ensures same { IsSameReceiver self.old.core self.new.core }
     {
         let lifted = self.core.lift(pts);
@@ -92,9 +102,12 @@ impl Screen {
     /// Takes a set that was refused before it was whole: from its time on nothing is shown.
     pub(crate) fn refuse_set(&mut self, pts: u64, fault: SetFault) -> SetEnd
         requires { pts < 2 ^ 33 }
-        ensures stands { (past : List (Delivery Reading)) (size : ℕ) → Stands past self.old → Stands (refused pts size fault ∷ past) self.new }
+        ensures stands { (past : List (Delivery Reading)) (size : ℕ) → Stands past self.old
+            → Stands (refused pts size fault ∷ past) self.new }
         ensures answer { (past : List (Delivery Reading)) (size : ℕ) → Stands past self.old
-            → Some result ≡ verdict_of self.old.core.profile self.old.core.anchor past (refused pts size fault) }
+            → Some result
+            ≡ verdict_of self.old.core.profile self.old.core.anchor past
+            (refused pts size fault) }
         ensures same { IsSameReceiver self.old.core self.new.core }
     {
         let lifted = self.core.lift(pts);
@@ -107,7 +120,8 @@ impl Screen {
 
     /// Something was lost between two sets: what is shown stays.
     pub(crate) fn lose(&mut self)
-        ensures stands { (past : List (Delivery Reading)) → Stands past self.old → Stands (lost ∷ past) self.new }
+        ensures stands { (past : List (Delivery Reading)) → Stands past self.old
+            → Stands (lost ∷ past) self.new }
         ensures same { IsSameReceiver self.old.core self.new.core }
     {
         self.core.lose();

@@ -13,7 +13,7 @@ ghost use Rattle.display_sets.specs.Standing.{IsReady};
 ghost use Rattle.page_core.specs.Memory.{IsSameReceiver};
 ghost use Rattle.receiver.specs.Receiving.{IsLoadOf};
 ghost use Rattle.receiver.specs.Showing.{Stands};
-ghost use Rattle.receiver.specs.Verdicts.{IsVerdictOf};
+ghost use Rattle.receiver.specs.Private.Verdicts.{IsVerdictOf};
 
 use crate::screen::Screen;
 use display_sets::Ready;
@@ -41,13 +41,20 @@ pub(crate) fn take<R: Threads + Sync, G: BandGate + Sync>(
     requires small { IsSmall screen.old.core.profile.coded ready.size }
     requires some { 1 ≤ bands }
     requires few { bands ≤ 64 }
-    ensures stands { (past : List (Delivery Reading)) (delivery : Delivery (List ℕ)) (one : Delivery Reading)
-        → IsReady delivery (lent ready.entry) → IsDeliveryRead delivery one → Stands past screen.old → Stands (one ∷ past) screen.new }
-    ensures answer { (past : List (Delivery Reading)) (delivery : Delivery (List ℕ)) (one : Delivery Reading)
-        → IsReady delivery (lent ready.entry) → IsDeliveryRead delivery one → Stands past screen.old
+    ensures stands { (past : List (Delivery Reading)) (delivery : Delivery (List ℕ))
+        (one : Delivery Reading)
+        → IsReady delivery (lent ready.entry) → IsDeliveryRead delivery one
+        → Stands past screen.old
+        → Stands (one ∷ past) screen.new }
+    ensures answer { (past : List (Delivery Reading)) (delivery : Delivery (List ℕ))
+        (one : Delivery Reading)
+        → IsReady delivery (lent ready.entry) → IsDeliveryRead delivery one
+        → Stands past screen.old
         → Some result.end ≡ verdict_of screen.old.core.profile screen.old.core.anchor past one }
-    ensures load { (past : List (Delivery Reading)) (delivery : Delivery (List ℕ)) (one : Delivery Reading)
-        → IsReady delivery (lent ready.entry) → IsDeliveryRead delivery one → Stands past screen.old
+    ensures load { (past : List (Delivery Reading)) (delivery : Delivery (List ℕ))
+        (one : Delivery Reading)
+        → IsReady delivery (lent ready.entry) → IsDeliveryRead delivery one
+        → Stands past screen.old
         → Some result.load ≡ set_load screen.old.core.profile screen.old.core.anchor past one }
     ensures bounded { IsLoadOf screen.old.core.profile.coded result.load }
     ensures same { IsSameReceiver screen.old.core screen.new.core }
@@ -74,7 +81,8 @@ pub(crate) fn take<R: Threads + Sync, G: BandGate + Sync>(
     }
 }
 
-/// The time that a set takes to be painted, by what became of it: none where it is broken or not kept.
+/// The time that a set takes to be painted, by what became of it: none where it is broken or not
+/// kept.
 fn painted(end: SetEnd, bytes: &[u8]) -> u64
     requires { length bytes.now < 2 ^ 32 }
     ensures painting { (readings : List Reading) → AreRead readings bytes.now

@@ -103,12 +103,12 @@ impl Trial {
         Ok(Trial::of(Receiver::make(alloc, &sd, 256, 1, 0)?))
     }
 
-    pub fn of(receiver: Receiver) -> Trial {
+    pub(crate) fn of(receiver: Receiver) -> Trial {
         Trial { receiver, sent: 0 }
     }
 
     /// What becomes of a packet; none where a set is ready.
-    pub fn feed(&mut self, packet: &[u8; 188]) -> Option<Result<Event, PacketFault>> {
+    pub(crate) fn feed(&mut self, packet: &[u8; 188]) -> Option<Result<Event, PacketFault>> {
         match self.receiver.ready() {
             Some(_) => None,
             None => Some(self.receiver.feed(packet)),

@@ -10,7 +10,7 @@ ghost use Rattle.decoder_model.specs.Sets.{Delivery};
 ghost use Rattle.display_sets.specs.Gathered.{ready_sets};
 ghost use Rattle.display_sets.specs.Standing.{IsUnitEnd};
 ghost use Rattle.page_core.specs.Memory.{IsSameReceiver};
-ghost use Rattle.receiver.specs.Ends.{IsEndOf, end_drops, end_parts};
+ghost use Rattle.receiver.specs.Private.Ends.{IsEndOf, end_drops, end_parts};
 ghost use Rattle.receiver.specs.Receiving.{AreLosses, Gathers, lost_with};
 
 use crate::screen::Screen;
@@ -31,9 +31,11 @@ pub(crate) fn is_loss(event: Event) -> bool
 /// Something was lost: a set in hand that has not ended is given up, and no epoch is known.
 pub(crate) fn lose_where(lost: bool, sets: &mut Gathering, screen: &mut Screen)
     requires none { ready_sets sets.old ≡ [] }
-    ensures gathers { (event : Event) (arrivals : List Arrival) (given : List (Delivery (List ℕ))) → lost ≡ means_loss event
+    ensures gathers { (event : Event) (arrivals : List Arrival) (given : List (Delivery (List ℕ)))
+        → lost ≡ means_loss event
         → Gathers arrivals false given sets.old screen.old
-        → Gathers (arrivals ++ losses_at event) false (given ++ lost_with event) sets.new screen.new }
+        → Gathers (arrivals ++ losses_at event) false (given ++ lost_with event) sets.new
+        screen.new }
     ensures none { ready_sets sets.new ≡ [] }
     ensures page { sets.new.page ≡ sets.old.page }
     ensures coded { sets.new.coded ≡ sets.old.coded }
@@ -53,11 +55,15 @@ pub(crate) fn take_ended(
 ) -> Option<UnitEnd>
     requires none { ready_sets sets.old ≡ [] }
     requires short { ForSome unit (λ bytes. length bytes.now ≤ longest_unit) }
-    ensures gathers { (arrivals : List Arrival) (given : List (Delivery (List ℕ))) (place : ℕ) → Gathers arrivals false given sets.old screen.old
+    ensures gathers { (arrivals : List Arrival) (given : List (Delivery (List ℕ))) (place : ℕ)
+        → Gathers arrivals false given sets.old screen.old
         → (losses : List (Delivery (List ℕ))) × AreLosses losses
-        × Gathers (arrivals ++ units_at sets.old.page place (option_copied unit.entry)) false (given ++ losses) sets.new screen.new }
-    ensures end { (arrivals : List Arrival) (given : List (Delivery (List ℕ))) (place : ℕ) → Gathers arrivals false given sets.old screen.old
-        → IsEndOf sets.old.coded sets.old.page place (last_run (reverse arrivals)) (option_copied unit.entry) result }
+        × Gathers (arrivals ++ units_at sets.old.page place (option_copied unit.entry)) false
+        (given ++ losses) sets.new screen.new }
+    ensures end { (arrivals : List Arrival) (given : List (Delivery (List ℕ))) (place : ℕ)
+        → Gathers arrivals false given sets.old screen.old
+        → IsEndOf sets.old.coded sets.old.page place (last_run (reverse arrivals))
+        (option_copied unit.entry) result }
     ensures page { sets.new.page ≡ sets.old.page }
     ensures coded { sets.new.coded ≡ sets.old.coded }
     ensures same { IsSameReceiver screen.old.core screen.new.core }
@@ -72,11 +78,15 @@ pub(crate) fn take_ended(
 fn take_unit(unit: &[u8], sets: &mut Gathering, screen: &mut Screen) -> UnitEnd
     requires none { ready_sets sets.old ≡ [] }
     requires short { length unit.now ≤ longest_unit }
-    ensures gathers { (arrivals : List Arrival) (given : List (Delivery (List ℕ))) (place : ℕ) → Gathers arrivals false given sets.old screen.old
+    ensures gathers { (arrivals : List Arrival) (given : List (Delivery (List ℕ))) (place : ℕ)
+        → Gathers arrivals false given sets.old screen.old
         → (losses : List (Delivery (List ℕ))) × AreLosses losses
-        × Gathers (arrivals ++ arrival_of_unit sets.old.page place unit.now ∷ []) false (given ++ losses) sets.new screen.new }
-    ensures end { (arrivals : List Arrival) (given : List (Delivery (List ℕ))) (place : ℕ) → Gathers arrivals false given sets.old screen.old
-        → IsUnitEnd sets.old.coded (last_run (reverse arrivals)) (arrival_of_unit sets.old.page place unit.now) result }
+        × Gathers (arrivals ++ arrival_of_unit sets.old.page place unit.now ∷ []) false
+        (given ++ losses) sets.new screen.new }
+    ensures end { (arrivals : List Arrival) (given : List (Delivery (List ℕ))) (place : ℕ)
+        → Gathers arrivals false given sets.old screen.old
+        → IsUnitEnd sets.old.coded (last_run (reverse arrivals))
+        (arrival_of_unit sets.old.page place unit.now) result }
     ensures page { sets.new.page ≡ sets.old.page }
     ensures coded { sets.new.coded ≡ sets.old.coded }
     ensures same { IsSameReceiver screen.old.core screen.new.core }

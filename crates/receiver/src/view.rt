@@ -5,7 +5,8 @@ use sub_base::Colour;
 pub enum View<'a> {
     /// Nothing: the video is seen everywhere.
     Clear,
-    /// A picture over the video: its sides in pixels, and its colours row by row, from the top and from the left.
+    /// A picture over the video: its sides in pixels, and its colours row by row, from the top and
+    /// from the left.
     Plane {
         width: u32,
         height: u32,

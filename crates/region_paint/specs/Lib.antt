@@ -1,1 +1,1 @@
-pub mod Painted
+pub mod Private

@@ -1,10 +1,11 @@
-//! A benchmark: paints a region of 720 by 576 pixels at each depth with runs of 3, 30 and 300 pixels, fills it, and fills as
-//! many plain bytes, as many times as its one word says. It tells on standard error how many million pixels a second that
-//! was. Standard output has the counts, which are the same in each run.
+//! A benchmark: paints a region of 720 by 576 pixels at each depth with runs of 3, 30 and 300
+//! pixels, fills it, and fills as many plain bytes, as many times as its one word says. It tells on
+//! standard error how many million pixels a second that was. Standard output has the counts, which
+//! are the same in each run.
 #![tactic(auto)]
 
 ghost use Rattle.std.specs.Prelude.{◌<◌};
-ghost use Rattle.region_paint.specs.Painted.{IsScreen};
+ghost use Rattle.region_paint.specs.Private.Painted.{IsScreen};
 
 use anyhow::{Context, Result};
 use pixel_store::{Slot, Store};

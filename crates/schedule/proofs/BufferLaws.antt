@@ -8,7 +8,7 @@ use Rattle.schedule.specs.Packets.{sum_below, size_of}
 use Rattle.sub_base.specs.declared.pace.Pace.{Pace}
 use Rattle.sub_base.specs.Pace.{tick_of}
 use Rattle.schedule.specs.Slots.{left_of}
-use Rattle.schedule.specs.Safe.{AreDone, AreOrdered}
+use Rattle.schedule.specs.Private.Safe.{AreDone, AreOrdered}
 use Rattle.schedule.proofs.SumLaws.{sum_below-same, sum_below-le, sum_below-ends, sum_below-rises}
 
 -- a test that fails says that the other number is not above

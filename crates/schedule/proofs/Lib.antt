@@ -1,3 +1,4 @@
+pub mod AnswerLaws
 pub mod BufferLaws
 pub mod EarliestLaws
 pub mod MakeLaws

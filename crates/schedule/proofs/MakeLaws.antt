@@ -14,8 +14,8 @@ use Rattle.schedule.specs.Packets.{sum_below, size_of, load_of, longest_of, firs
 use Rattle.sub_base.specs.Pace.{tick_of, done_tick, IsSound}
 use Rattle.schedule.specs.Slots.{CanStand, slot_of, done_of, shown_before, Timetable, IsSchedule, IsOnTime, IsLoad, IsTable}
 use Rattle.schedule.specs.Refusals.{IsFirstFull, IsFirstLate, IsFirstLong}
-use Rattle.schedule.specs.Safe.{AreOrdered}
-use Rattle.schedule.specs.Search.{HaveStood, Follows, IsBetween}
+use Rattle.schedule.specs.Private.Safe.{AreOrdered}
+use Rattle.schedule.specs.Private.Search.{HaveStood, Follows, IsBetween}
 use Rattle.schedule.proofs.SumLaws.{sum_below-more, sum_below-rises, sum_below-zero}
 use Rattle.schedule.proofs.BufferLaws.{tick_of-rises}
 use Rattle.schedule.proofs.PacketLaws.{load_at, some_bytes, some_packets}

@@ -11,9 +11,10 @@ use Rattle.std.proofs.lemmas.List.Folds.{length-flat_map-take}
 use Rattle.std.proofs.lemmas.List.FromFn.{length-map-range_with_len, get_or-map-range_with_len, fill_by_all}
 use Rattle.std.proofs.lemmas.List.Sums.{sum_by-append, sum_by-cons}
 use Rattle.sub_base.specs.declared.load.WriteLoad.{WriteLoad}
-use Rattle.schedule.specs.Packets.{sum_below, no_load, size_of, units_of, packets_of, payload_of, packet_count, payload_in, unit_payloads, payloads_of}
+use Rattle.schedule.specs.Packets.{sum_below, no_load, size_of, units_of, packets_of, payload_of, payload_in, unit_payloads, payloads_of}
 use Rattle.schedule.specs.Slots.{IsLoad}
 use Rattle.schedule.proofs.SumLaws.{sum_below-suc, sum_below-zero, sum_below-rises}
+use Rattle.stream_syntax.specs.TransportPackets.{packet_count}
 
 -- the packets of one unit
 pub unit_count : (size : ℕ) → length (unit_payloads size) ≡ packet_count size

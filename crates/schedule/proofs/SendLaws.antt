@@ -12,8 +12,8 @@ use Rattle.schedule.specs.declared.limits.TheConstants.{SEND_WINDOW}
 use Rattle.schedule.specs.Packets.{sum_below, size_of, load_of, first_packet, packets_of, payload_of, bytes_with}
 use Rattle.sub_base.specs.Pace.{tick_of, IsSound}
 use Rattle.schedule.specs.Slots.{CanStand, left_of, slot_of}
-use Rattle.schedule.specs.Safe.{AreDone}
-use Rattle.schedule.specs.Search.{HaveStood, IsBetween, IsWithin}
+use Rattle.schedule.specs.Private.Safe.{AreDone}
+use Rattle.schedule.specs.Private.Search.{HaveStood, IsBetween, IsWithin}
 use Rattle.schedule.proofs.SumLaws.{sum_below-more, sum_below-zero}
 use Rattle.schedule.proofs.BufferLaws.{tick_of-rises, tick_of-max}
 use Rattle.schedule.proofs.PacketLaws.{payloads, some_packets}

@@ -22,30 +22,36 @@ arrived_of loads slots slot i = sum_below (payload_by loads slots slot i) (packe
 -- the coded level at a slot: the payload of all packets of the first n sets with a slot at most this one, less the
 -- bytes of the sets that are done by its tick
 abbrev pub level_at : List WriteLoad → ℕ → Pace → List ℕ → List ℕ → ℕ → ℕ
-level_at loads n pace slots dones slot = sum_below (arrived_of loads slots slot) n - sum_below (left_of loads dones (tick_of pace slot)) n
+level_at loads n pace slots dones slot =
+    sum_below (arrived_of loads slots slot) n - sum_below (left_of loads dones (tick_of pace slot)) n
 
 -- the packets of the first n sets arrive in these slots, in order, each at most 450,000 ticks before its set is shown,
 -- the sets are done at these ticks, and at no packet the coded data buffer holds more than its bytes
 pub record IsArrival (loads : List WriteLoad) (n : ℕ) (pace : Pace) (slots dones : List ℕ) : Type 0 where
   pub packets : length slots ≡ first_packet loads n
   pub rise : IsStrictlyIncreasing slots
-  pub window : (i k : ℕ) → i < n → k < packets_of loads i → (load_of loads i).pts ≤ tick_of pace (slot_of loads slots i k) + SEND_WINDOW
+  pub window : (i k : ℕ) → i < n → k < packets_of loads i
+      → (load_of loads i).pts ≤ tick_of pace (slot_of loads slots i k) + SEND_WINDOW
   pub sets : length dones ≡ n
   pub done : (i : ℕ) → i < n → slice_index dones i ≡ done_of loads pace slots i
-  pub level : (i k : ℕ) → i < n → k < packets_of loads i → level_at loads n pace slots dones (slot_of loads slots i k) ≤ pace.coded
+  pub level : (i k : ℕ) → i < n → k < packets_of loads i
+      → level_at loads n pace slots dones (slot_of loads slots i k) ≤ pace.coded
 
 -- in no arrival of the first n sets, or of more, one of their packets stands earlier or one of the sets is done earlier
 pub record IsEarliest (loads : List WriteLoad) (n : ℕ) (pace : Pace) (table : Timetable) : Type 0 where
-  pub slots : (m : ℕ) (slots dones : List ℕ) → n ≤ m → m ≤ length loads → IsArrival loads m pace slots dones →
+  pub slots : (m : ℕ) (slots dones : List ℕ) → n ≤ m → m ≤ length loads
+      → IsArrival loads m pace slots dones →
       (p : ℕ) → p < first_packet loads n → slice_index table.slots p ≤ slice_index slots p
-  pub dones : (m : ℕ) (slots dones : List ℕ) → n ≤ m → m ≤ length loads → IsArrival loads m pace slots dones →
+  pub dones : (m : ℕ) (slots dones : List ℕ) → n ≤ m → m ≤ length loads
+      → IsArrival loads m pace slots dones →
       (i : ℕ) → i < n → slice_index table.dones i ≤ slice_index dones i
 
--- no other arrival of these sets helps: with a set that is larger than the buffer there is none, a set that is late is late
--- in each, and a segment that is too long for a PES packet is so in whatever slots
+-- no other arrival of these sets helps: with a set that is larger than the buffer there is none, a set that is late is
+-- late in each, and a segment that is too long for a PES packet is so in whatever slots
 abbrev pub IsHopeless : List WriteLoad → Pace → ScheduleFault → Type 0
 IsHopeless loads pace Memory = ⊤
-IsHopeless loads pace (CodedFull set size) = (m : ℕ) (slots dones : List ℕ) → set < m → m ≤ length loads → IsArrival loads m pace slots dones → ⊥
+IsHopeless loads pace (CodedFull set size) =
+    (m : ℕ) (slots dones : List ℕ) → set < m → m ≤ length loads → IsArrival loads m pace slots dones → ⊥
 IsHopeless loads pace (Late set done shown) =
     (m : ℕ) (slots dones : List ℕ) → set < m → m ≤ length loads → IsArrival loads m pace slots dones →
     (done ≤ slice_index dones set) × ((load_of loads set).pts < slice_index dones set)

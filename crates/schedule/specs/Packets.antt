@@ -1,10 +1,11 @@
--- Display sets cut into transport packets (ISO/IEC 13818-1, 2.4.3.2: 184 bytes after a header of four). A set is sent in
--- units, the PES packets of its segments: each begins a packet of its own.
+-- Display sets cut into transport packets (ISO/IEC 13818-1, 2.4.3.2: 184 bytes after a header of four). A set is sent
+-- in units, the PES packets of its segments: each begins a packet of its own.
 use Rattle.std.specs.Prelude.{ℕ, ◌+◌, ◌-◌, ◌*◌, ◌/◌, min, sum, map, List, [], length, slice_index, slice_index_or}
 use Rattle.std.specs.List.{range_with_len, flat_map}
 use Rattle.sub_base.specs.declared.load.SetLoad.{SetLoad}
 use Rattle.sub_base.specs.declared.load.WriteLoad.{WriteLoad}
-use Rattle.schedule.specs.declared.limits.TheConstants.{PAYLOAD}
+use Rattle.stream_syntax.specs.declared.wire.TheConstants.{PAYLOAD_LENGTH}
+use Rattle.stream_syntax.specs.TransportPackets.{packet_count}
 
 -- the sum of f at the numbers below n
 unfoldable pub sum_below : (ℕ → ℕ) → ℕ → ℕ
@@ -30,13 +31,9 @@ units_of loads i = (slice_index_or loads i no_load).units
 abbrev pub size_of : List WriteLoad → ℕ → ℕ
 size_of loads i = sum (units_of loads i)
 
--- how many packets a unit of that many bytes takes, 184 in each but the last
-abbrev pub packet_count : ℕ → ℕ
-packet_count size = (size + (PAYLOAD - 1)) / PAYLOAD
-
 -- the bytes in packet k of a unit of that size: 184, and in the last one what is left
 abbrev pub payload_in : ℕ → ℕ → ℕ
-payload_in size k = min PAYLOAD (size - PAYLOAD * k)
+payload_in size k = min PAYLOAD_LENGTH (size - PAYLOAD_LENGTH * k)
 
 -- the bytes in each packet of a unit of that size
 abbrev pub unit_payloads : ℕ → List ℕ

@@ -1,5 +1,5 @@
 -- Why display sets have no schedule.
-use Rattle.std.specs.Prelude.{◌≡◌, ℕ, ◌+◌, ◌<◌, ◌≤◌, List, length, slice_index, ⊤}
+use Rattle.std.specs.Prelude.{◌≡◌, ◌⊎◌, ℕ, ◌+◌, ◌<◌, ◌≤◌, List, length, slice_index, Result, MatchResult, ⊤}
 use Rattle.sub_base.specs.declared.load.WriteLoad.{WriteLoad}
 use Rattle.sub_base.specs.declared.pace.Pace.{Pace}
 use Rattle.schedule.specs.declared.fault.ScheduleFault.{ScheduleFault}
@@ -17,7 +17,8 @@ pub record IsFirstFull (loads : List WriteLoad) (pace : Pace) (set size : ℕ) :
   pub is_size : size_of loads set ≡ size
   pub full : pace.coded < size
 
--- the sets before are on time, and this one fits the coded data buffer and has a segment that is too long for a PES packet
+-- the sets before are on time, and this one fits the coded data buffer and has a segment that is too long for a PES
+-- packet
 pub record IsFirstLong (loads : List WriteLoad) (pace : Pace) (set longest : ℕ) : Type 0 where
   pub table : Timetable
   pub among : set < length loads
@@ -27,7 +28,8 @@ pub record IsFirstLong (loads : List WriteLoad) (pace : Pace) (set longest : ℕ
   pub is_longest : longest_of loads set ≡ longest
   pub long : UNIT_ROOM < longest
 
--- the sets before are on time, and this one fits the coded data buffer, has no segment that is too long, and is done too late
+-- the sets before are on time, and this one fits the coded data buffer, has no segment that is too long, and is done
+-- too late
 pub record IsFirstLate (loads : List WriteLoad) (pace : Pace) (set done shown : ℕ) : Type 0 where
   pub table : Timetable
   pub among : set < length loads
@@ -39,9 +41,14 @@ pub record IsFirstLate (loads : List WriteLoad) (pace : Pace) (set done shown : 
   pub is_shown : (load_of loads set).pts ≡ shown
   pub late : shown < done
 
--- the cause of a refusal: the first set that is too large, has too long a segment or is too late; want of memory has none
+-- the cause of a refusal: the first set that is too large, has too long a segment or is too late; want of memory has
+-- none
 abbrev pub IsCause : List WriteLoad → Pace → ScheduleFault → Type 0
 IsCause loads pace Memory = ⊤
 IsCause loads pace (CodedFull set size) = IsFirstFull loads pace set size
 IsCause loads pace (Late set done shown) = IsFirstLate loads pace set done shown
 IsCause loads pace (SegmentFull set longest) = IsFirstLong loads pace set longest
+
+-- this fault is answered, or want of memory
+abbrev pub IsRefusal : {T : Type 0} → ScheduleFault → Result T ScheduleFault → Type 0
+IsRefusal fault result = MatchResult result (λ _. ⊥) (λ told. (told ≡ Memory) ⊎ (told ≡ fault))

@@ -46,11 +46,14 @@ pub record IsSchedule (loads : List WriteLoad) (n : ℕ) (pace : Pace) (table : 
   pub sets : (length table.ends ≡ n) × (length table.dones ≡ n)
   pub ends : (i : ℕ) → i < n → slice_index table.ends i ≡ first_packet loads (i + 1)
   pub dones : (i : ℕ) → i < n → slice_index table.dones i ≡ done_of loads pace table.slots i
-  pub stands : (i k : ℕ) → i < n → k < packets_of loads i → CanStand loads pace table.slots table.dones i k (slot_of loads table.slots i k)
-  pub least : (i k slot : ℕ) → i < n → k < packets_of loads i → CanStand loads pace table.slots table.dones i k slot → slot_of loads table.slots i k ≤ slot
+  pub stands : (i k : ℕ) → i < n → k < packets_of loads i
+      → CanStand loads pace table.slots table.dones i k (slot_of loads table.slots i k)
+  pub least : (i k slot : ℕ) → i < n → k < packets_of loads i
+      → CanStand loads pace table.slots table.dones i k slot
+      → slot_of loads table.slots i k ≤ slot
 
--- each of the first n sets fits the coded data buffer, has no segment that is too long for a PES packet, and is done by its
--- presentation time
+-- each of the first n sets fits the coded data buffer, has no segment that is too long for a PES packet, and is done by
+-- its presentation time
 pub record IsOnTime (loads : List WriteLoad) (n : ℕ) (pace : Pace) (table : Timetable) : Type 0 where
   pub fits : (i : ℕ) → i < n → size_of loads i ≤ pace.coded
   pub short : (i : ℕ) → i < n → longest_of loads i ≤ UNIT_ROOM
@@ -70,8 +73,8 @@ pub record IsTable (slots ends dones : List ℕ) : Type 0 where
   pub within : (i : ℕ) → i < length ends → slice_index ends i ≤ length slots
   pub rise : (i : ℕ) → i + 1 < length ends → slice_index ends i ≤ slice_index ends (i + 1)
 
--- a set that can be scheduled: it has bytes, which are those of its units, and its presentation time and its painting are
--- below 2^62 ticks
+-- a set that can be scheduled: it has bytes, which are those of its units, and its presentation time and its painting
+-- are below 2^62 ticks
 pub record IsLoad (load : WriteLoad) : Type 0 where
   pub some : 1 ≤ load.load.size
   pub size : load.load.size ≡ sum load.units

@@ -1,5 +1,5 @@
-//! The earliest schedule of the packets of display sets: the slots in which they are sent such that the receiver's
-//! coded data buffer never overflows, and the ticks at which the sets are done.
+//! The earliest schedule of the packets of display sets: the slots in which they are sent such that
+//! the receiver's coded data buffer never overflows, and the ticks at which the sets are done.
 #![tactic(auto)]
 
 // Limits, and why there is no schedule.
@@ -12,7 +12,7 @@ mod schedule;
 mod send;
 
 pub use fault::ScheduleFault;
-pub use limits::{PAYLOAD, SEND_WINDOW};
+pub use limits::SEND_WINDOW;
 pub use schedule::Schedule;
 
 #[cfg(test)]

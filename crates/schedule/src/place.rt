@@ -2,13 +2,13 @@ ghost use Rattle.std.specs.Prelude.{◌≡◌, ℕ, ◌+◌, ◌*◌, ◌^◌, �
 ghost use Rattle.schedule.specs.Packets.{sum_below, size_of};
 ghost use Rattle.sub_base.specs.Pace.{tick_of, IsSound};
 ghost use Rattle.schedule.specs.Slots.{left_of, IsLoad};
-ghost use Rattle.schedule.specs.declared.limits.TheConstants.{PAYLOAD};
-ghost use Rattle.schedule.specs.Safe.{AreDone, AreOrdered};
+ghost use Rattle.schedule.specs.Private.Safe.{AreDone, AreOrdered};
+ghost use Rattle.stream_syntax.specs.declared.wire.TheConstants.{PAYLOAD_LENGTH};
 
 use sub_base::{Pace, WriteLoad};
 
-/// Where the search for slots stands: the first slot that is still free, the bytes in the coded data buffer there, and
-/// how many sets have left it.
+/// Where the search for slots stands: the first slot that is still free, the bytes in the coded
+/// data buffer there, and how many sets have left it.
 #[derive(Clone, Copy, Debug)]
 pub struct Search {
     /// The first slot that is still free.
@@ -21,8 +21,8 @@ pub struct Search {
 
 /// Finds the first slot, from that of the search on, in which a packet with that payload can stand.
 ///
-/// A set leaves the buffer where it is done by the slot, or where the packet has no room before it leaves; then the
-/// packet stands no earlier than the slot at which the set is done.
+/// A set leaves the buffer where it is done by the slot, or where the packet has no room before it
+/// leaves; then the packet stands no earlier than the slot at which the set is done.
 pub fn place(pace: &Pace, loads: &[WriteLoad], dones: &[u64], from: Search, payload: u64) -> Search
     requires pace { IsSound pace.now }
     requires loads { All IsLoad loads.now }
@@ -30,17 +30,28 @@ pub fn place(pace: &Pace, loads: &[WriteLoad], dones: &[u64], from: Search, payl
     requires ordered { AreOrdered dones.now }
     requires gone { AreDone dones.now from.gone (tick_of pace.now from.slot) }
     requires near { tick_of pace.now from.slot < 2 ^ 63 }
-    requires own { from.level + payload + sum_below (size_of loads.now) from.gone ≤ sum_below (size_of loads.now) (length dones.now) + pace.now.coded }
-    requires some { sum_below (size_of loads.now) (length dones.now) ≤ from.level + sum_below (size_of loads.now) from.gone }
+    requires own { from.level + payload + sum_below (size_of loads.now) from.gone
+        ≤ sum_below (size_of loads.now) (length dones.now) + pace.now.coded }
+    requires some { sum_below (size_of loads.now) (length dones.now)
+        ≤ from.level + sum_below (size_of loads.now) from.gone }
     requires level { from.level ≤ pace.now.coded }
-    requires payload { payload ≤ PAYLOAD }
-    ensures total { result.level + sum_below (size_of loads.now) result.gone ≡ from.level + payload + sum_below (size_of loads.now) from.gone }
+    requires payload { payload ≤ PAYLOAD_LENGTH }
+    ensures total { result.level + sum_below (size_of loads.now) result.gone
+        ≡ from.level + payload + sum_below (size_of loads.now) from.gone }
     ensures level { result.level ≤ pace.now.coded }
     ensures gone { AreDone dones.now result.gone (tick_of pace.now result.slot) }
     ensures after { from.slot ≤ result.slot }
-    ensures near { tick_of pace.now result.slot ≤ max (tick_of pace.now from.slot) (2 ^ 62 + 705) }
-    ensures room { from.level + payload + sum_below (size_of loads.now) from.gone ≤ pace.now.coded + sum_below (left_of loads.now dones.now (tick_of pace.now result.slot)) (length dones.now) }
-    ensures least { (slot : ℕ) → from.slot ≤ slot → from.level + payload + sum_below (size_of loads.now) from.gone ≤ pace.now.coded + sum_below (left_of loads.now dones.now (tick_of pace.now slot)) (length dones.now) → result.slot ≤ slot }
+    ensures near { tick_of pace.now result.slot
+        ≤ max (tick_of pace.now from.slot) (2 ^ 62 + 705) }
+    ensures room { from.level + payload + sum_below (size_of loads.now) from.gone
+        ≤ pace.now.coded
+        + sum_below (left_of loads.now dones.now (tick_of pace.now result.slot))
+        (length dones.now) }
+    ensures least { (slot : ℕ) → from.slot ≤ slot
+        → from.level + payload + sum_below (size_of loads.now) from.gone
+        ≤ pace.now.coded
+        + sum_below (left_of loads.now dones.now (tick_of pace.now slot)) (length dones.now)
+        → result.slot ≤ slot }
 {
     let mut slot = from.slot;
     let mut level = from.level;

@@ -1,9 +1,10 @@
-ghost use Rattle.std.specs.Prelude.{◌≡◌, ℕ, ◌+◌, ◌*◌, ◌^◌, ◌<◌, ◌≤◌, max, length, slice_index, IfOk, IfErr, All};
+ghost use Rattle.std.specs.Prelude.{◌≡◌, ◌≢◌, ℕ, ◌+◌, ◌*◌, ◌^◌, ◌<◌, ◌≤◌, max, length, slice_index, IfOk, IfErr, IsOkUnless, All};
 ghost use Rattle.std.specs.List.Sorted.{IsStrictlyIncreasing};
 ghost use Rattle.sub_base.specs.Pace.{tick_of, pace_of, IsSending, IsSound};
-ghost use Rattle.schedule.specs.Slots.{slots_of as slots_of_set, IsSchedule, IsOnTime, IsLoad};
+ghost use Rattle.schedule.specs.Slots.{slots_of as slots_of_set, Timetable, IsSchedule, IsOnTime, IsLoad};
 ghost use Rattle.schedule.specs.Arrivals.{IsArrival, IsEarliest, IsHopeless};
-ghost use Rattle.schedule.specs.Refusals.{IsCause};
+ghost use Rattle.schedule.specs.Refusals.{IsCause, IsRefusal};
+ghost use Rattle.schedule.specs.declared.fault.ScheduleFault.TheVariants.{Memory};
 
 use crate::fault::ScheduleFault;
 use crate::place::Search;
@@ -32,10 +33,12 @@ impl Model for Schedule {
 }
 
 impl Schedule {
-    /// The earliest schedule of these sets from the origin on, a tick of 90 kHz, in a profile with a step.
+    /// The earliest schedule of these sets from the origin on, a tick of 90 kHz, in a profile with
+    /// a step.
     ///
-    /// The sets are tested in order: a set must fit the coded data buffer, each of its segments a PES packet, and it must
-    /// be done by its presentation time.
+    /// The sets are tested in order: a set must fit the coded data buffer, each of its segments a
+    /// PES packet, and it must be done by its presentation time.
+    #[tactic(auto, using(crate::proofs::AnswerLaws::made_arrival, crate::proofs::AnswerLaws::made_earliest, crate::proofs::AnswerLaws::every_schedule, crate::proofs::AnswerLaws::every_fault))]
     pub fn make(
         alloc: Global,
         loads: &[WriteLoad],
@@ -45,16 +48,53 @@ impl Schedule {
         requires profile { IsSending profile.now }
         requires origin { origin < 2 ^ 62 }
         requires loads { All IsLoad loads.now }
-        ensures schedule { IfOk result (IsSchedule loads.now (length loads.now) (pace_of origin profile.now)) }
-        ensures on_time { IfOk result (IsOnTime loads.now (length loads.now) (pace_of origin profile.now)) }
+        ensures schedule { IfOk result
+            (IsSchedule loads.now (length loads.now) (pace_of origin profile.now)) }
+        ensures on_time { IfOk result
+            (IsOnTime loads.now (length loads.now) (pace_of origin profile.now)) }
         ensures cause { IfErr result (IsCause loads.now (pace_of origin profile.now)) }
 
-        // The buffer never overflows, and no other arrival of the same packets has a packet or a set earlier.
-        ensures arrival { IfOk result (λ table. IsArrival loads.now (length loads.now) (pace_of origin profile.now) table.slots table.dones) }
-        ensures earliest { IfOk result (IsEarliest loads.now (length loads.now) (pace_of origin profile.now)) }
+        // The buffer never overflows, and no other arrival of the same packets has a packet or a
+        // set earlier.
+        ensures arrival { IfOk result
+            (λ table. IsArrival loads.now (length loads.now) (pace_of origin profile.now)
+            table.slots table.dones) }
+        ensures earliest { IfOk result
+            (IsEarliest loads.now (length loads.now) (pace_of origin profile.now)) }
         ensures hopeless { IfErr result (IsHopeless loads.now (pace_of origin profile.now)) }
 
         // What callers count with.
+        ensures rise { IfOk result (λ table. IsStrictlyIncreasing table.slots) }
+        ensures small { IfOk result (λ table. All (λ slot. slot < 2 ^ 56) table.slots) }
+
+        // But for want of memory sets that can be on time are scheduled, and others are refused,
+        // for their one fault.
+        ensures every_schedule { (table : Timetable)
+            → IsSchedule loads.now (length loads.now) (pace_of origin profile.now) table
+            → IsOnTime loads.now (length loads.now) (pace_of origin profile.now) table
+            → IsOkUnless result Memory }
+        ensures every_fault { (fault : ScheduleFault)
+            → IsCause loads.now (pace_of origin profile.now) fault → fault ≢ Memory
+            → IsRefusal fault result }
+    {
+        Schedule::search(alloc, loads, origin, profile)
+    }
+
+    /// The same: the slots are looked for, set after set.
+    fn search(
+        alloc: Global,
+        loads: &[WriteLoad],
+        origin: u64,
+        profile: &Profile,
+    ) -> Result<Schedule, ScheduleFault>
+        requires profile { IsSending profile.now }
+        requires origin { origin < 2 ^ 62 }
+        requires loads { All IsLoad loads.now }
+        ensures schedule { IfOk result
+            (IsSchedule loads.now (length loads.now) (pace_of origin profile.now)) }
+        ensures on_time { IfOk result
+            (IsOnTime loads.now (length loads.now) (pace_of origin profile.now)) }
+        ensures cause { IfErr result (IsCause loads.now (pace_of origin profile.now)) }
         ensures rise { IfOk result (λ table. IsStrictlyIncreasing table.slots) }
         ensures small { IfOk result (λ table. All (λ slot. slot < 2 ^ 56) table.slots) }
     {
@@ -70,7 +110,8 @@ impl Schedule {
         };
         for (set, write) in loads.iter().enumerate() {
             let load = write.load;
-            // Before its slots are looked for: in an empty buffer its last packets would still have no room.
+            // Before its slots are looked for: in an empty buffer its last packets would still have
+            // no room.
             if load.size > pace.coded {
                 return Err(ScheduleFault::CodedFull {
                     set: set as u64,

@@ -86,7 +86,8 @@ fn set_done_in_time_or_late(rt: HostRuntime) -> Result<(), Fail> {
     Ok(())
 }
 
-/// The second set waits in slot 133 until the first has left the buffer: its slots are 109 to 132 and 137 to 221.
+/// The second set waits in slot 133 until the first has left the buffer: its slots are 109 to 132
+/// and 137 to 221.
 #[test]
 fn set_that_waits_for_room(rt: HostRuntime) -> Result<(), Fail> {
     let loads = [
@@ -127,7 +128,8 @@ fn set_in_three_units(rt: HostRuntime) -> Result<(), Fail> {
     Ok(())
 }
 
-/// A segment of 65,614 bytes fits no PES packet. The size is tested before it, and the time behind it.
+/// A segment of 65,614 bytes fits no PES packet. The size is tested before it, and the time behind
+/// it.
 #[test]
 fn segment_too_long(rt: HostRuntime) -> Result<(), Fail> {
     let load = SetLoad {

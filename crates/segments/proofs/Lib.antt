@@ -13,7 +13,8 @@ pub mod Bodies
 pub mod Objects
 pub mod Passing
 pub mod Whole
-pub mod Frames
+pub mod WholeSegments
+pub mod Framing
 pub mod Readings
 pub mod Writes
 pub mod Spellings

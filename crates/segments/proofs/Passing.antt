@@ -1,9 +1,8 @@
 -- What the tests of each kind of segment ask of a body: what passes them has it, and what has it passes them.
 use Rattle.std.proofs.Common.{◌≡◌, ◌≢◌, ℕ, ◌+◌, ◌-◌, ◌/◌, ◌%◌, ◌<◌, ◌≤◌, ◌⊎◌, Bool, true, false, cond, List, [], ◌∷◌, length, get_or, drop, Option, Some, None, Ok, refl, sym, ap, ◌∙◌, arith, inl, inr}
 use Rattle.std.specs.Prelude.{◌==◌, nat_lt, not, ◌||◌, ◌&&◌}
-use Rattle.std.proofs.lemmas.Bool.{le-ltb, ltb-false, eqb-true}
+use Rattle.std.proofs.lemmas.Bool.{le-ltb, ltb-false, eqb-true, eqb-false, eq-eqb, ne_eqb}
 use Rattle.std.specs.Result.{result_err}
-use Rattle.std.proofs.lemmas.Bool.Decides.{nat_tests}
 use Rattle.std.proofs.lemmas.List.{nil_from_length, length-drop, get_or-drop}
 use Rattle.stream_syntax.specs.SegmentTests.{page_tests, region_tests, listing_tests, clut_tests, are_whole, object_tests, coding_method, object_size, display_tests, has_window, is_window}
 use Rattle.stream_syntax.specs.Tests.{first_fault, byte_at, word_at}
@@ -53,27 +52,18 @@ pub not_true : (a : Bool) → not a ≡ true → a ≡ false
 not_true true e = absurd cc
 not_true false e = refl
 
-pub equal_there : (m n : ℕ) → m ≡ n → (m == n) ≡ true
-equal_there m n e = grind (arith, nat_tests)
-
-pub unequal : (m n : ℕ) → (m == n) ≡ false → m ≢ n
-unequal m n e same = grind (arith, nat_tests)
-
-pub unequal_there : (m n : ℕ) → m ≢ n → (m == n) ≡ false
-unequal_there m n differ = grind (arith, nat_tests)
-
 -- ---- pages
 
 pub page_asks : (body : List ℕ) → first_fault (page_tests body) ≡ None → (length body % 6 ≡ 2) × (get_or body 1 0 / 4 % 4 < 3)
 page_asks body none =
     let a = none_from _ _ _ none in
     let b = none_from _ _ _ a.1 in
-    let state : get_or body 1 0 / 4 % 4 ≢ 3 = unequal _ _ b.0 in
+    let state : get_or body 1 0 / 4 % 4 ≢ 3 = eqb-false _ _ b.0 in
     (eqb-true _ _ (not_false _ a.0), omega (arith, state))
 
 pub page_passes : (body : List ℕ) → length body % 6 ≡ 2 → get_or body 1 0 / 4 % 4 < 3 → first_fault (page_tests body) ≡ None
 page_passes body long state =
-    none_there _ _ _ (ap not (equal_there (length body % 6) 2 long)) (none_there _ _ _ (unequal_there (get_or body 1 0 / 4 % 4) 3 (omega arith)) refl)
+    none_there _ _ _ (ap not (eq-eqb (length body % 6) 2 long)) (none_there _ _ _ (ne_eqb (get_or body 1 0 / 4 % 4) 3 (omega arith)) refl)
 
 -- ---- regions
 
@@ -86,17 +76,17 @@ region_asks body none =
     let b = none_from _ _ _ a.1 in
     let c = none_from _ _ _ b.1 in
     let sides = or_false _ _ b.0 in
-    let width : word_at 2 body ≢ 0 = unequal _ _ sides.0 in
-    let height : word_at 4 body ≢ 0 = unequal _ _ sides.1 in
+    let width : word_at 2 body ≢ 0 = eqb-false _ _ sides.0 in
+    let height : word_at 4 body ≢ 0 = eqb-false _ _ sides.1 in
     let depth = or_false _ _ c.0 in
-    let some : get_or body 6 0 / 4 % 8 ≢ 0 = unequal _ _ depth.0 in
+    let some : get_or body 6 0 / 4 % 8 ≢ 0 = eqb-false _ _ depth.0 in
     let most : get_or body 6 0 / 4 % 8 ≤ 3 = ltb-false _ _ depth.1 in
     (ltb-false _ _ a.0, omega (arith, width), omega (arith, height), omega (arith, some), omega (arith, most), value_of_checked (listing_tests 16 (drop 10 body)) tt c.1)
 
 pub region_passes : (body : List ℕ) → RegionAsks body → first_fault (region_tests body) ≡ None
 region_passes body (long, width, height, low, high, pass) =
-    none_there _ _ _ (le-ltb (length body) 10 long) (none_there _ _ _ (or_there _ _ (unequal_there (word_at 2 body) 0 (omega arith)) (unequal_there (word_at 4 body) 0 (omega arith)))
-    (none_there _ _ _ (or_there _ _ (unequal_there (get_or body 6 0 / 4 % 8) 0 (omega arith)) (le-ltb 3 (get_or body 6 0 / 4 % 8) (omega arith)))
+    none_there _ _ _ (le-ltb (length body) 10 long) (none_there _ _ _ (or_there _ _ (ne_eqb (word_at 2 body) 0 (omega arith)) (ne_eqb (word_at 4 body) 0 (omega arith)))
+    (none_there _ _ _ (or_there _ _ (ne_eqb (get_or body 6 0 / 4 % 8) 0 (omega arith)) (le-ltb 3 (get_or body 6 0 / 4 % 8) (omega arith)))
     (sym (fault_of_checked (listing_tests 16 (drop 10 body)) tt) ∙ ap result_err pass)))
 
 -- ---- CLUTs
@@ -174,9 +164,9 @@ object_asks body none =
     let d = none_from _ _ _ c.1 in
     let e = none_from _ _ _ d.1 in
     let f = none_from _ _ _ e.1 in
-    let one : coding_method body ≢ 1 = unequal _ _ b.0 in
-    let two : coding_method body ≢ 2 = unequal _ _ c.0 in
-    let three : coding_method body ≢ 3 = unequal _ _ d.0 in
+    let one : coding_method body ≢ 1 = eqb-false _ _ b.0 in
+    let two : coding_method body ≢ 2 = eqb-false _ _ c.0 in
+    let three : coding_method body ≢ 3 = eqb-false _ _ d.0 in
     let long : 7 ≤ length body = ltb-false _ _ e.0 in
     let method : coding_method body ≡ 0 = below_one (coding_method body) (two_bits body) one two three in
     elim (size_cases (length body == object_size body) (length body == object_size body + 1) (byte_at (object_size body) body == 0) f.0) [
@@ -190,15 +180,15 @@ object_asks body none =
 
 size_there : (body : List ℕ) (padded : Bool) → length body ≡ object_size body + length (pad_bytes padded) → Ends (drop 7 body) (word_at 3 body) (word_at 5 body) padded
     → (not (length body == object_size body) && not (length body == object_size body + 1 && byte_at (object_size body) body == 0)) ≡ false
-size_there body false size ends = let same : (length body == object_size body) ≡ true = equal_there (length body) (object_size body) (omega arith) in rw same refl
+size_there body false size ends = let same : (length body == object_size body) ≡ true = eq-eqb (length body) (object_size body) (omega arith) in rw same refl
 size_there body true size ends =
-    let one : (length body == object_size body + 1) ≡ true = equal_there (length body) (object_size body + 1) size in
+    let one : (length body == object_size body + 1) ≡ true = eq-eqb (length body) (object_size body + 1) size in
     let last : byte_at (object_size body) body ≡ 0 = sym (last_byte body (word_at 3 body) (word_at 5 body)) ∙ ap (λ (xs : List ℕ). get_or xs 0 0) ends in
-    let ends-in : (byte_at (object_size body) body == 0) ≡ true = equal_there (byte_at (object_size body) body) 0 last in
+    let ends-in : (byte_at (object_size body) body == 0) ≡ true = eq-eqb (byte_at (object_size body) body) 0 last in
     and_there (not (length body == object_size body)) (not (length body == object_size body + 1 && byte_at (object_size body) body == 0)) (λ longer. rw (one, ends-in) refl)
 
 pub object_passes : (body : List ℕ) (padded : Bool) → ObjectAsks body padded → first_fault (object_tests body) ≡ None
 object_passes body padded (long, method, size, ends) =
-    none_there _ _ _ (le-ltb (length body) 3 (omega arith)) (none_there _ _ _ (unequal_there (coding_method body) 1 (omega (arith, method)))
-    (none_there _ _ _ (unequal_there (coding_method body) 2 (omega (arith, method))) (none_there _ _ _ (unequal_there (coding_method body) 3 (omega (arith, method)))
+    none_there _ _ _ (le-ltb (length body) 3 (omega arith)) (none_there _ _ _ (ne_eqb (coding_method body) 1 (omega (arith, method)))
+    (none_there _ _ _ (ne_eqb (coding_method body) 2 (omega (arith, method))) (none_there _ _ _ (ne_eqb (coding_method body) 3 (omega (arith, method)))
     (none_there _ _ _ (le-ltb (length body) 7 long) (none_there _ _ _ (size_there body padded size ends) refl)))))

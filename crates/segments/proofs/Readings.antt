@@ -13,9 +13,11 @@ use Rattle.stream_syntax.specs.Fields.{Field}
 use Rattle.stream_syntax.specs.SegmentTests.{frame_tests, body_tests, body_of, top_in, bottom_in, AreBlocks, IsBlocksFault, in_top, in_bottom, IsBodyFault, in_tests, in_blocks, IsSegmentFault, in_head, in_body}
 use Rattle.stream_syntax.specs.Tests.{first_fault, byte_at, word_at}
 use Rattle.segments.specs.declared.reading.Segment.{Segment}
+use Rattle.segments.specs.declared.frame.Frame.{Frame}
 use Rattle.segments.specs.Contents.{contents}
+use Rattle.segments.specs.Framing.{IsFrameOf}
 use Rattle.segments.specs.Reading.{value_in}
-use Rattle.segments.proofs.Frames.{is_segment, segment_again, kind_there}
+use Rattle.segments.proofs.WholeSegments.{is_segment, segment_again, kind_there}
 use Rattle.segments.proofs.Shapes.{AreBytes, AreBytes-take, AreBytes-drop}
 use Rattle.segments.proofs.Whole.{Reads, body_laid}
 
@@ -53,7 +55,8 @@ same_body_fault kind body one other (in_tests a) (in_blocks none e bad) = absurd
 same_body_fault kind body one other (in_blocks none e bad) (in_tests b) = absurd (apart (sym b ∙ none))
 same_body_fault kind body one other (in_blocks none e bad) (in_blocks none' e' bad') = same_blocks_fault (top_in body) (bottom_in body) one other bad bad'
 
-same_segment_fault : (bytes : List ℕ) (one other : SegmentFault) → IsSegmentFault bytes one → IsSegmentFault bytes other → one ≡ other
+-- bytes have one fault
+pub same_segment_fault : (bytes : List ℕ) (one other : SegmentFault) → IsSegmentFault bytes one → IsSegmentFault bytes other → one ≡ other
 same_segment_fault bytes one other (in_head a) (in_head b) = same_some one other (sym a ∙ b)
 same_segment_fault bytes one other (in_head a) (in_body none bad) = absurd (apart (sym a ∙ none))
 same_segment_fault bytes one other (in_body none bad) (in_head b) = absurd (apart (sym b ∙ none))
@@ -69,23 +72,22 @@ segment_apart bytes value fault none reads (in_body none' bad) = body_apart (byt
 
 -- ---- what reading gave
 
--- a segment that was read: its head and its body pass their tests, and this is its value and its size
-pub record WasRead (bytes : List ℕ) (value : SegmentValue) (size : ℕ) : Type 0 where
+-- a segment that was read: its head and its body pass their tests, and this is its value
+pub record WasRead (bytes : List ℕ) (value : SegmentValue) : Type 0 where
   pub head : first_fault (frame_tests bytes) ≡ None
   pub body : Reads (byte_at 1 bytes) (body_of bytes) value
-  pub whole : size ≡ 6 + word_at 4 bytes
 
 abbrev pub Outcome : Type 0
-Outcome = Result (Segment × ℕ) SegmentFault
+Outcome = Result Segment SegmentFault
 
 abbrev pub WasAllRead : List ℕ → Outcome → Type 0
-WasAllRead bytes result = IfOk result (λ r. WasRead bytes (contents r.0) r.1)
+WasAllRead bytes result = IfOk result (λ segment. WasRead bytes (contents segment))
 
-pub found : (bytes : List ℕ) (result : Outcome) → AreBytes bytes → WasAllRead bytes result → IfOk result (λ r. IsSegment (take r.1 bytes) (contents r.0))
-found bytes (Ok r) fits was =
-    let laid = body_laid (byte_at 1 bytes) (body_of bytes) (contents r.0) (AreBytes-body bytes fits) (fits 1) was.body.0 was.body.1 in
-    subst (λ (n : ℕ). IsSegment (take n bytes) (contents r.0)) (sym was.whole) (is_segment bytes (contents r.0) fits was.head laid)
-found bytes (Err fault) fits was = tt
+pub found : (bytes : List ℕ) (size : ℕ) (result : Outcome) → AreBytes bytes → size ≡ 6 + word_at 4 bytes → WasAllRead bytes result → IfOk result (λ segment. IsSegment (take size bytes) (contents segment))
+found bytes size (Ok segment) fits whole was =
+    let laid = body_laid (byte_at 1 bytes) (body_of bytes) (contents segment) (AreBytes-body bytes fits) (fits 1) was.body.0 was.body.1 in
+    subst (λ (n : ℕ). IsSegment (take n bytes) (contents segment)) (sym whole) (is_segment bytes (contents segment) fits was.head laid)
+found bytes size (Err fault) fits whole was = tt
 
 kind_of_body : (value : SegmentValue) (kind : ℕ) (fields : List Field) → IsBody value kind fields → IsKindOf value kind
 kind_of_body (of_page value) kind fields is = is.0
@@ -100,37 +102,62 @@ kind_of_body passed_over kind fields is = is.0
 pub kind_of_segment : (bytes : List ℕ) (value : SegmentValue) → IsSegment bytes value → IsKindOf value (byte_at 1 bytes)
 kind_of_segment bytes value is = subst (IsKindOf value) (kind_there bytes value is) (kind_of_body value is.kind is.body is.is_body)
 
-pub kind_found : (bytes : List ℕ) (result : Outcome) → AreBytes bytes → WasAllRead bytes result → IfOk result (λ r. IsKindOf (contents r.0) (byte_at 1 bytes))
-kind_found bytes (Ok r) fits was =
-    let laid = body_laid (byte_at 1 bytes) (body_of bytes) (contents r.0) (AreBytes-body bytes fits) (fits 1) was.body.0 was.body.1 in
-    kind_of_body (contents r.0) (byte_at 1 bytes) laid.fields laid.is_body
+pub kind_found : (bytes : List ℕ) (result : Outcome) → AreBytes bytes → WasAllRead bytes result → IfOk result (λ segment. IsKindOf (contents segment) (byte_at 1 bytes))
+kind_found bytes (Ok segment) fits was =
+    let laid = body_laid (byte_at 1 bytes) (body_of bytes) (contents segment) (AreBytes-body bytes fits) (fits 1) was.body.0 was.body.1 in
+    kind_of_body (contents segment) (byte_at 1 bytes) laid.fields laid.is_body
 kind_found bytes (Err fault) fits was = tt
 
 same_value : (kind : ℕ) (body : List ℕ) (one other : SegmentValue) → Reads kind body one → Reads kind body other → one ≡ other
 same_value kind body one other a b = a.0.0 ∙ sym b.0.0
 
-pub every_segment : (bytes : List ℕ) (result : Outcome) → WasAllRead bytes result → IfErr result (IsSegmentFault bytes)
-    → (value : SegmentValue) (size : ℕ) → size ≤ length bytes → IsSegment (take size bytes) value → IsOkAnd result (λ r. (contents r.0 ≡ value) × (r.1 ≡ size))
-every_segment bytes (Ok r) was bad value size le is =
+-- bytes that begin with a segment have no fault
+pub no_fault_there : (bytes : List ℕ) (size : ℕ) (value : SegmentValue) (fault : SegmentFault) → size ≤ length bytes → IsSegment (take size bytes) value → IsSegmentFault bytes fault → ⊥
+no_fault_there bytes size value fault le is bad =
     let again = segment_again bytes size value le is in
-    (same_value (byte_at 1 bytes) (body_of bytes) (contents r.0) value was.body again.2, was.whole ∙ sym again.1)
-every_segment bytes (Err fault) was bad value size le is =
+    segment_apart bytes value fault again.0 again.2 bad
+
+pub every_segment : (bytes : List ℕ) (whole : ℕ) (result : Outcome) → whole ≡ 6 + word_at 4 bytes → WasAllRead bytes result → IfErr result (IsSegmentFault bytes)
+    → (value : SegmentValue) (size : ℕ) → size ≤ length bytes → IsSegment (take size bytes) value → IsOkAnd result (λ segment. (contents segment ≡ value) × (whole ≡ size))
+every_segment bytes whole (Ok segment) is_whole was bad value size le is =
     let again = segment_again bytes size value le is in
-    absurd (segment_apart bytes value fault again.0 again.2 bad)
+    (same_value (byte_at 1 bytes) (body_of bytes) (contents segment) value was.body again.2, is_whole ∙ sym again.1)
+every_segment bytes whole (Err fault) is_whole was bad value size le is = absurd (no_fault_there bytes size value fault le is bad)
 
 pub every_fault : (bytes : List ℕ) (result : Outcome) → WasAllRead bytes result → IfErr result (IsSegmentFault bytes)
     → (fault : SegmentFault) → IsSegmentFault bytes fault → result ≡ Err fault
-every_fault bytes (Ok r) was bad fault is = absurd (segment_apart bytes (contents r.0) fault was.head was.body is)
+every_fault bytes (Ok segment) was bad fault is = absurd (segment_apart bytes (contents segment) fault was.head was.body is)
 every_fault bytes (Err known) was bad fault is = ap (λ (f : SegmentFault). Err f) (same_segment_fault bytes known fault bad is)
 
-pub was_all_read : (bytes : List ℕ) (result : Outcome) → OnOk result (first_fault (frame_tests bytes) ≡ None) → IfOk result (λ r. contents r.0 ≡ value_in (byte_at 1 bytes) (body_of bytes))
-    → OnOk result (first_fault (body_tests (byte_at 1 bytes) (body_of bytes)) ≡ None) → OnOk result (byte_at 1 bytes ≡ 19 → AreBlocks (top_in (body_of bytes)) (bottom_in (body_of bytes))) → IfOk result (λ r. r.1 ≡ 6 + word_at 4 bytes)
-    → WasAllRead bytes result
-was_all_read bytes (Ok r) head value passes blocks size = record { head = head; body = ((value, passes), blocks); whole = size }
-was_all_read bytes (Err fault) head value passes blocks size = tt
+-- a head that is refused leaves no segment, and no other fault
+pub head_refused : (bytes : List ℕ) (fault : SegmentFault) → Some fault ≡ first_fault (frame_tests bytes) → (value : SegmentValue) (size : ℕ) → size ≤ length bytes → IsSegment (take size bytes) value → ⊥
+head_refused bytes fault refused value size le is = no_fault_there bytes size value fault le is (in_head (sym refused))
 
-pub body_fault_at : (kind known : ℕ) (body bytes : List ℕ) (fault : SegmentFault) → kind ≡ known → body ≡ bytes → IsBodyFault kind body fault → IsBodyFault known bytes fault
-body_fault_at kind known body bytes fault kind-is body-is bad = subst (λ (k : ℕ). IsBodyFault k bytes fault) kind-is (subst (λ (b : List ℕ). IsBodyFault kind b fault) body-is bad)
+pub head_fault : (bytes : List ℕ) (known fault : SegmentFault) → Some known ≡ first_fault (frame_tests bytes) → IsSegmentFault bytes fault → known ≡ fault
+head_fault bytes known fault refused is = same_segment_fault bytes known fault (in_head (sym refused)) is
+
+abbrev refused_with : SegmentFault → Outcome
+refused_with fault = Err fault
+
+pub err_is : (one other : SegmentFault) → refused_with one ≡ refused_with other → one ≡ other
+err_is one other e = cc
+
+-- ---- a frame and its body
+
+-- what the steps of reading a body say of the result
+pub record IsBodyRead (kind : ℕ) (body : List ℕ) (result : Outcome) : Type 0 where
+  pub value : IfOk result (λ segment. contents segment ≡ value_in kind body)
+  pub passes : OnOk result (first_fault (body_tests kind body) ≡ None)
+  pub blocks : OnOk result (kind ≡ 19 → AreBlocks (top_in body) (bottom_in body))
+  pub fault : IfErr result (IsBodyFault kind body)
+
+of_body : (bytes : List ℕ) (result : Outcome) → first_fault (frame_tests bytes) ≡ None → IsBodyRead (byte_at 1 bytes) (body_of bytes) result → WasAllRead bytes result × IfErr result (IsSegmentFault bytes)
+of_body bytes (Ok segment) head read = (record { head = head; body = ((read.value, read.passes), read.blocks) }, tt)
+of_body bytes (Err fault) head read = (tt, in_body head read.fault)
+
+pub of_frame : (bytes : List ℕ) (frame : Frame) (result : Outcome) → IsFrameOf bytes frame → IsBodyRead frame.kind frame.body.now result → WasAllRead bytes result × IfErr result (IsSegmentFault bytes)
+of_frame bytes frame result is read =
+    of_body bytes result is.passes (subst (λ (kind : ℕ). IsBodyRead kind (body_of bytes) result) is.kind_is (subst (λ (body : List ℕ). IsBodyRead frame.kind body result) is.body_is read))
 
 -- ---- laws
 

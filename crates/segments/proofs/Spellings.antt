@@ -9,9 +9,9 @@ use Rattle.stream_syntax.specs.declared.display.Window.{Window}
 use Rattle.stream_syntax.specs.declared.page.PageEntry.{PageEntry}
 use Rattle.stream_syntax.specs.declared.region.Listing.{Listing}
 use Rattle.stream_syntax.specs.Fields.{Field, FitsFields}
-use Rattle.stream_syntax.specs.Segments.{Page, Region, Clut, Object, Display, SegmentValue, of_page, of_region, of_clut, of_object, of_display, end_of_set, passed_over, page_entry_fields, page_fields, listing_fields, region_fields, coded_entry_fields, clut_fields, in_full, entry_of, object_fields, bytes_fields, padding, is_odd, display_fields, window_fields, window_flag, free_bytes, state_number, depth_number, flag, written_body, written_fields, segment_kind, byte_count, spelled, IsWritable, IsHeadedBy, IsBody, IsSegment, AreShown}
+use Rattle.stream_syntax.specs.Segments.{Page, Region, Clut, Object, Display, SegmentValue, of_page, of_region, of_clut, of_object, of_display, end_of_set, passed_over, page_entry_fields, page_fields, listing_fields, region_fields, coded_entry_fields, clut_fields, in_full, entry_of, object_fields, bytes_fields, padding, is_odd, display_fields, window_fields, window_flag, free_bytes, state_number, depth_number, flag, written_body, written_fields, segment_kind, byte_count, spelled, IsWritable, IsHeadedBy, IsBody, IsSegment, HasShownColours}
 use Rattle.segments.specs.Writing.{page_entry_bytes, page_bytes, listing_bytes, region_bytes, clut_entry_bytes, clut_bytes, padding_bytes, object_bytes, window_bytes, display_bytes, body_bytes, frame_bytes, segment_bytes}
-use Rattle.segments.proofs.Frames.{byte_count_is}
+use Rattle.segments.proofs.WholeSegments.{byte_count_is}
 use Rattle.segments.proofs.Shapes.{AreBytes}
 use Rattle.segments.proofs.Writes.{Writes, nothing_written, write_byte, write_free, write_word, write_4_2, write_4_1, write_3_3, write_4, write_flags, write_4_2_1, write_2_2_12, write_r4_12, spelled_is, writes_has}
 
@@ -114,7 +114,7 @@ shown_again : (entries : List ClutEntry) → AllByRecursion (λ (e : ClutEntry).
 shown_again [] shown = refl
 shown_again (entry ∷ entries) shown = rw (shown.0, shown_again entries shown.1) refl
 
-written_is_body : (value : SegmentValue) → AreShown value → IsBody value (segment_kind value) (written_body value)
+written_is_body : (value : SegmentValue) → HasShownColours value → IsBody value (segment_kind value) (written_body value)
 written_is_body (of_page value) shown = (refl, refl)
 written_is_body (of_region value) shown = (refl, depth_number value.head.depth, refl)
 written_is_body (of_clut value) shown = (refl, map in_full value.entries, shown_again value.entries (recursion_from_All (λ (e : ClutEntry). shown_of e.colour ≡ e.colour) value.entries shown), refl)

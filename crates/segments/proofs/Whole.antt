@@ -1,7 +1,7 @@
 -- Whole segments: what is read is a segment with its value, and a segment with a value is read.
 use Rattle.std.proofs.Common.{◌≡◌, ◌≢◌, ℕ, ◌+◌, ◌/◌, ◌<◌, ◌≤◌, Bool, true, false, cond, List, length, get_or, map, Option, Some, None, refl, sym, ap, subst, ◌∙◌, arith, inl, inr}
 use Rattle.std.specs.Prelude.{not}
-use Rattle.std.proofs.lemmas.Bool.{cases_eq, ltb-false, le-ltb, lt-ltb, ltb-true}
+use Rattle.std.proofs.lemmas.Bool.{cases_eq, ltb-false, le-ltb, lt-ltb, ltb-true, ne_eqb}
 use Rattle.stream_syntax.specs.declared.clut.ClutEntry.{ClutEntry}
 use Rattle.stream_syntax.specs.declared.display.Window.{Window}
 use Rattle.stream_syntax.specs.Fields.{Field, HasFields, FitsFields}
@@ -16,7 +16,7 @@ use Rattle.segments.proofs.Regions.{region_laid, region_again}
 use Rattle.segments.proofs.Cluts.{clut_laid, clut_again}
 use Rattle.segments.proofs.Objects.{object_laid, object_again}
 use Rattle.segments.proofs.Displays.{display_laid, plain_again, window_again, further_in, free_laid, free_fits}
-use Rattle.segments.proofs.Passing.{page_asks, page_passes, region_asks, region_passes, clut_asks, clut_passes, object_asks, object_passes, display_asks, display_passes, not_true, and_true, both_true, unequal_there}
+use Rattle.segments.proofs.Passing.{page_asks, page_passes, region_asks, region_passes, clut_asks, clut_passes, object_asks, object_passes, display_asks, display_passes, not_true, and_true, both_true}
 use Rattle.segments.proofs.Shapes.{AreBytes}
 
 -- ---- bodies
@@ -86,12 +86,12 @@ passed_body kind body is = record { fields = free_bytes (length body); is_body =
 -- the value of a body of another type
 passed_value : (kind : ℕ) (body : List ℕ) → kind ≢ 16 → kind ≢ 17 → kind ≢ 18 → kind ≢ 19 → kind ≢ 20 → kind ≢ 128 → (value_in kind body ≡ passed_over) × (first_fault (body_tests kind body) ≡ None)
 passed_value kind body a b c d e f =
-    let a' = unequal_there kind 16 a in
-    let b' = unequal_there kind 17 b in
-    let c' = unequal_there kind 18 c in
-    let d' = unequal_there kind 19 d in
-    let e' = unequal_there kind 20 e in
-    let f' = unequal_there kind 128 f in
+    let a' = ne_eqb kind 16 a in
+    let b' = ne_eqb kind 17 b in
+    let c' = ne_eqb kind 18 c in
+    let d' = ne_eqb kind 19 d in
+    let e' = ne_eqb kind 20 e in
+    let f' = ne_eqb kind 128 f in
     (rw (a', b', c', d', e', f') refl, rw (a', b', c', d', e') refl)
 
 along : (kind : ℕ) (body : List ℕ) (value made : SegmentValue) → value ≡ value_in kind body → value_in kind body ≡ made → Laid kind body made → Laid kind body value

@@ -20,7 +20,8 @@ use Rattle.segments.specs.declared.writing.SegmentOut.TheVariants as outs
 use Rattle.segments.specs.declared.region.RegionSeg.{RegionSeg}
 
 -- what each six bytes stand for
-abbrev pub by_six : {Item : Type 0} → (ℕ → ℕ → ℕ → ℕ → ℕ → ℕ → Item) → List ℕ → List Item
+abbrev pub by_six : {Item : Type 0} → (ℕ → ℕ → ℕ → ℕ → ℕ → ℕ → Item) → List ℕ
+    → List Item
 by_six item (a ∷ b ∷ c ∷ d ∷ e ∷ f ∷ rest) = item a b c d e f ∷ by_six item rest
 by_six item rest = []
 
@@ -32,11 +33,13 @@ abbrev pub page_entries : List ℕ → List PageEntry
 page_entries bytes = by_six page_entry bytes
 
 abbrev pub page_value : PageSeg → Page
-page_value seg = record { time_out = seg.time_out; version = seg.version; state = seg.state; entries = page_entries seg.entries.now }
+page_value seg =
+    record { time_out = seg.time_out; version = seg.version; state = seg.state; entries = page_entries seg.entries.now }
 
 -- the listings of a region, six bytes each
 abbrev pub listing : ℕ → ℕ → ℕ → ℕ → ℕ → ℕ → Listing
-listing object1 object0 x1 x0 y1 y0 = record { object = object1 * 256 + object0; x = (x1 * 256 + x0) % 4096; y = (y1 * 256 + y0) % 4096 }
+listing object1 object0 x1 x0 y1 y0 =
+    record { object = object1 * 256 + object0; x = (x1 * 256 + x0) % 4096; y = (y1 * 256 + y0) % 4096 }
 
 abbrev pub region_listings : List ℕ → List Listing
 region_listings bytes = by_six listing bytes
@@ -61,10 +64,18 @@ region_value seg =
 
 -- a colour in the full range, and one by its high bits, as they are shown
 abbrev pub full_colour : List ℕ → Colour
-full_colour bytes = shown_of (record { y = byte_at 2 bytes; cr = byte_at 3 bytes; cb = byte_at 4 bytes; t = byte_at 5 bytes })
+full_colour bytes =
+    shown_of (record { y = byte_at 2 bytes; cr = byte_at 3 bytes; cb = byte_at 4 bytes; t = byte_at 5 bytes })
 
 abbrev pub short_colour : List ℕ → Colour
-short_colour bytes = shown_of (record { y = word_at 2 bytes / 1024 * 4; cr = word_at 2 bytes / 64 % 16 * 16; cb = word_at 2 bytes / 4 % 16 * 16; t = word_at 2 bytes % 4 * 64 })
+short_colour bytes =
+    shown_of (record {
+      y = word_at 2 bytes / 1024 * 4;
+      cr = word_at 2 bytes / 64 % 16 * 16;
+      cb = word_at 2 bytes / 4 %
+          16 * 16;
+      t = word_at 2 bytes % 4 * 64;
+    })
 
 -- the first entry of a CLUT
 abbrev pub first_entry : List ℕ → ClutEntry
@@ -81,7 +92,8 @@ first_entry bytes =
 abbrev pub first_entries : ℕ → List ℕ → List ClutEntry
 first_entries zero bytes = []
 first_entries (suc most) bytes =
-    if nat_lt (length bytes) (entry_size bytes) then [] else first_entry bytes ∷ first_entries most (drop (entry_size bytes) bytes)
+    if nat_lt (length bytes) (entry_size bytes) then []
+    else first_entry bytes ∷ first_entries most (drop (entry_size bytes) bytes)
 
 -- the entries of a CLUT
 unfoldable pub clut_entries : List ℕ → List ClutEntry
@@ -98,7 +110,14 @@ abbrev pub display_value : DisplaySeg → Display
 display_value seg = record { version = seg.version; width = seg.width; height = seg.height; window = seg.window }
 
 abbrev pub object_value : ObjectSeg → Object
-object_value seg = record { object = seg.object; version = seg.version; see_through = seg.see_through; top = seg.top.now; bottom = seg.bottom.now }
+object_value seg =
+    record {
+      object = seg.object;
+      version = seg.version;
+      see_through = seg.see_through;
+      top = seg.top.now;
+      bottom = seg.bottom.now;
+    }
 
 -- what a segment that was read stands for
 abbrev pub contents : Segment → SegmentValue
@@ -112,9 +131,11 @@ contents variants.Passed = passed_over
 
 -- what a segment that is to be written stands for
 abbrev pub value_of : SegmentOut → SegmentValue
-value_of (outs.Page time_out version state entries) = of_page (record { time_out = time_out; version = version; state = state; entries = entries.now })
+value_of (outs.Page time_out version state entries) =
+    of_page (record { time_out = time_out; version = version; state = state; entries = entries.now })
 value_of (outs.Region head listings) = of_region (record { head = head; listings = listings.now })
 value_of (outs.Clut clut version entries) = of_clut (record { clut = clut; version = version; entries = entries.now })
 value_of (outs.Object seg) = of_object (object_value seg)
-value_of (outs.Display version width height) = of_display (record { version = version; width = width; height = height; window = None })
+value_of (outs.Display version width height) =
+    of_display (record { version = version; width = width; height = height; window = None })
 value_of outs.End = end_of_set

@@ -1,4 +1,5 @@
 pub mod Contents
+pub mod Framing
 pub mod Reading
 pub mod Writing
 pub use Rattle.stream_syntax.specs.Fields

@@ -12,10 +12,12 @@ use Rattle.stream_syntax.specs.declared.segment_fault.SegmentKind.TheVariants.{B
 use Rattle.stream_syntax.specs.declared.region.RegionHead.{RegionHead}
 use Rattle.stream_syntax.specs.Tests.{Test, byte_at, word_at}
 use Rattle.segments.specs.Contents.{page_entries, region_listings, clut_entries}
+use Rattle.stream_syntax.specs.declared.wire.TheConstants.{CLUT_DEFINITION, DISPLAY_DEFINITION, END_OF_DISPLAY_SET, OBJECT_DATA, PAGE_COMPOSITION, REGION_COMPOSITION}
 
 -- a further step where the first gave a value
 infixl 10 ◌>>=◌
-abbrev pub ◌>>=◌ : {First Value Fault : Type 0} → Result First Fault → (First → Result Value Fault) → Result Value Fault
+abbrev pub ◌>>=◌ : {First Value Fault : Type 0} → Result First Fault → (First → Result Value Fault)
+    → Result Value Fault
 (Ok first) >>= next = next first
 (Err fault) >>= next = Err fault
 
@@ -39,7 +41,13 @@ state_of (suc zero) = Acquisition
 state_of (suc (suc n)) = ModeChange
 
 abbrev pub page_in : List ℕ → Page
-page_in body = record { time_out = byte_at 0 body; version = byte_at 1 body / 16; state = state_of (byte_at 1 body / 4 % 4); entries = page_entries (drop 2 body) }
+page_in body =
+    record {
+      time_out = byte_at 0 body;
+      version = byte_at 1 body / 16;
+      state = state_of (byte_at 1 body / 4 % 4);
+      entries = page_entries (drop 2 body);
+    }
 
 abbrev pub page_at : List ℕ → Result Page SegmentFault
 page_at body = checked (page_tests body) (page_in body)
@@ -70,12 +78,15 @@ region_head_in body depth =
 
 abbrev pub region_head_at : List ℕ → Result RegionHead SegmentFault
 region_head_at body = do
-  shape ← tested (refuse (nat_lt (length body) 10) 4 BadLength ∷ refuse (word_at 2 body == 0 || word_at 4 body == 0) 8 ZeroSize ∷ [])
+  shape ← tested
+      (refuse (nat_lt (length body) 10) 4 BadLength ∷ refuse (word_at 2 body == 0 || word_at 4 body == 0) 8 ZeroSize
+      ∷ [])
   depth ← depth_at (byte_at 6 body / 4 % 8)
   Ok (region_head_in body depth)
 
 abbrev pub region_in : List ℕ → Region
-region_in body = record { head = region_head_in body (depth_of (byte_at 6 body / 4 % 8)); listings = region_listings (drop 10 body) }
+region_in body =
+    record { head = region_head_in body (depth_of (byte_at 6 body / 4 % 8)); listings = region_listings (drop 10 body) }
 
 unfoldable pub region_at : List ℕ → Result Region SegmentFault
 region_at body = do
@@ -90,16 +101,30 @@ abbrev pub clut_at : List ℕ → Result Clut SegmentFault
 clut_at body = checked (clut_tests body) (clut_in body)
 
 abbrev pub window_in : List ℕ → Window
-window_in body = record { left = word_at 5 body; right = word_at 7 body; top = word_at 9 body; bottom = word_at 11 body }
+window_in body =
+    record { left = word_at 5 body; right = word_at 7 body; top = word_at 9 body; bottom = word_at 11 body }
 
 abbrev pub display_in : List ℕ → Display
-display_in body = record { version = byte_at 0 body / 16; width = word_at 1 body + 1; height = word_at 3 body + 1; window = if has_window body then Some (window_in body) else None }
+display_in body =
+    record {
+      version = byte_at 0 body / 16;
+      width = word_at 1 body + 1;
+      height = word_at 3 body + 1;
+      window = if has_window body then Some (window_in body) else None;
+    }
 
 abbrev pub display_at : List ℕ → Result Display SegmentFault
 display_at body = checked (display_tests body) (display_in body)
 
 abbrev pub object_in : List ℕ → Object
-object_in body = record { object = word_at 0 body; version = byte_at 2 body / 16; see_through = byte_at 2 body / 2 % 2 == 1; top = top_in body; bottom = bottom_in body }
+object_in body =
+    record {
+      object = word_at 0 body;
+      version = byte_at 2 body / 16;
+      see_through = byte_at 2 body / 2 % 2 == 1;
+      top = top_in body;
+      bottom = bottom_in body;
+    }
 
 abbrev pub object_at : List ℕ → Result Object SegmentFault
 object_at body = checked (object_tests body) (object_in body)
@@ -107,10 +132,10 @@ object_at body = checked (object_tests body) (object_in body)
 -- the value of a body that passes its tests, by the segment type
 abbrev pub value_in : ℕ → List ℕ → SegmentValue
 value_in kind body =
-    if kind == 0x10 then of_page (page_in body) else
-    if kind == 0x11 then of_region (region_in body) else
-    if kind == 0x12 then of_clut (clut_in body) else
-    if kind == 0x13 then of_object (object_in body) else
-    if kind == 0x14 then of_display (display_in body) else
-    if kind == 0x80 then end_of_set else
+    if kind == PAGE_COMPOSITION then of_page (page_in body) else
+    if kind == REGION_COMPOSITION then of_region (region_in body) else
+    if kind == CLUT_DEFINITION then of_clut (clut_in body) else
+    if kind == OBJECT_DATA then of_object (object_in body) else
+    if kind == DISPLAY_DEFINITION then of_display (display_in body) else
+    if kind == END_OF_DISPLAY_SET then end_of_set else
     passed_over

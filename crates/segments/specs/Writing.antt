@@ -15,22 +15,26 @@ abbrev pub page_entry_bytes : PageEntry → List ℕ
 page_entry_bytes entry = entry.region ∷ 255 ∷ (word_bytes entry.x ++ word_bytes entry.y)
 
 abbrev pub page_bytes : Page → List ℕ
-page_bytes page = page.time_out ∷ (page.version * 16 + state_number page.state * 4 + 3) ∷ flat_map page_entry_bytes page.entries
+page_bytes page =
+    page.time_out ∷ (page.version * 16 + state_number page.state * 4 + 3) ∷ flat_map page_entry_bytes page.entries
 
 abbrev pub listing_bytes : Listing → List ℕ
 listing_bytes listing = word_bytes listing.object ++ (word_bytes listing.x ++ word_bytes (61440 + listing.y))
 
 abbrev pub head_bytes : RegionHead → List ℕ
 head_bytes head =
-    head.region ∷ (head.version * 16 + flag head.fill * 8 + 7) ∷ (word_bytes head.width ++ (word_bytes head.height ++
-    (depth_number head.depth * 32 + depth_number head.depth * 4 + 3) ∷ head.clut ∷ head.code8 ∷ (head.code4 * 16 + head.code2 * 4 + 3) ∷ []))
+    head.region ∷ (head.version * 16 + flag head.fill * 8 + 7)
+    ∷ (word_bytes head.width ++ (word_bytes head.height ++
+    (depth_number head.depth * 32 + depth_number head.depth * 4 + 3) ∷ head.clut ∷ head.code8
+    ∷ (head.code4 * 16 + head.code2 * 4 + 3) ∷ []))
 
 abbrev pub region_bytes : Region → List ℕ
 region_bytes region = head_bytes region.head ++ flat_map listing_bytes region.listings
 
 abbrev pub clut_entry_bytes : ClutEntry → List ℕ
 clut_entry_bytes entry =
-    entry.entry ∷ (flag entry.two * 128 + flag entry.four * 64 + flag entry.eight * 32 + 31) ∷ entry.colour.y ∷ entry.colour.cr ∷ entry.colour.cb ∷ entry.colour.t ∷ []
+    entry.entry ∷ (flag entry.two * 128 + flag entry.four * 64 + flag entry.eight * 32 + 31) ∷ entry.colour.y
+    ∷ entry.colour.cr ∷ entry.colour.cb ∷ entry.colour.t ∷ []
 
 abbrev pub clut_bytes : Clut → List ℕ
 clut_bytes clut = clut.clut ∷ (clut.version * 16 + 15) ∷ flat_map clut_entry_bytes clut.entries
@@ -40,17 +44,22 @@ padding_bytes false = []
 padding_bytes true = 0 ∷ []
 
 abbrev pub object_head_bytes : Object → List ℕ
-object_head_bytes object = word_bytes object.object ++ (object.version * 16 + flag object.see_through * 2 + 1) ∷ (word_bytes (length object.top) ++ word_bytes (length object.bottom))
+object_head_bytes object =
+    word_bytes object.object ++ (object.version * 16 + flag object.see_through * 2 + 1)
+    ∷ (word_bytes (length object.top) ++ word_bytes (length object.bottom))
 
 abbrev pub object_bytes : Object → List ℕ
 object_bytes object = object_head_bytes object ++ (object.top ++ (object.bottom ++ padding_bytes (is_odd object)))
 
 abbrev pub window_bytes : Option Window → List ℕ
 window_bytes None = []
-window_bytes (Some window) = word_bytes window.left ++ (word_bytes window.right ++ (word_bytes window.top ++ word_bytes window.bottom))
+window_bytes (Some window) =
+    word_bytes window.left ++ (word_bytes window.right ++ (word_bytes window.top ++ word_bytes window.bottom))
 
 abbrev pub display_bytes : Display → List ℕ
-display_bytes display = (display.version * 16 + window_flag display.window * 8 + 7) ∷ (word_bytes (display.width - 1) ++ (word_bytes (display.height - 1) ++ window_bytes display.window))
+display_bytes display =
+    (display.version * 16 + window_flag display.window * 8 + 7)
+    ∷ (word_bytes (display.width - 1) ++ (word_bytes (display.height - 1) ++ window_bytes display.window))
 
 abbrev pub body_bytes : SegmentValue → List ℕ
 body_bytes (of_page value) = page_bytes value

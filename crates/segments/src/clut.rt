@@ -26,7 +26,8 @@ pub struct ClutSeg<'a> {
 }
 
 impl ClutSeg<'_> {
-    /// The entries in order. The low bits of a short colour are 0, and a luminance of 0 means full transparency.
+    /// The entries in order. The low bits of a short colour are 0, and a luminance of 0 means full
+    /// transparency.
     pub fn items(&self) -> ClutItems<'_>
         ensures { items_left result ≡ (clut_value self.now).entries }
     {
@@ -135,7 +136,8 @@ fn full_colour(entry: &[u8]) -> Colour
     .shown()
 }
 
-/// The colour of an entry by its high bits: six of luminance, four of each difference, two of transparency.
+/// The colour of an entry by its high bits: six of luminance, four of each difference, two of
+/// transparency.
 fn short_colour(entry: &[u8]) -> Colour
     requires { 4 ≤ length entry.now }
     ensures { result ≡ short_colour entry.now }

@@ -13,8 +13,8 @@ const FIXED: usize = 5;
 /// The bytes with a window.
 const WITH_WINDOW: usize = 13;
 
-/// The display: its sides in pixels, and the window in which regions are placed (EN 300 743, display definition
-/// segment).
+/// The display: its sides in pixels, and the window in which regions are placed (EN 300 743,
+/// display definition segment).
 #[derive(Clone, Copy, Debug, PartialEq, Eq)]
 pub struct DisplaySeg {
     /// The version, 0 to 15.

@@ -35,8 +35,11 @@ pub fn read_frame(bytes: &[u8]) -> Result<Frame<'_>, SegmentFault>
     ensures page { IfOk result (λ frame. frame.page ≡ word_at 2 bytes.now) }
     ensures whole { IfOk result (λ frame. frame.whole ≡ 6 + word_at 4 bytes.now) }
     ensures within { IfOk result (λ frame. frame.whole ≤ length bytes.now) }
-    ensures head { IfOk result (λ frame. HasFields (head_fields frame.kind frame.page (length frame.body.now)) (bits_of (take 6 bytes.now))) }
-    ensures body { IfOk result (λ frame. frame.body.now ≡ take (word_at 4 bytes.now) (drop 6 bytes.now)) }
+    ensures head { IfOk result
+        (λ frame. HasFields (head_fields frame.kind frame.page (length frame.body.now))
+        (bits_of (take 6 bytes.now))) }
+    ensures body { IfOk result
+        (λ frame. frame.body.now ≡ take (word_at 4 bytes.now) (drop 6 bytes.now)) }
 {
     if bytes.is_empty() || bytes[0] != SEGMENT_SYNC {
         return Err(SegmentFault {

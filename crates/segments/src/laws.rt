@@ -6,12 +6,15 @@ ghost use Rattle.stream_syntax.specs.Tests.{byte_at};
 
 /// No segment begins another one, and bytes are a segment with one value at most.
 pub fn one_reading()
-    ensures { (a b x y : List ℕ) (one other : SegmentValue) → IsSegment a one → IsSegment b other → a ++ x ≡ b ++ y → (a ≡ b) × (one ≡ other) }
+    ensures { (a b x y : List ℕ) (one other : SegmentValue) → IsSegment a one
+        → IsSegment b other
+        → a ++ x ≡ b ++ y → (a ≡ b) × (one ≡ other) }
 {}
 
 /// The second byte of a segment is its segment type, so a walk by types reads no bodies.
 pub fn kind_of_segment()
-    ensures { (bytes : List ℕ) (value : SegmentValue) → IsSegment bytes value → IsKindOf value (byte_at 1 bytes) }
+    ensures { (bytes : List ℕ) (value : SegmentValue) → IsSegment bytes value
+        → IsKindOf value (byte_at 1 bytes) }
 {}
 
 /// What was written is read again, whatever follows it.

@@ -1,5 +1,5 @@
-//! The segments of a subtitle stream (EN 300 743, clause 7.2), read out of bytes and written as bytes. What is read
-//! is borrowed from the bytes.
+//! The segments of a subtitle stream (EN 300 743, clause 7.2), read out of bytes and written as
+//! bytes. What is read is borrowed from the bytes.
 #![tactic(auto)]
 
 // Words, bits and faults.
@@ -14,13 +14,17 @@ mod object;
 mod page;
 mod region;
 
-// Reading and writing a segment, and laws on both.
+// Heads, and the segments of a data field by their heads.
+mod data_field;
 mod frame;
+
+// Reading and writing a segment, and laws on both.
 mod laws;
 mod reading;
 mod writing;
 
 pub use clut::{ClutItems, ClutSeg};
+pub use data_field::{FieldFrames, frames};
 pub use display::DisplaySeg;
 pub use frame::{Frame, read_frame};
 pub use object::ObjectSeg;

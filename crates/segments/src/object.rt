@@ -15,8 +15,9 @@ const FIXED: usize = 7;
 /// The place of the coding method in the segment.
 const METHOD: u32 = 8;
 
-/// An object that is sent as pixels: the pixel data blocks of its top and its bottom field (EN 300 743, object data
-/// segment). Where the bottom block is empty, the top block serves for both fields.
+/// An object that is sent as pixels: the pixel data blocks of its top and its bottom field (EN 300
+/// 743, object data segment). Where the bottom block is empty, the top block serves for both
+/// fields.
 #[derive(Clone, Copy, Debug, PartialEq, Eq)]
 pub struct ObjectSeg<'a> {
     /// The id of the object.
@@ -34,9 +35,11 @@ pub struct ObjectSeg<'a> {
 /// Reads what stands before the blocks, and cuts the blocks out.
 pub(crate) fn object_of(body: &[u8]) -> Result<ObjectSeg<'_>, SegmentFault>
     ensures exact { Gives object_value result (object_at body.now) }
-    ensures room { IfOk result (λ object. 7 + length object.top.now + length object.bottom.now ≤ length body.now) }
+    ensures room { IfOk result
+        (λ object. 7 + length object.top.now + length object.bottom.now ≤ length body.now) }
 {
-    // The coding method is tested before the length that pixels ask for: the body of characters is another one.
+    // The coding method is tested before the length that pixels ask for: the body of characters is
+    // another one.
     if body.len() < 3 {
         return Err(bad_length());
     }
@@ -80,7 +83,8 @@ pub(crate) fn check_blocks(top: &[u8], bottom: &[u8]) -> Result<(), SegmentFault
     ensures right { OnOk result (AreBlocks top.now bottom.now) }
     ensures fault { IfErr result (IsBlocksFault top.now bottom.now) }
 {
-    // A segment does not know its regions: strings that are too deep for one of these are found as the object is painted.
+    // A segment does not know its regions: strings that are too deep for one of these are found as
+    // the object is painted.
     if let Err(code) = check_block(top, Depth::Eight) {
         return Err(in_block(13, code));
     }

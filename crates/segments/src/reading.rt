@@ -1,14 +1,13 @@
-ghost use Rattle.std.specs.Prelude.{◌≡◌, ◌<◌, ◌≤◌, ◌+◌, ℕ, None, IfErr, IfOk, IsOkAnd, OnOk, length, take};
+ghost use Rattle.std.specs.Prelude.{◌≡◌, ◌<◌, ◌≤◌, ◌+◌, ℕ, List, None, IfErr, IfOk, IsOkAnd, OnOk, length, take};
 ghost use Rattle.segments.specs.Contents.{contents};
+ghost use Rattle.segments.specs.Framing.{IsFrameOf};
 ghost use Rattle.segments.specs.Reading.{value_in};
 ghost use Rattle.stream_syntax.specs.SegmentTests.{
   AreBlocks,
   IsBodyFault,
   IsSegmentFault,
-  body_of,
   body_tests,
   bottom_in,
-  frame_tests,
   top_in,
 };
 ghost use Rattle.stream_syntax.specs.Segments.{IsKindOf, IsSegment, SegmentValue};
@@ -16,7 +15,7 @@ ghost use Rattle.stream_syntax.specs.Tests.{byte_at, first_fault, word_at};
 
 use crate::clut::{ClutSeg, clut_of};
 use crate::display::{DisplaySeg, display_of};
-use crate::frame::read_frame;
+use crate::frame::{Frame, read_frame};
 use crate::object::{ObjectSeg, check_blocks, object_of};
 use crate::page::{PageSeg, page_of};
 use crate::region::{RegionSeg, region_of};
@@ -44,37 +43,57 @@ pub enum Segment<'a> {
     Passed,
 }
 
-/// Reads the segment that begins the bytes, and tells its whole length; other bytes may follow it. Nothing is copied.
+/// Reads the segment that begins the bytes, and tells its whole length; other bytes may follow it.
+/// Nothing is copied.
 ///
 /// The fault is that of the first test that fails: its place counts from the segment's first byte.
 pub fn read_segment(bytes: &[u8]) -> Result<(Segment<'_>, usize), SegmentFault>
     // The bytes so far are a segment with that value.
-    ensures segment { IfOk result (λ found. IsSegment (take found.1 bytes.now) (contents found.0)) }
+    ensures segment { IfOk result
+        (λ found. IsSegment (take found.1 bytes.now) (contents found.0)) }
     ensures kind { IfOk result (λ found. IsKindOf (contents found.0) (byte_at 1 bytes.now)) }
     ensures size { IfOk result (λ found. found.1 ≡ 6 + word_at 4 bytes.now) }
     ensures within { IfOk result (λ found. found.1 ≤ length bytes.now) }
     // No other prefix of the bytes is a segment, and none with another value.
-    ensures every_segment { (value : SegmentValue) (size : ℕ) → size ≤ length bytes.now → IsSegment (take size bytes.now) value
+    ensures every_segment { (value : SegmentValue) (size : ℕ) → size ≤ length bytes.now
+        → IsSegment (take size bytes.now) value
         → IsOkAnd result (λ found. (contents found.0 ≡ value) × (found.1 ≡ size)) }
     ensures fault { IfErr result (IsSegmentFault bytes.now) }
-    ensures every_fault { (fault : SegmentFault) → IsSegmentFault bytes.now fault → result ≡ Err fault }
-{
-    framed(bytes)
-}
-
-/// Reads the head, and the body that it frames.
-fn framed(bytes: &[u8]) -> Result<(Segment<'_>, usize), SegmentFault>
-    ensures head { OnOk result (first_fault (frame_tests bytes.now) ≡ None) }
-    ensures value { IfOk result (λ found. contents found.0 ≡ value_in (byte_at 1 bytes.now) (body_of bytes.now)) }
-    ensures passes { OnOk result (first_fault (body_tests (byte_at 1 bytes.now) (body_of bytes.now)) ≡ None) }
-    ensures blocks { OnOk result (byte_at 1 bytes.now ≡ OBJECT_DATA → AreBlocks (top_in (body_of bytes.now)) (bottom_in (body_of bytes.now))) }
-    ensures size { IfOk result (λ found. found.1 ≡ 6 + word_at 4 bytes.now) }
-    ensures within { IfOk result (λ found. found.1 ≤ length bytes.now) }
-    ensures fault { IfErr result (IsSegmentFault bytes.now) }
+    ensures every_fault { (fault : SegmentFault) → IsSegmentFault bytes.now fault
+        → result ≡ Err fault }
 {
     let frame = read_frame(bytes)?;
-    let segment = by_kind(frame.kind, frame.body)?;
+    let segment = frame.segment()?;
     Ok((segment, frame.whole))
+}
+
+impl<'a> Frame<'a> {
+    /// Reads the segment that this is the frame of. Nothing is copied, and the head is not read
+    /// again.
+    ///
+    /// The fault is that of the first test of the body that fails: its place counts from the
+    /// segment's first byte.
+    pub fn segment(&self) -> Result<Segment<'a>, SegmentFault>
+        // No head frames more.
+        requires { length self.now.body.now < 65536 }
+        // Of whatever bytes this is the frame: those of the segment have that value.
+        ensures segment { (bytes : List ℕ) → IsFrameOf bytes self.now
+            → IfOk result (λ segment. IsSegment (take self.now.whole bytes) (contents segment)) }
+        ensures kind { (bytes : List ℕ) → IsFrameOf bytes self.now
+            → IfOk result (λ segment. IsKindOf (contents segment) (byte_at 1 bytes)) }
+        // No other prefix of them is a segment, and none with another value.
+        ensures every_segment { (bytes : List ℕ) → IsFrameOf bytes self.now
+            → (value : SegmentValue) (size : ℕ) → size ≤ length bytes
+            → IsSegment (take size bytes) value
+            → IsOkAnd result
+            (λ segment. (contents segment ≡ value) × (self.now.whole ≡ size)) }
+        ensures fault { (bytes : List ℕ) → IsFrameOf bytes self.now
+            → IfErr result (IsSegmentFault bytes) }
+        ensures every_fault { (bytes : List ℕ) → IsFrameOf bytes self.now
+            → (fault : SegmentFault) → IsSegmentFault bytes fault → result ≡ Err fault }
+    {
+        by_kind(self.kind, self.body)
+    }
 }
 
 /// Reads a body by its segment type.
@@ -82,7 +101,8 @@ fn by_kind(kind: u8, body: &[u8]) -> Result<Segment<'_>, SegmentFault>
     requires { length body.now < 65536 }
     ensures value { IfOk result (λ segment. contents segment ≡ value_in kind body.now) }
     ensures passes { OnOk result (first_fault (body_tests kind body.now) ≡ None) }
-    ensures blocks { OnOk result (kind ≡ OBJECT_DATA → AreBlocks (top_in body.now) (bottom_in body.now)) }
+    ensures blocks { OnOk result
+        (kind ≡ OBJECT_DATA → AreBlocks (top_in body.now) (bottom_in body.now)) }
     ensures fault { IfErr result (IsBodyFault kind body.now) }
 {
     match kind {

@@ -15,8 +15,8 @@ const FIXED: usize = 10;
 /// The bytes of a listing.
 const LISTING: usize = 6;
 
-/// A region: its sides in pixels, its colours, and the objects that it shows (EN 300 743, region composition
-/// segment).
+/// A region: its sides in pixels, its colours, and the objects that it shows (EN 300 743, region
+/// composition segment).
 #[derive(Clone, Copy, Debug, PartialEq, Eq)]
 pub struct RegionSeg<'a> {
     /// The id of the region.
@@ -136,7 +136,8 @@ fn depth_of(number: u8) -> Result<Depth, SegmentFault>
     }
 }
 
-/// Tests the listings of a region from the left: each is whole, and of an object that is sent as pixels.
+/// Tests the listings of a region from the left: each is whole, and of an object that is sent as
+/// pixels.
 fn check_listings(listings: &[u8]) -> Result<(), SegmentFault>
     requires { length listings.now < 65536 }
     ensures { result ≡ tested (listing_tests 16 listings.now) }

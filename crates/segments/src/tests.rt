@@ -38,6 +38,13 @@ const WINDOW: [u8; 19] = [
     0x00, 0x00, 0x01,
 ];
 
+/// A data field behind its first two bytes: an end of set, stuffing, and the end marker, behind
+/// which nothing counts.
+const FIELD: [u8; 21] = [
+    0x0F, 0x80, 0x00, 0x01, 0x00, 0x00, 0x0F, 0xFF, 0x00, 0x02, 0x00, 0x02, 0xAA, 0xAA, 0xFF, 0x0F,
+    0x80, 0x00, 0x01, 0x00, 0x00,
+];
+
 fn fault(place: u32, kind: SegmentKind) -> SegmentFault {
     SegmentFault { place, kind }
 }
@@ -263,6 +270,39 @@ fn each_prefix_is_cut(rt: HostRuntime) {
             assert!(rt; matches!(read_frame(front), Err(found) if found == expected));
             assert!(rt; matches!(read_segment(front), Err(found) if found == expected));
         }
+    }
+}
+
+#[test]
+fn frames_of_a_data_field(rt: HostRuntime) {
+    let mut heads = frames(&FIELD);
+    for (kind, page, whole, segment) in [
+        (0x80, 1, 6, Segment::End),
+        (0xFF, 2, 8, Segment::Passed),
+    ] {
+        let found = heads.next();
+        assert!(rt; matches!(found, Some(Ok(frame)) if frame.kind == kind && frame.page == page));
+        assert!(rt; matches!(found, Some(Ok(frame)) if frame.whole == whole));
+        assert!(rt; matches!(found, Some(Ok(frame)) if frame.segment() == Ok(segment)));
+    }
+    assert!(rt; heads.next().is_none());
+    assert!(rt; heads.next().is_none());
+}
+
+#[test]
+fn nothing_is_looked_for_behind_a_faulty_head(rt: HostRuntime) {
+    let without_sync: [u8; 13] = [
+        0x0F, 0x80, 0x00, 0x01, 0x00, 0x00, 0x0E, 0x0F, 0x80, 0x00, 0x01, 0x00, 0x00,
+    ];
+    for (field, place, kind) in [
+        (&without_sync[..], 0, SegmentKind::NoSync),
+        (&FIELD[..13], 7, SegmentKind::Cut),
+    ] {
+        let expected = fault(place, kind);
+        let mut heads = frames(field);
+        assert!(rt; matches!(heads.next(), Some(Ok(frame)) if frame.kind == 0x80));
+        assert!(rt; matches!(heads.next(), Some(Err(found)) if found == expected));
+        assert!(rt; heads.next().is_none());
     }
 }
 

@@ -73,16 +73,23 @@ pub enum SegmentOut<'a> {
     End,
 }
 
-/// Appends a segment. Reserved bits are 1; the level of compatibility of a region is its depth, colours are in the
-/// full range, and a byte 00 makes the length of an object even. After want of memory `out` is as before.
+/// Appends a segment. Reserved bits are 1; the level of compatibility of a region is its depth,
+/// colours are in the full range, and a byte 00 makes the length of an object even. After want of
+/// memory `out` is as before.
 pub fn write_segment(page: u16, segment: &SegmentOut<'_>, out: &mut Vec<u8>) -> Result<(), NoMemory>
     requires { IsWritable page (value_of segment.now) }
-    ensures bytes { OnOk result (out.new.items ≡ out.old.items ++ spelled page (value_of segment.now)) }
+    ensures bytes { OnOk result
+        (out.new.items ≡ out.old.items ++ spelled page (value_of segment.now)) }
     // What was appended is a segment with this value.
-    ensures segment { OnOk result (IsSegment (spelled page (value_of segment.now)) (value_of segment.now)) }
-    ensures head { OnOk result (IsHeadedBy (segment_kind (value_of segment.now)) page (spelled page (value_of segment.now))) }
-    ensures size { OnOk result (length (spelled page (value_of segment.now)) ≡ 6 + byte_count (written_body (value_of segment.now))) }
-    ensures err { OnErr result (out.new.items ≡ out.old.items) }
+    ensures segment { OnOk result
+        (IsSegment (spelled page (value_of segment.now)) (value_of segment.now)) }
+    ensures head { OnOk result
+        (IsHeadedBy (segment_kind (value_of segment.now)) page
+        (spelled page (value_of segment.now))) }
+    ensures size { OnOk result
+        (length (spelled page (value_of segment.now))
+        ≡ 6 + byte_count (written_body (value_of segment.now))) }
+    ensures kept { OnErr result (out.new.items ≡ out.old.items) }
 {
     let size = body_size(segment);
     // All memory first, so that no part of a segment is left where there is none.
@@ -137,7 +144,8 @@ fn frame_bytes(kind: u8, page: u16, size: u16) -> [u8; HEAD]
 fn put_body(out: &mut Vec<u8>, segment: &SegmentOut<'_>)
     requires fits { FitsFields (written_body (value_of segment.now)) }
     requires right { IsRight (value_of segment.now) }
-    requires room { vec_len out.old + length (body_bytes (value_of segment.now)) ≤ vec_capacity out.old }
+    requires room { vec_len out.old + length (body_bytes (value_of segment.now))
+        ≤ vec_capacity out.old }
     ensures { out.new.items ≡ out.old.items ++ body_bytes (value_of segment.now) }
 {
     match segment {
@@ -230,7 +238,9 @@ fn depth_number(depth: Depth) -> u8
 fn put_page(out: &mut Vec<u8>, time_out: u8, version: u8, state: State, entries: &[PageEntry])
     requires version { version < 16 }
     requires room { vec_len out.old + 2 + 6 * length entries.now ≤ vec_capacity out.old }
-    ensures { out.new.items ≡ out.old.items ++ page_bytes (record { time_out = time_out; version = version; state = state; entries = entries.now }) }
+    ensures { out.new.items ≡ out.old.items
+        ++ page_bytes
+        (record { time_out = time_out; version = version; state = state; entries = entries.now }) }
 {
     append(out, &[time_out, version * 16 + state_number(state) * 4 + 3]);
     for entry in entries {
@@ -269,7 +279,8 @@ fn put_region(out: &mut Vec<u8>, head: &RegionHead, listings: &[Listing])
     requires code2 { head.now.code2 < 4 }
     requires places { All (λ listing. listing.y < 4096) listings.now }
     requires room { vec_len out.old + 10 + 6 * length listings.now ≤ vec_capacity out.old }
-    ensures { out.new.items ≡ out.old.items ++ region_bytes (record { head = head.now; listings = listings.now }) }
+    ensures { out.new.items ≡ out.old.items
+        ++ region_bytes (record { head = head.now; listings = listings.now }) }
 {
     append(out, &head_bytes(head));
     for listing in listings {
@@ -281,7 +292,8 @@ fn put_region(out: &mut Vec<u8>, head: &RegionHead, listings: &[Listing])
 fn put_clut(out: &mut Vec<u8>, clut: u8, version: u8, entries: &[ClutEntry])
     requires version { version < 16 }
     requires room { vec_len out.old + 2 + 6 * length entries.now ≤ vec_capacity out.old }
-    ensures { out.new.items ≡ out.old.items ++ clut_bytes (record { clut = clut; version = version; entries = entries.now }) }
+    ensures { out.new.items ≡ out.old.items
+        ++ clut_bytes (record { clut = clut; version = version; entries = entries.now }) }
 {
     append(out, &[clut, version * 16 + 15]);
     for entry in entries {
@@ -305,12 +317,14 @@ fn object_head_bytes(object: &ObjectSeg<'_>) -> [u8; 7]
     [id[0], id[1], flags, top[0], top[1], bottom[0], bottom[1]]
 }
 
-/// Appends the body of an object, for which there is room. A byte 00 makes the segment's length even.
+/// Appends the body of an object, for which there is room. A byte 00 makes the segment's length
+/// even.
 fn put_object(out: &mut Vec<u8>, object: &ObjectSeg<'_>)
     requires version { object.now.version < 16 }
     requires top { length object.now.top.now < 65536 }
     requires bottom { length object.now.bottom.now < 65536 }
-    requires room { vec_len out.old + length (object_bytes (object_value object.now)) ≤ vec_capacity out.old }
+    requires room { vec_len out.old + length (object_bytes (object_value object.now))
+        ≤ vec_capacity out.old }
     ensures { out.new.items ≡ out.old.items ++ object_bytes (object_value object.now) }
 {
     append(out, &object_head_bytes(object));
@@ -338,7 +352,9 @@ fn put_display(out: &mut Vec<u8>, version: u8, width: u32, height: u32)
     requires high { 1 ≤ height }
     requires height { height - 1 < 65536 }
     requires room { vec_len out.old + 5 ≤ vec_capacity out.old }
-    ensures { out.new.items ≡ out.old.items ++ display_bytes (record { version = version; width = width; height = height; window = None }) }
+    ensures { out.new.items ≡ out.old.items
+        ++ display_bytes
+        (record { version = version; width = width; height = height; window = None }) }
 {
     let (width, height) = (word((width - 1) as u16), word((height - 1) as u16));
     append(

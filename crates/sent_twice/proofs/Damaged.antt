@@ -1,6 +1,6 @@
 -- A packet of the PID with an error flag is a loss, and its counter is not looked at.
-use Rattle.std.proofs.Common.{◌≡◌, ◌∙◌, ℕ, Bool, true, false, ◌&&◌, not, cond, eqb, List, [], ◌∷◌, ◌++◌, length, Option, Some, None, refl, sym, ap, arith, append_assoc}
-use Rattle.std.proofs.lemmas.Bool.Decides.{nat_tests}
+use Rattle.std.proofs.Common.{◌≡◌, ◌∙◌, ℕ, Bool, true, false, ◌&&◌, not, cond, eqb, List, [], ◌∷◌, ◌++◌, length, Option, Some, None, refl, sym, ap, append_assoc}
+use Rattle.std.proofs.lemmas.Bool.{eq-eqb}
 use Rattle.stream_syntax.specs.TransportPackets.{pid_of, has_error_flag, has_payload, has_start_flag, counter_of, payload_of, packet_fault}
 use Rattle.stream_syntax.specs.Units.{is_payload, last_counter, succession, Breaks, payload_part, part_after, hand_after, unit_after, unit_at, payload_event, event_after, event_at}
 use Rattle.stream_syntax.specs.declared.transport.Event.TheVariants as event
@@ -8,10 +8,6 @@ use Rattle.ts_packets.proofs.UnitLemmas.{counter_push}
 use Rattle.decoder_model.specs.Arrivals.{loss, losses_at, units_at, arrivals_at, packets_taken, arrivals_of}
 use Rattle.display_sets.proofs.PacketLaws.{arrivals_grow}
 use Rattle.sent_twice.proofs.Copies.{own_counter, is_double, brings_nothing}
-
--- a PID is the one that it equals
-same_pid : (one other : ℕ) → one ≡ other → eqb one other ≡ true
-same_pid one other e = grind (arith, nat_tests)
 
 flagged_event : (pid size : ℕ) (last : Option ℕ) (hand : Option (List ℕ)) (packet : List ℕ) → pid_of packet ≡ pid
     → has_error_flag packet ≡ true → event_after pid size last hand packet ≡ event.ErrorFlag
@@ -21,7 +17,7 @@ flagged_event pid size last hand packet own flag =
     (cond (has_error_flag packet) event.ErrorFlag
     (cond (not (has_payload packet)) event.NoPayload
     (payload_event size hand (succession last (counter_of packet)) (has_start_flag packet) (payload_of packet)))))
-    (same_pid (pid_of packet) pid own)
+    (eq-eqb (pid_of packet) pid own)
     ∙ ap (λ flagged. cond flagged event.ErrorFlag
     (cond (not (has_payload packet)) event.NoPayload
     (payload_event size hand (succession last (counter_of packet)) (has_start_flag packet) (payload_of packet))))
@@ -34,7 +30,7 @@ flagged_part pid last packet own flag =
     ap (λ same. cond (not same) None (cond (has_error_flag packet) (Some Breaks)
     (cond (not (has_payload packet)) None
     (payload_part (succession last (counter_of packet)) (has_start_flag packet) (payload_of packet)))))
-    (same_pid (pid_of packet) pid own)
+    (eq-eqb (pid_of packet) pid own)
     ∙ ap (λ flagged. cond flagged (Some Breaks)
     (cond (not (has_payload packet)) None
     (payload_part (succession last (counter_of packet)) (has_start_flag packet) (payload_of packet)))) flag

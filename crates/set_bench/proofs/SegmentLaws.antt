@@ -12,7 +12,7 @@ use Rattle.stream_syntax.specs.declared.clut.ClutEntry.{ClutEntry}
 use Rattle.segments.specs.Writing.{padding_bytes}
 use Rattle.segments.proofs.Sizes.{clut_entries_size}
 use Rattle.set_coder.proofs.WritableLaws.{writable, flag_small}
-use Rattle.set_bench.specs.Sent.{IsSent}
+use Rattle.set_bench.specs.Private.Sent.{IsSent}
 
 fits_entries : (entries : List ClutEntry) → All IsSent entries → FitsFields (flat_map coded_entry_fields (map in_full entries))
 fits_entries [] sent = tt

@@ -1,5 +1,5 @@
-//! Pictures of text: words in the letters of examples/subtitle.bdf, three times as large and smoothed. Each pixel is the mean of
-//! the nine about it, by so many levels as the depth has codes.
+//! Pictures of text: words in the letters of examples/subtitle.bdf, three times as large and
+//! smoothed. Each pixel is the mean of the nine about it, by so many levels as the depth has codes.
 
 ghost use Rattle.std.specs.Prelude.{◌≡◌, ◌≤◌, ◌<◌, IfOk};
 

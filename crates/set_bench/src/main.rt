@@ -1,7 +1,9 @@
-//! A benchmark: display sets of a text picture, as many as the one word says, each with a later time and new versions. They are
-//! read, which tests their segments and keeps nothing; their runs are read, which nobody paints; a page memory takes them; and
-//! one takes them and makes all rows of the display behind each. It tells on standard error how many sets a second that was.
-//! Standard output has the counts, which are the same in each run.
+//! A benchmark: display sets of a text picture, as many as the one word says, each with a later
+//! time and new versions. They are read, which tests their segments and keeps nothing; their runs
+//! are read, which nobody paints; a page memory takes them; and one takes them and makes all rows
+//! of the display behind each. It tells on standard error how many sets a second that was. Standard
+//! output has the counts, which are the same in each run. Where there is a second word, all sets
+//! are written to the file of that name, so that another decoder can be measured with them.
 #![tactic(auto)]
 
 // The pictures, and the display sets that show them.
@@ -20,6 +22,8 @@ use segments::State;
 use sets::{PAGE, append_set};
 use std::alloc::Global;
 use std::env;
+use std::fs::File;
+use std::io::Write;
 use std::time::Instant;
 use sub_base::{CLEAR, Colour, Depth, Profile, ProfileName};
 use taking::{read_runs, read_sets, sum_of_rows, take_and_draw, take_sets};
@@ -41,31 +45,53 @@ fn main(rt: HostRuntime) -> Result<()> {
             .context("the word is no number")?,
         None => 20,
     };
+    let mut file = match env::args(&rt)?.nth(2) {
+        Some(path) => Some(File::create(&rt, path.as_str())?),
+        None => None,
+    };
     for depth in [Depth::Eight, Depth::Four, Depth::Two] {
-        measure(&rt, ProfileName::Sd, 720, 80, depth, times)?;
+        let sets = told_sets(&rt, 720, 80, depth, &mut file)?;
+        measure(&rt, ProfileName::Sd, sets.as_slice(), times)?;
     }
-    measure(&rt, ProfileName::Large, 1_920, 160, Depth::Eight, times)
+    let sets = told_sets(&rt, 1_920, 160, Depth::Eight, &mut file)?;
+    measure(&rt, ProfileName::Large, sets.as_slice(), times)
 }
 
-/// Takes sets with pictures of these sides and that depth.
-fn measure(
+/// Sets with pictures of these sides and that depth, which are told, and written to the file where
+/// there is one.
+fn told_sets(
     rt: &HostRuntime,
-    profile: ProfileName,
     width: u16,
     height: u16,
     depth: Depth,
-    times: u32,
-) -> Result<()>
+    file: &mut Option<File>,
+) -> Result<Vec<Vec<u8>>>
     requires wide { 1 ≤ width }
     requires high { 1 ≤ height }
 {
     let sets = display_sets(rt.alloc(), width, height, depth)?;
     println!(rt; "{depth:?}, {width} by {height}:")?;
     eprintln!(rt; "{depth:?}, {width} by {height}:")?;
-    read(rt, sets.as_slice(), times)?;
-    read_with_runs(rt, sets.as_slice(), times)?;
-    take_alone(rt, profile, sets.as_slice(), times)?;
-    take_with_rows(rt, profile, sets.as_slice(), times)
+    if let Some(file) = file {
+        write_sets(file, sets.as_slice())?;
+    }
+    Ok(sets)
+}
+
+/// Writes the bytes of sets to a file, one set after another.
+fn write_sets(file: &mut File, sets: &[Vec<u8>]) -> Result<()> {
+    for set in sets {
+        file.write_all(set.as_slice())?;
+    }
+    Ok(())
+}
+
+/// Reads sets, takes them, and takes and draws them.
+fn measure(rt: &HostRuntime, profile: ProfileName, sets: &[Vec<u8>], times: u32) -> Result<()> {
+    read(rt, sets, times)?;
+    read_with_runs(rt, sets, times)?;
+    take_alone(rt, profile, sets, times)?;
+    take_with_rows(rt, profile, sets, times)
 }
 
 /// Reads sets, which nobody takes.

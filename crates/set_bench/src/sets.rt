@@ -1,8 +1,8 @@
 //! The bytes of a display set (EN 300 743, clause 7.2) whose one region shows a picture.
 
 ghost use Rattle.std.specs.Prelude.{◌<◌, ◌≤◌, All, IfOk, OnOk, length};
-ghost use Rattle.set_bench.specs.Appended.{IsAppended};
-ghost use Rattle.set_bench.specs.Sent.{IsSent};
+ghost use Rattle.set_bench.specs.Private.Appended.{IsAppended};
+ghost use Rattle.set_bench.specs.Private.Sent.{IsSent};
 
 use anyhow::{Context, Result, ensure};
 use indexed_picture::Indexed;
@@ -17,7 +17,8 @@ use sub_base::{Colour, Depth};
 /// The page id.
 pub const PAGE: u16 = 1;
 
-/// Appends a set: the display, the page, its region with a fill, all colours of its CLUT, the picture as an object, and the end.
+/// Appends a set: the display, the page, its region with a fill, all colours of its CLUT, the
+/// picture as an object, and the end.
 pub fn append_set(picture: &Indexed, state: State, version: u8, out: &mut Vec<u8>) -> Result<()>
     requires { version < 16 }
     ensures appended { OnOk result (IsAppended out.old.items out.new.items) }

@@ -25,7 +25,8 @@ fn segments_in(bytes: &[u8]) -> u64 {
     segments
 }
 
-/// Reads the segments of so many sets, and the runs of their objects, which nobody paints, and says how many pixels these have.
+/// Reads the segments of so many sets, and the runs of their objects, which nobody paints, and says
+/// how many pixels these have.
 pub fn read_runs(sets: &[Vec<u8>], times: u32) -> u64 {
     let mut pixels = 0u64;
     for pts in 0..times {
@@ -79,7 +80,8 @@ pub fn take_sets(core: &mut Core, sets: &[Vec<u8>], times: u32) -> u32 {
     shown
 }
 
-/// Takes so many sets, a tick apart, makes all rows of the display behind each, and says how many were shown.
+/// Takes so many sets, a tick apart, makes all rows of the display behind each, and says how many
+/// were shown.
 pub fn take_and_draw(core: &mut Core, sets: &[Vec<u8>], times: u32, row: &mut [Colour]) -> u32 {
     let mut shown = 0u32;
     for pts in 0..times {

@@ -8,7 +8,7 @@ use Rattle.stream_syntax.specs.PixelBlocks.{Part, string, table, line_end, IsPar
 use Rattle.stream_syntax.specs.FieldBlocks.{AreFieldBlocks, DrawsPicture}
 use Rattle.stream_syntax.specs.SegmentTests.{AreBlocks}
 use Rattle.stream_syntax.specs.declared.pixel_run.Run.{Run}
-use Rattle.set_coder.specs.BothBlocks.{AreBothBlocks}
+use Rattle.set_coder.specs.Private.BothBlocks.{AreBothBlocks}
 
 -- no string is deeper than eight bits
 not_deeper : (depth : Depth) → IsNoDeeper depth Eight

@@ -13,7 +13,7 @@ use Rattle.stream_syntax.specs.FieldBlocks.{identity_table, IsRowBlock, AreRowBl
 use Rattle.pixel_codes.proofs.RowStrings.{row_size}
 use Rattle.pixel_codes.proofs.Sizes.{one_row_size}
 use Rattle.pixel_codes.specs.Lists.{Extends}
-use Rattle.set_coder.specs.Rows.{IsRowOf, AreRows, room_of}
+use Rattle.set_coder.specs.Private.Rows.{IsRowOf, AreRows, room_of}
 
 -- ---- a field, row by row
 

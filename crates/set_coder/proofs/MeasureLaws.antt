@@ -12,9 +12,9 @@ use Rattle.pes_packets.specs.Units.{AreUnitLengths, unit_length}
 use Rattle.pes_packets.proofs.SharingLaws.{shared_sum}
 use Rattle.cue_list.specs.declared.script.Script.{Script}
 use Rattle.page_epoch.specs.declared.planned_set.PlannedSet.{PlannedSet}
-use Rattle.set_coder.specs.Measuring.{IsGreatest}
+use Rattle.set_coder.specs.Private.Measuring.{IsGreatest}
 use Rattle.set_coder.specs.SetSizes.{leading_sizes, AreSegmentSizes, AreUnitSizes, IsSetSize, IsLongestSegment}
-use Rattle.set_coder.specs.SizesLeft.{AreSizesLeft, IsNextSize}
+use Rattle.set_coder.specs.Private.SizesLeft.{AreSizesLeft, IsNextSize}
 use Rattle.set_coder.specs.declared.segment_sizes.SegmentSizes.{SegmentSizes}
 
 -- these have been measured, and with those that are left they are all segments of the set

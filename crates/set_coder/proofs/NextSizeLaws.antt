@@ -8,7 +8,7 @@ use Rattle.page_epoch.specs.Sendable.{HasCue}
 use Rattle.page_epoch.specs.declared.planned_set.SentClut.{SentClut}
 use Rattle.page_epoch.specs.declared.planned_set.SentRegion.{SentRegion}
 use Rattle.set_coder.specs.SetSizes.{region_size, clut_size, IsObjectSize, AreObjectSizes}
-use Rattle.set_coder.specs.SizesLeft.{IsMeasurable, IsNextSize}
+use Rattle.set_coder.specs.Private.SizesLeft.{IsMeasurable, IsNextSize}
 use Rattle.set_coder.specs.declared.segment_sizes.SegmentSizes.{SegmentSizes}
 
 -- those that are left, by what they are

@@ -21,9 +21,9 @@ use Rattle.cue_list.specs.declared.epoch.Epoch.{Epoch}
 use Rattle.cue_list.specs.declared.epoch.Region.{Region}
 use Rattle.page_epoch.specs.Live.{cue_at}
 use Rattle.page_epoch.specs.Sendable.{HasCue}
-use Rattle.set_coder.specs.SetSegments.{region_of, picture_of_cue, depth_of_cue, object_of, IsObjectOf, AreObjectsOf}
+use Rattle.set_coder.specs.SetSegments.{epoch_region, picture_of_cue, depth_of_cue, object_segment, IsObjectOf, AreObjectsOf}
 use Rattle.set_coder.specs.SetSizes.{made_even, IsObjectSize, AreObjectSizes}
-use Rattle.set_coder.specs.Usable.{IsDrawable, AreDrawable}
+use Rattle.set_coder.specs.Private.Usable.{IsDrawable, AreDrawable}
 use Rattle.set_coder.proofs.FieldLaws.{field_size, one_sizes}
 use Rattle.set_coder.proofs.WritableLaws.{writable, spelled_length, flag_small}
 
@@ -47,23 +47,23 @@ padding_size n = by (eqb (n % 2) 1) refl
 -- an object that is short enough can be written, and has its head, its own seven bytes and its blocks, made even
 pub object_writable : (page object : ℕ) (see_through : Bool) (top bottom : List ℕ) → page < 2 ^ 16 → object < 2 ^ 16 → AreBlocks top bottom → ((i : ℕ) → get_or top i 0 < 256) → ((i : ℕ) → get_or bottom i 0 < 256)
     → length top + length bottom ≤ 65528 → made_even (13 + length top + length bottom) ≤ 65541
-    → IsWritable page (object_of object see_through top bottom) × (length (spelled page (object_of object see_through top bottom)) ≡ made_even (13 + length top + length bottom))
+    → IsWritable page (object_segment object see_through top bottom) × (length (spelled page (object_segment object see_through top bottom)) ≡ made_even (13 + length top + length bottom))
 object_writable page object see_through top bottom page_fits object_fits blocks each_top each_bottom few even =
     let padded = is_odd (record { object = object; version = 0; see_through = see_through; top = top; bottom = bottom }) in
     let body : FitsFields (object_fields padded (record { object = object; version = 0; see_through = see_through; top = top; bottom = bottom })) =
     (object_fits, (omega arith, (omega arith, (flag_small see_through, (tt, (omega arith, (omega arith, fits_bytes top _ each_top (fits_bytes bottom _ each_bottom (fits_padding padded))))))))) in
     let pad : length (padding_bytes padded) ≡ (13 + length top + length bottom) % 2 = padding_size (13 + length top + length bottom) in
     let rest : length (top ++ (bottom ++ padding_bytes padded)) ≡ length top + (length bottom + length (padding_bytes padded)) = length-append top (bottom ++ padding_bytes padded) ∙ ap (λ (n : ℕ). length top + n) (length-append bottom (padding_bytes padded)) in
-    let whole = writable page (object_of object see_through top bottom) page_fits body (omega (arith, pad, rest)) blocks tt in
+    let whole = writable page (object_segment object see_through top bottom) page_fits body (omega (arith, pad, rest)) blocks tt in
     (whole, spelled_length page _ whole ∙ omega (arith, pad, rest))
 
 -- an object that can be written has that many bytes
-pub object_length : (page object : ℕ) (see_through : Bool) (top bottom : List ℕ) → IsWritable page (object_of object see_through top bottom) → length (spelled page (object_of object see_through top bottom)) ≡ made_even (13 + length top + length bottom)
+pub object_length : (page object : ℕ) (see_through : Bool) (top bottom : List ℕ) → IsWritable page (object_segment object see_through top bottom) → length (spelled page (object_segment object see_through top bottom)) ≡ made_even (13 + length top + length bottom)
 object_length page object see_through top bottom whole =
     let padded = is_odd (record { object = object; version = 0; see_through = see_through; top = top; bottom = bottom }) in
     let pad : length (padding_bytes padded) ≡ (13 + length top + length bottom) % 2 = padding_size (13 + length top + length bottom) in
     let rest : length (top ++ (bottom ++ padding_bytes padded)) ≡ length top + (length bottom + length (padding_bytes padded)) = length-append top (bottom ++ padding_bytes padded) ∙ ap (λ (n : ℕ). length top + n) (length-append bottom (padding_bytes padded)) in
-    spelled_length page (object_of object see_through top bottom) whole ∙ omega (arith, pad, rest)
+    spelled_length page (object_segment object see_through top bottom) whole ∙ omega (arith, pad, rest)
 
 -- ---- the object of a cue
 
@@ -73,23 +73,23 @@ same_item xs i d e h = sym (get_or_from_slice_get xs i (get_or xs i d) e (slice_
 
 -- the picture of a cue and the depth of its region
 pub object_named : (pictures seen : List Picture) (epoch : Epoch) (place : ℕ) (cue : Cue) (picture : Picture) (region : Region) → AreDrawable pictures epoch → HasCue epoch place → cue ≡ cue_at epoch.cues place
-    → seen ≡ pictures → picture ≡ get_or seen cue.picture picture → region ≡ region_of epoch cue.region → (picture ≡ picture_of_cue pictures epoch place) × (region.depth ≡ depth_of_cue epoch place)
+    → seen ≡ pictures → picture ≡ get_or seen cue.picture picture → region ≡ epoch_region epoch cue.region → (picture ≡ picture_of_cue pictures epoch place) × (region.depth ≡ depth_of_cue epoch place)
 object_named pictures seen epoch place cue picture region drawable has named same is found =
     let here : IsDrawable pictures epoch (cue_at epoch.cues place) = drawable place _ has in
     let number : cue.picture ≡ (cue_at epoch.cues place).picture = ap (λ (c : Cue). c.picture) named in (
       is ∙ ap (λ (xs : List Picture). get_or xs cue.picture picture) same ∙ ap (λ (n : ℕ). get_or pictures n picture) number ∙ same_item pictures (cue_at epoch.cues place).picture picture (picture_of 0 0 Two []) here.picture,
-      ap (λ (r : Region). r.depth) found ∙ ap (λ (c : Cue). (region_of epoch c.region).depth) named,
+      ap (λ (r : Region). r.depth) found ∙ ap (λ (c : Cue). (epoch_region epoch c.region).depth) named,
     )
 
 -- the object with these blocks is that of the cue
 pub object_is : (pictures : List Picture) (epoch : Epoch) (place : ℕ) (cue : Cue) (picture : Picture) (depth : Depth) (top bottom : List ℕ) → cue ≡ cue_at epoch.cues place → picture ≡ picture_of_cue pictures epoch place → depth ≡ depth_of_cue epoch place
-    → AreFieldBlocks picture depth top bottom → DrawsPicture picture depth top bottom → IsObjectOf pictures epoch place (object_of place cue.see_through top bottom)
+    → AreFieldBlocks picture depth top bottom → DrawsPicture picture depth top bottom → IsObjectOf pictures epoch place (object_segment place cue.see_through top bottom)
 object_is pictures epoch place cue picture depth top bottom named p d blocks drawn = record {
   top = top;
   bottom = bottom;
   blocks = subst (λ (x : Picture). AreFieldBlocks x (depth_of_cue epoch place) top bottom) p (subst (λ (x : Depth). AreFieldBlocks picture x top bottom) d blocks);
   drawn = subst (λ (x : Picture). DrawsPicture x (depth_of_cue epoch place) top bottom) p (subst (λ (x : Depth). DrawsPicture picture x top bottom) d drawn);
-  value = ap (λ (c : Cue). object_of place c.see_through top bottom) named;
+  value = ap (λ (c : Cue). object_segment place c.see_through top bottom) named;
 }
 
 pub block_sizes : (picture : Picture) (region : Depth) (top bottom : List ℕ) → AreFieldBlocks picture region top bottom → AreFieldSizes picture region (length top) (length bottom)

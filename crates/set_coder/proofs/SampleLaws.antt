@@ -9,7 +9,7 @@ use Rattle.sub_base.specs.declared.depth.Depth.{Depth}
 use Rattle.sub_base.specs.declared.depth.Depth.TheVariants.{Four}
 use Rattle.cue_list.specs.Sound.{IsSound, IsEpoch, IsTick, IsRegion, AreApart, IsColourRow, IsCue, Follows, AreTicksApart, FitsRegion}
 use Rattle.cue_list.specs.declared.epoch.Epoch.{Epoch}
-use Rattle.set_coder.specs.Sample.{sample, sample_region, sample_colour, solid_cue, through_cue}
+use Rattle.set_coder.specs.Private.Sample.{sample, sample_region, sample_colour, solid_cue, through_cue}
 
 none : {X : Type 0} (P : X → Type 0) → All P []
 none P = λ k d h. absurd (omega arith)

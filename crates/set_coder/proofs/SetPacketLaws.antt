@@ -13,7 +13,7 @@ use Rattle.cue_list.specs.declared.script.Script.{Script}
 use Rattle.page_epoch.specs.declared.planned_set.PlannedSet.{PlannedSet}
 use Rattle.set_coder.specs.SetSegments.{segment_bytes, AreSetSegments, AreSetPackets}
 use Rattle.set_coder.specs.SetSizes.{leading_sizes, AreObjectSizes, AreSegmentSizes, AreUnitSizes, FitsPackets}
-use Rattle.set_coder.specs.UnitParts.{AreUnitParts, part_packet}
+use Rattle.set_coder.specs.Private.UnitParts.{AreUnitParts, part_packet}
 use Rattle.set_coder.proofs.SetSizeLaws.{one_epoch, one_segment_sizes}
 use Rattle.set_coder.proofs.UnitPartLaws.{parts_are, packets_are, packets_sized}
 use Rattle.set_coder.proofs.WrittenSizes.{All_front, All_back, All_of_map, segments_sized}

@@ -12,7 +12,7 @@ use Rattle.cue_list.specs.declared.epoch.Epoch.{Epoch}
 use Rattle.cue_list.specs.declared.script.Script.{Script}
 use Rattle.page_epoch.specs.declared.planned_set.PlannedSet.{PlannedSet}
 use Rattle.set_coder.specs.SetSegments.{picture_of_cue, depth_of_cue}
-use Rattle.set_coder.specs.SetSizes.{made_even, leading_sizes, painting_of, IsObjectSize, AreObjectSizes, AreSegmentSizes, AreUnitSizes, IsSetSize, IsLongestSegment, IsPaintedIn, IsSetLoad}
+use Rattle.set_coder.specs.SetSizes.{made_even, leading_sizes, sent_painting, IsObjectSize, AreObjectSizes, AreSegmentSizes, AreUnitSizes, IsSetSize, IsLongestSegment, IsPaintedIn, IsSetLoad}
 use Rattle.set_coder.proofs.FieldLaws.{one_sizes}
 
 one_object_size : (pictures : List Picture) (epoch : Epoch) (place size other : ℕ) → IsObjectSize pictures epoch place size → IsObjectSize pictures epoch place other → size ≡ other
@@ -67,7 +67,7 @@ one_longest script set longest other p q =
 
 one_painted : (script : Script) (set : PlannedSet) (painted other : ℕ) → IsPaintedIn script set painted → IsPaintedIn script set other → painted ≡ other
 one_painted script set painted other p q =
-    p.sum ∙ ap (λ (epoch : Epoch). sum_by (painting_of epoch) set.regions) (one_epoch p.epoch q.epoch (sym p.found ∙ q.found)) ∙ sym q.sum
+    p.sum ∙ ap (λ (epoch : Epoch). sum_by (sent_painting epoch) set.regions) (one_epoch p.epoch q.epoch (sym p.found ∙ q.found)) ∙ sym q.sum
 
 pub one_load : (script : Script) (set : PlannedSet) (load other : WriteLoad) → IsSetLoad script set load → IsSetLoad script set other → load ≡ other
 one_load script set load other p q =

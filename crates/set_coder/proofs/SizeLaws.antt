@@ -4,7 +4,7 @@ use Rattle.std.proofs.lemmas.List.Elements.{All-head, All-tail}
 use Rattle.sub_base.specs.declared.depth.Depth.{Depth}
 use Rattle.stream_syntax.specs.PixelCodes.{IsRowSize}
 use Rattle.stream_syntax.specs.FieldBlocks.{identity_table, AreRowSizes, IsFieldSize}
-use Rattle.set_coder.specs.Rows.{IsRowOf, AreRows, room_of}
+use Rattle.set_coder.specs.Private.Rows.{IsRowOf, AreRows, room_of}
 
 -- the rows so far, with one more
 pub rows_more : (depth : Depth) (left next rows : List (List ℕ)) (row : List ℕ) (size here : ℕ) → AreRows depth left → left ≡ row ∷ next → IsRowSize depth row here → here ≤ 2 * length row + 3

@@ -12,7 +12,7 @@ use Rattle.stream_syntax.specs.declared.wire.TheConstants.{TIME_ROUND}
 use Rattle.pes_packets.specs.Units.{IsOneUnit, AreUnits, IsSharedOut, unit_length}
 use Rattle.pes_packets.specs.declared.units.TheConstants.{OTHER_BYTES}
 use Rattle.set_coder.specs.SetSegments.{segment_bytes, unit_packet}
-use Rattle.set_coder.specs.UnitParts.{AreUnitParts, part_packet}
+use Rattle.set_coder.specs.Private.UnitParts.{AreUnitParts, part_packet}
 use Rattle.set_coder.proofs.WrittenSizes.{All_front, All_back}
 
 -- ---- one part after the other

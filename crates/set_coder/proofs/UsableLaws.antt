@@ -18,8 +18,8 @@ use Rattle.page_epoch.specs.Sendable.{HasRegion}
 use Rattle.cue_list.specs.declared.epoch.Cue.{Cue}
 use Rattle.cue_list.specs.declared.epoch.Epoch.{Epoch}
 use Rattle.cue_list.specs.declared.epoch.Region.{Region}
-use Rattle.set_coder.specs.SetSegments.{region_or_none, region_of}
-use Rattle.set_coder.specs.Usable.{IsUsable, IsUsableRegion, IsUsablePlace, IsDrawable, AreDrawable}
+use Rattle.set_coder.specs.SetSegments.{region_or_none, epoch_region}
+use Rattle.set_coder.specs.Private.Usable.{IsUsable, IsUsableRegion, IsUsablePlace, IsDrawable, AreDrawable}
 
 -- ---- what a search finds
 
@@ -104,10 +104,10 @@ usable origin width height refresh place epochs pictures epoch sound found =
     ∥∥₁_elim sound (usable_prop pictures epoch) (usable_from origin width height refresh place epochs pictures epoch found)
 
 -- the region of a number that an epoch has
-pub usable_region : (epoch : Epoch) (id : ℕ) → IsUsable epoch → HasRegion epoch id → IsUsableRegion (region_of epoch id) × (id ≤ 255)
+pub usable_region : (epoch : Epoch) (id : ℕ) → IsUsable epoch → HasRegion epoch id → IsUsableRegion (epoch_region epoch id) × (id ≤ 255)
 usable_region epoch id u has = by (find (λ (region : Region). eqb region.id id) epoch.regions) refl
   where
-    by : (o : Option Region) → find (λ (region : Region). eqb region.id id) epoch.regions ≡ o → IsUsableRegion (region_of epoch id) × (id ≤ 255)
+    by : (o : Option Region) → find (λ (region : Region). eqb region.id id) epoch.regions ≡ o → IsUsableRegion (epoch_region epoch id) × (id ≤ 255)
     by None e = absurd (let h = (rw e at has) in cc)
     by (Some region) e =
         let right = find_holds IsUsableRegion (λ (one : Region). eqb one.id id) epoch.regions region u.regions e in

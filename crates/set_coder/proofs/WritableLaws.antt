@@ -11,7 +11,7 @@ use Rattle.sub_base.specs.Picture.{Picture}
 use Rattle.sub_base.specs.declared.depth.Depth.{Depth}
 use Rattle.sub_base.specs.declared.depth.Depth.TheVariants.{Two, Four, Eight}
 use Rattle.stream_syntax.specs.Fields.{FitsFields}
-use Rattle.stream_syntax.specs.Segments.{SegmentValue, of_page, of_region, of_clut, of_object, of_display, end_of_set, passed_over, page_entry_fields, listing_fields, coded_entry_fields, in_full, flag, state_number, depth_number, written_body, byte_count, segment_kind, spelled, IsRight, AreShown, IsWritable}
+use Rattle.stream_syntax.specs.Segments.{SegmentValue, of_page, of_region, of_clut, of_object, of_display, end_of_set, passed_over, page_entry_fields, listing_fields, coded_entry_fields, in_full, flag, state_number, depth_number, written_body, byte_count, segment_kind, spelled, IsRight, HasShownColours, IsWritable}
 use Rattle.stream_syntax.specs.declared.clut.ClutEntry.{ClutEntry}
 use Rattle.stream_syntax.specs.declared.page.PageEntry.{PageEntry}
 use Rattle.stream_syntax.specs.declared.page.State.{State}
@@ -31,9 +31,9 @@ use Rattle.page_epoch.specs.Sendable.{HasRegion, HasCue, HasColour, IsSendableRe
 use Rattle.page_epoch.specs.declared.planned_set.PlannedSet.{PlannedSet}
 use Rattle.page_epoch.specs.declared.planned_set.SentClut.{SentClut}
 use Rattle.page_epoch.specs.declared.planned_set.SentRegion.{SentRegion}
-use Rattle.set_coder.specs.SetSegments.{region_of, display_of, time_out_of, page_entry_of, page_of, listing_of, region_segment_of, clut_entry_of, clut_segment_of, leading_segments}
+use Rattle.set_coder.specs.SetSegments.{epoch_region, display_segments, time_out_of, page_entry_of, page_segment, listing_of, region_segment_of, clut_entry_of, clut_segment_of, leading_segments}
 use Rattle.set_coder.specs.SetSizes.{region_size, clut_size}
-use Rattle.set_coder.specs.Usable.{IsUsable, IsUsableRegion, IsUsablePlace, IsUsableColour}
+use Rattle.set_coder.specs.Private.Usable.{IsUsable, IsUsableRegion, IsUsablePlace, IsUsableColour}
 use Rattle.set_coder.proofs.UsableLaws.{usable_region}
 
 -- the numbers of a script that segments have
@@ -55,7 +55,7 @@ kind_small value = elim value as (λ v. segment_kind v < 256) [
 ]
 
 -- a segment whose numbers fit, and whose body is short enough
-pub writable : (page : ℕ) (value : SegmentValue) → page < 2 ^ 16 → FitsFields (written_body value) → length (body_bytes value) < 65536 → IsRight value → AreShown value → IsWritable page value
+pub writable : (page : ℕ) (value : SegmentValue) → page < 2 ^ 16 → FitsFields (written_body value) → length (body_bytes value) < 65536 → IsRight value → HasShownColours value → IsWritable page value
 writable page value fits_page body short right shown =
     let size : byte_count (written_body value) < 2 ^ 16 = omega (arith, size_is value body, short) in
     record { fits = (omega arith, (kind_small value, (fits_page, (size, body)))); right = right; shown = shown }
@@ -114,7 +114,7 @@ abbrev pub head_of : SentRegion → Region → RegionHead
 head_of sent region =
     record { region = sent.id; version = sent.version; fill = sent.fill; width = region.width; height = region.height; depth = region.depth; clut = region.clut; code8 = 0; code4 = 0; code2 = 0 }
 
-pub region_writable : (epoch : Epoch) (page : ℕ) (sent : SentRegion) (region : Region) (listings : List Listing) → page < 2 ^ 16 → IsUsable epoch → IsSendableRegion epoch sent → region ≡ region_of epoch sent.id → listings ≡ map (listing_of epoch) sent.cues
+pub region_writable : (epoch : Epoch) (page : ℕ) (sent : SentRegion) (region : Region) (listings : List Listing) → page < 2 ^ 16 → IsUsable epoch → IsSendableRegion epoch sent → region ≡ epoch_region epoch sent.id → listings ≡ map (listing_of epoch) sent.cues
     → IsWritable page (of_region (record { head = head_of sent region; listings = listings })) × (length (spelled page (of_region (record { head = head_of sent region; listings = listings }))) ≡ region_size sent)
 region_writable epoch page sent region listings fits_page u s here same =
     let r = subst IsUsableRegion (sym here) (usable_region epoch sent.id u s.region).0 in
@@ -163,7 +163,7 @@ one_display script page fits_page sound =
     let right : IsRight (of_display (record { version = 0; width = script.width; height = script.height; window = None })) = (n.0, n.2, tt) in
     All-cons (IsWritable page) (of_display (record { version = 0; width = script.width; height = script.height; window = None })) [] (writable page (of_display (record { version = 0; width = script.width; height = script.height; window = None })) fits_page fits (omega arith) right tt) (λ k d h. absurd (omega arith))
 
-display_writable : (script : Script) (page : ℕ) (state : State) → page < 2 ^ 16 → ∥ IsSound script.origin script.width script.height script.refresh script.epochs script.pictures ∥₁ → All (IsWritable page) (display_of script state)
+display_writable : (script : Script) (page : ℕ) (state : State) → page < 2 ^ 16 → ∥ IsSound script.origin script.width script.height script.refresh script.epochs script.pictures ∥₁ → All (IsWritable page) (display_segments script state)
 display_writable script page Normal fits_page sound = λ k d h. absurd (omega arith)
 display_writable script page Acquisition fits_page sound = one_display script page fits_page sound
 display_writable script page ModeChange fits_page sound = one_display script page fits_page sound
@@ -172,7 +172,7 @@ regions_writable : (epoch : Epoch) (page : ℕ) (regions : List SentRegion) → 
 regions_writable epoch page [] fits_page u each = λ k d h. absurd (omega arith)
 regions_writable epoch page (sent ∷ regions) fits_page u each =
     All-cons (IsWritable page) (region_segment_of epoch sent) (map (region_segment_of epoch) regions)
-    (region_writable epoch page sent (region_of epoch sent.id) (map (listing_of epoch) sent.cues) fits_page u (All-head (IsSendableRegion epoch) sent regions each) refl refl).0
+    (region_writable epoch page sent (epoch_region epoch sent.id) (map (listing_of epoch) sent.cues) fits_page u (All-head (IsSendableRegion epoch) sent regions each) refl refl).0
     (regions_writable epoch page regions fits_page u (All-tail (IsSendableRegion epoch) sent regions each))
 
 cluts_writable : (epoch : Epoch) (page : ℕ) (cluts : List SentClut) → page < 2 ^ 16 → IsUsable epoch → All (IsSendableClut epoch) cluts → All (IsWritable page) (map (clut_segment_of epoch) cluts)
@@ -187,9 +187,9 @@ pub leading_writable : (script : Script) (epoch : Epoch) (page : ℕ) (set : Pla
 leading_writable script epoch page set fits_page sound u s =
     let numbers = script_numbers script.origin script.width script.height script.refresh script.epochs script.pictures sound in
     let first = page_writable epoch page (time_out_of script) set.page_version set.state set.shown (map (page_entry_of epoch) set.shown) fits_page u (omega (arith, numbers.4)) s.page_version s.few_shown s.shown refl in
-    All-append (IsWritable page) (display_of script set.state) (page_of script epoch set ∷ (map (region_segment_of epoch) set.regions ++ map (clut_segment_of epoch) set.cluts))
+    All-append (IsWritable page) (display_segments script set.state) (page_segment script epoch set ∷ (map (region_segment_of epoch) set.regions ++ map (clut_segment_of epoch) set.cluts))
     (display_writable script page set.state fits_page sound)
-    (All-cons (IsWritable page) (page_of script epoch set) (map (region_segment_of epoch) set.regions ++ map (clut_segment_of epoch) set.cluts) first.0
+    (All-cons (IsWritable page) (page_segment script epoch set) (map (region_segment_of epoch) set.regions ++ map (clut_segment_of epoch) set.cluts) first.0
     (All-append (IsWritable page) (map (region_segment_of epoch) set.regions) (map (clut_segment_of epoch) set.cluts) (regions_writable epoch page set.regions fits_page u s.regions) (cluts_writable epoch page set.cluts fits_page u s.cluts)))
 
 pub end_writable : (page : ℕ) → page < 2 ^ 16 → IsWritable page end_of_set

@@ -14,7 +14,7 @@ use Rattle.page_epoch.specs.Live.{cue_at}
 use Rattle.page_epoch.specs.declared.planned_set.PlannedSet.{PlannedSet}
 use Rattle.page_epoch.specs.declared.planned_set.SentClut.{SentClut}
 use Rattle.page_epoch.specs.declared.planned_set.SentRegion.{SentRegion}
-use Rattle.set_coder.specs.SetSegments.{picture_of_cue, depth_of_cue, display_of, page_entry_of, page_of, listing_of, region_segment_of, clut_entry_of, clut_segment_of, leading_segments, object_of, IsObjectOf, AreObjectsOf, segment_bytes, AreSetSegments}
+use Rattle.set_coder.specs.SetSegments.{picture_of_cue, depth_of_cue, display_segments, page_entry_of, page_segment, listing_of, region_segment_of, clut_entry_of, clut_segment_of, leading_segments, object_segment, IsObjectOf, AreObjectsOf, segment_bytes, AreSetSegments}
 use Rattle.set_coder.specs.SetSizes.{display_sizes, page_size, region_size, clut_size, leading_sizes, IsObjectSize, AreObjectSizes, AreSegmentSizes}
 use Rattle.set_coder.proofs.ObjectLaws.{object_length, block_sizes}
 use Rattle.set_coder.proofs.WritableLaws.{spelled_length}
@@ -41,14 +41,14 @@ one_display script page all =
     let value = of_display (record { version = 0; width = script.width; height = script.height; window = None }) in
     ap (λ (n : ℕ). n ∷ []) (spelled_length page value (All-head (IsWritable page) value [] all) ∙ omega arith)
 
-displays_sized : (script : Script) (page : ℕ) (state : State) → All (IsWritable page) (display_of script state) → map (segment_bytes page) (display_of script state) ≡ display_sizes state
+displays_sized : (script : Script) (page : ℕ) (state : State) → All (IsWritable page) (display_segments script state) → map (segment_bytes page) (display_segments script state) ≡ display_sizes state
 displays_sized script page Normal all = refl
 displays_sized script page Acquisition all = one_display script page all
 displays_sized script page ModeChange all = one_display script page all
 
-page_sized : (script : Script) (epoch : Epoch) (page : ℕ) (set : PlannedSet) → IsWritable page (page_of script epoch set) → segment_bytes page (page_of script epoch set) ≡ page_size set
+page_sized : (script : Script) (epoch : Epoch) (page : ℕ) (set : PlannedSet) → IsWritable page (page_segment script epoch set) → segment_bytes page (page_segment script epoch set) ≡ page_size set
 page_sized script epoch page set whole =
-    spelled_length page (page_of script epoch set) whole ∙ omega (arith, page_entries_size (map (page_entry_of epoch) set.shown), length-map set.shown (page_entry_of epoch))
+    spelled_length page (page_segment script epoch set) whole ∙ omega (arith, page_entries_size (map (page_entry_of epoch) set.shown), length-map set.shown (page_entry_of epoch))
 
 region_sized : (epoch : Epoch) (page : ℕ) (sent : SentRegion) → IsWritable page (region_segment_of epoch sent) → segment_bytes page (region_segment_of epoch sent) ≡ region_size sent
 region_sized epoch page sent whole =
@@ -72,7 +72,7 @@ cluts_sized epoch page (sent ∷ cluts) all =
 
 object_sized : (pictures : List Picture) (epoch : Epoch) (page place : ℕ) (segment : SegmentValue) → IsObjectOf pictures epoch place segment → IsWritable page segment → IsObjectSize pictures epoch place (segment_bytes page segment)
 object_sized pictures epoch page place segment o whole =
-    let value = object_of place (cue_at epoch.cues place).see_through o.top o.bottom in (
+    let value = object_segment place (cue_at epoch.cues place).see_through o.top o.bottom in (
       length o.top,
       length o.bottom,
       block_sizes (picture_of_cue pictures epoch place) (depth_of_cue epoch place) o.top o.bottom o.blocks,
@@ -92,10 +92,10 @@ objects_sized pictures epoch page (place ∷ places) (segment ∷ objects) are a
 
 leading_sized : (script : Script) (epoch : Epoch) (page : ℕ) (set : PlannedSet) → All (IsWritable page) (leading_segments script epoch set) → map (segment_bytes page) (leading_segments script epoch set) ≡ leading_sizes set
 leading_sized script epoch page set all =
-    let shown = display_of script set.state in
+    let shown = display_segments script set.state in
     let regions = map (region_segment_of epoch) set.regions in
     let cluts = map (clut_segment_of epoch) set.cluts in
-    let first = page_of script epoch set in
+    let first = page_segment script epoch set in
     let size = segment_bytes page in
     let behind : All (IsWritable page) (first ∷ (regions ++ cluts)) = All_back (IsWritable page) shown (first ∷ (regions ++ cluts)) all in
     let others : All (IsWritable page) (regions ++ cluts) = All-tail (IsWritable page) first (regions ++ cluts) behind in

@@ -1,6 +1,7 @@
 -- How many bytes the PES packets of a display set have, and how long its regions are painted.
-use Rattle.std.specs.Prelude.{◌≡◌, ℕ, ◌+◌, ◌*◌, ◌/◌, ◌%◌, ◌==◌, ◌≤◌, true, List, [], ◌∷◌, ◌++◌, length, map, sum, sum_by, All, Some, slice_get}
+use Rattle.std.specs.Prelude.{◌≡◌, ℕ, ◌+◌, ◌*◌, ◌%◌, ◌==◌, ◌≤◌, true, List, [], ◌∷◌, ◌++◌, length, map, sum, sum_by, All, Some, slice_get}
 use Rattle.std.specs.List.{AllZip, list_any}
+use Rattle.sub_base.specs.Pace.{painting_ticks}
 use Rattle.sub_base.specs.Picture.{Picture}
 use Rattle.sub_base.specs.declared.load.TheConstants.{UNIT_ROOM}
 use Rattle.sub_base.specs.declared.load.WriteLoad.{WriteLoad}
@@ -13,7 +14,7 @@ use Rattle.cue_list.specs.declared.script.Script.{Script}
 use Rattle.page_epoch.specs.declared.planned_set.PlannedSet.{PlannedSet}
 use Rattle.page_epoch.specs.declared.planned_set.SentClut.{SentClut}
 use Rattle.page_epoch.specs.declared.planned_set.SentRegion.{SentRegion}
-use Rattle.set_coder.specs.SetSegments.{region_of, picture_of_cue, depth_of_cue}
+use Rattle.set_coder.specs.SetSegments.{epoch_region, picture_of_cue, depth_of_cue}
 
 -- a set that is not normal has a display definition
 abbrev pub display_sizes : State → List ℕ
@@ -33,7 +34,8 @@ clut_size sent = 8 + 6 * length sent.rows
 
 -- the segments before the objects, in their order
 abbrev pub leading_sizes : PlannedSet → List ℕ
-leading_sizes set = display_sizes set.state ++ (page_size set ∷ (map region_size set.regions ++ map clut_size set.cluts))
+leading_sizes set =
+    display_sizes set.state ++ (page_size set ∷ (map region_size set.regions ++ map clut_size set.cluts))
 
 -- an odd number of bytes and one more, an even number as it is
 abbrev pub made_even : ℕ → ℕ
@@ -42,14 +44,16 @@ made_even size = size + size % 2
 -- the object of the cue at a place: thirteen bytes and its two blocks, made even
 abbrev pub IsObjectSize : List Picture → Epoch → ℕ → ℕ → Type 0
 IsObjectSize pictures epoch place size =
-    (top : ℕ) × (bottom : ℕ) × AreFieldSizes (picture_of_cue pictures epoch place) (depth_of_cue epoch place) top bottom × (size ≡ made_even (13 + top + bottom))
+    (top : ℕ) × (bottom : ℕ)
+    × AreFieldSizes (picture_of_cue pictures epoch place) (depth_of_cue epoch place) top bottom
+    × (size ≡ made_even (13 + top + bottom))
 
 -- the objects of the cues at these places
 abbrev pub AreObjectSizes : List Picture → Epoch → List ℕ → List ℕ → Type 0
 AreObjectSizes pictures epoch places sizes = AllZip (IsObjectSize pictures epoch) places sizes
 
--- These are the bytes of the segments of a set, in their order: those before the objects, the objects, and six bytes for the end
--- of the set.
+-- These are the bytes of the segments of a set, in their order: those before the objects, the objects, and six bytes
+-- for the end of the set.
 pub record AreSegmentSizes (script : Script) (set : PlannedSet) (sizes : List ℕ) : Type 0 where
   pub epoch : Epoch
   pub found : slice_get script.epochs set.epoch ≡ Some epoch
@@ -78,17 +82,18 @@ pub record IsLongestSegment (script : Script) (set : PlannedSet) (longest : ℕ)
   pub one : list_any (λ size. size == longest) sizes ≡ true
   pub greatest : All (λ size. size ≤ longest) sizes
 
--- the ticks that painting the region of a number takes: 64 pixels a tick, a started one counted whole
-abbrev pub painting_of : Epoch → SentRegion → ℕ
-painting_of epoch sent = ((region_of epoch sent.id).width * (region_of epoch sent.id).height + 63) / 64
+-- the ticks that painting a region that is sent takes
+abbrev pub sent_painting : Epoch → SentRegion → ℕ
+sent_painting epoch sent = painting_ticks (epoch_region epoch sent.id).width (epoch_region epoch sent.id).height
 
 -- the ticks that painting the regions of a set takes
 pub record IsPaintedIn (script : Script) (set : PlannedSet) (painted : ℕ) : Type 0 where
   pub epoch : Epoch
   pub found : slice_get script.epochs set.epoch ≡ Some epoch
-  pub sum : painted ≡ sum_by (painting_of epoch) set.regions
+  pub sum : painted ≡ sum_by (sent_painting epoch) set.regions
 
--- what sending the set takes: its presentation time, the bytes of its PES packets, how long it is painted, and its longest segment
+-- what sending the set takes: its presentation time, the bytes of its PES packets, how long it is painted, and its
+-- longest segment
 pub record IsSetLoad (script : Script) (set : PlannedSet) (load : WriteLoad) : Type 0 where
   pub time : load.load.pts ≡ set.pts
   pub units : AreUnitSizes script set load.units

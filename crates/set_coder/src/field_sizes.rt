@@ -1,7 +1,7 @@
 ghost use Rattle.std.specs.Prelude.{◌+◌, ◌*◌, ◌<◌, ◌≤◌, length};
 ghost use Rattle.sub_base.specs.Picture.{bottom_field};
 ghost use Rattle.stream_syntax.specs.FieldBlocks.{AreRowSizes, IsFieldSize, AreFieldSizes};
-ghost use Rattle.set_coder.specs.Rows.{AreRows, room_of};
+ghost use Rattle.set_coder.specs.Private.Rows.{AreRows, room_of};
 
 use crate::fields::table_bytes;
 use indexed_picture::{FieldRows, Indexed};
@@ -19,7 +19,8 @@ pub(crate) struct FieldSizes {
 pub(crate) fn field_sizes(picture: &Indexed, region: Depth) -> FieldSizes
     ensures sizes { AreFieldSizes picture.now region result.top result.bottom }
     ensures short { (result.top ≤ 4300000000) × (result.bottom ≤ 4300000000) }
-    ensures room { result.top + result.bottom ≤ 35 + picture.now.height * (3 * picture.now.width + 10) }
+    ensures room { result.top + result.bottom
+        ≤ 35 + picture.now.height * (3 * picture.now.width + 10) }
 {
     let top = field_size(picture.depth(), region, picture.top_rows());
     let bottom = if picture.fields_equal() {

@@ -12,15 +12,16 @@ use pixel_codes::is_no_deeper;
 use std::alloc::Global;
 use sub_base::{Depth, NoMemory};
 
-/// The largest coded data buffer of a receiver. A set with more bytes is refused, so no more of a picture are kept.
+/// The largest coded data buffer of a receiver. A set with more bytes is refused, so no more of a
+/// picture are kept.
 const MOST_BYTES: u64 = 262_144;
 
 /// A picture of fewer pixels has fewer bytes than that: it is not measured before it is coded.
 const FEW_PIXELS: u32 = 131_072;
 
 impl KeptBlocks {
-    /// Codes the pictures that the cues of a script show. Blocks of more bytes than the largest coded data buffer has
-    /// are not kept.
+    /// Codes the pictures that the cues of a script show. Blocks of more bytes than the largest
+    /// coded data buffer has are not kept.
     pub fn of_script(alloc: Global, script: &Script) -> Result<KeptBlocks, NoMemory>
         ensures { IfOk result (λ kept. AreCoded script.now.pictures kept.coded.items) }
     {
@@ -157,7 +158,8 @@ impl<'a> BlockLookup<'a> {
         }
     }
 
-    /// The blocks of a picture, where they are kept. That they are of these pictures is asked by the contract alone.
+    /// The blocks of a picture, where they are kept. That they are of these pictures is asked by
+    /// the contract alone.
     fn find(
         &self,
         _pictures: &[Indexed],
@@ -201,8 +203,10 @@ impl<'a> BlockLookup<'a> {
             × (out.new.items ≡ out.old.items ++ (top ++ bottom))
             × (lengths.top ≡ length top) × (lengths.bottom ≡ length bottom)
             × AreFieldBlocks picture.now region top bottom) }
-        ensures sizes { IfOk result (λ lengths. AreFieldSizes picture.now region lengths.top lengths.bottom) }
-        ensures only_sizes { IfOk result (λ lengths. (top : ℕ) (bottom : ℕ) → AreFieldSizes picture.now region top bottom
+        ensures sizes { IfOk result
+            (λ lengths. AreFieldSizes picture.now region lengths.top lengths.bottom) }
+        ensures only_sizes { IfOk result
+            (λ lengths. (top : ℕ) (bottom : ℕ) → AreFieldSizes picture.now region top bottom
             → (lengths.top ≡ top) × (lengths.bottom ≡ bottom)) }
         ensures drawn { IfOk result (λ lengths. (top : List ℕ) × (bottom : List ℕ)
             × (out.new.items ≡ out.old.items ++ (top ++ bottom))
@@ -229,7 +233,8 @@ impl<'a> BlockLookup<'a> {
         requires kept { AreCoded pictures.now self.now.coded.now }
         requires picture { picture.now ≡ slice_index_or pictures.now number picture.now }
         ensures sizes { AreFieldSizes picture.now region result.top result.bottom }
-        ensures room { result.top + result.bottom ≤ 35 + picture.now.height * (3 * picture.now.width + 10) }
+        ensures room { result.top + result.bottom
+            ≤ 35 + picture.now.height * (3 * picture.now.width + 10) }
     {
         match self.find(pictures, picture, number, region) {
             Some(coded) => sizes_of(coded.lengths),

@@ -1,5 +1,5 @@
-//! The bytes of the display sets that a compiler sends: the pixel data blocks of a picture's two fields, and the PES
-//! packets of a set of a plan, with their sizes.
+//! The bytes of the display sets that a compiler sends: the pixel data blocks of a picture's two
+//! fields, and the PES packets of a set of a plan, with their sizes.
 #![tactic(auto)]
 
 // Blocks of a picture's two interlace fields, and their sizes.

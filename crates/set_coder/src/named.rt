@@ -2,8 +2,8 @@ ghost use Rattle.std.specs.Prelude.{◌≡◌, Some, slice_get};
 ghost use Rattle.page_epoch.specs.Live.{cue_at};
 ghost use Rattle.page_epoch.specs.SentCluts.{row_at};
 ghost use Rattle.page_epoch.specs.Sendable.{HasRegion, HasCue, HasColour, IsSendable, IsSendableIn};
-ghost use Rattle.set_coder.specs.SetSegments.{region_of};
-ghost use Rattle.set_coder.specs.Usable.{IsUsable, AreDrawable};
+ghost use Rattle.set_coder.specs.SetSegments.{epoch_region};
+ghost use Rattle.set_coder.specs.Private.Usable.{IsUsable, AreDrawable};
 
 use cue_list::{ColourRow, Cue, Epoch, Region, Script};
 use page_epoch::PlannedSet;
@@ -20,9 +20,9 @@ pub(crate) fn epoch_of<'a>(script: &'a Script, set: &PlannedSet) -> &'a Epoch
 }
 
 /// The region of that number.
-pub(crate) fn region_of(epoch: &Epoch, id: u8) -> Region
+pub(crate) fn epoch_region(epoch: &Epoch, id: u8) -> Region
     requires { HasRegion epoch.now id }
-    ensures { result ≡ region_of epoch.now id }
+    ensures { result ≡ epoch_region epoch.now id }
 {
     let regions = epoch.regions.as_slice();
     for region in regions {

@@ -1,13 +1,14 @@
 ghost use Rattle.std.specs.Prelude.{◌≡◌, ℕ, ◌≤◌, ◌^◌, [], List, length, IfSome, IfNone, option_to_list};
+ghost use Rattle.cue_list.specs.declared.limits.TheConstants.{MOST_COLOURS, MOST_CUES};
 ghost use Rattle.pes_packets.specs.Units.{IsSegmentLength};
 ghost use Rattle.page_epoch.specs.Sendable.{HasCue, IsSendable};
 ghost use Rattle.set_coder.specs.KeptBlocks.{AreCoded};
 ghost use Rattle.set_coder.specs.SetSizes.{display_sizes, region_size, clut_size, made_even, IsObjectSize, AreSegmentSizes};
-ghost use Rattle.set_coder.specs.SizesLeft.{AreSizesLeft, IsMeasurable, IsNextSize, segments_left};
-ghost use Rattle.set_coder.specs.Usable.{AreDrawable};
+ghost use Rattle.set_coder.specs.Private.SizesLeft.{AreSizesLeft, IsMeasurable, IsNextSize, segments_left};
+ghost use Rattle.set_coder.specs.Private.Usable.{AreDrawable};
 
 use crate::coded_picture::BlockLookup;
-use crate::named::{cue_at, epoch_of, region_of};
+use crate::named::{cue_at, epoch_of, epoch_region};
 use cue_list::{Epoch, Script};
 use page_epoch::{PlannedSet, SentClut, SentRegion, State};
 
@@ -17,8 +18,8 @@ const DISPLAY: u32 = 11;
 /// The bytes of the end of a display set.
 const END: u32 = 6;
 
-/// The segments of a set that are not measured yet. None is written: the blocks of objects are measured as they would
-/// be.
+/// The segments of a set that are not measured yet. None is written: the blocks of objects are
+/// measured as they would be.
 #[derive(Drop)]
 pub(crate) struct SegmentSizes<'a> {
     script: &'a Script,
@@ -43,7 +44,8 @@ impl<'a> SegmentSizes<'a> {
         requires kept { AreCoded script.now.pictures kept.now.coded.now }
         requires set { IsSendable script.now set.now }
         ensures measurable { IsMeasurable result }
-        ensures all { (sizes : List ℕ) → AreSizesLeft result sizes → AreSegmentSizes script.now set.now sizes }
+        ensures all { (sizes : List ℕ) → AreSizesLeft result sizes
+            → AreSegmentSizes script.now set.now sizes }
         ensures few { segments_left result ≤ 5000 }
     {
         SegmentSizes {
@@ -101,7 +103,7 @@ fn display_size(state: State) -> Option<u32>
 
 /// The bytes of a region with its listings.
 fn region_size(sent: &SentRegion) -> u32
-    requires { length sent.now.cues ≤ 4096 }
+    requires { length sent.now.cues ≤ MOST_CUES }
     ensures { result ≡ region_size sent.now }
 {
     // The head has 6 bytes, the region 10, and each listing 6.
@@ -110,7 +112,7 @@ fn region_size(sent: &SentRegion) -> u32
 
 /// The bytes of a CLUT with its entries.
 fn clut_size(sent: &SentClut) -> u32
-    requires { length sent.now.rows ≤ 8192 }
+    requires { length sent.now.rows ≤ MOST_COLOURS }
     ensures { result ≡ clut_size sent.now }
 {
     // The head has 6 bytes, the CLUT 2, and each entry in the full range 6.
@@ -127,7 +129,7 @@ fn object_size(script: &Script, kept: &BlockLookup<'_>, epoch: &Epoch, place: u3
 {
     let cue = cue_at(epoch, place);
     let picture = &script.pictures.as_slice()[cue.picture as usize];
-    let region = region_of(epoch, cue.region);
+    let region = epoch_region(epoch, cue.region);
     let sizes = kept.field_sizes(
         script.pictures.as_slice(),
         picture,

@@ -1,18 +1,19 @@
 ghost use Rattle.std.specs.Prelude.{◌≡◌, ℕ, ◌+◌, ◌≤◌, ◌++◌, List, length, All, OnOk};
 ghost use Rattle.std.specs.List.{flat_map};
+ghost use Rattle.cue_list.specs.declared.limits.TheConstants.{MOST_CUES};
 ghost use Rattle.stream_syntax.specs.FieldBlocks.{AreFieldBlocks, DrawsPicture};
 ghost use Rattle.stream_syntax.specs.SegmentTests.{AreBlocks};
 ghost use Rattle.stream_syntax.specs.Segments.{SegmentValue, spelled, IsWritable};
 ghost use Rattle.page_epoch.specs.Sendable.{HasCue};
-ghost use Rattle.set_coder.specs.BothBlocks.{AreBothBlocks};
-ghost use Rattle.set_coder.specs.SetSegments.{object_of, IsObjectOf, AreObjectsOf};
+ghost use Rattle.set_coder.specs.Private.BothBlocks.{AreBothBlocks};
+ghost use Rattle.set_coder.specs.SetSegments.{object_segment, IsObjectOf, AreObjectsOf};
 ghost use Rattle.set_coder.specs.SetSizes.{made_even, IsObjectSize, AreObjectSizes};
-ghost use Rattle.set_coder.specs.Usable.{AreDrawable};
+ghost use Rattle.set_coder.specs.Private.Usable.{AreDrawable};
 ghost use Rattle.set_coder.specs.KeptBlocks.{AreCoded};
 ghost use Rattle.sub_base.specs.declared.load.TheConstants.{UNIT_ROOM};
 
 use crate::coded_picture::BlockLookup;
-use crate::named::{cue_at, region_of};
+use crate::named::{cue_at, epoch_region};
 use cue_list::{Epoch, Script};
 use indexed_picture::Indexed;
 use segments::{ObjectSeg, SegmentOut, write_segment};
@@ -29,11 +30,16 @@ pub(crate) fn append_objects(
 ) -> Result<(), NoMemory>
     requires kept { AreCoded script.now.pictures kept.now.coded.now }
     requires drawable { AreDrawable script.now.pictures epoch.now }
-    requires few { length epoch.now.cues ≤ 4096 }
+    requires few { length epoch.now.cues ≤ MOST_CUES }
     requires each { All (HasCue epoch.now) cues.now }
-    requires room { (sizes : List ℕ) × AreObjectSizes script.now.pictures epoch.now cues.now sizes × All (λ size. size ≤ UNIT_ROOM) sizes }
-    ensures objects { OnOk result ((objects : List SegmentValue) × AreObjectsOf script.now.pictures epoch.now cues.now objects
-        × All (IsWritable page) objects × (field.new.items ≡ field.old.items ++ flat_map (spelled page) objects)) }
+    requires room { (sizes : List ℕ)
+        × AreObjectSizes script.now.pictures epoch.now cues.now sizes
+        × All (λ size. size ≤ UNIT_ROOM) sizes }
+    ensures objects { OnOk result
+        ((objects : List SegmentValue)
+        × AreObjectsOf script.now.pictures epoch.now cues.now objects
+        × All (IsWritable page) objects
+        × (field.new.items ≡ field.old.items ++ flat_map (spelled page) objects)) }
 {
     for place in cues {
         append_object(script, kept, epoch, page, *place, field)?;
@@ -52,15 +58,17 @@ fn append_object(
 ) -> Result<(), NoMemory>
     requires kept { AreCoded script.now.pictures kept.now.coded.now }
     requires drawable { AreDrawable script.now.pictures epoch.now }
-    requires few { length epoch.now.cues ≤ 4096 }
+    requires few { length epoch.now.cues ≤ MOST_CUES }
     requires cue { HasCue epoch.now place }
-    requires room { (size : ℕ) × IsObjectSize script.now.pictures epoch.now place size × (size ≤ UNIT_ROOM) }
-    ensures object { OnOk result ((object : SegmentValue) × IsObjectOf script.now.pictures epoch.now place object
+    requires room { (size : ℕ) × IsObjectSize script.now.pictures epoch.now place size
+        × (size ≤ UNIT_ROOM) }
+    ensures object { OnOk result
+        ((object : SegmentValue) × IsObjectOf script.now.pictures epoch.now place object
         × IsWritable page object × (field.new.items ≡ field.old.items ++ spelled page object)) }
 {
     let cue = cue_at(epoch, place);
     let picture = &script.pictures.as_slice()[cue.picture as usize];
-    let region = region_of(epoch, cue.region);
+    let region = epoch_region(epoch, cue.region);
     // Apart from the segment, whose head has the lengths of both blocks.
     let mut blocks = Vec::new(*field.allocator());
     let lengths = kept.write_fields(
@@ -108,8 +116,10 @@ fn append_blocks(
 ) -> Result<(), NoMemory>
     requires blocks { AreBlocks top.now bottom.now }
     requires short { made_even (13 + length top.now + length bottom.now) ≤ UNIT_ROOM }
-    ensures fits { IsWritable page (object_of object see_through top.now bottom.now) }
-    ensures bytes { OnOk result (field.new.items ≡ field.old.items ++ spelled page (object_of object see_through top.now bottom.now)) }
+    ensures fits { IsWritable page (object_segment object see_through top.now bottom.now) }
+    ensures bytes { OnOk result
+        (field.new.items ≡ field.old.items
+        ++ spelled page (object_segment object see_through top.now bottom.now)) }
 {
     let object = ObjectSeg {
         object,

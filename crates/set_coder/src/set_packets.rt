@@ -6,7 +6,7 @@ ghost use Rattle.page_epoch.specs.Sendable.{IsSendable};
 ghost use Rattle.set_coder.specs.KeptBlocks.{AreCoded};
 ghost use Rattle.set_coder.specs.SetSegments.{AreSetSegments, AreSetPackets};
 ghost use Rattle.set_coder.specs.SetSizes.{AreUnitSizes, FitsPackets};
-ghost use Rattle.set_coder.specs.UnitParts.{AreUnitParts, part_packet};
+ghost use Rattle.set_coder.specs.Private.UnitParts.{AreUnitParts, part_packet};
 
 use crate::coded_picture::{BlockLookup, KeptBlocks};
 use crate::named::epoch_of;
@@ -20,9 +20,10 @@ use std::alloc::Global;
 use stream_syntax::TIME_ROUND;
 use sub_base::NoMemory;
 
-/// Appends the PES packets of a set, whose segments are of that page (EN 300 743, clauses 5 and 7): the display
-/// definition where the set is not normal, the page, the regions, the CLUTs, the objects and the end of the set, as
-/// many in each packet as it has room for. Together they have `size_of` bytes. After want of memory `out` is as before.
+/// Appends the PES packets of a set, whose segments are of that page (EN 300 743, clauses 5 and 7):
+/// the display definition where the set is not normal, the page, the regions, the CLUTs, the
+/// objects and the end of the set, as many in each packet as it has room for. Together they have
+/// `size_of` bytes. After want of memory `out` is as before.
 pub fn write_set(
     script: &Script,
     set: &PlannedSet,
@@ -31,8 +32,10 @@ pub fn write_set(
 ) -> Result<(), NoMemory>
     requires sendable { IsSendable script.now set.now }
     requires fits { FitsPackets script.now set.now }
-    ensures packets { OnOk result ((packets : List (List ℕ)) × (out.new.items ≡ out.old.items ++ concat packets)
-        × AreSetPackets script.now page set.now packets × AreUnitSizes script.now set.now (map length packets)) }
+    ensures packets { OnOk result
+        ((packets : List (List ℕ)) × (out.new.items ≡ out.old.items ++ concat packets)
+        × AreSetPackets script.now page set.now packets
+        × AreUnitSizes script.now set.now (map length packets)) }
     ensures kept { OnErr result (out.new.items ≡ out.old.items) }
 {
     write_with(&BlockLookup::nothing(), script, set, page, out)
@@ -50,8 +53,10 @@ impl KeptBlocks {
         requires blocks { AreCoded script.now.pictures self.now.coded.items }
         requires sendable { IsSendable script.now set.now }
         requires fits { FitsPackets script.now set.now }
-        ensures packets { OnOk result ((packets : List (List ℕ)) × (out.new.items ≡ out.old.items ++ concat packets)
-            × AreSetPackets script.now page set.now packets × AreUnitSizes script.now set.now (map length packets)) }
+        ensures packets { OnOk result
+            ((packets : List (List ℕ)) × (out.new.items ≡ out.old.items ++ concat packets)
+            × AreSetPackets script.now page set.now packets
+            × AreUnitSizes script.now set.now (map length packets)) }
         ensures kept { OnErr result (out.new.items ≡ out.old.items) }
     {
         write_with(&self.lookup(), script, set, page, out)
@@ -69,8 +74,10 @@ fn write_with(
     requires blocks { AreCoded script.now.pictures kept.now.coded.now }
     requires sendable { IsSendable script.now set.now }
     requires fits { FitsPackets script.now set.now }
-    ensures packets { OnOk result ((packets : List (List ℕ)) × (out.new.items ≡ out.old.items ++ concat packets)
-        × AreSetPackets script.now page set.now packets × AreUnitSizes script.now set.now (map length packets)) }
+    ensures packets { OnOk result
+        ((packets : List (List ℕ)) × (out.new.items ≡ out.old.items ++ concat packets)
+        × AreSetPackets script.now page set.now packets
+        × AreUnitSizes script.now set.now (map length packets)) }
     ensures kept { OnErr result (out.new.items ≡ out.old.items) }
 {
     let alloc = *out.allocator();
@@ -98,7 +105,8 @@ fn segments_of(
     requires blocks { AreCoded script.now.pictures kept.now.coded.now }
     requires sendable { IsSendable script.now set.now }
     requires fits { FitsPackets script.now set.now }
-    ensures { IfOk result (λ bytes. (segments : List SegmentValue) × AreSetSegments script.now page set.now segments
+    ensures { IfOk result
+        (λ bytes. (segments : List SegmentValue) × AreSetSegments script.now page set.now segments
         × (bytes.items ≡ flat_map (spelled page) segments)) }
 {
     let epoch = epoch_of(script, set);
@@ -109,7 +117,8 @@ fn segments_of(
     Ok(bytes)
 }
 
-/// Appends a PES packet for each unit of these lengths, whose segments have the bytes that are next. After want of memory
+/// Appends a PES packet for each unit of these lengths, whose segments have the bytes that are
+/// next. After want of memory
 /// `out` is as before.
 fn write_units(
     time: u64,

@@ -1,16 +1,17 @@
 ghost use Rattle.std.specs.Prelude.{◌≡◌, ◌<◌, ◌≤◌, ◌++◌, length, map, All, IfOk, OnOk};
 ghost use Rattle.std.specs.List.{flat_map};
+ghost use Rattle.cue_list.specs.declared.limits.TheConstants.{MOST_CUES, MOST_REGIONS};
 ghost use Rattle.stream_syntax.specs.Segments.{spelled, end_of_set};
 ghost use Rattle.page_epoch.specs.Sendable.{HasRegion, HasCue, HasColour, IsSendableIn, IsSendableRegion, IsSendableClut};
-ghost use Rattle.set_coder.specs.SetSegments.{display_of, time_out_of, page_entry_of, page_of, listing_of, region_segment_of, clut_entry_of, clut_segment_of, leading_segments};
-ghost use Rattle.set_coder.specs.Usable.{IsUsable};
+ghost use Rattle.set_coder.specs.SetSegments.{display_segments, time_out_of, page_entry_of, page_segment, listing_of, region_segment_of, clut_entry_of, clut_segment_of, leading_segments};
+ghost use Rattle.set_coder.specs.Private.Usable.{IsUsable};
 
-use crate::named::{colour_at, cue_at, region_of};
+use crate::named::{colour_at, cue_at, epoch_region};
 use cue_list::{Epoch, Script};
 use page_epoch::{PlannedSet, SentClut, SentRegion, State};
 use segments::{ClutEntry, Listing, PageEntry, RegionHead, SegmentOut, write_segment};
 use std::alloc::Global;
-use sub_base::NoMemory;
+use sub_base::{NoMemory, SECOND};
 
 /// Appends the segments of a set before its objects.
 pub(crate) fn append_leading(
@@ -22,7 +23,9 @@ pub(crate) fn append_leading(
 ) -> Result<(), NoMemory>
     requires usable { IsUsable epoch.now }
     requires carried { IsSendableIn epoch.now set.now }
-    ensures bytes { OnOk result (field.new.items ≡ field.old.items ++ flat_map (spelled page) (leading_segments script.now epoch.now set.now)) }
+    ensures bytes { OnOk result
+        (field.new.items ≡ field.old.items
+        ++ flat_map (spelled page) (leading_segments script.now epoch.now set.now)) }
 {
     append_display(script, page, set.state, field)?;
     append_page(script, epoch, page, set, field)?;
@@ -37,7 +40,9 @@ fn append_display(
     state: State,
     field: &mut Vec<u8>,
 ) -> Result<(), NoMemory>
-    ensures bytes { OnOk result (field.new.items ≡ field.old.items ++ flat_map (spelled page) (display_of script.now state)) }
+    ensures bytes { OnOk result
+        (field.new.items ≡ field.old.items
+        ++ flat_map (spelled page) (display_segments script.now state)) }
 {
     // Whoever shows a normal set has the display from the entry point before.
     if state == State::Normal {
@@ -57,7 +62,7 @@ fn time_out(script: &Script) -> u8
     ensures short { result ≤ 122 }
 {
     // Longer than a refresh, so that a page stays where one refresh is lost.
-    (2 * (script.refresh / 90000) + 2) as u8
+    (2 * (script.refresh / SECOND) + 2) as u8
 }
 
 /// Appends the page with the regions that it shows.
@@ -70,9 +75,11 @@ fn append_page(
 ) -> Result<(), NoMemory>
     requires usable { IsUsable epoch.now }
     requires version { set.now.page_version < 16 }
-    requires few { length set.now.shown ≤ 64 }
+    requires few { length set.now.shown ≤ MOST_REGIONS }
     requires shown { All (HasRegion epoch.now) set.now.shown }
-    ensures bytes { OnOk result (field.new.items ≡ field.old.items ++ spelled page (page_of script.now epoch.now set.now)) }
+    ensures bytes { OnOk result
+        (field.new.items ≡ field.old.items
+        ++ spelled page (page_segment script.now epoch.now set.now)) }
 {
     let entries = page_entries(*field.allocator(), epoch, set.shown.as_slice())?;
     let segment = SegmentOut::Page {
@@ -91,7 +98,7 @@ fn page_entries(alloc: Global, epoch: &Epoch, shown: &[u8]) -> Result<Vec<PageEn
 {
     let mut entries = Vec::with_capacity(alloc, shown.len())?;
     for id in shown {
-        let region = region_of(epoch, *id);
+        let region = epoch_region(epoch, *id);
         entries.push(PageEntry {
             region: *id,
             x: region.x,
@@ -110,7 +117,9 @@ fn append_regions(
 ) -> Result<(), NoMemory>
     requires usable { IsUsable epoch.now }
     requires each { All (IsSendableRegion epoch.now) regions.now }
-    ensures bytes { OnOk result (field.new.items ≡ field.old.items ++ flat_map (spelled page) (map (region_segment_of epoch.now) regions.now)) }
+    ensures bytes { OnOk result
+        (field.new.items ≡ field.old.items
+        ++ flat_map (spelled page) (map (region_segment_of epoch.now) regions.now)) }
 {
     for sent in regions {
         append_region(epoch, page, sent, field)?;
@@ -127,9 +136,11 @@ fn append_region(
 ) -> Result<(), NoMemory>
     requires usable { IsUsable epoch.now }
     requires sent { IsSendableRegion epoch.now sent.now }
-    ensures bytes { OnOk result (field.new.items ≡ field.old.items ++ spelled page (region_segment_of epoch.now sent.now)) }
+    ensures bytes { OnOk result
+        (field.new.items ≡ field.old.items
+        ++ spelled page (region_segment_of epoch.now sent.now)) }
 {
-    let region = region_of(epoch, sent.id);
+    let region = epoch_region(epoch, sent.id);
     let listings = listings_of(*field.allocator(), epoch, sent.cues.as_slice())?;
     let head = RegionHead {
         region: sent.id,
@@ -152,7 +163,7 @@ fn append_region(
 
 /// The listings of cues.
 fn listings_of(alloc: Global, epoch: &Epoch, cues: &[u32]) -> Result<Vec<Listing>, NoMemory>
-    requires few { length epoch.now.cues ≤ 4096 }
+    requires few { length epoch.now.cues ≤ MOST_CUES }
     requires each { All (HasCue epoch.now) cues.now }
     ensures { IfOk result (λ listings. listings.items ≡ map (listing_of epoch.now) cues.now) }
 {
@@ -177,7 +188,9 @@ fn append_cluts(
 ) -> Result<(), NoMemory>
     requires usable { IsUsable epoch.now }
     requires each { All (IsSendableClut epoch.now) cluts.now }
-    ensures bytes { OnOk result (field.new.items ≡ field.old.items ++ flat_map (spelled page) (map (clut_segment_of epoch.now) cluts.now)) }
+    ensures bytes { OnOk result
+        (field.new.items ≡ field.old.items
+        ++ flat_map (spelled page) (map (clut_segment_of epoch.now) cluts.now)) }
 {
     for sent in cluts {
         append_clut(epoch, page, sent, field)?;
@@ -194,7 +207,8 @@ fn append_clut(
 ) -> Result<(), NoMemory>
     requires usable { IsUsable epoch.now }
     requires sent { IsSendableClut epoch.now sent.now }
-    ensures bytes { OnOk result (field.new.items ≡ field.old.items ++ spelled page (clut_segment_of epoch.now sent.now)) }
+    ensures bytes { OnOk result
+        (field.new.items ≡ field.old.items ++ spelled page (clut_segment_of epoch.now sent.now)) }
 {
     let entries = clut_entries(*field.allocator(), epoch, sent.rows.as_slice())?;
     let segment = SegmentOut::Clut {

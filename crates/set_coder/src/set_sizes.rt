@@ -1,13 +1,14 @@
 ghost use Rattle.std.specs.Prelude.{◌≡◌, ℕ, ◌+◌, ◌*◌, ◌^◌, ◌<◌, ◌≤◌, List, [], ◌∷◌, ◌++◌, length, sum, sum_by, All, IfOk, OnOk, option_to_list};
+ghost use Rattle.cue_list.specs.declared.limits.TheConstants.{MOST_REGIONS};
 ghost use Rattle.pes_packets.specs.Units.{IsSegmentLength, AreUnitLengths};
 ghost use Rattle.page_epoch.specs.Sendable.{IsSendable, IsSendableRegion};
 ghost use Rattle.set_coder.specs.KeptBlocks.{AreCoded};
-ghost use Rattle.set_coder.specs.SetSizes.{painting_of, AreUnitSizes, IsSetSize, IsLongestSegment, IsPaintedIn, IsSetLoad};
-ghost use Rattle.set_coder.specs.Measuring.{IsMeasured, CanTake};
+ghost use Rattle.set_coder.specs.SetSizes.{sent_painting, AreUnitSizes, IsSetSize, IsLongestSegment, IsPaintedIn, IsSetLoad};
+ghost use Rattle.set_coder.specs.Private.Measuring.{IsMeasured, CanTake};
 ghost use Rattle.sub_base.specs.declared.load.WriteLoad.{WriteLoad as WriteLoadValue};
 
 use crate::coded_picture::{BlockLookup, KeptBlocks};
-use crate::named::{epoch_of, region_of};
+use crate::named::{epoch_of, epoch_region};
 use crate::segment_sizes::SegmentSizes;
 use cue_list::{Epoch, Script};
 use page_epoch::{PlannedSet, SentRegion};
@@ -15,8 +16,8 @@ use pes_packets::OpenUnit;
 use std::alloc::Global;
 use sub_base::{Items, NoMemory, SetLoad, WriteLoad};
 
-/// How many bytes the PES packets of a set have together. No memory is taken: the blocks of its objects are measured,
-/// and not written.
+/// How many bytes the PES packets of a set have together. No memory is taken: the blocks of its
+/// objects are measured, and not written.
 pub fn size_of(script: &Script, set: &PlannedSet) -> u64
     requires { IsSendable script.now set.now }
     ensures size { IsSetSize script.now set.now result }
@@ -35,14 +36,16 @@ pub fn size_of(script: &Script, set: &PlannedSet) -> u64
     size + u64::from(unit.length().unwrap_or(0))
 }
 
-/// What sending a set takes: when it is shown, the bytes of each of its PES packets and of all together, the ticks that
-/// painting its regions takes, and the bytes of its longest segment.
+/// What sending a set takes: when it is shown, the bytes of each of its PES packets and of all
+/// together, the ticks that painting its regions takes, and the bytes of its longest segment.
 pub fn load_of(alloc: Global, script: &Script, set: &PlannedSet) -> Result<WriteLoad, NoMemory>
     requires { IsSendable script.now set.now }
     ensures load { IfOk result (λ load. IsSetLoad script.now set.now load) }
 
     // No other load is that of the set.
-    ensures only { IfOk result (λ load. (other : WriteLoadValue) → IsSetLoad script.now set.now other → load ≡ other) }
+    ensures only { IfOk result
+        (λ load. (other : WriteLoadValue) → IsSetLoad script.now set.now other
+        → load ≡ other) }
 
     // What a schedule asks of a load.
     ensures some { IfOk result (λ load. 1 ≤ load.load.size) }
@@ -59,7 +62,9 @@ impl KeptBlocks {
         requires kept { AreCoded script.now.pictures self.now.coded.items }
         requires set { IsSendable script.now set.now }
         ensures load { IfOk result (λ load. IsSetLoad script.now set.now load) }
-        ensures only { IfOk result (λ load. (other : WriteLoadValue) → IsSetLoad script.now set.now other → load ≡ other) }
+        ensures only { IfOk result
+            (λ load. (other : WriteLoadValue) → IsSetLoad script.now set.now other
+            → load ≡ other) }
         ensures some { IfOk result (λ load. 1 ≤ load.load.size) }
         ensures each { IfOk result (λ load. All (λ unit. 17 ≤ unit) load.units) }
         ensures early { IfOk result (λ load. load.load.pts < 2 ^ 34) }
@@ -79,7 +84,9 @@ pub(crate) fn load_with(
     requires kept { AreCoded script.now.pictures kept.now.coded.now }
     requires set { IsSendable script.now set.now }
     ensures load { IfOk result (λ load. IsSetLoad script.now set.now load) }
-    ensures only { IfOk result (λ load. (other : WriteLoadValue) → IsSetLoad script.now set.now other → load ≡ other) }
+    ensures only { IfOk result
+        (λ load. (other : WriteLoadValue) → IsSetLoad script.now set.now other
+        → load ≡ other) }
     ensures some { IfOk result (λ load. 1 ≤ load.load.size) }
     ensures each { IfOk result (λ load. All (λ unit. 17 ≤ unit) load.units) }
     ensures early { IfOk result (λ load. load.load.pts < 2 ^ 34) }
@@ -118,9 +125,11 @@ fn measure(
 ) -> Result<Measured, NoMemory>
     requires kept { AreCoded script.now.pictures kept.now.coded.now }
     requires set { IsSendable script.now set.now }
-    ensures units { IfOk result (λ measured. AreUnitSizes script.now set.now measured.units.items) }
+    ensures units { IfOk result
+        (λ measured. AreUnitSizes script.now set.now measured.units.items) }
     ensures size { IfOk result (λ measured. measured.size ≡ sum measured.units.items) }
-    ensures longest { IfOk result (λ measured. IsLongestSegment script.now set.now measured.longest) }
+    ensures longest { IfOk result
+        (λ measured. IsLongestSegment script.now set.now measured.longest) }
 {
     let mut segments = SegmentSizes::of_set(script, kept, set);
     let mut measured = Measured::new(alloc);
@@ -149,8 +158,11 @@ impl Measured {
     fn take(&mut self, segment: u32) -> Result<(), NoMemory>
         requires segment { IsSegmentLength segment }
         requires few { (count : ℕ) × CanTake self.old count × (count ≤ 5000) }
-        ensures measured { OnOk result ((sizes : List ℕ) → IsMeasured sizes self.old → IsMeasured (sizes ++ segment ∷ []) self.new) }
-        ensures few { OnOk result ((count : ℕ) → CanTake self.old count → CanTake self.new (count + 1)) }
+        ensures measured { OnOk result
+            ((sizes : List ℕ) → IsMeasured sizes self.old
+            → IsMeasured (sizes ++ segment ∷ []) self.new) }
+        ensures few { OnOk result
+            ((count : ℕ) → CanTake self.old count → CanTake self.new (count + 1)) }
     {
         self.longest = self.longest.max(u64::from(segment));
         let closed = self.unit.take(segment);
@@ -160,8 +172,12 @@ impl Measured {
     /// Closes the last unit, after the last segment.
     fn finish(&mut self) -> Result<(), NoMemory>
         requires few { (count : ℕ) × CanTake self.old count × (count ≤ 5000) }
-        ensures units { OnOk result ((sizes : List ℕ) → IsMeasured sizes self.old → AreUnitLengths sizes self.new.units.items) }
-        ensures size { OnOk result ((sizes : List ℕ) → IsMeasured sizes self.old → self.new.size ≡ sum self.new.units.items) }
+        ensures units { OnOk result
+            ((sizes : List ℕ) → IsMeasured sizes self.old
+            → AreUnitLengths sizes self.new.units.items) }
+        ensures size { OnOk result
+            ((sizes : List ℕ) → IsMeasured sizes self.old
+            → self.new.size ≡ sum self.new.units.items) }
         ensures longest { self.new.longest ≡ self.old.longest }
     {
         let last = self.unit.length();
@@ -171,7 +187,8 @@ impl Measured {
     /// Keeps the length of a unit that is closed, where one is.
     fn close(&mut self, closed: Option<u32>) -> Result<(), NoMemory>
         requires { self.old.size < 2 ^ 63 }
-        ensures units { OnOk result (self.new.units.items ≡ self.old.units.items ++ option_to_list closed) }
+        ensures units { OnOk result
+            (self.new.units.items ≡ self.old.units.items ++ option_to_list closed) }
         ensures size { OnOk result (self.new.size ≡ self.old.size + sum (option_to_list closed)) }
         ensures longest { self.new.longest ≡ self.old.longest }
         ensures unit { self.new.unit ≡ self.old.unit }
@@ -196,9 +213,9 @@ fn painted_in(script: &Script, set: &PlannedSet) -> u64
 
 /// The ticks that painting regions takes.
 fn painting_of_regions(epoch: &Epoch, regions: &[SentRegion]) -> u64
-    requires few { length regions.now ≤ 64 }
+    requires few { length regions.now ≤ MOST_REGIONS }
     requires each { All (IsSendableRegion epoch.now) regions.now }
-    ensures painted { result ≡ sum_by (painting_of epoch.now) regions.now }
+    ensures painted { result ≡ sum_by (sent_painting epoch.now) regions.now }
     ensures short { result ≤ 274877906944 }
 {
     let mut painted = 0;
@@ -211,9 +228,9 @@ fn painting_of_regions(epoch: &Epoch, regions: &[SentRegion]) -> u64
 /// The ticks that painting a region takes: 64 pixels a tick.
 fn painting_of_region(epoch: &Epoch, sent: &SentRegion) -> u64
     requires { IsSendableRegion epoch.now sent.now }
-    ensures painted { result ≡ painting_of epoch.now sent.now }
+    ensures painted { result ≡ sent_painting epoch.now sent.now }
     ensures short { result ≤ 4294967296 }
 {
-    let region = region_of(epoch, sent.id);
+    let region = epoch_region(epoch, sent.id);
     (u64::from(region.width) * u64::from(region.height) + 63) / 64
 }

@@ -2,7 +2,7 @@ ghost use Rattle.std.specs.Prelude.{◌≡◌, ◌<◌, ◌≤◌, ◌^◌, [], 
 ghost use Rattle.sub_base.specs.Picture.{IsPicture};
 ghost use Rattle.cue_list.specs.Sound.{IsSound};
 ghost use Rattle.page_epoch.specs.Sendable.{IsSendableClut, IsSendableIn};
-ghost use Rattle.set_coder.specs.Sample.{sample};
+ghost use Rattle.set_coder.specs.Private.Sample.{sample};
 
 use crate::{KeptBlocks, load_of, size_of, write_set};
 use cue_list::{ColourRow, Cue, Epoch, Region, Script};
@@ -15,14 +15,16 @@ use sub_base::{Colour, Depth, Items, SetLoad, UNIT_ROOM};
 
 /// A picture of four pixels of four bits.
 fn four_pixels(alloc: Global, codes: &[u8]) -> Result<Indexed, Fail>
-    ensures sides { IfOk result (λ picture. (picture.width ≡ 4) × (picture.height ≡ 1) × (picture.depth ≡ Depth.Four)) }
+    ensures sides { IfOk result
+        (λ picture. (picture.width ≡ 4) × (picture.height ≡ 1)
+        × (picture.depth ≡ Depth.Four)) }
     ensures picture { IfOk result IsPicture }
 {
     Ok(Indexed::from_codes(alloc, 4, 1, Depth::Four, codes.to_vec(alloc)?)?)
 }
 
-/// The epoch of one region, in which a solid picture is shown, and later a second one over it that is seen through.
-/// A colour is set as the epoch starts.
+/// The epoch of one region, in which a solid picture is shown, and later a second one over it that
+/// is seen through. A colour is set as the epoch starts.
 fn sample_epoch(alloc: Global) -> Result<Epoch, Fail>
     ensures { IfOk result (λ epoch. epoch ≡ sample) }
 {
@@ -135,8 +137,8 @@ const NO_REGION: [u8; 31] = [
     0x0F, 0x10, 0x00, 0x01, 0x00, 0x02, 0x0C, 0x23, 0x0F, 0x80, 0x00, 0x01, 0x00, 0x00, 0xFF,
 ];
 
-/// The packet of an acquisition point with an entry of a CLUT: version 0, entry 2 in the table of four bits alone, and
-/// the colour in the full range.
+/// The packet of an acquisition point with an entry of a CLUT: version 0, entry 2 in the table of
+/// four bits alone, and the colour in the full range.
 #[rattlefmt::skip]
 const WITH_CLUT: [u8; 104] = [
     0x00, 0x00, 0x01, 0xBD, 0x00, 0x62, 0x84, 0x80, 0x05, 0x21, 0x00, 0x05, 0xBF, 0x21, 0x20, 0x00,

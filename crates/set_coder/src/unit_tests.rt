@@ -11,8 +11,9 @@ use std::process::Abort;
 use std::test::Fail;
 use sub_base::{Profile, ProfileName, UNIT_ROOM};
 
-/// Appends the record of a picture whose two codes change from pixel to pixel. The string of each of its rows has a
-/// byte for each pixel and two for its end, and stands between two bytes; no two neighbouring rows are equal.
+/// Appends the record of a picture whose two codes change from pixel to pixel. The string of each
+/// of its rows has a byte for each pixel and two for its end, and stands between two bytes; no two
+/// neighbouring rows are equal.
 fn append_picture(
     alloc: Global,
     text: &mut String,
@@ -30,8 +31,8 @@ fn append_picture(
     Ok(())
 }
 
-/// A script of normal sets with an object of 65,482, of 65,484 and of 65,614 bytes, and of a mode change with three
-/// objects of 60,014 bytes.
+/// A script of normal sets with an object of 65,482, of 65,484 and of 65,614 bytes, and of a mode
+/// change with three objects of 60,014 bytes.
 fn script_text(alloc: Global) -> Result<String, Fail> {
     let mut text = String::new(alloc);
     text.push_str("origin,0\ndisplay,1920,1080\nrefresh,60\n")?;
@@ -50,9 +51,9 @@ fn script_text(alloc: Global) -> Result<String, Fail> {
     Ok(text)
 }
 
-/// The lengths of the units of each set of that script, and the bytes of its longest segment: an empty page at the
-/// start, and after each cue; a unit that is filled to the last byte; one whose end of set has no room; a segment that
-/// stands alone; and three objects in three units.
+/// The lengths of the units of each set of that script, and the bytes of its longest segment: an
+/// empty page at the start, and after each cue; a unit that is filled to the last byte; one whose
+/// end of set has no room; a segment that stands alone; and three objects in three units.
 const LOADS: [(&[u32], u64); 9] = [
     (&[58], 16),
     (&[65_541], 65_482),
@@ -65,8 +66,8 @@ const LOADS: [(&[u32], u64); 9] = [
     (&[31], 8),
 ];
 
-/// Tells whether a set has these units and this longest segment, and is written as packets of these lengths at its
-/// time, where that can be.
+/// Tells whether a set has these units and this longest segment, and is written as packets of these
+/// lengths at its time, where that can be.
 fn check_set<R: Abort>(
     rt: &R,
     alloc: Global,

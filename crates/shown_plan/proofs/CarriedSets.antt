@@ -22,7 +22,7 @@ use Rattle.page_epoch.proofs.ListLaws.{All-none, All-one, All-pieces, filter_non
 use Rattle.page_epoch.proofs.RowLaws.{own_within}
 use Rattle.page_epoch.specs.Live.{cue_at, times, own_places, live_places, places_below}
 use Rattle.page_epoch.specs.SentCluts.{no_row, rows_of_clut, row_at, clut_with, clut_count, clut_version, rows_from, defined_rows, sent_clut, named_cluts, sent_cluts}
-use Rattle.page_epoch.specs.SentRegions.{is_risen, is_extended, region_version, live_before, filled, extended, region_from, sent_region, AreSentRegions, listed_cues}
+use Rattle.page_epoch.specs.SentRegions.{is_redrawn, is_extended, region_version, live_before, filled, extended, region_from, sent_region, AreSentRegions, listed_cues}
 use Rattle.page_epoch.specs.declared.planned_set.SentClut.{SentClut}
 use Rattle.page_epoch.specs.declared.planned_set.SentRegion.{SentRegion}
 use Rattle.shown_plan.proofs.ClutRows.{defined_own}
@@ -45,7 +45,7 @@ live_own epoch id tick =
     All-filter (λ place. is_live tick (cue_at epoch.cues place)) (λ place. is_own epoch id place ≡ true) (own_places epoch.cues id) (kept_pass (λ place. (cue_at epoch.cues place).region == id) (places_below (length epoch.cues)))
 
 from_lists : (epoch : Epoch) (id version tick : ℕ) (whole : Bool) (old : List ℕ) → All (ListsOwn epoch) (region_from id version whole old (live_places epoch.cues id tick))
-from_lists epoch id version tick whole old = by whole (is_risen old new) (is_extended old new)
+from_lists epoch id version tick whole old = by whole (is_redrawn old new) (is_extended old new)
   where
     new : List ℕ
     new = live_places epoch.cues id tick
@@ -72,7 +72,7 @@ all_list_own epoch whole seen sent are =
 
 sent_once : (cues : List Cue) (whole : Bool) (seen : List ℕ) (id : ℕ) → length (sent_region cues whole seen id) ≤ 1
 sent_once cues whole [] id = omega arith
-sent_once cues whole (tick ∷ earlier) id = by whole (is_risen (live_before cues id earlier) (live_places cues id tick)) (is_extended (live_before cues id earlier) (live_places cues id tick))
+sent_once cues whole (tick ∷ earlier) id = by whole (is_redrawn (live_before cues id earlier) (live_places cues id tick)) (is_extended (live_before cues id earlier) (live_places cues id tick))
   where
     anew : SentRegion
     anew = filled id (region_version cues id (tick ∷ earlier)) (live_places cues id tick)

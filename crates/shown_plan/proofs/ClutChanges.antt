@@ -8,7 +8,7 @@ use Rattle.std.proofs.lemmas.List.Elements.{All-filter, All-contains_itself}
 use Rattle.cue_list.specs.declared.epoch.ColourRow.{ColourRow}
 use Rattle.page_epoch.proofs.CountLaws.{count_cons, count_none}
 use Rattle.page_epoch.proofs.ListLaws.{filter_agree, filter_none}
-use Rattle.page_epoch.specs.Courses.{version_of_count, clut_course}
+use Rattle.page_epoch.specs.EpochStates.{version_of_count, changed_version}
 use Rattle.page_epoch.specs.SentCluts.{row_at, rows_of_clut, is_of_entry, rows_of_entry, latest_place, by_tick, defined_rows, is_changed, clut_version, rows_from}
 use Rattle.page_epoch.specs.declared.clut_rows.Entry.{Entry}
 use Rattle.shown_plan.proofs.ClutRows.{AreSeenRows, latest_none, latest_greatest, row_changes, changed_row, defined_own, row_defined}
@@ -49,7 +49,7 @@ counted {X} p (first ∷ xs) x (zero, within, is) pass =
 counted p (first ∷ xs) x (suc k, within, is) pass = omega (arith, count_cons p first xs, counted p xs x (k, omega (arith, within), is) pass)
 
 -- a CLUT that changed has the version that is sent
-pub version_known : (colours : List ColourRow) (clut time : ℕ) (seen : List ℕ) → Contains seen time → is_changed colours clut time ≡ true → clut_course colours seen clut ≡ Some (clut_version colours clut seen)
+pub version_known : (colours : List ColourRow) (clut time : ℕ) (seen : List ℕ) → Contains seen time → is_changed colours clut time ≡ true → changed_version colours seen clut ≡ Some (clut_version colours clut seen)
 version_known colours clut time seen there changed =
     let some = counted (is_changed colours clut) seen time there changed in
     let test : (count_by (is_changed colours clut) seen == 0) ≡ false = grind (arith, nat_tests) in
@@ -57,7 +57,7 @@ version_known colours clut time seen there changed =
 
 -- one that has rows by a tick has changed
 pub defined_known : (colours : List ColourRow) (clut tick place : ℕ) (earlier : List ℕ) → AreSeenRows colours clut tick earlier → Contains (defined_rows colours clut tick) place
-    → clut_course colours (tick ∷ earlier) clut ≡ Some (clut_version colours clut (tick ∷ earlier))
+    → changed_version colours (tick ∷ earlier) clut ≡ Some (clut_version colours clut (tick ∷ earlier))
 defined_known colours clut tick place earlier rows there =
     let own = all_at (λ place. Contains (rows_of_clut colours clut) place × ((row_at colours place).tick ≤ tick)) (defined_rows colours clut tick) place (defined_own colours clut tick) there in
     version_known colours clut (row_at colours place).tick (tick ∷ earlier)
@@ -65,7 +65,7 @@ defined_known colours clut tick place earlier rows there =
     (row_changes colours clut (row_at colours place).tick place own.0 refl)
 
 -- and one that has none has not
-pub undefined_unknown : (colours : List ColourRow) (clut tick : ℕ) (earlier : List ℕ) → AreSeenRows colours clut tick earlier → defined_rows colours clut tick ≡ [] → clut_course colours (tick ∷ earlier) clut ≡ None
+pub undefined_unknown : (colours : List ColourRow) (clut tick : ℕ) (earlier : List ℕ) → AreSeenRows colours clut tick earlier → defined_rows colours clut tick ≡ [] → changed_version colours (tick ∷ earlier) clut ≡ None
 undefined_unknown colours clut tick earlier rows none =
     ap version_of_count (count_none (is_changed colours clut) (tick ∷ earlier) (λ k d within. by (get_or (tick ∷ earlier) k d) (is_changed colours clut (get_or (tick ∷ earlier) k d)) refl (rows.before k d within)))
   where

@@ -18,11 +18,11 @@ use Rattle.page_epoch.proofs.ListLaws.{All-none}
 use Rattle.page_epoch.specs.declared.planned_set.PlannedSet.{PlannedSet}
 use Rattle.page_epoch.specs.declared.planned_set.SentClut.{SentClut}
 use Rattle.page_epoch.specs.declared.planned_set.SentRegion.{SentRegion}
-use Rattle.set_coder.specs.SetSegments.{display_of as display_segments, clut_entry_of}
+use Rattle.set_coder.specs.SetSegments.{display_segments, clut_entry_of}
 use Rattle.decoder_model.specs.Contents.{clut_named}
 use Rattle.decoder_model.specs.Ink.{colour_by_entry, colour_by_clut, colour_by_segment}
 use Rattle.decoder_model.specs.Readings.{Content}
-use Rattle.decoder_model.specs.Taken.{segments_of, taken_among, has_new_version, clut_version, last_clut}
+use Rattle.decoder_model.specs.Taken.{segments_of, taken_among, has_new_version, version_of_clut, last_clut}
 use Rattle.decoder_model.proofs.Searches.{first_given-append, first_given-all_none}
 use Rattle.shown_plan.proofs.Ordered.{displays_in, page_content, region_content, clut_content}
 use Rattle.shown_plan.proofs.OwnIds.{AreSingle}
@@ -172,6 +172,6 @@ taken_clut epoch sent own taken now view one = (
         ∙ ap (λ found. option_or found (first_given f (clut_content epoch sent ∷ (view.below ++ taken)))) (first_given-all_none f view.above above)
 
 -- a segment that a set sends is taken or held by its version
-pub own_kept : (epoch : Epoch) (taken : List Content) (sent : SentClut) (b : Bool) → has_new_version sent.version (clut_version (last_clut sent.clut taken)) ≡ b
+pub own_kept : (epoch : Epoch) (taken : List Content) (sent : SentClut) (b : Bool) → has_new_version sent.version (version_of_clut (last_clut sent.clut taken)) ≡ b
     → filter (keeps taken) (map (clut_content epoch) (reverse (sent ∷ []))) ≡ cond b (clut_content epoch sent ∷ []) []
 own_kept epoch taken sent b new = ap (λ b. cond b (clut_content epoch sent ∷ []) []) new

@@ -8,15 +8,15 @@ use Rattle.sub_base.specs.Lists.{last_given}
 use Rattle.sub_base.specs.declared.depth.Depth.{Depth}
 use Rattle.cue_list.specs.declared.epoch.ColourRow.{ColourRow}
 use Rattle.cue_list.specs.declared.epoch.Epoch.{Epoch}
-use Rattle.page_epoch.proofs.ClutLaws.{clut_course-more}
+use Rattle.page_epoch.proofs.ClutLaws.{changed_version-more}
 use Rattle.page_epoch.proofs.RowLaws.{entry_of}
-use Rattle.page_epoch.specs.Courses.{clut_course, clut_after, next_version}
+use Rattle.page_epoch.specs.EpochStates.{changed_version, clut_after, next_version}
 use Rattle.page_epoch.specs.SentCluts.{defined_rows, is_changed, clut_version as planned_version, clut_with, rows_from, sent_clut}
 use Rattle.page_epoch.specs.declared.planned_set.SentClut.{SentClut}
 use Rattle.set_coder.specs.SetSegments.{clut_entry_of}
 use Rattle.decoder_model.specs.Ink.{colour_by_entry}
 use Rattle.decoder_model.specs.Readings.{Content}
-use Rattle.decoder_model.specs.Taken.{has_new_version, clut_version, last_clut}
+use Rattle.decoder_model.specs.Taken.{has_new_version, version_of_clut, last_clut}
 use Rattle.decoder_model.proofs.Searches.{option_or-none}
 use Rattle.shown_plan.proofs.ClutChanges.{changes_send, still_not_sent, version_known, defined_known, undefined_unknown, AreBetween, latest_unchanged, given_upon}
 use Rattle.shown_plan.proofs.ClutNext.{IsClutView, untaken, taken_clut, own_kept}
@@ -49,7 +49,7 @@ clut_first epoch id tick earlier now rows view = by (defined_rows epoch.colours 
         (let none : clut_with id (planned_version epoch.colours id (tick ∷ earlier)) (defined_rows epoch.colours id tick) ≡ [] = ap (clut_with id (planned_version epoch.colours id (tick ∷ earlier))) is in
         let stays = untaken epoch id (clut_with id (planned_version epoch.colours id (tick ∷ earlier)) (defined_rows epoch.colours id tick)) [] now view (ap (λ (own : List SentClut). filter (keeps []) (map (clut_content epoch) (reverse own))) none) in
         record {
-          version = ap clut_version stays.0 ∙ sym (undefined_unknown epoch.colours id tick earlier rows is);
+          version = ap version_of_clut stays.0 ∙ sym (undefined_unknown epoch.colours id tick earlier rows is);
           inks = λ depth number small. stays.1 depth number ∙ gives [] is depth number small;
         })
     by (place ∷ places) is view =
@@ -58,14 +58,14 @@ clut_first epoch id tick earlier now rows view = by (defined_rows epoch.colours 
         let known = taken_clut epoch sent (clut_with id (planned_version epoch.colours id (tick ∷ earlier)) (defined_rows epoch.colours id tick)) [] now view
         (ap (λ (own : List SentClut). filter (keeps []) (map (clut_content epoch) (reverse own))) one ∙ own_kept epoch [] sent true refl) in
         record {
-          version = ap clut_version known.0 ∙ sym (defined_known epoch.colours id tick place earlier rows (subst (λ (all : List ℕ). Contains all place) (sym is) (0, omega arith, refl)));
+          version = ap version_of_clut known.0 ∙ sym (defined_known epoch.colours id tick place earlier rows (subst (λ (all : List ℕ). Contains all place) (sym is) (0, omega arith, refl)));
           inks = λ depth number small.
               known.1 depth number ∙ option_or-none (last_given (colour_by_entry depth number) (map (clut_entry_of epoch) (place ∷ places))) ∙ gives (place ∷ places) is depth number small;
         })
 
 -- ---- one set more
 
-course_small : (colours : List ColourRow) (clut version : ℕ) (seen : List ℕ) → clut_course colours seen clut ≡ Some version → version < 16
+course_small : (colours : List ColourRow) (clut version : ℕ) (seen : List ℕ) → changed_version colours seen clut ≡ Some version → version < 16
 course_small colours clut version seen is = by (count_by (is_changed colours clut) seen == 0) is
   where
     by : (b : Bool) → cond b None (Some ((count_by (is_changed colours clut) seen - 1) % 16)) ≡ Some version → version < 16
@@ -94,15 +94,15 @@ clut_next epoch whole id tick before more taken now rise between rows view kept 
     own : List SentClut
     own = sent_clut epoch.colours whole (tick ∷ before ∷ more) id
 
-    course_on : (b : Bool) → is_changed epoch.colours id tick ≡ b → clut_course epoch.colours (tick ∷ before ∷ more) id ≡ clut_after b (clut_course epoch.colours (before ∷ more) id)
-    course_on b is = clut_course-more epoch.colours id tick (before ∷ more) ∙ ap (λ b. clut_after b (clut_course epoch.colours (before ∷ more) id)) is
+    course_on : (b : Bool) → is_changed epoch.colours id tick ≡ b → changed_version epoch.colours (tick ∷ before ∷ more) id ≡ clut_after b (changed_version epoch.colours (before ∷ more) id)
+    course_on b is = changed_version-more epoch.colours id tick (before ∷ more) ∙ ap (λ b. clut_after b (changed_version epoch.colours (before ∷ more) id)) is
 
     -- nothing changed, and nothing is taken
     stays : is_changed epoch.colours id tick ≡ false → filter (keeps taken) (map (clut_content epoch) (reverse own)) ≡ [] → KeepsClut epoch.colours tick (before ∷ more) now id
     stays still none =
         (let same = untaken epoch id own taken now view none in
         record {
-          version = ap clut_version same.0 ∙ kept.version ∙ sym (course_on false still);
+          version = ap version_of_clut same.0 ∙ kept.version ∙ sym (course_on false still);
           inks = λ depth number small. same.1 depth number ∙ kept.inks depth number small
               ∙ ap (option_map (colour_at epoch.colours)) (sym (latest_unchanged epoch.colours id before tick (entry_of depth number) rise between still));
         })
@@ -114,13 +114,13 @@ clut_next epoch whole id tick before more taken now rise between rows view kept 
         let there : Contains {X = ℕ} [] some.0 = subst (λ (places : List ℕ). Contains places some.0) is some.1 in absurd (omega (arith, there.1)))
     by true (place ∷ places) changed is =
         (let sent : SentClut = record { clut = id; version = version; rows = place ∷ places } in
-        let course : clut_course epoch.colours (tick ∷ before ∷ more) id ≡ Some version = version_known epoch.colours id tick (tick ∷ before ∷ more) (0, omega arith, refl) changed in
-        let new : has_new_version version (clut_version (last_clut id taken)) ≡ true =
+        let course : changed_version epoch.colours (tick ∷ before ∷ more) id ≡ Some version = version_known epoch.colours id tick (tick ∷ before ∷ more) (0, omega arith, refl) changed in
+        let new : has_new_version version (version_of_clut (last_clut id taken)) ≡ true =
         ap (has_new_version version) kept.version
-        ∙ next_is_new (clut_course epoch.colours (before ∷ more) id) version (λ last known. course_small epoch.colours id last (before ∷ more) known) (sym course ∙ course_on true changed) in
+        ∙ next_is_new (changed_version epoch.colours (before ∷ more) id) version (λ last known. course_small epoch.colours id last (before ∷ more) known) (sym course ∙ course_on true changed) in
         let known = taken_clut epoch sent own taken now view (ap (λ (places : List ℕ). filter (keeps taken) (map (clut_content epoch) (reverse (clut_with id version places)))) is ∙ own_kept epoch taken sent true new) in
         record {
-          version = ap clut_version known.0 ∙ sym course;
+          version = ap version_of_clut known.0 ∙ sym course;
           inks = λ depth number small.
               known.1 depth number
               ∙ (λ i. option_or (last_given (colour_by_entry depth number) (map (clut_entry_of epoch) (sym is i))) (kept.inks depth number small i))
@@ -135,6 +135,6 @@ clut_next epoch whole id tick before more taken now rise between rows view kept 
         held true all =
             (let sent : SentClut = record { clut = id; version = version; rows = place ∷ places } in
             let there : Contains (defined_rows epoch.colours id tick) place = subst (λ (all : List ℕ). Contains all place) (sym (sym (ap (λ w. rows_from epoch.colours w tick (defined_rows epoch.colours id tick)) all) ∙ is)) (0, omega arith, refl) in
-            let course : clut_course epoch.colours (before ∷ more) id ≡ Some version = sym (course_on false still) ∙ defined_known epoch.colours id tick place (before ∷ more) rows there in
-            let old : has_new_version version (clut_version (last_clut id taken)) ≡ false = ap (has_new_version version) (kept.version ∙ course) ∙ same_is_old version in
+            let course : changed_version epoch.colours (before ∷ more) id ≡ Some version = sym (course_on false still) ∙ defined_known epoch.colours id tick place (before ∷ more) rows there in
+            let old : has_new_version version (version_of_clut (last_clut id taken)) ≡ false = ap (has_new_version version) (kept.version ∙ course) ∙ same_is_old version in
             stays still (ap (λ (places : List ℕ). filter (keeps taken) (map (clut_content epoch) (reverse (clut_with id version places)))) is ∙ own_kept epoch taken sent false old))

@@ -10,8 +10,8 @@ use Rattle.std.proofs.lemmas.List.Folds.{list_any_at, list_any_none}
 use Rattle.std.proofs.lemmas.List.Sorted.{Contains-permutation}
 use Rattle.sub_base.specs.Colour.{clear}
 use Rattle.sub_base.specs.Depth.{bits_of, code_count}
-use Rattle.sub_base.specs.Lists.{last_given}
-use Rattle.sub_base.specs.Picture.{Picture, IsPicture, code_at}
+use Rattle.sub_base.specs.Lists.{last_given, has_some}
+use Rattle.sub_base.specs.Picture.{Picture, IsPicture, code_at, is_inside}
 use Rattle.sub_base.specs.declared.colour.Colour.{Colour}
 use Rattle.sub_base.specs.declared.depth.Depth.{Depth}
 use Rattle.sub_base.specs.declared.depth.Depth.TheVariants.{Two, Four, Eight}
@@ -22,14 +22,14 @@ use Rattle.cue_list.specs.declared.epoch.Epoch.{Epoch}
 use Rattle.cue_list.specs.declared.epoch.Region.{Region}
 use Rattle.cue_list.specs.declared.script.Script.{Script}
 use Rattle.page_epoch.proofs.ListLaws.{All-none}
-use Rattle.page_epoch.specs.Live.{cue_at, has_some, live_places}
+use Rattle.page_epoch.specs.Live.{cue_at, live_places}
 use Rattle.page_epoch.specs.Sendable.{HasRegion}
 use Rattle.page_epoch.specs.SentRegions.{AreShown}
-use Rattle.set_coder.specs.SetSegments.{region_of, page_entry_of}
+use Rattle.set_coder.specs.SetSegments.{epoch_region, page_entry_of}
 use Rattle.decoder_model.specs.Ink.{ink_of}
 use Rattle.decoder_model.specs.Pixels.{pixel_of}
 use Rattle.decoder_model.specs.Readings.{Content}
-use Rattle.decoder_model.specs.Shown.{is_inside, colour_in, colour_through}
+use Rattle.decoder_model.specs.Shown.{colour_in, colour_through}
 use Rattle.decoder_model.specs.Taken.{taken_among, taken_of, last_region}
 use Rattle.decoder_model.proofs.TakenSets.{taken_all}
 use Rattle.shown_plan.proofs.Fair.{IsFairEpoch, IsFairCue}
@@ -110,7 +110,7 @@ code_small width height pictures epoch region tick x y fair there = by (find (λ
         let mine = all_at (λ (cue : Cue). (cue.region ≡ region.id) × IsFairCue pictures epoch cue) (reverse (live_cues epoch.cues region.id tick)) cue
         (reversed_all (λ (cue : Cue). (cue.region ≡ region.id) × IsFairCue pictures epoch cue) (live_cues epoch.cues region.id tick) own) at.0 in
         let place = inside cue (covered (covers pictures cue x y) (not (cue.see_through && (code_of pictures cue x y == 1))) at.1) in
-        let itself : region_of epoch cue.region ≡ region = ap (region_of epoch) mine.0 ∙ authored_itself epoch region fair.apart there in
+        let itself : epoch_region epoch cue.region ≡ region = ap (epoch_region epoch) mine.0 ∙ authored_itself epoch region fair.apart there in
         let shallow : bits_of (picture_at_place pictures cue.picture).depth ≤ bits_of region.depth = subst (λ (r : Region). bits_of (picture_at_place pictures cue.picture).depth ≤ bits_of r.depth) itself mine.1.fits.shallow in
         subst (λ (found : Option Cue). code_shown pictures x y found < code_count region.depth) (sym e)
         (deeper_codes (picture_at_place pictures cue.picture).depth region.depth (code_of pictures cue x y) shallow (pixel_small (picture_at_place pictures cue.picture) (x - cue.x) (y - cue.y) mine.1.drawn place.0 place.1)))
@@ -151,20 +151,13 @@ covers_alone x y regions region other rows there too differ inside = by (lies_in
 -- the test of a receiver is that of the script
 inside_is : (x y : ℕ) (region : Region) → is_inside (0 + region.x) (0 + region.y) region.width region.height x y ≡ lies_in x y region
 inside_is x y region =
-    (λ i. is_inside (left i) (top i) region.width region.height x y)
-    ∙ by (nat_le region.x x) (nat_lt x (region.x + region.width)) (nat_le region.y y) (nat_lt y (region.y + region.height))
+    λ i. is_inside (left i) (top i) region.width region.height x y
   where
     left : 0 + region.x ≡ region.x
     left = omega arith
 
     top : 0 + region.y ≡ region.y
     top = omega arith
-
-    by : (a b c d : Bool) → (a && (b && (c && d))) ≡ (a && b && c && d)
-    by false b c d = refl
-    by true false c d = refl
-    by true true false d = refl
-    by true true true d = refl
 
 -- ---- the colour of a place
 
@@ -190,8 +183,8 @@ region_gives script epoch tick earlier segments region x y fair kept there some 
     has : KeepsRegion script.pictures epoch tick earlier (taken_among segments) region
     has = all_at (KeepsRegion script.pictures epoch tick earlier (taken_among segments)) epoch.regions region kept.regions there
 
-    itself : region_of epoch has.last.head.region ≡ region
-    itself = ap (region_of epoch) (last_sent epoch tick region.id (taken_among segments) has.last (taken_all (IsSent epoch tick) segments kept.each) has.known).1 ∙ authored_itself epoch region fair.apart there
+    itself : epoch_region epoch has.last.head.region ≡ region
+    itself = ap (epoch_region epoch) (last_sent epoch tick region.id (taken_among segments) has.last (taken_all (IsSent epoch tick) segments kept.each) has.known).1 ∙ authored_itself epoch region fair.apart there
 
     width : has.last.head.width ≡ region.width
     width = (last_sent epoch tick region.id (taken_among segments) has.last (taken_all (IsSent epoch tick) segments kept.each) has.known).0.width ∙ ap (λ (r : Region). r.width) itself
@@ -246,7 +239,7 @@ entry_gives : (script : Script) (epoch : Epoch) (tick : ℕ) (earlier : List ℕ
     × (colour_through (taken_of segments) (0 + (page_entry_of epoch id).x) (0 + (page_entry_of epoch id).y) x y (last_region id (taken_among segments)) ≡ cond (lies_in x y region) (Some (colour_of_region script.pictures epoch tick x y region)) None)
 entry_gives script epoch tick earlier segments shown id x y fair kept are has listed =
     let own = own_region epoch.regions id has in
-    let itself : region_of epoch id ≡ own.0 = ap (region_of epoch) (sym own.2) ∙ authored_itself epoch own.0 fair.apart own.1 in
+    let itself : epoch_region epoch id ≡ own.0 = ap (epoch_region epoch) (sym own.2) ∙ authored_itself epoch own.0 fair.apart own.1 in
     let some : has_some (live_places epoch.cues own.0.id tick) ≡ true = ap (λ (n : ℕ). has_some (live_places epoch.cues n tick)) own.2 ∙ shown_live epoch tick shown id are listed in (
       own.0,
       own.1,
@@ -296,7 +289,7 @@ entries_give script epoch tick earlier segments shown x y fair kept are has = by
         one id listed true same =
             (let entry = by_entry id listed in
             let number : entry.0.id ≡ region.id = (let e : id ≡ region.id = grind (arith, nat_tests) in entry.2 ∙ e) in
-            let itself : entry.0 ≡ region = sym (authored_itself epoch entry.0 fair.apart entry.1) ∙ ap (region_of epoch) number ∙ authored_itself epoch region fair.apart here.0 in
+            let itself : entry.0 ≡ region = sym (authored_itself epoch entry.0 fair.apart entry.1) ∙ ap (epoch_region epoch) number ∙ authored_itself epoch region fair.apart here.0 in
             entry.3 ∙ (λ i. cond (lies_in x y (itself i)) (Some (colour_of_region script.pictures epoch tick x y (itself i))) None) ∙ ap (λ b. cond b (Some (colour_of_region script.pictures epoch tick x y region)) None) here.1)
         one id listed false other =
             (let entry = by_entry id listed in

@@ -7,8 +7,8 @@ use Rattle.cue_list.specs.declared.epoch.Cue.{Cue}
 use Rattle.cue_list.specs.declared.epoch.Epoch.{Epoch}
 use Rattle.cue_list.specs.declared.epoch.Region.{Region}
 use Rattle.page_epoch.proofs.RegionLaws.{version-more}
-use Rattle.page_epoch.specs.Live.{has_some, live_places}
-use Rattle.page_epoch.specs.SentRegions.{is_risen, region_version, filled, region_from, sent_region}
+use Rattle.page_epoch.specs.Live.{live_places}
+use Rattle.page_epoch.specs.SentRegions.{is_redrawn, region_version, filled, region_from, sent_region}
 use Rattle.sub_base.specs.declared.depth.Depth.TheVariants.{Two}
 use Rattle.stream_syntax.specs.PixelBlocks.{string, line_end}
 use Rattle.stream_syntax.specs.PixelCodes.{pixel}
@@ -20,8 +20,9 @@ use Rattle.decoder_model.specs.Contents.{page_in_set}
 use Rattle.decoder_model.specs.Kept.{epoch_of}
 use Rattle.decoder_model.specs.Pixels.{painted_listings, pixel_of}
 use Rattle.decoder_model.specs.Readings.{Content}
-use Rattle.decoder_model.specs.Taken.{Taken, has_new_version, region_version as known_version, segments_of, taken_among, taken_of, taken_region}
+use Rattle.decoder_model.specs.Taken.{Taken, has_new_version, version_of_region as known_version, segments_of, taken_among, taken_of, taken_region}
 use Rattle.shown_plan.specs.HoldsScript.{IsKnownRegion}
+use Rattle.sub_base.specs.Lists.{has_some}
 
 -- the next listing of a region that had no live cue comes with a fill and all live cues, and with the next version
 pub comes_back : (cues : List Cue) (whole : Bool) (id tick before : ℕ) (earlier : List ℕ) → live_places cues id before ≡ [] → has_some (live_places cues id tick) ≡ true
@@ -36,9 +37,9 @@ comes_back cues whole id tick before earlier empty some =
     by false [] has = absurd (let no : false ≡ true = has in cc)
     by false (place ∷ new) has = refl
 
-    next : (new : List ℕ) → has_some new ≡ true → cond (not false && is_risen (live_places cues id before) new) ((region_version cues id (before ∷ earlier) + 1) % 16) (region_version cues id (before ∷ earlier)) ≡ (region_version cues id (before ∷ earlier) + 1) % 16
+    next : (new : List ℕ) → has_some new ≡ true → cond (not false && is_redrawn (live_places cues id before) new) ((region_version cues id (before ∷ earlier) + 1) % 16) (region_version cues id (before ∷ earlier)) ≡ (region_version cues id (before ∷ earlier) + 1) % 16
     next [] has = absurd (let no : false ≡ true = has in cc)
-    next (place ∷ new) has = ap (λ (old : List ℕ). cond (not false && is_risen old (place ∷ new)) ((region_version cues id (before ∷ earlier) + 1) % 16) (region_version cues id (before ∷ earlier))) empty
+    next (place ∷ new) has = ap (λ (old : List ℕ). cond (not false && is_redrawn old (place ∷ new)) ((region_version cues id (before ∷ earlier) + 1) % 16) (region_version cues id (before ∷ earlier))) empty
 
 -- a region is drawn anew: the set at a tick sends it with a fill and with all of its live cues, in a version that a receiver with
 -- these taken segments takes

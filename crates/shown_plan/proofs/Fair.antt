@@ -17,15 +17,15 @@ use Rattle.cue_list.specs.declared.epoch.Region.{Region}
 use Rattle.cue_list.specs.declared.script.Script.{Script}
 use Rattle.page_epoch.proofs.SoundLaws.{epoch_ticks, plain}
 use Rattle.page_epoch.specs.Sendable.{HasRegion}
-use Rattle.page_epoch.specs.Sweeps.{IsPlain}
-use Rattle.set_coder.specs.SetSegments.{region_of}
+use Rattle.page_epoch.specs.EpochWalks.{IsPlain}
+use Rattle.set_coder.specs.SetSegments.{epoch_region}
 
 -- a cue: it lies in a region of its epoch, from the epoch's start on
 pub record IsFairCue (pictures : List Picture) (epoch : Epoch) (cue : Cue) : Type 0 where
   pub within : epoch.start ≤ cue.start
   pub lasts : cue.start < cue.end
   pub region : HasRegion epoch cue.region
-  pub fits : FitsRegion (region_of epoch cue.region) cue.x cue.y (picture_at_place pictures cue.picture)
+  pub fits : FitsRegion (epoch_region epoch cue.region) cue.x cue.y (picture_at_place pictures cue.picture)
   pub drawn : IsPicture (picture_at_place pictures cue.picture)
 
 -- an epoch of a display: its regions have their own ids and no place of the display in common, its colour rows have numbers that

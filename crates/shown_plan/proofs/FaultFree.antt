@@ -7,7 +7,7 @@ use Rattle.std.proofs.lemmas.List.{length-map}
 use Rattle.std.proofs.lemmas.List.Elements.{All-head, All-tail}
 use Rattle.sub_base.specs.Lists.{first_given}
 use Rattle.sub_base.specs.declared.profile.Profile.{Profile}
-use Rattle.stream_syntax.specs.Segments.{end_of_set, Page, Region}
+use Rattle.stream_syntax.specs.Segments.{end_of_set, Page, Region, is_entry_state}
 use Rattle.stream_syntax.specs.declared.page.State.{State}
 use Rattle.stream_syntax.specs.declared.page.State.TheVariants.{Normal, Acquisition, ModeChange}
 use Rattle.cue_list.specs.declared.epoch.Epoch.{Epoch}
@@ -17,17 +17,16 @@ use Rattle.page_epoch.specs.Needs.{node_need, pixel_need}
 use Rattle.page_epoch.specs.Plan.{HasDisplay}
 use Rattle.page_epoch.specs.Sendable.{HasRegion}
 use Rattle.page_epoch.specs.SentCluts.{sent_cluts}
-use Rattle.page_epoch.specs.SentRegions.{held}
-use Rattle.page_epoch.specs.States.{is_whole}
+use Rattle.page_epoch.specs.SentRegions.{drawn_count}
 use Rattle.page_epoch.specs.declared.planned_set.PlannedSet.{PlannedSet}
 use Rattle.page_epoch.specs.declared.planned_set.SentClut.{SentClut}
 use Rattle.page_epoch.specs.declared.planned_set.SentRegion.{SentRegion}
-use Rattle.set_coder.specs.SetSegments.{display_of as display_segments, time_out_of, page_entry_of}
+use Rattle.set_coder.specs.SetSegments.{display_segments, time_out_of, page_entry_of, display_of_script}
 use Rattle.decoder_model.specs.Contents.{page_of, display_of, page_in_set, display_in_set, in_order}
 use Rattle.decoder_model.specs.Faults.{display_fault, unknown_region, page_fault, first_fault_by, region_changed, pixels_full, composition_fault, object_too_deep, epoch_fault}
 use Rattle.decoder_model.specs.Nodes.{region_ids, listings_held, clut_ids, table_entries, nodes_of}
 use Rattle.decoder_model.specs.Readings.{Content}
-use Rattle.decoder_model.specs.Taken.{segments_of, taken_among, taken_of, last_region, region_version}
+use Rattle.decoder_model.specs.Taken.{segments_of, taken_among, taken_of, last_region, version_of_region}
 use Rattle.decoder_model.specs.declared.set_fault.SetFault.TheVariants.{NoSuchRegion, CompositionFull}
 use Rattle.decoder_model.proofs.Searches.{first_given-append, first_given-all_none}
 use Rattle.decoder_model.proofs.SoleCue.{six_none}
@@ -44,7 +43,6 @@ use Rattle.shown_plan.proofs.SetFits.{shapes_stay, depths_fit}
 use Rattle.shown_plan.proofs.SetNodes.{listings_within, cluts_within, entries_within}
 use Rattle.shown_plan.proofs.SetPixels.{ids_of, own_region, AreKnownIds, known_ids, ids_within, pixels_fit}
 use Rattle.shown_plan.proofs.SetView.{segments_more}
-use Rattle.shown_plan.specs.HoldsScript.{display_of_script}
 
 -- ---- the page and the display of the set
 
@@ -64,7 +62,7 @@ page_is script epoch set contents is =
     by ModeChange = refl
 
 -- a set that is not normal has the script's display, and a normal one none
-display_is : (script : Script) (epoch : Epoch) (set : PlannedSet) (contents : List Content) → IsReadSet script epoch set contents → display_in_set contents ≡ cond (is_whole set.state) (Some (display_of_script script)) None
+display_is : (script : Script) (epoch : Epoch) (set : PlannedSet) (contents : List Content) → IsReadSet script epoch set contents → display_in_set contents ≡ cond (is_entry_state set.state) (Some (display_of_script script)) None
 display_is script epoch set contents is =
     ap display_in_set (contents_are script epoch set contents is)
     ∙ first_given-append display_of (displays_in script set) (page_content script epoch set ∷ (map (region_content epoch) set.regions ++ (map (clut_content epoch) set.cluts ++ (is.objects ++ plain end_of_set ∷ []))))
@@ -91,7 +89,7 @@ display_is script epoch set contents is =
         ∙ first_given-append display_of is.objects (plain end_of_set ∷ [])
         ∙ ap (λ found. option_or found None) (first_given-all_none display_of is.objects (λ k d within. none_of (display_of (get_or is.objects k d)) (objects_are script.pictures epoch set.cues is.objects is.drawn k d within).display_is))
 
-    by : (state : State) → option_or (first_given display_of (map plain (display_segments script state))) None ≡ cond (is_whole state) (Some (display_of_script script)) None
+    by : (state : State) → option_or (first_given display_of (map plain (display_segments script state))) None ≡ cond (is_entry_state state) (Some (display_of_script script)) None
     by Normal = refl
     by Acquisition = refl
     by ModeChange = refl
@@ -99,7 +97,7 @@ display_is script epoch set contents is =
 -- ---- the tests
 
 display_fits : (script : Script) (profile : Profile) (epoch : Epoch) (set : PlannedSet) (contents : List Content) → IsReadSet script epoch set contents → HasDisplay script.width script.height profile → option_and_then (display_fault profile) (display_in_set contents) ≡ None
-display_fits script profile epoch set contents is room = ap (option_and_then (display_fault profile)) (display_is script epoch set contents is) ∙ by (is_whole set.state)
+display_fits script profile epoch set contents is room = ap (option_and_then (display_fault profile)) (display_is script epoch set contents is) ∙ by (is_entry_state set.state)
   where
     by : (b : Bool) → option_and_then (display_fault profile) (cond b (Some (display_of_script script)) None) ≡ None
     by false = refl
@@ -112,13 +110,13 @@ regions_known script epoch tick earlier segments [] kept has = refl
 regions_known script epoch tick earlier segments (id ∷ shown) kept has =
     (λ i. option_or (known i) (regions_known script epoch tick earlier segments shown kept (All-tail (HasRegion epoch) id shown has) i))
   where
-    there : (found : Option Region) → region_version (last_region id (taken_among segments)) ≡ region_version found → is_none found ≡ false
+    there : (found : Option Region) → version_of_region (last_region id (taken_among segments)) ≡ version_of_region found → is_none found ≡ false
     there (Some region) e = refl
     there None e =
         (let own = own_region epoch.regions id (All-head (HasRegion epoch) id shown has) in
         let region = all_at (KeepsRegion script.pictures epoch tick earlier (taken_among segments)) epoch.regions own.0 kept.regions own.1 in
         let known_last : last_region id (taken_among segments) ≡ Some region.last = ap (λ (n : ℕ). last_region n (taken_among segments)) (sym own.2) ∙ region.known in
-        let no : Some region.last.head.version ≡ None = sym (ap region_version known_last) ∙ e in absurd (cc))
+        let no : Some region.last.head.version ≡ None = sym (ap version_of_region known_last) ∙ e in absurd (cc))
 
     known : unknown_region segments (page_entry_of epoch id) ≡ None
     known = ap (λ b. cond b (Some (NoSuchRegion id)) None) (there (last_region id segments) (taken_region_version id segments))
@@ -143,7 +141,7 @@ nodes_within script epoch set earlier segments page is_fair planned kept page_of
     regions : length (region_ids (taken_of segments)) ≤ length epoch.regions
     regions = omega (arith, sum_ones (region_ids (taken_of segments)), ids_within epoch taken (λ (id : ℕ). 1) are, sum_ones (ids_of epoch), length-map epoch.regions (λ (region : AuthoredRegion). region.id))
 
-    listings : listings_held (taken_of segments) ≤ sum_by (λ (region : AuthoredRegion). held epoch.cues region.id (set.pts ∷ earlier)) epoch.regions
+    listings : listings_held (taken_of segments) ≤ sum_by (λ (region : AuthoredRegion). drawn_count epoch.cues region.id (set.pts ∷ earlier)) epoch.regions
     listings = listings_within script.pictures epoch set.pts earlier taken are kept.regions
 
     cluts : length (clut_ids (taken_of segments)) ≤ length (sent_cluts epoch.colours true (set.pts ∷ earlier))

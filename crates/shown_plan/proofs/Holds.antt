@@ -13,10 +13,10 @@ use Rattle.cue_list.specs.Authored.{authored_code, authored_colour, live_cues}
 use Rattle.cue_list.specs.declared.epoch.Epoch.{Epoch}
 use Rattle.cue_list.specs.declared.epoch.Region.{Region}
 use Rattle.cue_list.specs.declared.script.Script.{Script}
-use Rattle.page_epoch.specs.Live.{has_some, live_places}
+use Rattle.page_epoch.specs.Live.{live_places}
 use Rattle.page_epoch.specs.SentRegions.{AreShown}
 use Rattle.page_epoch.specs.declared.planned_set.PlannedSet.{PlannedSet}
-use Rattle.set_coder.specs.SetSegments.{region_of}
+use Rattle.set_coder.specs.SetSegments.{epoch_region}
 use Rattle.decoder_model.specs.Contents.{page_in_set}
 use Rattle.decoder_model.specs.Free.{nodes_with_page}
 use Rattle.decoder_model.specs.Ink.{ink_of}
@@ -34,6 +34,7 @@ use Rattle.shown_plan.proofs.SetFits.{last_sent}
 use Rattle.shown_plan.proofs.SetPixels.{pixels_within, authored_itself, known_ids, known_contains}
 use Rattle.shown_plan.specs.HoldsScript.{IsKnownRegion, HoldsScript}
 use Rattle.shown_plan.specs.WithinNeed.{IsWithinNeed}
+use Rattle.sub_base.specs.Lists.{has_some}
 
 -- the colour of an entry is the authored one
 pub ink_is : (epoch : Epoch) (tick : ℕ) (earlier : List ℕ) (taken : List Content) (clut : ℕ) (depth : Depth) (entry : ℕ) → KeepsClut epoch.colours tick earlier taken clut → entry < code_count depth
@@ -99,7 +100,7 @@ keeps_holds script profile past set latest before kept page found =
     known region there =
         (let has = all_at (KeepsRegion script.pictures epoch set.pts kept.place.earlier taken) epoch.regions region kept.keeps.regions there in
         let mine = last_sent epoch set.pts region.id taken has.last sent has.known in
-        let itself = ap (λ (id : ℕ). region_of epoch id) mine.1 ∙ authored_itself epoch region kept.place.fair.apart there in
+        let itself = ap (λ (id : ℕ). epoch_region epoch id) mine.1 ∙ authored_itself epoch region kept.place.fair.apart there in
         record {
           last = has.last;
           known = has.known;

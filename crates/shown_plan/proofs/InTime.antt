@@ -15,7 +15,7 @@ use Rattle.cue_list.specs.declared.epoch.Region.{Region}
 use Rattle.cue_list.specs.declared.script.Script.{Script}
 use Rattle.page_epoch.proofs.ListLaws.{All-none, twice_within}
 use Rattle.page_epoch.specs.Instants.{named_ticks, shows_cue, AreNeighbours, IsRefresh, IsInstant}
-use Rattle.page_epoch.specs.Live.{no_cue, cue_at, own_places, has_some, live_places}
+use Rattle.page_epoch.specs.Live.{no_cue, cue_at, own_places, live_places}
 use Rattle.page_epoch.specs.Plan.{IsPlan}
 use Rattle.page_epoch.specs.SentRegions.{AreShown}
 use Rattle.page_epoch.specs.declared.instants.TheConstants.{REFRESH_ROOM}
@@ -25,6 +25,7 @@ use Rattle.shown_plan.proofs.Fair.{IsFair}
 use Rattle.shown_plan.proofs.Lists.{all_at, kept_pass, piece_there}
 use Rattle.shown_plan.proofs.PlannedSets.{times_of, HasTimes, has_times, IsInEpoch, in_epoch, there_at}
 use Rattle.shown_plan.proofs.StillPictures.{AreStill, cue_start, cue_end}
+use Rattle.sub_base.specs.Lists.{has_some}
 
 -- ---- times of neighbours
 

@@ -4,7 +4,7 @@ use Rattle.std.specs.Prelude.{All, IsSome}
 use Rattle.std.specs.List.{AllPairs}
 use Rattle.std.specs.Option.{option_map}
 use Rattle.sub_base.specs.Depth.{code_count}
-use Rattle.sub_base.specs.Lists.{first_given}
+use Rattle.sub_base.specs.Lists.{first_given, has_some}
 use Rattle.sub_base.specs.Picture.{Picture}
 use Rattle.sub_base.specs.declared.depth.Depth.{Depth}
 use Rattle.stream_syntax.specs.Segments.{SegmentValue, of_page, of_region, of_clut, of_object, of_display, end_of_set, passed_over, Region, Object}
@@ -14,21 +14,20 @@ use Rattle.cue_list.specs.declared.epoch.ColourRow.{ColourRow}
 use Rattle.cue_list.specs.declared.epoch.Epoch.{Epoch}
 use Rattle.cue_list.specs.declared.epoch.Region.{Region as AuthoredRegion}
 use Rattle.cue_list.specs.declared.script.Script.{Script}
-use Rattle.page_epoch.specs.Courses.{clut_course}
-use Rattle.page_epoch.specs.Live.{cue_at, has_some, live_places}
+use Rattle.page_epoch.specs.EpochStates.{changed_version}
+use Rattle.page_epoch.specs.Live.{cue_at, live_places}
 use Rattle.page_epoch.specs.Sendable.{HasRegion, HasColour}
 use Rattle.page_epoch.specs.SentCluts.{row_at}
-use Rattle.page_epoch.specs.SentRegions.{region_version, held}
-use Rattle.set_coder.specs.SetSegments.{region_of, listing_of, clut_entry_of, depth_of_cue}
+use Rattle.page_epoch.specs.SentRegions.{region_version, drawn_count}
+use Rattle.set_coder.specs.SetSegments.{epoch_region, listing_of, clut_entry_of, depth_of_cue, display_of_script}
 use Rattle.decoder_model.specs.Contents.{object_named}
 use Rattle.decoder_model.specs.Faults.{too_deep_at}
 use Rattle.decoder_model.specs.Ink.{colour_by_segment}
 use Rattle.decoder_model.specs.Pixels.{last_code, since_region}
 use Rattle.decoder_model.specs.Readings.{Content}
-use Rattle.decoder_model.specs.Taken.{segments_of, taken_among, last_region, last_clut, last_display, clut_version}
+use Rattle.decoder_model.specs.Taken.{segments_of, taken_among, last_region, last_clut, last_display, version_of_clut}
 use Rattle.page_epoch.proofs.RowLaws.{entry_of}
 use Rattle.shown_plan.proofs.ColourRows.{latest_of, colour_at}
-use Rattle.shown_plan.specs.HoldsScript.{display_of_script}
 
 -- the code in a column and a row of a region by taken segments, and 0 where nothing was written
 abbrev pub last_code_or_zero : List Content → ℕ → ℕ → ℕ → ℕ
@@ -43,10 +42,10 @@ AreRising places = AllPairs (λ (before later : ℕ). before < later) places
 -- a region segment: its region is one of the epoch, with its sides, depth and CLUT, and lists cues of its own
 pub record IsSentRegion (epoch : Epoch) (value : Region) : Type 0 where
   pub own : HasRegion epoch value.head.region
-  pub width : value.head.width ≡ (region_of epoch value.head.region).width
-  pub height : value.head.height ≡ (region_of epoch value.head.region).height
-  pub depth : value.head.depth ≡ (region_of epoch value.head.region).depth
-  pub clut : value.head.clut ≡ (region_of epoch value.head.region).clut
+  pub width : value.head.width ≡ (epoch_region epoch value.head.region).width
+  pub height : value.head.height ≡ (epoch_region epoch value.head.region).height
+  pub depth : value.head.depth ≡ (epoch_region epoch value.head.region).depth
+  pub clut : value.head.clut ≡ (epoch_region epoch value.head.region).clut
   pub codes : (value.head.code8 ≡ 0) × (value.head.code4 ≡ 0) × (value.head.code2 ≡ 0)
   pub places : List ℕ
   pub rise : AreRising places
@@ -92,14 +91,14 @@ pub record KeepsRegion (pictures : List Picture) (epoch : Epoch) (tick : ℕ) (e
   pub last : Region
   pub known : last_region region.id taken ≡ Some last
   pub version : last.head.version ≡ region_version epoch.cues region.id (tick ∷ earlier)
-  pub few : length last.listings ≤ held epoch.cues region.id (tick ∷ earlier)
+  pub few : length last.listings ≤ drawn_count epoch.cues region.id (tick ∷ earlier)
   pub painted : All (λ listing. HasObject region.id taken listing.object) last.listings
   pub codes : has_some (live_places epoch.cues region.id tick) ≡ true → (x y : ℕ)
       → last_code_or_zero taken region.id x y ≡ authored_code pictures (live_cues epoch.cues region.id tick) x y
 
 -- a CLUT: its version is the plan's, and each entry has the colour of its latest row
 pub record KeepsClut (colours : List ColourRow) (tick : ℕ) (earlier : List ℕ) (taken : List Content) (clut : ℕ) : Type 0 where
-  pub version : clut_version (last_clut clut taken) ≡ clut_course colours (tick ∷ earlier) clut
+  pub version : version_of_clut (last_clut clut taken) ≡ changed_version colours (tick ∷ earlier) clut
   pub inks : (depth : Depth) (number : ℕ) → number < code_count depth
       → first_given (colour_by_segment clut depth number) taken ≡ option_map (colour_at colours) (latest_of colours clut (entry_of depth number) tick)
 

@@ -6,7 +6,7 @@ use Rattle.std.proofs.lemmas.Bool.Decides.{nat_tests}
 use Rattle.std.proofs.lemmas.List.{length-map, get_or-map}
 use Rattle.std.proofs.lemmas.List.Elements.{All-cons, All-append, All-map, All-filter, All-contains_itself, Contains-append_left, Contains-append_right}
 use Rattle.sub_base.specs.Picture.{Picture}
-use Rattle.stream_syntax.specs.Segments.{SegmentValue, of_page, of_region, of_clut, of_object, of_display, end_of_set, passed_over}
+use Rattle.stream_syntax.specs.Segments.{SegmentValue, of_page, of_region, of_clut, of_object, of_display, end_of_set, passed_over, is_entry_state}
 use Rattle.stream_syntax.specs.declared.page.State.{State}
 use Rattle.stream_syntax.specs.declared.page.State.TheVariants.{Normal, Acquisition, ModeChange}
 use Rattle.cue_list.specs.Sound.{ticks_of, ticks_of_cue}
@@ -19,11 +19,10 @@ use Rattle.page_epoch.specs.Live.{places_below}
 use Rattle.page_epoch.specs.Plan.{IsCarried}
 use Rattle.page_epoch.specs.Sendable.{IsSendableRegion, IsSendableIn}
 use Rattle.page_epoch.specs.SentCluts.{no_row, row_at, rows_of_clut, defined_rows, rows_from, clut_with, sent_clut, named_cluts, sent_cluts, clut_version}
-use Rattle.page_epoch.specs.States.{is_whole}
 use Rattle.page_epoch.specs.declared.planned_set.PlannedSet.{PlannedSet}
 use Rattle.page_epoch.specs.declared.planned_set.SentClut.{SentClut}
 use Rattle.page_epoch.specs.declared.planned_set.SentRegion.{SentRegion}
-use Rattle.set_coder.specs.SetSegments.{display_of as display_segments, clut_entry_of}
+use Rattle.set_coder.specs.SetSegments.{display_segments, clut_entry_of}
 use Rattle.decoder_model.specs.Readings.{Content}
 use Rattle.shown_plan.proofs.CarriedSets.{ListsOwn, all_list_own}
 use Rattle.shown_plan.proofs.ClutChanges.{AreBetween}
@@ -45,7 +44,7 @@ pub record AreSeen (epoch : Epoch) (tick : ℕ) (earlier : List ℕ) : Type 0 wh
 -- a set of a plan in its epoch
 pub record IsPlannedIn (epoch : Epoch) (set : PlannedSet) (earlier : List ℕ) : Type 0 where
   pub seen : AreSeen epoch set.pts earlier
-  pub carried : IsCarried epoch (is_whole set.state) (set.pts ∷ earlier) set
+  pub carried : IsCarried epoch (is_entry_state set.state) (set.pts ∷ earlier) set
   pub sendable : IsSendableIn epoch set
 
 -- ---- the rows of a CLUT
@@ -156,7 +155,7 @@ newest_sent script epoch set earlier objects planned drawn =
     All-append (IsSent epoch set.pts) (reverse objects) _ (reversed_all (IsSent epoch set.pts) objects (objects_sent script.pictures epoch set.pts set.cues objects drawn))
     (All-append (IsSent epoch set.pts) (map (clut_content epoch) (reverse set.cluts)) _
     (subst (All (IsSent epoch set.pts)) (reverse_map (clut_content epoch) set.cluts) (reversed_all (IsSent epoch set.pts) (map (clut_content epoch) set.cluts)
-    (subst (λ (cluts : List SentClut). All (IsSent epoch set.pts) (map (clut_content epoch) cluts)) (sym planned.carried.cluts) (cluts_sent epoch (is_whole set.state) set.pts earlier))))
+    (subst (λ (cluts : List SentClut). All (IsSent epoch set.pts) (map (clut_content epoch) cluts)) (sym planned.carried.cluts) (cluts_sent epoch (is_entry_state set.state) set.pts earlier))))
     (All-append (IsSent epoch set.pts) (map (region_content epoch) (reverse set.regions)) _
-    (regions_sent epoch set.pts (reverse set.regions) (reversed_all (IsSendableRegion epoch) set.regions planned.sendable.regions) (reversed_all (ListsOwn epoch) set.regions (all_list_own epoch (is_whole set.state) (set.pts ∷ earlier) set.regions planned.carried.regions)))
+    (regions_sent epoch set.pts (reverse set.regions) (reversed_all (IsSendableRegion epoch) set.regions planned.sendable.regions) (reversed_all (ListsOwn epoch) set.regions (all_list_own epoch (is_entry_state set.state) (set.pts ∷ earlier) set.regions planned.carried.regions)))
     (All-cons (IsSent epoch set.pts) (page_content script epoch set) (reverse (displays_in script set)) tt (reversed_all (IsSent epoch set.pts) (displays_in script set) (displays_sent script epoch set.pts set.state)))))

@@ -5,7 +5,7 @@ use Rattle.std.specs.List.{AllZip, Contains}
 use Rattle.std.specs.Option.{option_or, is_some}
 use Rattle.std.proofs.lemmas.List.{append-nil}
 use Rattle.std.proofs.lemmas.List.Elements.{All-append, All-contains_itself}
-use Rattle.stream_syntax.specs.Segments.{SegmentValue, of_page, of_region, of_clut, of_object, of_display, end_of_set, passed_over, Object}
+use Rattle.stream_syntax.specs.Segments.{SegmentValue, of_page, of_region, of_clut, of_object, of_display, end_of_set, passed_over, Object, is_entry_state}
 use Rattle.stream_syntax.specs.declared.page.State.{State}
 use Rattle.stream_syntax.specs.declared.page.State.TheVariants.{Normal, Acquisition, ModeChange}
 use Rattle.cue_list.specs.declared.epoch.Epoch.{Epoch}
@@ -14,11 +14,10 @@ use Rattle.cue_list.specs.declared.script.Script.{Script}
 use Rattle.page_epoch.specs.Live.{no_cue}
 use Rattle.page_epoch.specs.SentCluts.{sent_clut}
 use Rattle.page_epoch.specs.SentRegions.{sent_region}
-use Rattle.page_epoch.specs.States.{is_whole}
 use Rattle.page_epoch.specs.declared.planned_set.PlannedSet.{PlannedSet}
 use Rattle.page_epoch.specs.declared.planned_set.SentClut.{SentClut}
 use Rattle.page_epoch.specs.declared.planned_set.SentRegion.{SentRegion}
-use Rattle.set_coder.specs.SetSegments.{display_of as display_segments}
+use Rattle.set_coder.specs.SetSegments.{display_segments, display_of_script}
 use Rattle.decoder_model.specs.Contents.{display_of}
 use Rattle.decoder_model.specs.Readings.{Content}
 use Rattle.decoder_model.specs.Taken.{segments_of, taken_among, last_region, last_display}
@@ -39,13 +38,12 @@ use Rattle.shown_plan.proofs.RegionNext.{IsDrawnFor, region_first, region_next}
 use Rattle.shown_plan.proofs.RegionOn.{HasVersionZero}
 use Rattle.shown_plan.proofs.RegionViews.{IsRegionView, region_view}
 use Rattle.shown_plan.proofs.SetView.{newest, newest_first, reversed_all}
-use Rattle.shown_plan.specs.HoldsScript.{display_of_script}
 
 -- ---- the display
 
 -- the display that a set defines: none in a normal set
 set_display : (script : Script) (epoch : Epoch) (set : PlannedSet) (objects : List Content) → AllZip (IsDrawnObject script.pictures epoch) set.cues objects
-    → last_display (newest script epoch set objects) ≡ cond (is_whole set.state) (Some (display_of_script script)) None
+    → last_display (newest script epoch set objects) ≡ cond (is_entry_state set.state) (Some (display_of_script script)) None
 set_display script epoch set objects drawn =
     first_given-append display_of (reverse objects) (map (clut_content epoch) (reverse set.cluts) ++ (map (region_content epoch) (reverse set.regions) ++ (page_content script epoch set ∷ reverse (displays_in script set))))
     ∙ ap (λ found. option_or found (last_display (map (clut_content epoch) (reverse set.cluts) ++ (map (region_content epoch) (reverse set.regions) ++ (page_content script epoch set ∷ reverse (displays_in script set))))))
@@ -68,7 +66,7 @@ set_display script epoch set objects drawn =
     no_regions [] = refl
     no_regions (one ∷ sent) = no_regions sent
 
-    by : (state : State) → last_display (reverse (map plain (display_segments script state))) ≡ cond (is_whole state) (Some (display_of_script script)) None
+    by : (state : State) → last_display (reverse (map plain (display_segments script state))) ≡ cond (is_entry_state state) (Some (display_of_script script)) None
     by Normal = refl
     by Acquisition = refl
     by ModeChange = refl
@@ -98,32 +96,32 @@ pub record IsReadIn (script : Script) (epoch : Epoch) (set : PlannedSet) (earlie
   pub read : IsReadSet script epoch set contents
 
 drawn_for : (script : Script) (epoch : Epoch) (set : PlannedSet) (earlier : List ℕ) (contents : List Content) (is : IsReadIn script epoch set earlier contents) (region : Region) → Contains epoch.regions region
-    → IsDrawnFor script.pictures epoch region.id (sent_region epoch.cues (is_whole set.state) (set.pts ∷ earlier) region.id) set.cues is.read.objects
+    → IsDrawnFor script.pictures epoch region.id (sent_region epoch.cues (is_entry_state set.state) (set.pts ∷ earlier) region.id) set.cues is.read.objects
 drawn_for script epoch set earlier contents is region there =
     record {
       drawn = is.read.drawn;
       are = λ k d within. (is.fair.cues (get_or set.cues k d) no_cue (is.planned.sendable.cues k d within)).drawn;
-      listed = own_listed epoch (is_whole set.state) (set.pts ∷ earlier) set.regions set.cues region is.fair.apart is.planned.carried.regions is.planned.carried.cues is.planned.carried.in_order there;
+      listed = own_listed epoch (is_entry_state set.state) (set.pts ∷ earlier) set.regions set.cues region is.fair.apart is.planned.carried.regions is.planned.carried.cues is.planned.carried.in_order there;
     }
 
 single_regions : (script : Script) (epoch : Epoch) (set : PlannedSet) (earlier : List ℕ) (contents : List Content) → IsReadIn script epoch set earlier contents → AreSingle (λ (one : SentRegion). one.id) set.regions
-single_regions script epoch set earlier contents is = regions_single epoch.cues epoch.regions (is_whole set.state) (set.pts ∷ earlier) set.regions is.fair.apart is.planned.carried.regions
+single_regions script epoch set earlier contents is = regions_single epoch.cues epoch.regions (is_entry_state set.state) (set.pts ∷ earlier) set.regions is.fair.apart is.planned.carried.regions
 
 single_cluts : (script : Script) (epoch : Epoch) (set : PlannedSet) (earlier : List ℕ) (contents : List Content) → IsReadIn script epoch set earlier contents → AreSingle (λ (one : SentClut). one.clut) set.cluts
-single_cluts script epoch set earlier contents is = subst (AreSingle (λ (one : SentClut). one.clut)) (sym is.planned.carried.cluts) (cluts_single epoch.colours (is_whole set.state) (set.pts ∷ earlier))
+single_cluts script epoch set earlier contents is = subst (AreSingle (λ (one : SentClut). one.clut)) (sym is.planned.carried.cluts) (cluts_single epoch.colours (is_entry_state set.state) (set.pts ∷ earlier))
 
 own_clut : (script : Script) (epoch : Epoch) (set : PlannedSet) (earlier : List ℕ) (contents : List Content) → IsReadIn script epoch set earlier contents → (id : ℕ)
-    → HasPart (λ (sent : SentClut). sent.clut) id (sent_clut epoch.colours (is_whole set.state) (set.pts ∷ earlier) id) set.cluts
+    → HasPart (λ (sent : SentClut). sent.clut) id (sent_clut epoch.colours (is_entry_state set.state) (set.pts ∷ earlier) id) set.cluts
 own_clut script epoch set earlier contents is id =
-    subst (HasPart (λ (sent : SentClut). sent.clut) id (sent_clut epoch.colours (is_whole set.state) (set.pts ∷ earlier) id)) (sym is.planned.carried.cluts)
-    (clut_part epoch.colours (is_whole set.state) set.pts earlier id is.fair.cluts)
+    subst (HasPart (λ (sent : SentClut). sent.clut) id (sent_clut epoch.colours (is_entry_state set.state) (set.pts ∷ earlier) id)) (sym is.planned.carried.cluts)
+    (clut_part epoch.colours (is_entry_state set.state) set.pts earlier id is.fair.cluts)
 
 no_sets : segments_of [] ≡ []
 unfolding segments_of
 no_sets = refl
 
 -- the first set that a receiver has of an epoch, which is not normal
-pub keeps_first : (script : Script) (epoch : Epoch) (set : PlannedSet) (earlier : List ℕ) (contents : List Content) → IsReadIn script epoch set earlier contents → is_whole set.state ≡ true
+pub keeps_first : (script : Script) (epoch : Epoch) (set : PlannedSet) (earlier : List ℕ) (contents : List Content) → IsReadIn script epoch set earlier contents → is_entry_state set.state ≡ true
     → Keeps script epoch set.pts earlier (segments_of (contents ∷ []))
 keeps_first script epoch set earlier contents is whole =
     record {
@@ -136,7 +134,7 @@ keeps_first script epoch set earlier contents is whole =
           clut_first epoch clut set.pts earlier (taken_among (segments_of (contents ∷ []))) (rows_seen script.width script.height script.pictures epoch clut set.pts earlier is.fair is.planned.seen)
           (subst (λ (taken : List Content). IsClutView epoch clut (sent_clut epoch.colours true (set.pts ∷ earlier) clut) taken (taken_among (segments_of (contents ∷ [])))) nothing
           (subst (λ b. IsClutView epoch clut (sent_clut epoch.colours b (set.pts ∷ earlier) clut) (taken_among (segments_of [])) (taken_among (segments_of (contents ∷ [])))) whole
-          (clut_view script epoch set contents [] is.read (single_regions script epoch set earlier contents is) (single_cluts script epoch set earlier contents is) clut (sent_clut epoch.colours (is_whole set.state) (set.pts ∷ earlier) clut) (own_clut script epoch set earlier contents is clut))));
+          (clut_view script epoch set contents [] is.read (single_regions script epoch set earlier contents is) (single_cluts script epoch set earlier contents is) clut (sent_clut epoch.colours (is_entry_state set.state) (set.pts ∷ earlier) clut) (own_clut script epoch set earlier contents is clut))));
     }
   where
     none_before : segments_of [] ≡ []
@@ -150,8 +148,8 @@ keeps_first script epoch set earlier contents is whole =
 
     view : (region : Region) → Contains epoch.regions region → IsRegionView epoch region.id (sent_region epoch.cues true (set.pts ∷ earlier) region.id) is.read.objects (taken_among (segments_of [])) (taken_among (segments_of (contents ∷ [])))
     view region there = subst (λ b. IsRegionView epoch region.id (sent_region epoch.cues b (set.pts ∷ earlier) region.id) is.read.objects (taken_among (segments_of [])) (taken_among (segments_of (contents ∷ [])))) whole
-        (region_view script epoch set contents [] is.read (single_regions script epoch set earlier contents is) (single_cluts script epoch set earlier contents is) region.id (sent_region epoch.cues (is_whole set.state) (set.pts ∷ earlier) region.id)
-        (region_part epoch.cues epoch.regions (is_whole set.state) (set.pts ∷ earlier) set.regions region is.fair.apart is.planned.carried.regions there))
+        (region_view script epoch set contents [] is.read (single_regions script epoch set earlier contents is) (single_cluts script epoch set earlier contents is) region.id (sent_region epoch.cues (is_entry_state set.state) (set.pts ∷ earlier) region.id)
+        (region_part epoch.cues epoch.regions (is_entry_state set.state) (set.pts ∷ earlier) set.regions region is.fair.apart is.planned.carried.regions there))
 
     draws : (region : Region) → Contains epoch.regions region → IsDrawnFor script.pictures epoch region.id (sent_region epoch.cues true (set.pts ∷ earlier) region.id) set.cues is.read.objects
     draws region there = subst (λ b. IsDrawnFor script.pictures epoch region.id (sent_region epoch.cues b (set.pts ∷ earlier) region.id) set.cues is.read.objects) whole (drawn_for script epoch set earlier contents is region there)
@@ -165,19 +163,19 @@ keeps_next script epoch set before more contents sets is kept =
           (λ k d within. later_sent epoch before set.pts (get_or (segments_of sets) k d) (omega (arith, rise)) (kept.each k d within)));
       display =
           taken_display (segments_of (contents ∷ sets)) ∙ ap last_display first ∙ first_given-append display_of (newest script epoch set is.read.objects) (segments_of sets)
-          ∙ (λ i. option_or (set_display script epoch set is.read.objects is.read.drawn i) ((sym (taken_display (segments_of sets)) ∙ kept.display) i)) ∙ upon (is_whole set.state);
+          ∙ (λ i. option_or (set_display script epoch set is.read.objects is.read.drawn i) ((sym (taken_display (segments_of sets)) ∙ kept.display) i)) ∙ upon (is_entry_state set.state);
       regions = λ k d within.
-          region_next script.pictures epoch (get_or epoch.regions k d) (is_whole set.state) set.pts before more set.cues is.read.objects (taken_among (segments_of sets)) (taken_among (segments_of (contents ∷ sets)))
+          region_next script.pictures epoch (get_or epoch.regions k d) (is_entry_state set.state) set.pts before more set.cues is.read.objects (taken_among (segments_of sets)) (taken_among (segments_of (contents ∷ sets)))
           (region_view script epoch set contents sets is.read (single_regions script epoch set (before ∷ more) contents is) (single_cluts script epoch set (before ∷ more) contents is) (get_or epoch.regions k d).id
-          (sent_region epoch.cues (is_whole set.state) (set.pts ∷ before ∷ more) (get_or epoch.regions k d).id)
-          (region_part epoch.cues epoch.regions (is_whole set.state) (set.pts ∷ before ∷ more) set.regions (get_or epoch.regions k d) is.fair.apart is.planned.carried.regions (All-contains_itself epoch.regions k d within)))
+          (sent_region epoch.cues (is_entry_state set.state) (set.pts ∷ before ∷ more) (get_or epoch.regions k d).id)
+          (region_part epoch.cues epoch.regions (is_entry_state set.state) (set.pts ∷ before ∷ more) set.regions (get_or epoch.regions k d) is.fair.apart is.planned.carried.regions (All-contains_itself epoch.regions k d within)))
           (drawn_for script epoch set (before ∷ more) contents is (get_or epoch.regions k d) (All-contains_itself epoch.regions k d within))
           (taken_all HasVersionZero (segments_of sets) (λ n e inside. zero_sent epoch before (get_or (segments_of sets) n e) (kept.each n e inside)))
           (kept.regions k d within);
       cluts = λ clut.
-          clut_next epoch (is_whole set.state) clut set.pts before more (taken_among (segments_of sets)) (taken_among (segments_of (contents ∷ sets))) rise (rows_between epoch clut set.pts before more is.planned.seen)
+          clut_next epoch (is_entry_state set.state) clut set.pts before more (taken_among (segments_of sets)) (taken_among (segments_of (contents ∷ sets))) rise (rows_between epoch clut set.pts before more is.planned.seen)
           (rows_seen script.width script.height script.pictures epoch clut set.pts (before ∷ more) is.fair is.planned.seen)
-          (clut_view script epoch set contents sets is.read (single_regions script epoch set (before ∷ more) contents is) (single_cluts script epoch set (before ∷ more) contents is) clut (sent_clut epoch.colours (is_whole set.state) (set.pts ∷ before ∷ more) clut) (own_clut script epoch set (before ∷ more) contents is clut))
+          (clut_view script epoch set contents sets is.read (single_regions script epoch set (before ∷ more) contents is) (single_cluts script epoch set (before ∷ more) contents is) clut (sent_clut epoch.colours (is_entry_state set.state) (set.pts ∷ before ∷ more) clut) (own_clut script epoch set (before ∷ more) contents is clut))
           (kept.cluts clut);
     }
   where

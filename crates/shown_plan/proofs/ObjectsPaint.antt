@@ -12,9 +12,9 @@ use Rattle.stream_syntax.specs.Segments.{of_object, Region, Object}
 use Rattle.stream_syntax.specs.declared.region.Listing.{Listing}
 use Rattle.cue_list.specs.declared.epoch.Epoch.{Epoch}
 use Rattle.page_epoch.specs.Live.{cue_at}
-use Rattle.set_coder.specs.SetSegments.{region_of, picture_of_cue, depth_of_cue, listing_of}
+use Rattle.set_coder.specs.SetSegments.{epoch_region, picture_of_cue, depth_of_cue, listing_of}
 use Rattle.decoder_model.specs.Contents.{region_named, object_named}
-use Rattle.decoder_model.specs.Pixels.{object_version, since_region, is_painting, listings_naming, listings_by, painted_listings, code_by_listing, code_by_listings, depth_of, code_by_segment, last_code}
+use Rattle.decoder_model.specs.Pixels.{version_of_object, since_region, is_painting, listings_naming, listings_by, painted_listings, code_by_listing, code_by_listings, depth_of, code_by_segment, last_code}
 use Rattle.decoder_model.specs.Readings.{Content}
 use Rattle.decoder_model.specs.Taken.{has_new_version, last_region}
 use Rattle.decoder_model.proofs.Searches.{option_or-assoc}
@@ -84,7 +84,7 @@ pub fresh_listings : (taken : List Content) (id : ℕ) (object : Object) (last :
     → painted_listings (record { segments = taken }) id object ≡ listings_naming object.object last.listings
 unfolding painted_listings
 fresh_listings taken id object last known fresh =
-    ap (λ found. listings_by (has_new_version object.version (object_version found)) object (last_region id taken)) fresh ∙ ap (λ region. listings_by true object region) known
+    ap (λ found. listings_by (has_new_version object.version (version_of_object found)) object (last_region id taken)) fresh ∙ ap (λ region. listings_by true object region) known
 
 unlisted_none : (taken : List Content) (id : ℕ) (object : Object) (last : Region) → last_region id taken ≡ Some last → listings_naming object.object last.listings ≡ [] → painted_listings (record { segments = taken }) id object ≡ []
 unfolding painted_listings
@@ -106,7 +106,7 @@ abbrev pub IsFresh : Epoch → ℕ → List Content → ℕ → Type 0
 IsFresh epoch id taken place = is_own epoch id place ≡ true → first_given (object_named place) (since_region id (record { segments = taken })) ≡ None
 
 pub objects_paint : (pictures : List Picture) (epoch : Epoch) (id x y : ℕ) (places cues : List ℕ) (objects taken : List Content) (last : Region)
-    → last_region id taken ≡ Some last → last.head.depth ≡ (region_of epoch id).depth → AreListed epoch id places last.listings
+    → last_region id taken ≡ Some last → last.head.depth ≡ (epoch_region epoch id).depth → AreListed epoch id places last.listings
     → All (λ place. is_own epoch id place ≡ true → Contains places place) cues → AreOnce epoch id cues
     → All (λ place. IsPicture (picture_of_cue pictures epoch place)) cues → All (IsFresh epoch id taken) cues → AllZip (IsDrawnObject pictures epoch) cues objects
     → last_code (reverse objects ++ taken) id x y ≡ option_or (last_given (code_by_cue pictures epoch x y) (filter (is_own epoch id) cues)) (last_code taken id x y)
@@ -158,7 +158,7 @@ objects_paint pictures epoch id x y places (place ∷ cues) (o ∷ objects) take
         fresh_listings taken id value last known (All-head (IsFresh epoch id taken) place cues fresh e) ∙ listed.once place there in
         let mine : (cue_at epoch.cues place).region ≡ id = grind (arith, nat_tests) in
         let region_depth : depth_of (last_region id taken) ≡ depth_of_cue epoch place =
-        ap depth_of known ∙ depth ∙ ap (λ (of_id : ℕ). (region_of epoch of_id).depth) (sym mine) in
+        ap depth_of known ∙ depth ∙ ap (λ (of_id : ℕ). (epoch_region epoch of_id).depth) (sym mine) in
         let wrote_cue : code_by_listings (depth_of (last_region id taken)) value.see_through o.top o.bottom x y (painted_listings (record { segments = taken }) id value) ≡ code_by_cue pictures epoch x y place =
         ap (code_by_listings (depth_of (last_region id taken)) value.see_through o.top o.bottom x y) listings
         ∙ ap (λ of_depth. code_by_listing of_depth value.see_through o.top o.bottom x y (listing_of epoch place)) region_depth

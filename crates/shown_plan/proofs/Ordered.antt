@@ -15,7 +15,7 @@ use Rattle.page_epoch.proofs.ListLaws.{filter_none, All-none}
 use Rattle.page_epoch.specs.declared.planned_set.PlannedSet.{PlannedSet}
 use Rattle.page_epoch.specs.declared.planned_set.SentClut.{SentClut}
 use Rattle.page_epoch.specs.declared.planned_set.SentRegion.{SentRegion}
-use Rattle.set_coder.specs.SetSegments.{display_of as display_segments, page_of as page_segment, region_segment_of, clut_segment_of, leading_segments}
+use Rattle.set_coder.specs.SetSegments.{display_segments, page_segment, region_segment_of, clut_segment_of, leading_segments}
 use Rattle.decoder_model.specs.Contents.{page_of, region_of, clut_of, object_of, display_of, in_order}
 use Rattle.decoder_model.specs.Readings.{Content}
 use Rattle.shown_plan.proofs.ReadSets.{plain, IsDrawnObject, IsReadSet}

@@ -10,7 +10,7 @@ use Rattle.cue_list.specs.declared.epoch.Cue.{Cue}
 use Rattle.cue_list.specs.declared.epoch.Region.{Region}
 use Rattle.page_epoch.proofs.CountLaws.{count_cons, count_append}
 use Rattle.page_epoch.proofs.ListLaws.{All-none, All-one}
-use Rattle.page_epoch.specs.SentRegions.{is_risen, is_extended, region_version, live_before, filled, extended, region_from, sent_region, AreSentRegions}
+use Rattle.page_epoch.specs.SentRegions.{is_redrawn, is_extended, region_version, live_before, filled, extended, region_from, sent_region, AreSentRegions}
 use Rattle.page_epoch.specs.Live.{live_places}
 use Rattle.page_epoch.specs.declared.planned_set.SentRegion.{SentRegion}
 use Rattle.decoder_model.proofs.NoFaults.{stands_in}
@@ -78,7 +78,7 @@ pub record HasPart {X : Type 0} (number : X → ℕ) (id : ℕ) (own all : List 
 -- what a set sends of a region has the region's id
 from_own : (id version : ℕ) (whole : Bool) (old new : List ℕ) → All (λ (sent : SentRegion). sent.id ≡ id) (region_from id version whole old new)
 from_own id version true old new = All-one (λ (sent : SentRegion). sent.id ≡ id) (filled id version new) refl
-from_own id version false old new = by (is_risen old new) (is_extended old new)
+from_own id version false old new = by (is_redrawn old new) (is_extended old new)
   where
     by : (b c : Bool) → All (λ (sent : SentRegion). sent.id ≡ id) (cond (not b) [] (cond c (extended id version old new ∷ []) (filled id version new ∷ [])))
     by false c = All-none _

@@ -19,7 +19,7 @@ use Rattle.cue_list.specs.declared.epoch.Region.{Region}
 use Rattle.cue_list.specs.declared.script.Script.{Script}
 use Rattle.page_epoch.specs.Instants.{named_ticks}
 use Rattle.page_epoch.specs.declared.planned_set.PlannedSet.{PlannedSet}
-use Rattle.set_coder.specs.SetSegments.{time_out_of, page_entry_of}
+use Rattle.set_coder.specs.SetSegments.{time_out_of, page_entry_of, display_of_script}
 use Rattle.decoder_model.specs.Contents.{page_in_set}
 use Rattle.decoder_model.specs.Faults.{display_or_default, display_in_force}
 use Rattle.decoder_model.specs.Readings.{Content}
@@ -33,7 +33,6 @@ use Rattle.shown_plan.proofs.Lists.{all_at, piece_there}
 use Rattle.shown_plan.proofs.PlannedSets.{there_at}
 use Rattle.shown_plan.proofs.Runs.{RunKeeps}
 use Rattle.shown_plan.proofs.StillPictures.{AreStill, live_still, colour_still, epoch_is, epoch_still}
-use Rattle.shown_plan.specs.HoldsScript.{display_of_script}
 
 -- ---- the authored picture stays
 

@@ -16,9 +16,9 @@ use Rattle.page_epoch.proofs.ListLaws.{All-none}
 use Rattle.page_epoch.proofs.SendLaws.{sendable_all}
 use Rattle.page_epoch.specs.Instants.{is_named, IsInstant}
 use Rattle.page_epoch.specs.Needs.{pixel_need, node_need}
-use Rattle.page_epoch.specs.Plan.{IsEpochAt, IsNext, Fits, Stands, ArePlanned, IsPlan}
+use Rattle.page_epoch.specs.Plan.{IsEpochAt, IsNext, Fits, AllBehind, ArePlanned, IsPlan}
 use Rattle.page_epoch.specs.Sendable.{IsSendableIn, IsSendable}
-use Rattle.page_epoch.specs.States.{is_due, last_whole, state_of, seen_of}
+use Rattle.page_epoch.specs.States.{is_due, last_entry, state_of, seen_of}
 use Rattle.page_epoch.specs.declared.planned_set.PlannedSet.{PlannedSet}
 use Rattle.shown_plan.proofs.Fair.{IsFairEpoch, IsFair}
 use Rattle.shown_plan.proofs.FaultFree.{HasRoom}
@@ -96,7 +96,7 @@ front_taken [] back set = refl
 front_taken (first ∷ front) back set = ap (λ rest. first ∷ rest) (front_taken front back set)
 
 -- what stands of each set of a plan stands of this one
-pub stands_of : (P : List PlannedSet → PlannedSet → Type 0) (sets front back : List PlannedSet) (set : PlannedSet) → sets ≡ front ++ set ∷ back → Stands P sets → P (reverse front) set
+pub stands_of : (P : List PlannedSet → PlannedSet → Type 0) (sets front back : List PlannedSet) (set : PlannedSet) → sets ≡ front ++ set ∷ back → AllBehind P sets → P (reverse front) set
 stands_of P sets front back set whole stands =
     subst (λ (past : List PlannedSet). P (reverse past) set) (ap (take (length front)) whole ∙ front_taken front back set) (stands (length front) set (ap (λ (all : List PlannedSet). slice_get all (length front)) whole ∙ at_front front back set))
 
@@ -223,7 +223,7 @@ in_epoch script profile sets front back set is_fair plan whole =
           let head : get_or earlier 0 time ≡ time = ap (λ (all : List ℕ). get_or all 0 time) is in
           let less : get_or earlier 0 time < set.pts = falls 0 1 time (omega arith) (subst (λ (all : List ℕ). 1 < length (set.pts ∷ all)) (sym is) (omega arith)) in
           let other : (epoch.start == set.pts) ≡ false = (let n : epoch.start < set.pts = omega (arith, late, head, less) in grind (arith, nat_tests)) in
-          not_begun (is_named script.epochs set.pts) (is_due script.refresh set.pts (last_whole (reverse front))) (sym (ap (λ b. state_of b (is_named script.epochs set.pts) (is_due script.refresh set.pts (last_whole (reverse front)))) other) ∙ sym next.state ∙ e));
+          not_begun (is_named script.epochs set.pts) (is_due script.refresh set.pts (last_entry (reverse front))) (sym (ap (λ b. state_of b (is_named script.epochs set.pts) (is_due script.refresh set.pts (last_entry (reverse front)))) other) ∙ sym next.state ∙ e));
     }
   where
     times : HasTimes script sets
@@ -289,7 +289,7 @@ in_epoch script profile sets front back set is_fair plan whole =
     start_there = named_there epoch.start (0, omega arith, refl)
 
     first_by : earlier ≡ [] → (epoch.start ≡ set.pts) ⊎ Contains (times_of (reverse front)) epoch.start → set.state ≡ ModeChange
-    first_by none (inl same) = next.state ∙ ap (λ b. state_of b (is_named script.epochs set.pts) (is_due script.refresh set.pts (last_whole (reverse front)))) (let t : (epoch.start == set.pts) ≡ true = grind (arith, nat_tests) in t)
+    first_by none (inl same) = next.state ∙ ap (λ b. state_of b (is_named script.epochs set.pts) (is_due script.refresh set.pts (last_entry (reverse front)))) (let t : (epoch.start == set.pts) ≡ true = grind (arith, nat_tests) in t)
     first_by none (inr past) =
         absurd (let kept = kept_from epoch.start (times_of (reverse front)) epoch.start (falling_tail set.pts (times_of (reverse front)) falling) past (omega arith) in
         let no : Contains {X = ℕ} [] epoch.start = subst (λ (all : List ℕ). Contains all epoch.start) none kept in omega (arith, no.1))

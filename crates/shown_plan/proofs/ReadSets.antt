@@ -7,7 +7,7 @@ use Rattle.cue_list.specs.declared.epoch.Epoch.{Epoch}
 use Rattle.cue_list.specs.declared.script.Script.{Script}
 use Rattle.page_epoch.specs.Live.{cue_at}
 use Rattle.page_epoch.specs.declared.planned_set.PlannedSet.{PlannedSet}
-use Rattle.set_coder.specs.SetSegments.{picture_of_cue, depth_of_cue, leading_segments, object_of}
+use Rattle.set_coder.specs.SetSegments.{picture_of_cue, depth_of_cue, leading_segments, object_segment}
 use Rattle.decoder_model.specs.Faults.{too_deep_at}
 use Rattle.decoder_model.specs.Readings.{Content}
 use Rattle.decoder_model.proofs.DrawnPictures.{FieldsDraw}
@@ -20,7 +20,7 @@ plain of_value = record { value = of_value; top = []; bottom = [] }
 pub record IsDrawnObject (pictures : List Picture) (epoch : Epoch) (place : ℕ) (content : Content) : Type 0 where
   pub top_bytes : List ℕ
   pub bottom_bytes : List ℕ
-  pub value_is : content.value ≡ object_of place (cue_at epoch.cues place).see_through top_bytes bottom_bytes
+  pub value_is : content.value ≡ object_segment place (cue_at epoch.cues place).see_through top_bytes bottom_bytes
   pub draws : FieldsDraw (depth_of_cue epoch place) content.top content.bottom (picture_of_cue pictures epoch place)
   pub top_depth : too_deep_at (depth_of_cue epoch place) content.top ≡ None
   pub bottom_depth : too_deep_at (depth_of_cue epoch place) content.bottom ≡ None

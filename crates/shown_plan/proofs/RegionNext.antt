@@ -13,13 +13,13 @@ use Rattle.cue_list.specs.declared.epoch.Epoch.{Epoch}
 use Rattle.cue_list.specs.declared.epoch.Region.{Region as AuthoredRegion}
 use Rattle.page_epoch.proofs.LiveLaws.{live_rise}
 use Rattle.page_epoch.proofs.RegionLaws.{version-more}
-use Rattle.page_epoch.specs.Live.{cue_at, has_some, live_places}
-use Rattle.page_epoch.specs.SentRegions.{is_risen, is_extended, region_version, filled, extended, sent_region}
+use Rattle.page_epoch.specs.Live.{cue_at, live_places}
+use Rattle.page_epoch.specs.SentRegions.{is_redrawn, is_extended, region_version, filled, extended, sent_region}
 use Rattle.page_epoch.specs.declared.planned_set.SentRegion.{SentRegion}
 use Rattle.set_coder.specs.SetSegments.{picture_of_cue}
 use Rattle.decoder_model.specs.Contents.{object_of}
 use Rattle.decoder_model.specs.Readings.{Content}
-use Rattle.decoder_model.specs.Taken.{has_new_version, region_version as known_version, last_region}
+use Rattle.decoder_model.specs.Taken.{has_new_version, version_of_region as known_version, last_region}
 use Rattle.decoder_model.proofs.IdleSegments.{IsIdle}
 use Rattle.shown_plan.proofs.Keeps.{AreRising, KeepsRegion}
 use Rattle.shown_plan.proofs.ObjectsPaint.{is_own}
@@ -29,6 +29,7 @@ use Rattle.shown_plan.proofs.RegionOn.{HasVersionZero, idle_object, drawn_anew, 
 use Rattle.shown_plan.proofs.RegionSteps.{with_own, region_taken, all_idle, objects_no_regions}
 use Rattle.shown_plan.proofs.RegionViews.{IsAside, IsRegionView}
 use Rattle.shown_plan.proofs.SetView.{keeps, reversed_all}
+use Rattle.sub_base.specs.Lists.{has_some}
 
 -- what the objects of a set are, and which of them are a region's
 pub record IsDrawnFor (pictures : List Picture) (epoch : Epoch) (id : ℕ) (own : List SentRegion) (cues : List ℕ) (objects : List Content) : Type 0 where
@@ -104,7 +105,7 @@ region_first pictures epoch region tick earlier cues objects taken now view draw
 
 -- the version of a region that rises is another one
 new_version : (epoch : Epoch) (region : AuthoredRegion) (tick before : ℕ) (more : List ℕ) (found : Option Region) (last : Region) → found ≡ Some last → last.head.version ≡ region_version epoch.cues region.id (before ∷ more)
-    → is_risen (live_places epoch.cues region.id before) (live_places epoch.cues region.id tick) ≡ true → has_new_version (region_version epoch.cues region.id (tick ∷ before ∷ more)) (known_version found) ≡ true
+    → is_redrawn (live_places epoch.cues region.id before) (live_places epoch.cues region.id tick) ≡ true → has_new_version (region_version epoch.cues region.id (tick ∷ before ∷ more)) (known_version found) ≡ true
 new_version epoch region tick before more found last known version risen =
     ap (λ f. has_new_version (region_version epoch.cues region.id (tick ∷ before ∷ more)) (known_version f)) known
     ∙ (let now : region_version epoch.cues region.id (tick ∷ before ∷ more) ≡ (region_version epoch.cues region.id (before ∷ more) + 1) % 16 = version-more epoch.cues region.id tick (before ∷ more) ∙ rw risen refl in
@@ -113,7 +114,7 @@ new_version epoch region tick before more found last known version risen =
     ap not (let other : eqb last.head.version (region_version epoch.cues region.id (tick ∷ before ∷ more)) ≡ false = grind (arith, nat_tests) in other))
 
 same_version : (epoch : Epoch) (region : AuthoredRegion) (tick before : ℕ) (more : List ℕ) (found : Option Region) (last : Region) → found ≡ Some last → last.head.version ≡ region_version epoch.cues region.id (before ∷ more)
-    → is_risen (live_places epoch.cues region.id before) (live_places epoch.cues region.id tick) ≡ false → has_new_version (region_version epoch.cues region.id (tick ∷ before ∷ more)) (known_version found) ≡ false
+    → is_redrawn (live_places epoch.cues region.id before) (live_places epoch.cues region.id tick) ≡ false → has_new_version (region_version epoch.cues region.id (tick ∷ before ∷ more)) (known_version found) ≡ false
 same_version epoch region tick before more found last known version still =
     ap (λ f. has_new_version (region_version epoch.cues region.id (tick ∷ before ∷ more)) (known_version f)) known
     ∙ (let now : region_version epoch.cues region.id (tick ∷ before ∷ more) ≡ region_version epoch.cues region.id (before ∷ more) = version-more epoch.cues region.id tick (before ∷ more) ∙ rw still refl in
@@ -132,7 +133,7 @@ joined_cues old new extends = by (has_some old) (nat_lt (length old) (length new
 pub region_next : (pictures : List Picture) (epoch : Epoch) (region : AuthoredRegion) (whole : Bool) (tick before : ℕ) (more cues : List ℕ) (objects taken now : List Content)
     → IsRegionView epoch region.id (sent_region epoch.cues whole (tick ∷ before ∷ more) region.id) objects taken now → IsDrawnFor pictures epoch region.id (sent_region epoch.cues whole (tick ∷ before ∷ more) region.id) cues objects
     → All HasVersionZero taken → KeepsRegion pictures epoch before more taken region → KeepsRegion pictures epoch tick (before ∷ more) now region
-region_next pictures epoch region whole tick before more cues objects taken now view draws zeros kept = by whole (is_risen old new) (is_extended old new) refl refl refl
+region_next pictures epoch region whole tick before more cues objects taken now view draws zeros kept = by whole (is_redrawn old new) (is_extended old new) refl refl refl
   where
     old : List ℕ
     old = live_places epoch.cues region.id before
@@ -152,27 +153,27 @@ region_next pictures epoch region whole tick before more cues objects taken now 
     own : List SentRegion
     own = sent_region epoch.cues whole (tick ∷ before ∷ more) region.id
 
-    by_new : is_risen old new ≡ true → own ≡ anew ∷ [] → KeepsRegion pictures epoch tick (before ∷ more) now region
+    by_new : is_redrawn old new ≡ true → own ≡ anew ∷ [] → KeepsRegion pictures epoch tick (before ∷ more) now region
     by_new risen is =
         drawn_anew pictures epoch region tick (before ∷ more) cues objects view.above view.below taken now anew refl
         (region_taken pictures epoch anew cues objects view.above view.below taken now (record { drawn = draws.drawn; are = draws.are; own = draws.listed anew is; rise = live_rising epoch region.id tick }) view.aside_above view.aside_below
         (with_taken epoch anew objects taken now own view is (new_version epoch region tick before more (last_region region.id taken) kept.last kept.known kept.version risen)))
 
-    by_more : is_risen old new ≡ true → is_extended old new ≡ true → own ≡ onward ∷ [] → KeepsRegion pictures epoch tick (before ∷ more) now region
+    by_more : is_redrawn old new ≡ true → is_extended old new ≡ true → own ≡ onward ∷ [] → KeepsRegion pictures epoch tick (before ∷ more) now region
     by_more risen extends is =
         let joined = joined_cues old new extends in
         drawn_on pictures epoch region tick before more cues objects view.above view.below taken now onward refl joined.0 joined.1 kept
         (region_taken pictures epoch onward cues objects view.above view.below taken now (record { drawn = draws.drawn; are = draws.are; own = draws.listed onward is; rise = rising_drop (length old) new (live_rising epoch region.id tick) }) view.aside_above view.aside_below
         (with_taken epoch onward objects taken now own view is (new_version epoch region tick before more (last_region region.id taken) kept.last kept.known kept.version risen)))
 
-    by_still : is_risen old new ≡ false → filter (keeps taken) (map (region_content epoch) (reverse own)) ≡ [] → KeepsRegion pictures epoch tick (before ∷ more) now region
+    by_still : is_redrawn old new ≡ false → filter (keeps taken) (map (region_content epoch) (reverse own)) ≡ [] → KeepsRegion pictures epoch tick (before ∷ more) now region
     by_still still none =
         subst (λ (all : List Content). KeepsRegion pictures epoch tick (before ∷ more) all region)
         (sym (view.whole ∙ ap (λ mine. reverse objects ++ (view.above ++ (mine ++ (view.below ++ taken)))) none ∙ sym (append_assoc (reverse objects) (view.above ++ view.below) taken ∙ ap (λ rest. reverse objects ++ rest) (append_assoc view.above view.below taken))))
         (left_still pictures epoch region tick before more (reverse objects ++ (view.above ++ view.below)) taken
         (idle_set pictures epoch region before more cues objects view.above view.below taken draws.drawn view.aside_above view.aside_below zeros kept) still kept)
 
-    by : (w r x : Bool) → whole ≡ w → is_risen old new ≡ r → is_extended old new ≡ x → KeepsRegion pictures epoch tick (before ∷ more) now region
+    by : (w r x : Bool) → whole ≡ w → is_redrawn old new ≡ r → is_extended old new ≡ x → KeepsRegion pictures epoch tick (before ∷ more) now region
     by true true x ew er ex = by_new er (rw ew refl)
     by false true false ew er ex = by_new er (rw (ew, er, ex) refl)
     by false true true ew er ex = by_more er ex (rw (ew, er, ex) refl)

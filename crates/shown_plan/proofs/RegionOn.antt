@@ -7,7 +7,7 @@ use Rattle.std.proofs.lemmas.Slice.Eq.{bytes_eq-Decides}
 use Rattle.std.proofs.lemmas.Bool.Decides.{nat_tests}
 use Rattle.std.proofs.lemmas.List.{length-map, length-drop}
 use Rattle.std.proofs.lemmas.List.Elements.{All-head, All-tail, All-take}
-use Rattle.sub_base.specs.Lists.{first_given, last_given}
+use Rattle.sub_base.specs.Lists.{first_given, last_given, has_some}
 use Rattle.sub_base.specs.Picture.{Picture}
 use Rattle.sub_base.specs.declared.depth.Depth.{Depth}
 use Rattle.sub_base.specs.declared.depth.Depth.TheVariants.{Two, Four, Eight}
@@ -16,9 +16,9 @@ use Rattle.stream_syntax.specs.declared.region.Listing.{Listing}
 use Rattle.cue_list.specs.Authored.{authored_code}
 use Rattle.cue_list.specs.declared.epoch.Epoch.{Epoch}
 use Rattle.cue_list.specs.declared.epoch.Region.{Region as AuthoredRegion}
-use Rattle.page_epoch.proofs.RegionLaws.{version-more, held-more}
-use Rattle.page_epoch.specs.Live.{cue_at, has_some, is_same, live_places}
-use Rattle.page_epoch.specs.SentRegions.{is_risen, region_version, live_before, held, filled, extended}
+use Rattle.page_epoch.proofs.RegionLaws.{version-more, drawn_count-more}
+use Rattle.page_epoch.specs.Live.{cue_at, are_same_places, live_places}
+use Rattle.page_epoch.specs.SentRegions.{is_redrawn, region_version, live_before, drawn_count, filled, extended}
 use Rattle.page_epoch.specs.declared.planned_set.SentRegion.{SentRegion}
 use Rattle.set_coder.specs.SetSegments.{listing_of}
 use Rattle.decoder_model.specs.Contents.{where_passes, region_named, object_named, object_of}
@@ -109,17 +109,17 @@ next_differs version small e = omega (arith, small, e)
 version_small : (epoch : Epoch) (id : ℕ) (seen : List ℕ) → region_version epoch.cues id seen < 16
 version_small epoch id seen = omega arith
 
--- a region is held by as many listings at least as it lists
-few_listed : (epoch : Epoch) (id tick : ℕ) (earlier places : List ℕ) → length places ≤ length (live_places epoch.cues id tick) → length (map (listing_of epoch) places) ≤ held epoch.cues id (tick ∷ earlier)
+-- a region is drawn_count by as many listings at least as it lists
+few_listed : (epoch : Epoch) (id tick : ℕ) (earlier places : List ℕ) → length places ≤ length (live_places epoch.cues id tick) → length (map (listing_of epoch) places) ≤ drawn_count epoch.cues id (tick ∷ earlier)
 few_listed epoch id tick earlier places few = by (live_places epoch.cues id tick) refl few
   where
     listings : length (map (listing_of epoch) places) ≡ length places
     listings = length-map places (listing_of epoch)
 
-    by : (new : List ℕ) → live_places epoch.cues id tick ≡ new → length places ≤ length (live_places epoch.cues id tick) → length (map (listing_of epoch) places) ≤ held epoch.cues id (tick ∷ earlier)
+    by : (new : List ℕ) → live_places epoch.cues id tick ≡ new → length places ≤ length (live_places epoch.cues id tick) → length (map (listing_of epoch) places) ≤ drawn_count epoch.cues id (tick ∷ earlier)
     by [] e few = let none : length (live_places epoch.cues id tick) ≡ 0 = ap length e in omega (arith, listings, few, none)
     by (place ∷ new) e few =
-        let all : held epoch.cues id (tick ∷ earlier) ≡ length (live_places epoch.cues id tick) = held-more epoch.cues id tick earlier ∙ rw e refl in
+        let all : drawn_count epoch.cues id (tick ∷ earlier) ≡ length (live_places epoch.cues id tick) = drawn_count-more epoch.cues id tick earlier ∙ rw e refl in
         omega (arith, listings, few, all)
 
 -- the code that a fill leaves
@@ -202,7 +202,7 @@ drawn_on pictures epoch region tick before more cues objects above below taken n
 -- ---- left as it was
 
 pub left_still : (pictures : List Picture) (epoch : Epoch) (region : AuthoredRegion) (tick before : ℕ) (more : List ℕ) (new taken : List Content)
-    → All (IsIdle region.id taken) new → is_risen (live_places epoch.cues region.id before) (live_places epoch.cues region.id tick) ≡ false
+    → All (IsIdle region.id taken) new → is_redrawn (live_places epoch.cues region.id before) (live_places epoch.cues region.id tick) ≡ false
     → KeepsRegion pictures epoch before more taken region → KeepsRegion pictures epoch tick (before ∷ more) (new ++ taken) region
 left_still pictures epoch region tick before more new taken idle still kept =
     record {
@@ -231,18 +231,18 @@ left_still pictures epoch region tick before more new taken idle still kept =
     no_region = λ k d within. (idle k d within).other
 
     unchanged : has_some live ≡ true → old ≡ live
-    unchanged some = one (is_same old live) refl (let e : (not (is_same old live) && has_some live) ≡ false = still in e)
+    unchanged some = one (are_same_places old live) refl (let e : (not (are_same_places old live) && has_some live) ≡ false = still in e)
       where
-        one : (b : Bool) → is_same old live ≡ b → (not (is_same old live) && has_some live) ≡ false → old ≡ live
+        one : (b : Bool) → are_same_places old live ≡ b → (not (are_same_places old live) && has_some live) ≡ false → old ≡ live
         one true e no_rise = (bytes_eq-Decides old live).0 e
         one false e no_rise = absurd (let no : true ≡ false = sym some ∙ (let t : has_some live ≡ false = rw e at no_rise in t) in cc)
 
-    by : (places : List ℕ) → live ≡ places → length kept.last.listings ≤ held epoch.cues region.id (tick ∷ before ∷ more)
-    by [] e = subst (λ (n : ℕ). length kept.last.listings ≤ n) (sym (held-more epoch.cues region.id tick (before ∷ more) ∙ rw e refl)) kept.few
+    by : (places : List ℕ) → live ≡ places → length kept.last.listings ≤ drawn_count epoch.cues region.id (tick ∷ before ∷ more)
+    by [] e = subst (λ (n : ℕ). length kept.last.listings ≤ n) (sym (drawn_count-more epoch.cues region.id tick (before ∷ more) ∙ rw e refl)) kept.few
     by (place ∷ places) e =
         let some : has_some live ≡ true = ap has_some e in
         let same = unchanged some in
-        let first : held epoch.cues region.id (before ∷ more) ≡ length old = held-more epoch.cues region.id before more ∙ ap (λ b. cond b (length old) (held epoch.cues region.id more)) (ap has_some same ∙ some) in
-        let second : held epoch.cues region.id (tick ∷ before ∷ more) ≡ length live = held-more epoch.cues region.id tick (before ∷ more) ∙ ap (λ b. cond b (length live) (held epoch.cues region.id (before ∷ more))) some in
+        let first : drawn_count epoch.cues region.id (before ∷ more) ≡ length old = drawn_count-more epoch.cues region.id before more ∙ ap (λ b. cond b (length old) (drawn_count epoch.cues region.id more)) (ap has_some same ∙ some) in
+        let second : drawn_count epoch.cues region.id (tick ∷ before ∷ more) ≡ length live = drawn_count-more epoch.cues region.id tick (before ∷ more) ∙ ap (λ b. cond b (length live) (drawn_count epoch.cues region.id (before ∷ more))) some in
         let few = kept.few in
         omega (arith, few, first, second, ap length same)

@@ -16,7 +16,7 @@ use Rattle.cue_list.specs.declared.epoch.Epoch.{Epoch}
 use Rattle.page_epoch.proofs.ListLaws.{All-none}
 use Rattle.page_epoch.specs.Live.{cue_at}
 use Rattle.page_epoch.specs.declared.planned_set.SentRegion.{SentRegion}
-use Rattle.set_coder.specs.SetSegments.{region_of, listing_of, picture_of_cue}
+use Rattle.set_coder.specs.SetSegments.{epoch_region, listing_of, picture_of_cue}
 use Rattle.decoder_model.specs.Contents.{where_passes, region_named, object_named}
 use Rattle.decoder_model.specs.Pixels.{since_region, last_code, code_by_fill}
 use Rattle.decoder_model.specs.Readings.{Content}
@@ -97,10 +97,10 @@ sent_value epoch sent =
         region = sent.id;
         version = sent.version;
         fill = sent.fill;
-        width = (region_of epoch sent.id).width;
-        height = (region_of epoch sent.id).height;
-        depth = (region_of epoch sent.id).depth;
-        clut = (region_of epoch sent.id).clut;
+        width = (epoch_region epoch sent.id).width;
+        height = (epoch_region epoch sent.id).height;
+        depth = (epoch_region epoch sent.id).depth;
+        clut = (epoch_region epoch sent.id).clut;
         code8 = 0;
         code4 = 0;
         code2 = 0;

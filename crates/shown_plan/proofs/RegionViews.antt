@@ -13,7 +13,7 @@ use Rattle.page_epoch.proofs.ListLaws.{All-none}
 use Rattle.page_epoch.specs.declared.planned_set.PlannedSet.{PlannedSet}
 use Rattle.page_epoch.specs.declared.planned_set.SentClut.{SentClut}
 use Rattle.page_epoch.specs.declared.planned_set.SentRegion.{SentRegion}
-use Rattle.set_coder.specs.SetSegments.{display_of as display_segments}
+use Rattle.set_coder.specs.SetSegments.{display_segments}
 use Rattle.decoder_model.specs.Contents.{region_named, object_of}
 use Rattle.decoder_model.specs.Readings.{Content}
 use Rattle.decoder_model.specs.Taken.{segments_of, taken_among}

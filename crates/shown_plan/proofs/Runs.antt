@@ -7,17 +7,16 @@ use Rattle.std.specs.Option.{is_some}
 use Rattle.std.proofs.lemmas.List.{reverse-append, reverse-reverse, append_assoc, map-append}
 use Rattle.std.proofs.lemmas.List.Elements.{All-head, All-tail, filter_map-append}
 use Rattle.sub_base.specs.declared.profile.Profile.{Profile}
-use Rattle.stream_syntax.specs.Segments.{Page, end_of_set, state_number}
+use Rattle.stream_syntax.specs.Segments.{Page, end_of_set, state_number, is_entry_state}
 use Rattle.stream_syntax.specs.declared.page.State.{State}
 use Rattle.stream_syntax.specs.declared.page.State.TheVariants.{Normal, Acquisition, ModeChange}
 use Rattle.cue_list.specs.declared.epoch.Epoch.{Epoch}
 use Rattle.cue_list.specs.declared.script.Script.{Script}
 use Rattle.page_epoch.specs.Plan.{IsPlan}
-use Rattle.page_epoch.specs.States.{is_whole}
 use Rattle.page_epoch.specs.declared.planned_set.PlannedSet.{PlannedSet}
 use Rattle.page_epoch.specs.declared.planned_set.SentClut.{SentClut}
 use Rattle.page_epoch.specs.declared.planned_set.SentRegion.{SentRegion}
-use Rattle.set_coder.specs.SetSegments.{display_of as display_segments}
+use Rattle.set_coder.specs.SetSegments.{display_segments}
 use Rattle.decoder_model.specs.Contents.{page_of, has_state}
 use Rattle.decoder_model.specs.Faults.{contents_in, segment_fault}
 use Rattle.decoder_model.specs.Kept.{epoch_of}
@@ -39,7 +38,7 @@ use Rattle.shown_plan.proofs.ReadSets.{plain, IsReadSet}
 -- is not normal: a mode change, or an acquisition point at which no epoch is known.
 pub data IsRun (script : Script) : List PlannedSet → List (List Content) → Type 0 where
   begins : {plan : List PlannedSet} {sets : List (List Content)} {set : PlannedSet} {contents : List Content} (epoch : Epoch) → slice_get script.epochs set.epoch ≡ Some epoch
-      → is_whole set.state ≡ true → (set.state ≡ ModeChange) ⊎ (epoch_of sets ≡ None) → IsReadSet script epoch set contents → IsRun script (set ∷ plan) (contents ∷ sets)
+      → is_entry_state set.state ≡ true → (set.state ≡ ModeChange) ⊎ (epoch_of sets ≡ None) → IsReadSet script epoch set contents → IsRun script (set ∷ plan) (contents ∷ sets)
   goes_on : {plan : List PlannedSet} {sets : List (List Content)} {before set : PlannedSet} {previous contents : List Content} (epoch : Epoch) → slice_get script.epochs set.epoch ≡ Some epoch
       → IsRun script (before ∷ plan) (previous ∷ sets) → IsReadSet script epoch set contents → IsRun script (set ∷ before ∷ plan) (contents ∷ previous ∷ sets)
 
@@ -118,7 +117,7 @@ shown_set script profile epoch set earlier latest before older is room known kep
 
 -- ---- the run
 
-begun : (script : Script) (profile : Profile) (past : List PlannedSet) (set : PlannedSet) (latest : List Content) (before : List (List Content)) (place : IsInEpoch script profile past set) → IsReadSet script place.epoch set latest → is_whole set.state ≡ true
+begun : (script : Script) (profile : Profile) (past : List PlannedSet) (set : PlannedSet) (latest : List Content) (before : List (List Content)) (place : IsInEpoch script profile past set) → IsReadSet script place.epoch set latest → is_entry_state set.state ≡ true
     → epoch_of (latest ∷ before) ≡ Some (latest ∷ []) → RunKeeps script profile past set latest before
 begun script profile past set latest before place read whole known =
     let is : IsReadIn script place.epoch set place.earlier latest = record { fair = place.fair; planned = place.planned; read = read } in
@@ -146,7 +145,7 @@ states_differ Acquisition ModeChange e = absurd (cc)
 states_differ ModeChange Normal e = absurd (cc)
 states_differ ModeChange Acquisition e = absurd (cc)
 
-begins_run : (script : Script) (profile : Profile) (past : List PlannedSet) (set : PlannedSet) (latest : List Content) (before : List (List Content)) (place : IsInEpoch script profile past set) → IsReadSet script place.epoch set latest → is_whole set.state ≡ true
+begins_run : (script : Script) (profile : Profile) (past : List PlannedSet) (set : PlannedSet) (latest : List Content) (before : List (List Content)) (place : IsInEpoch script profile past set) → IsReadSet script place.epoch set latest → is_entry_state set.state ≡ true
     → (set.state ≡ ModeChange) ⊎ (epoch_of before ≡ None) → RunKeeps script profile past set latest before
 begins_run script profile past set latest before place read whole first =
     begun script profile past set latest before place read whole (by set.state refl whole first)
@@ -154,7 +153,7 @@ begins_run script profile past set latest before place read whole first =
     mode : (b : Bool) → (state_number set.state == state_number ModeChange) ≡ b → has_state ModeChange latest ≡ b
     mode b e = has_its_state script place.epoch set latest ModeChange read ∙ e
 
-    by : (state : State) → set.state ≡ state → is_whole state ≡ true → (set.state ≡ ModeChange) ⊎ (epoch_of before ≡ None) → epoch_of (latest ∷ before) ≡ Some (latest ∷ [])
+    by : (state : State) → set.state ≡ state → is_entry_state state ≡ true → (set.state ≡ ModeChange) ⊎ (epoch_of before ≡ None) → epoch_of (latest ∷ before) ≡ Some (latest ∷ [])
     by Normal e w first = absurd (cc)
     by ModeChange e w first = epoch_begun latest before (mode true (ap (λ s. state_number s == state_number ModeChange) e))
     by Acquisition e w (inl mode_change) = absurd (let no : Acquisition ≡ ModeChange = sym e ∙ mode_change in cc)
@@ -187,7 +186,7 @@ continues script profile past before set latest previous sets place rise read ke
 
     by : (state : State) → set.state ≡ state → RunKeeps script profile (before ∷ past) set latest (previous ∷ sets)
     by ModeChange e =
-        begun script profile (before ∷ past) set latest (previous ∷ sets) place read (ap is_whole e) (epoch_begun latest (previous ∷ sets) (mode true (ap (λ s. state_number s == state_number ModeChange) e)))
+        begun script profile (before ∷ past) set latest (previous ∷ sets) place read (ap is_entry_state e) (epoch_begun latest (previous ∷ sets) (mode true (ap (λ s. state_number s == state_number ModeChange) e)))
     by Normal e = still (λ other. (let no : Normal ≡ ModeChange = sym e ∙ other in absurd (cc))) (ap (λ s. state_number s == state_number ModeChange) e)
     by Acquisition e = still (λ other. (let no : Acquisition ≡ ModeChange = sym e ∙ other in absurd (cc))) (ap (λ s. state_number s == state_number ModeChange) e)
 

@@ -10,7 +10,7 @@ use Rattle.stream_syntax.specs.Segments.{SegmentValue, of_page, of_region, of_cl
 use Rattle.stream_syntax.specs.declared.region.Listing.{Listing}
 use Rattle.cue_list.specs.declared.epoch.Epoch.{Epoch}
 use Rattle.page_epoch.specs.Live.{cue_at}
-use Rattle.set_coder.specs.SetSegments.{region_of as authored_region, listing_of, depth_of_cue}
+use Rattle.set_coder.specs.SetSegments.{epoch_region as authored_region, listing_of, depth_of_cue}
 use Rattle.decoder_model.specs.Contents.{region_named, in_order}
 use Rattle.decoder_model.specs.Faults.{has_same_shape, changed_from, region_changed, depth_fault, fault_in_region, object_too_deep, all_region_ids, too_deep_at, first_fault_by}
 use Rattle.decoder_model.specs.Pixels.{depth_of, listings_naming, listings_by, painted_listings, is_painting}

@@ -22,14 +22,14 @@ use Rattle.page_epoch.proofs.ListLaws.{All-none, All-pieces, sum_mapped}
 use Rattle.page_epoch.proofs.RowLaws.{entry_of, own_within}
 use Rattle.page_epoch.specs.Live.{places_below}
 use Rattle.page_epoch.specs.SentCluts.{no_row, row_at, rows_of_clut, is_of_entry, defined_rows, clut_with, clut_version as planned_version, clut_count, sent_clut, named_cluts, sent_cluts}
-use Rattle.page_epoch.specs.SentRegions.{held}
+use Rattle.page_epoch.specs.SentRegions.{drawn_count}
 use Rattle.page_epoch.specs.declared.planned_set.SentClut.{SentClut}
 use Rattle.set_coder.specs.SetSegments.{clut_entry_of}
 use Rattle.decoder_model.specs.Contents.{clut_of, clut_named}
 use Rattle.decoder_model.specs.Ink.{is_in_table}
 use Rattle.decoder_model.specs.Nodes.{is_same, region_ids, clut_id, clut_ids, TableEntry, is_same_entry, in_table, in_tables, entries_of_clut, table_entries, listing_count, listings_held}
 use Rattle.decoder_model.specs.Readings.{Content}
-use Rattle.decoder_model.specs.Taken.{last_region, last_clut, clut_version}
+use Rattle.decoder_model.specs.Taken.{last_region, last_clut, version_of_clut}
 use Rattle.decoder_model.proofs.NoFaults.{sum_within}
 use Rattle.shown_plan.proofs.CarriedSets.{in_range}
 use Rattle.shown_plan.proofs.ClutChanges.{undefined_unknown}
@@ -41,11 +41,11 @@ use Rattle.shown_plan.proofs.SetPixels.{own_region, IsKnownId, AreKnownIds, ids_
 -- ---- listings
 
 held_by_id : Epoch → List ℕ → ℕ → ℕ
-held_by_id epoch seen id = held epoch.cues id seen
+held_by_id epoch seen id = drawn_count epoch.cues id seen
 
 -- the listings of a receiver's regions are no more than the plan counts
 pub listings_within : (pictures : List Picture) (epoch : Epoch) (tick : ℕ) (earlier : List ℕ) (taken : List Content) → AreKnownIds epoch taken → All (KeepsRegion pictures epoch tick earlier taken) epoch.regions
-    → listings_held (record { segments = taken }) ≤ sum_by (λ (region : AuthoredRegion). held epoch.cues region.id (tick ∷ earlier)) epoch.regions
+    → listings_held (record { segments = taken }) ≤ sum_by (λ (region : AuthoredRegion). drawn_count epoch.cues region.id (tick ∷ earlier)) epoch.regions
 unfolding held_by_id
 listings_within pictures epoch tick earlier taken are kept =
     omega (
@@ -61,7 +61,7 @@ listings_within pictures epoch tick earlier taken are kept =
         let region = all_at (KeepsRegion pictures epoch tick earlier taken) epoch.regions own.0 kept own.1 in
         let same : own.0.id ≡ id = own.2 ∙ known.3 in
         let count : listing_count (last_region id taken) ≡ length region.last.listings = ap (λ (n : ℕ). listing_count (last_region n taken)) (sym same) ∙ ap listing_count region.known in
-        let most : held epoch.cues own.0.id (tick ∷ earlier) ≡ held epoch.cues id (tick ∷ earlier) = ap (λ (n : ℕ). held epoch.cues n (tick ∷ earlier)) same in
+        let most : drawn_count epoch.cues own.0.id (tick ∷ earlier) ≡ drawn_count epoch.cues id (tick ∷ earlier) = ap (λ (n : ℕ). drawn_count epoch.cues n (tick ∷ earlier)) same in
         let enough = region.few in
         omega (arith, count, most, enough))
 
@@ -99,7 +99,7 @@ clut_defined : (epoch : Epoch) (tick : ℕ) (earlier : List ℕ) (taken : List C
 clut_defined epoch tick earlier taken clut last small rows kept known = by (defined_rows epoch.colours clut tick) refl
   where
     by : (found : List ℕ) → defined_rows epoch.colours clut tick ≡ found → IsDefinedClut epoch tick earlier clut
-    by [] is = absurd (let no : Some last.version ≡ None = sym (ap clut_version known) ∙ kept.version ∙ undefined_unknown epoch.colours clut tick earlier rows is in cc)
+    by [] is = absurd (let no : Some last.version ≡ None = sym (ap version_of_clut known) ∙ kept.version ∙ undefined_unknown epoch.colours clut tick earlier rows is in cc)
     by (first ∷ rest) is = mapped_there (λ (sent : SentClut). sent.clut) (sent_cluts epoch.colours true (tick ∷ earlier)) (record { clut = clut; version = planned_version epoch.colours clut (tick ∷ earlier); rows = first ∷ rest }) (defined_sent epoch tick earlier clut first rest small is)
 
 some_clut : (id : ℕ) (segments : List Content) (content : Content) (clut : Clut) → Contains segments content → clut_named id content ≡ Some clut → (last : Clut) × (last_clut id segments ≡ Some last)

@@ -13,11 +13,11 @@ use Rattle.stream_syntax.specs.Segments.{SegmentValue, of_page, of_region, of_cl
 use Rattle.cue_list.specs.declared.epoch.Epoch.{Epoch}
 use Rattle.cue_list.specs.declared.epoch.Region.{Region as AuthoredRegion}
 use Rattle.page_epoch.proofs.ListLaws.{All-none, sum_mapped}
-use Rattle.page_epoch.specs.Needs.{region_pixels, pixel_need}
-use Rattle.set_coder.specs.SetSegments.{region_or_none, region_of as authored_region}
+use Rattle.page_epoch.specs.Needs.{region_need, pixel_need}
+use Rattle.set_coder.specs.SetSegments.{region_or_none, epoch_region as authored_region}
 use Rattle.decoder_model.specs.Contents.{region_of, region_named, in_order}
 use Rattle.decoder_model.specs.Faults.{first_fault_by, pixels_full, region_too_large}
-use Rattle.decoder_model.specs.Nodes.{is_same, region_id, region_ids, pixel_bytes, bytes_of_region, pixels_used}
+use Rattle.decoder_model.specs.Nodes.{is_same, region_id, region_ids, region_bytes, bytes_of_region, pixels_used}
 use Rattle.decoder_model.specs.Readings.{Content}
 use Rattle.decoder_model.specs.Taken.{taken_among, taken_of, last_region}
 use Rattle.decoder_model.specs.declared.set_fault.SetFault.TheVariants.{PixelFull}
@@ -124,14 +124,14 @@ ids_within epoch taken f are =
 -- ---- bytes
 
 abbrev pub pixels_by_id : Epoch → ℕ → ℕ
-pixels_by_id epoch id = region_pixels (authored_region epoch id)
+pixels_by_id epoch id = region_need (authored_region epoch id)
 
 need_by_id : (epoch : Epoch) → HaveOwnIds epoch.regions → sum_by (pixels_by_id epoch) (ids_of epoch) ≡ pixel_need epoch.regions
 need_by_id epoch apart =
     sum_mapped (pixels_by_id epoch) (λ (region : AuthoredRegion). region.id) epoch.regions
-    ∙ sum_same (λ (region : AuthoredRegion). pixels_by_id epoch region.id) region_pixels epoch.regions (λ k d within. ap region_pixels (authored_itself epoch (get_or epoch.regions k d) apart (All-contains_itself epoch.regions k d within)))
+    ∙ sum_same (λ (region : AuthoredRegion). pixels_by_id epoch region.id) region_need epoch.regions (λ k d within. ap region_need (authored_itself epoch (get_or epoch.regions k d) apart (All-contains_itself epoch.regions k d within)))
 
-sent_pixels : (epoch : Epoch) (id : ℕ) (region : Region) → IsSentRegion epoch region → region.head.region ≡ id → pixel_bytes region.head ≡ pixels_by_id epoch id
+sent_pixels : (epoch : Epoch) (id : ℕ) (region : Region) → IsSentRegion epoch region → region.head.region ≡ id → region_bytes region.head ≡ pixels_by_id epoch id
 sent_pixels epoch id region sent own =
     (λ i. (sent.width i * bits_of (sent.depth i) + 7) / 8 * sent.height i) ∙ ap (pixels_by_id epoch) own
 
@@ -146,7 +146,7 @@ pixels_within epoch taken apart are = omega (arith, used_by_id epoch taken are, 
 
 -- and so with one that is new
 new_within : (epoch : Epoch) (taken : List Content) (region : Region) → HaveOwnIds epoch.regions → AreKnownIds epoch taken → IsSentRegion epoch region → last_region region.head.region taken ≡ None
-    → pixel_bytes region.head + pixels_used (record { segments = taken }) ≤ pixel_need epoch.regions
+    → region_bytes region.head + pixels_used (record { segments = taken }) ≤ pixel_need epoch.regions
 new_within epoch taken region apart are sent unknown =
     omega (
       arith,
@@ -176,10 +176,10 @@ none_too_large epoch profile tick earlier content apart enough sent own = by con
     fits region mine (Some last) known = rw known refl
     fits region mine None known =
         (let room = new_within epoch taken region apart are mine known in
-        let test : nat_lt (profile.pixels - pixels_used (taken_of earlier)) (pixel_bytes region.head) ≡ false = (let low : pixel_bytes region.head ≤ profile.pixels - pixels_used (taken_of earlier) = omega arith in grind (arith, nat_tests)) in
-        ap (λ b. cond (is_none (last_region region.head.region taken) && b) (Some (PixelFull (pixel_bytes region.head) (profile.pixels - pixels_used (taken_of earlier)))) None) test ∙ either (is_none (last_region region.head.region taken)))
+        let test : nat_lt (profile.pixels - pixels_used (taken_of earlier)) (region_bytes region.head) ≡ false = (let low : region_bytes region.head ≤ profile.pixels - pixels_used (taken_of earlier) = omega arith in grind (arith, nat_tests)) in
+        ap (λ b. cond (is_none (last_region region.head.region taken) && b) (Some (PixelFull (region_bytes region.head) (profile.pixels - pixels_used (taken_of earlier)))) None) test ∙ either (is_none (last_region region.head.region taken)))
       where
-        either : (b : Bool) → cond (b && false) (Some (PixelFull (pixel_bytes region.head) (profile.pixels - pixels_used (taken_of earlier)))) None ≡ None
+        either : (b : Bool) → cond (b && false) (Some (PixelFull (region_bytes region.head) (profile.pixels - pixels_used (taken_of earlier)))) None ≡ None
         either true = refl
         either false = refl
 

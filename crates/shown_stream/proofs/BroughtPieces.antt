@@ -1,10 +1,10 @@
 -- What one packet of a stream of cut units brings: its bytes, and the unit of which it carries the last piece.
-use Rattle.std.proofs.Common.{◌≡◌, ◌≢◌, ◌∙◌, ℕ, ◌+◌, ◌%◌, ◌≤◌, Bool, true, false, eqb, cond, List, [], ◌∷◌, ◌++◌, length, Option, Some, None, inl, inr, refl, sym, ap, subst, arith}
+use Rattle.std.proofs.Common.{◌≡◌, ◌∙◌, ℕ, ◌+◌, ◌%◌, ◌≤◌, Bool, true, false, eqb, cond, List, [], ◌∷◌, ◌++◌, length, Option, Some, None, inl, inr, refl, sym, ap, subst, arith}
 use Rattle.std.specs.Option.{option_map}
-use Rattle.std.proofs.lemmas.Bool.Decides.{nat_tests}
+use Rattle.std.proofs.lemmas.Bool.{ne_eqb, eq-eqb}
 use Rattle.stream_syntax.specs.Cutting.{IsUnit}
 use Rattle.stream_syntax.specs.TransportPackets.{null_packet, pid_of, counter_of, has_start_flag, payload_of}
-use Rattle.stream_syntax.specs.Units.{last_counter, Next, Again, Missing, succession, payload_part, Part, Begins, Adds, Fate, Waits, Whole, fate_of, is_waiting, joined, handed_out, followed, part_after, part_of, hand_after, unit_after, unit_at, payload_event, event_after, event_at, is_loss}
+use Rattle.stream_syntax.specs.Units.{last_counter, Next, Again, Missing, succession, payload_part, UnitPart, Begins, Adds, Fate, Waits, Whole, fate_of, is_waiting, joined, handed_out, followed, part_after, part_of, hand_after, unit_after, unit_at, payload_event, event_after, event_at, is_loss}
 use Rattle.stream_syntax.specs.declared.transport.Event.{Event}
 use Rattle.stream_syntax.specs.declared.transport.Event.TheVariants as event
 use Rattle.decoder_model.specs.Arrivals.{is_over, ends_too_long}
@@ -62,22 +62,16 @@ null_brings pid coded before free =
 
 -- ---- the packet of a piece
 
-same_number : (a b : ℕ) → a ≡ b → eqb a b ≡ true
-same_number a b h = grind (arith, nat_tests)
-
-other_number : (a b : ℕ) → a ≢ b → eqb a b ≡ false
-other_number a b h = grind (arith, nat_tests)
-
 -- the counter of a piece's packet follows
 follows_next : (last : Option ℕ) (number found : ℕ) → FollowsOn last number → found ≡ number % 16 → succession last found ≡ Next
 follows_next last number found (inl none) is = ap (λ before. succession before found) none
 follows_next last number found (inr some) is =
     let due : found ≡ (some.0 + 1) % 16 = is ∙ some.2 in
     ap (λ before. succession before found) some.1
-    ∙ ap (λ again. cond again Again (cond (eqb found ((some.0 + 1) % 16)) Next (Missing ((some.0 + 1) % 16) found))) (other_number found some.0 (λ e. omega arith))
-    ∙ ap (λ next. cond next Next (Missing ((some.0 + 1) % 16) found)) (same_number found ((some.0 + 1) % 16) due)
+    ∙ ap (λ again. cond again Again (cond (eqb found ((some.0 + 1) % 16)) Next (Missing ((some.0 + 1) % 16) found))) (ne_eqb found some.0 (λ e. omega arith))
+    ∙ ap (λ next. cond next Next (Missing ((some.0 + 1) % 16) found)) (eq-eqb found ((some.0 + 1) % 16) due)
 
-abbrev piece_part : Bool → List ℕ → Part
+abbrev piece_part : Bool → List ℕ → UnitPart
 piece_part true piece = Begins piece
 piece_part false piece = Adds piece
 
@@ -96,13 +90,13 @@ told_next : (pid coded counter : ℕ) (before : List (List ℕ)) (start : Bool) 
 unfolding part_after event_after
 told_next pid coded counter before start piece packet told next = record {
   part =
-      (rw (same_number (pid_of packet) pid told.carries.same_pid, told.carries.sound, told.carries.full) refl)
+      (rw (eq-eqb (pid_of packet) pid told.carries.same_pid, told.carries.sound, told.carries.full) refl)
       ∙ ap (λ order. payload_part order (has_start_flag packet) (payload_of packet)) next
       ∙ ap (λ flag. payload_part Next flag (payload_of packet)) told.carries.begins
       ∙ ap (payload_part Next start) told.carries.payload
       ∙ next_part start piece;
   event_is =
-      (rw (same_number (pid_of packet) pid told.carries.same_pid, told.carries.sound, told.carries.full) refl)
+      (rw (eq-eqb (pid_of packet) pid told.carries.same_pid, told.carries.sound, told.carries.full) refl)
       ∙ ap (λ order. payload_event coded (hand_after pid coded before) order (has_start_flag packet) (payload_of packet)) next
       ∙ ap (λ flag. payload_event coded (hand_after pid coded before) Next flag (payload_of packet)) told.carries.begins
       ∙ ap (payload_event coded (hand_after pid coded before) Next start) told.carries.payload;

@@ -19,7 +19,7 @@ use Rattle.page_epoch.specs.declared.planned_set.SentClut.{SentClut}
 use Rattle.page_epoch.specs.declared.planned_set.SentRegion.{SentRegion}
 use Rattle.schedule.specs.Packets.{size_of}
 use Rattle.decoder_model.proofs.SentSets.{all-append, TimedSet, timed, timed_units, size_of_units, all_segments, IsTimedSet, IsUnitOf, AreUnitsOf}
-use Rattle.set_coder.specs.SetSegments.{display_of, region_segment_of, clut_segment_of, leading_segments, AreObjectsOf, segment_bytes, unit_packet, AreSetSegments, AreSetPackets}
+use Rattle.set_coder.specs.SetSegments.{display_segments, region_segment_of, clut_segment_of, leading_segments, AreObjectsOf, segment_bytes, unit_packet, AreSetSegments, AreSetPackets}
 use Rattle.shown_stream.specs.Compiled.{AreUnits, AreSizedAs, all_units}
 use Rattle.shown_stream.proofs.UnitSizes.{AreShort}
 use Rattle.shown_stream.proofs.WrittenSets.{IsInner, AreInner, unit_with, set_with, joined_units, segments_with, size_with, HaveSegments, AreKnown, whole_set, packets_are, all_known, handed_out}
@@ -40,14 +40,14 @@ cluts_inner : (epoch : Epoch) (sent : List SentClut) → AllByRecursion IsInner 
 cluts_inner epoch [] = tt
 cluts_inner epoch (one ∷ sent) = (tt, cluts_inner epoch sent)
 
-display_inner : (script : Script) (state : State) → AllByRecursion IsInner (display_of script state)
+display_inner : (script : Script) (state : State) → AllByRecursion IsInner (display_segments script state)
 display_inner script Normal = tt
 display_inner script Acquisition = (tt, tt)
 display_inner script ModeChange = (tt, tt)
 
 leading_inner : (script : Script) (epoch : Epoch) (set : PlannedSet) → AllByRecursion IsInner (leading_segments script epoch set)
 leading_inner script epoch set =
-    all-append IsInner (display_of script set.state) _ (display_inner script set.state)
+    all-append IsInner (display_segments script set.state) _ (display_inner script set.state)
     (tt, all-append IsInner (map (region_segment_of epoch) set.regions) (map (clut_segment_of epoch) set.cluts) (regions_inner epoch set.regions) (cluts_inner epoch set.cluts))
 
 -- all but the last are no end of a set, and all can be written

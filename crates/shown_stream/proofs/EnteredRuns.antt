@@ -1,13 +1,12 @@
 -- What a receiver shows while the sets of a plan come to it, one after another without a hole: nothing until one comes that is not
 -- normal, and from its time on what is authored.
-use Rattle.std.proofs.Common.{◌≡◌, ◌∙◌, ℕ, ◌+◌, ◌<◌, ◌≤◌, ◌⊎◌, inl, inr, Bool, true, false, ◌&&◌, not, cond, List, [], ◌∷◌, ◌++◌, map, reverse, Option, Some, None, refl, sym, ap, subst, arith, append_assoc}
+use Rattle.std.proofs.Common.{◌≡◌, ◌∙◌, ℕ, ◌+◌, ◌<◌, ◌≤◌, ◌⊎◌, inl, inr, Bool, true, false, ◌&&◌, cond, List, [], ◌∷◌, ◌++◌, map, reverse, Option, Some, None, refl, sym, ap, subst, arith, append_assoc}
 use Rattle.std.specs.List.{AllZip, AllByRecursion}
 use Rattle.std.proofs.lemmas.Bool.{cases_lt}
 use Rattle.std.proofs.lemmas.List.{reverse-append}
 use Rattle.sub_base.specs.declared.profile.Profile.{Profile}
 use Rattle.cue_list.specs.declared.script.Script.{Script}
 use Rattle.page_epoch.specs.Plan.{IsPlan}
-use Rattle.page_epoch.specs.States.{is_whole}
 use Rattle.page_epoch.specs.declared.planned_set.PlannedSet.{PlannedSet}
 use Rattle.schedule.specs.Slots.{Timetable}
 use Rattle.decoder_model.specs.Kept.{lifted_time, last_time}
@@ -29,6 +28,7 @@ use Rattle.shown_stream.proofs.HeldSets.{HoldsEach, holds_next, kept_holds}
 use Rattle.shown_stream.proofs.RunViews.{IsBefore, run_shows}
 use Rattle.shown_stream.proofs.SetPaintings.{calls_behind, IsPaintedAs, painted_as}
 use Rattle.shown_stream.proofs.ShownSets.{AreAheadOf, kept_at, last_is, IsIdle, still_idle, waits_with, IsShownSet, shown_set}
+use Rattle.stream_syntax.specs.Segments.{is_entry_state}
 
 -- ---- lists turned
 
@@ -170,7 +170,7 @@ go_on script profile anchor sets taken past plan (set ∷ left) (one ∷ sent) b
 
 -- the first one that is not normal
 first_entered : {sent : TimedSet} (script : Script) (profile : Profile) (anchor : ℕ) (sets : List PlannedSet) (past : List (Delivery Reading)) (last : Option ℕ) (plan left : List PlannedSet) (set : PlannedSet) (entry : SentSet) → IsPlan script profile sets
-    → sets ≡ reverse plan ++ (set ∷ left) → last_time anchor past ≡ last → AreAheadOf anchor last (set ∷ left) → (comes : SetComes script set sent) → IsIdle profile anchor past → HoldsEach script profile anchor sets past → is_whole set.state ≡ true
+    → sets ≡ reverse plan ++ (set ∷ left) → last_time anchor past ≡ last → AreAheadOf anchor last (set ∷ left) → (comes : SetComes script set sent) → IsIdle profile anchor past → HoldsEach script profile anchor sets past → is_entry_state set.state ≡ true
     → entry.time ≡ set.pts → IsEntered script profile anchor sets (reading_of comes ∷ past) plan left set entry
 first_entered script profile anchor sets past last plan left set entry is_plan parts before ahead comes idle holds whole_state time = record {
   latest = comes.contents;
@@ -219,7 +219,7 @@ AreFrom missed table number (set ∷ sets) = (is_from missed (sent_set table num
 entry_later : (missed : ℕ) (table : Timetable) (number anchor time : ℕ) (left : List PlannedSet) → AreAheadOf anchor (Some time) left → IsFromEntry (entry_set missed (sent_from table number left)) time → ⊥
 entry_later missed table number anchor time [] ahead from = from
 entry_later missed table number anchor time (set ∷ left) ahead from =
-    by (not (not (is_whole set.state)) && is_from missed (sent_set table number set)) from
+    by (is_entry_state set.state && is_from missed (sent_set table number set)) from
     (λ later. entry_later missed table (number + 1) anchor set.pts left ahead.2 (from_later (entry_set missed (sent_from table (number + 1) left)) later))
   where
     from_later : (entry : Option SentSet) → IsFromEntry entry time → IsFromEntry entry set.pts
@@ -238,7 +238,7 @@ wait_for script profile anchor missed table number sets taken past last plan [] 
 wait_for script profile anchor missed table number sets taken past last plan [] (one ∷ sent) is_plan parts before ahead from come read idle holds = absurd come
 wait_for script profile anchor missed table number sets taken past last plan (set ∷ left) [] is_plan parts before ahead from come read idle holds = absurd come
 wait_for script profile anchor missed table number sets taken past last plan (set ∷ left) (one ∷ sent) is_plan parts before ahead from come read idle holds =
-    by (is_whole set.state) refl
+    by (is_entry_state set.state) refl
     (λ normal. with_one script profile anchor sets past (reading_of come.0) set left (turned (map delivered sent) (delivered one ∷ taken)) (entry_set missed (sent_from table (number + 1) left)) (waiting normal)
     (wait_for script profile anchor missed table (number + 1) sets (delivered one ∷ taken) (reading_of come.0 ∷ past) (Some set.pts) (set ∷ plan) left sent is_plan whole (last_is anchor past come.0 lifted) ahead.2 from.1 come.1 (is_read come.0, read)
     (still_idle profile anchor past come.0 idle lifted normal)
@@ -253,19 +253,19 @@ wait_for script profile anchor missed table number sets taken past last plan (se
     Behind : Option SentSet → Type 0
     Behind entry = IsReceivedSo script profile anchor sets past (set ∷ left) (turned (map delivered sent) (delivered one ∷ taken)) entry
 
-    waiting : is_whole set.state ≡ false → IsOnTop script profile anchor (entry_set missed (sent_from table (number + 1) left)) (reading_of come.0 ∷ past) set
+    waiting : is_entry_state set.state ≡ false → IsOnTop script profile anchor (entry_set missed (sent_from table (number + 1) left)) (reading_of come.0 ∷ past) set
     waiting normal =
         let waits = waits_with profile anchor past come.0 idle lifted normal in
         record { delivery = reading_of come.0; before = past; placed = refl; lifted = lifted; shown = λ from. absurd (entry_later missed table (number + 1) anchor set.pts left ahead.2 from); kept = inr waits; painted = painted_as script profile anchor past come.0 lifted (inr waits) }
 
-    by : (state : Bool) → is_whole set.state ≡ state → (is_whole set.state ≡ false → Behind (entry_set missed (sent_from table (number + 1) left))) → Behind (entry_set missed (sent_from table number (set ∷ left)))
+    by : (state : Bool) → is_entry_state set.state ≡ state → (is_entry_state set.state ≡ false → Behind (entry_set missed (sent_from table (number + 1) left))) → Behind (entry_set missed (sent_from table number (set ∷ left)))
     by false is behind =
         let entry : entry_set missed (sent_from table number (set ∷ left)) ≡ entry_set missed (sent_from table (number + 1) left) =
-        ap (λ b. cond (not (not b) && is_from missed (sent_set table number set)) (Some (sent_set table number set)) (entry_set missed (sent_from table (number + 1) left))) is in
+        ap (λ b. cond (b && is_from missed (sent_set table number set)) (Some (sent_set table number set)) (entry_set missed (sent_from table (number + 1) left))) is in
         subst Behind (sym entry) (behind is)
     by true is behind =
         let entry : entry_set missed (sent_from table number (set ∷ left)) ≡ Some (sent_set table number set) =
-        ap (λ b. cond (not (not b) && is_from missed (sent_set table number set)) (Some (sent_set table number set)) (entry_set missed (sent_from table (number + 1) left))) is
+        ap (λ b. cond (b && is_from missed (sent_set table number set)) (Some (sent_set table number set)) (entry_set missed (sent_from table (number + 1) left))) is
         ∙ ap (λ b. cond b (Some (sent_set table number set)) (entry_set missed (sent_from table (number + 1) left))) from.0 in
         subst Behind (sym entry)
         (let first = first_entered script profile anchor sets past last plan left set (sent_set table number set) is_plan parts before ahead come.0 idle holds is refl in

@@ -1,6 +1,6 @@
 -- The calls of scheduled sets behind an entry, slot by slot: what the packet at a slot adds to them.
 use Rattle.std.proofs.Common.{◌≡◌, ◌≢◌, ◌∙◌, inl, inr, ℕ, zero, suc, ◌+◌, ◌-◌, ◌<◌, ◌≤◌, ◌&&◌, nat_le, nat_lt, Bool, true, false, eqb, cond, List, [], ◌∷◌, length, refl, sym, ap, arith}
-use Rattle.std.proofs.lemmas.Bool.{cases_lt}
+use Rattle.std.proofs.lemmas.Bool.{cases_lt, eq-eqb, eqb-true}
 use Rattle.std.proofs.lemmas.Bool.Decides.{nat_tests}
 use Rattle.sub_base.specs.declared.load.WriteLoad.{WriteLoad}
 use Rattle.buffer_model.specs.Calls.{Call, Arrived, SetWhole}
@@ -22,12 +22,6 @@ at_most a b h = grind (arith, nat_tests)
 
 more_than : (a b : ℕ) → b < a → nat_le a b ≡ false
 more_than a b h = grind (arith, nat_tests)
-
-same_number : (a b : ℕ) → a ≡ b → eqb a b ≡ true
-same_number a b h = grind (arith, nat_tests)
-
-are_same : (a b : ℕ) → eqb a b ≡ true → a ≡ b
-are_same a b h = grind (arith, nat_tests)
 
 -- a number that is not the bound is below the next bound where it is below this one
 below_next : (a b : ℕ) → a ≢ b → nat_lt a (suc b) ≡ nat_lt a b
@@ -239,7 +233,7 @@ nothing_yet loads slots painted entry slot (suc i) are inside early =
           | inl less ↦ (let above = in_order loads slots entry.set i entry.packet k are less (omega (arith, inside)) told.0 within in omega (arith, above, told.1))
           | inr least ↦
               let same : i ≡ entry.set = omega (arith, most, least) in
-              let begins : from_of entry i ≡ entry.packet = ap (λ found. cond found entry.packet 0) (same_number i entry.set same) in
+              let begins : from_of entry i ≡ entry.packet = ap (λ found. cond found entry.packet 0) (eq-eqb i entry.set same) in
               let own : slot_of loads slots i k ≡ slot_of loads slots entry.set k = ap (λ n. slot_of loads slots n k) same in
               let fits : packets_of loads i ≡ packets_of loads entry.set = ap (packets_of loads) same in
               elim (cases_lt entry.packet k) [
@@ -256,7 +250,7 @@ nothing_yet loads slots painted entry slot (suc i) are inside early =
         ]
 
     within_set : (b : Bool) → eqb i entry.set ≡ b → entry.set ≤ i → cond b entry.packet 0 ≤ packets_of loads i - 1
-    within_set true e most = (let told = it_is most in let same : i ≡ entry.set = are_same i entry.set e in omega (arith, told.0, ap (packets_of loads) same))
+    within_set true e most = (let told = it_is most in let same : i ≡ entry.set = eqb-true i entry.set e in omega (arith, told.0, ap (packets_of loads) same))
     within_set false e most = omega arith
 
     last_late : entry.set ≤ i → slot ≤ slot_of loads slots i (packets_of loads i - 1)

@@ -1,5 +1,5 @@
 -- The times of the sets that come to a receiver are lifted as they are, by an anchor that suits those of which a packet comes.
-use Rattle.std.proofs.Common.{◌≡◌, ◌∙◌, ℕ, zero, suc, ◌+◌, ◌<◌, ◌≤◌, Bool, true, false, ◌||◌, ◌&&◌, not, cond, List, [], ◌∷◌, length, map, filter, drop, Some, None, refl, ap, subst, arith}
+use Rattle.std.proofs.Common.{◌≡◌, ◌∙◌, ℕ, zero, suc, ◌+◌, ◌<◌, ◌≤◌, Bool, true, false, ◌||◌, ◌&&◌, cond, List, [], ◌∷◌, length, map, filter, drop, Some, None, refl, ap, subst, arith}
 use Rattle.std.specs.Prelude.{nat_le, slice_get}
 use Rattle.std.specs.List.{AllByRecursion, list_all, list_any}
 use Rattle.std.specs.List.Sorted.{IsStrictlyIncreasing}
@@ -9,19 +9,17 @@ use Rattle.page_epoch.specs.declared.planned_set.PlannedSet.{PlannedSet}
 use Rattle.schedule.specs.Slots.{Timetable, slots_of}
 use Rattle.decoder_model.specs.Streams.{SentSet, is_from, entry_set}
 use Rattle.shown_stream.specs.SentSets.{sent_set, sent_from, times_from}
-use Rattle.shown_stream.specs.Shows.{IsAnchorOf}
+use Rattle.shown_stream.specs.Shows.{IsAnchorOf, Suits}
 use Rattle.shown_stream.proofs.EnteredRuns.{AreFrom}
 use Rattle.shown_stream.proofs.PlannedOrder.{rest_rises}
 use Rattle.shown_stream.proofs.PlannedTimes.{pts_of}
 use Rattle.shown_stream.proofs.ShownSets.{IsAheadOf, AreAheadOf}
+use Rattle.stream_syntax.specs.declared.wire.TheConstants.{TIME_ROUND}
 
 -- ---- anchors
 
 abbrev some_there : ℕ → List ℕ → Bool
 some_there missed places = list_any (λ at. nat_le missed at) places
-
-abbrev Suits : ℕ → ℕ → Type 0
-Suits anchor time = (anchor ≤ time) × (time < anchor + 8589934592)
 
 -- the anchor suits a set of which a packet comes
 anchor_in : (anchor missed number place : ℕ) (table : Timetable) (sets : List PlannedSet) (set : PlannedSet) → AllByRecursion (Suits anchor) (times_from missed (sent_from table number sets)) → slice_get sets place ≡ Some set
@@ -60,7 +58,7 @@ one_of_all missed (place ∷ places) some all = by (nat_le missed place) refl al
 -- ---- the sets that are left
 
 -- behind a set all later ones are ahead of it, and near
-pub near_all : (anchor origin last : ℕ) (left : List PlannedSet) → origin < 8589934592 → IsTick origin last → AllByRecursion (IsTick origin) (pts_of left) → IsStrictlyIncreasing (last ∷ pts_of left) → AreAheadOf anchor (Some last) left
+pub near_all : (anchor origin last : ℕ) (left : List PlannedSet) → origin < TIME_ROUND → IsTick origin last → AllByRecursion (IsTick origin) (pts_of left) → IsStrictlyIncreasing (last ∷ pts_of left) → AreAheadOf anchor (Some last) left
 near_all anchor origin last [] low from within rise = tt
 near_all anchor origin last (set ∷ left) low from within rise =
     let first : last < set.pts = rise 0 (omega arith) in
@@ -69,7 +67,7 @@ near_all anchor origin last (set ∷ left) low from within rise =
     ((first, omega arith), omega arith, near_all anchor origin set.pts left low within.0 within.1 (rest_rises last (pts_of (set ∷ left)) rise))
 
 -- the first set of all by the anchor
-pub near_first : (anchor origin : ℕ) (left : List PlannedSet) → origin < 8589934592 → AllByRecursion (IsTick origin) (pts_of left) → IsStrictlyIncreasing (pts_of left) → ((set : PlannedSet) → slice_get left 0 ≡ Some set → IsAheadOf anchor None set.pts)
+pub near_first : (anchor origin : ℕ) (left : List PlannedSet) → origin < TIME_ROUND → AllByRecursion (IsTick origin) (pts_of left) → IsStrictlyIncreasing (pts_of left) → ((set : PlannedSet) → slice_get left 0 ≡ Some set → IsAheadOf anchor None set.pts)
     → AreAheadOf anchor None left
 near_first anchor origin [] low within rise suits = tt
 near_first anchor origin (set ∷ left) low within rise suits =
@@ -106,13 +104,13 @@ entry_behind missed table (suc k) number [] none = refl
 entry_behind missed table (suc k) number (set ∷ sets) none =
     let here : is_from missed (sent_set table number set) ≡ false = ap (λ n. is_from missed (sent_set table n set)) (omega arith) ∙ none 0 set (omega arith) refl in
     let behind = entry_behind missed table k (number + 1) sets (λ i one inside found. ap (λ n. is_from missed (sent_set table n one)) (omega arith) ∙ none (suc i) one (omega arith) found) in
-    ap (λ b. cond (not_normal && b) (Some (sent_set table number set)) (entry_set missed (sent_from table (number + 1) sets))) here
-    ∙ by not_normal
+    ap (λ b. cond (begins && b) (Some (sent_set table number set)) (entry_set missed (sent_from table (number + 1) sets))) here
+    ∙ by begins
     ∙ behind
     ∙ ap (λ n. entry_set missed (sent_from table n (drop k sets))) (omega arith)
   where
-    not_normal : Bool
-    not_normal = not (sent_set table number set).is_normal
+    begins : Bool
+    begins = (sent_set table number set).is_entry
 
     by : (b : Bool) → cond (b && false) (Some (sent_set table number set)) (entry_set missed (sent_from table (number + 1) sets)) ≡ entry_set missed (sent_from table (number + 1) sets)
     by true = refl

@@ -5,7 +5,7 @@ use Rattle.std.specs.Option.{option_or}
 use Rattle.sub_base.specs.declared.load.SetLoad.{SetLoad}
 use Rattle.sub_base.specs.declared.load.WriteLoad.{WriteLoad}
 use Rattle.sub_base.specs.declared.profile.Profile.{Profile}
-use Rattle.stream_syntax.specs.declared.wire.TheConstants.{TIME_ROUND}
+use Rattle.stream_syntax.specs.declared.wire.TheConstants.{TIME_ROUND, TICK_LIMIT}
 use Rattle.page_epoch.specs.declared.planned_set.PlannedSet.{PlannedSet}
 use Rattle.buffer_model.specs.Calls.{Call, SetWhole}
 use Rattle.schedule.specs.Packets.{sum_below, load_of, size_of, payload_of}
@@ -36,7 +36,7 @@ pub record IsWholeAt (calls : List (List Call)) (j pts size : ℕ) : Type 0 wher
   pub many : load.size ≡ size
 
 -- a set that is ahead of those before is whole, at its own time
-one_kept : (profile : Profile) (anchor pts time size : ℕ) (last : Option ℕ) (older : List (Delivery Reading)) (readings : List Reading) → last_time anchor older ≡ last → IsAheadOf anchor last pts → pts < 4611686018427387904 → time ≡ pts % TIME_ROUND
+one_kept : (profile : Profile) (anchor pts time size : ℕ) (last : Option ℕ) (older : List (Delivery Reading)) (readings : List Reading) → last_time anchor older ≡ last → IsAheadOf anchor last pts → pts < TICK_LIMIT → time ≡ pts % TIME_ROUND
     → lifted_time anchor older (whole time size readings) ≡ Some pts
 one_kept profile anchor pts time size last older readings before ahead low is =
     ap (λ found. lifted_behind anchor found time) before ∙ ap (lifted_behind anchor last) is ∙ lifted_at anchor last pts ahead low

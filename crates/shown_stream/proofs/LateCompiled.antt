@@ -86,7 +86,7 @@ record FoundEntry (j : ℕ) (table : Timetable) (number : ℕ) (sets : List Plan
 
 found_entry : (j : ℕ) (table : Timetable) (number : ℕ) (sets : List PlannedSet) (entry : SentSet) → entry_set j (sent_from table number sets) ≡ Some entry → FoundEntry j table number sets entry
 found_entry j table number [] entry e = absurd (cc)
-found_entry j table number (set ∷ sets) entry e = by (sent_set table number set).is_normal (is_from j (sent_set table number set)) refl e (found_entry j table (number + 1) sets entry)
+found_entry j table number (set ∷ sets) entry e = by (sent_set table number set).is_entry (is_from j (sent_set table number set)) refl e (found_entry j table (number + 1) sets entry)
   where
     later : FoundEntry j table (number + 1) sets entry → FoundEntry j table number (set ∷ sets) entry
     later there =
@@ -94,9 +94,9 @@ found_entry j table number (set ∷ sets) entry e = by (sent_set table number se
         let same : number + suc there.place ≡ number + 1 + there.place = omega arith in
         record { place = suc there.place; inside = omega arith; from = ap (λ n. list_all (λ at. nat_le j at) (slots_of table n)) same ∙ there.from; time = there.time }
 
-    by : (normal from : Bool) → is_from j (sent_set table number set) ≡ from → cond (not normal && from) (Some (sent_set table number set)) (entry_set j (sent_from table (number + 1) sets)) ≡ Some entry
+    by : (begins from : Bool) → is_from j (sent_set table number set) ≡ from → cond (begins && from) (Some (sent_set table number set)) (entry_set j (sent_from table (number + 1) sets)) ≡ Some entry
         → (entry_set j (sent_from table (number + 1) sets) ≡ Some entry → FoundEntry j table (number + 1) sets entry) → FoundEntry j table number (set ∷ sets) entry
-    by false true from e behind =
+    by true true from e behind =
         let same : sent_set table number set ≡ entry = cc in
         record {
           place = 0;
@@ -104,8 +104,8 @@ found_entry j table number (set ∷ sets) entry e = by (sent_set table number se
           from = ap (λ n. list_all (λ at. nat_le j at) (slots_of table n)) (omega arith) ∙ from;
           time = ap (λ (one : SentSet). one.time) same;
         }
-    by true true from e behind = later (behind e)
     by true false from e behind = later (behind e)
+    by false true from e behind = later (behind e)
     by false false from e behind = later (behind e)
 
 time_at : (table : Timetable) (number place : ℕ) (sets : List PlannedSet) (set : PlannedSet) → slice_get sets place ≡ Some set → get_or (map (λ (one : SentSet). one.time) (sent_from table number sets)) place 0 ≡ set.pts

@@ -1,8 +1,8 @@
 -- Packets that add to a unit whose beginning was missed give no unit, mean no loss, and leave none in hand.
-use Rattle.std.proofs.Common.{◌≡◌, ◌≢◌, ◌∙◌, ℕ, zero, suc, ◌+◌, ◌-◌, ◌%◌, Bool, true, false, eqb, cond, List, [], ◌∷◌, ◌++◌, replicate, Option, Some, None, inr, refl, sym, ap, subst, arith, append_assoc, append-nil}
+use Rattle.std.proofs.Common.{◌≡◌, ◌≢◌, ◌∙◌, ℕ, zero, suc, ◌+◌, ◌-◌, ◌%◌, Bool, false, cond, List, [], ◌∷◌, ◌++◌, replicate, Option, Some, None, inr, refl, sym, ap, subst, arith, append_assoc, append-nil}
 use Rattle.std.specs.Prelude.{filter_map}
 use Rattle.std.specs.List.{AllByRecursion, cons_option}
-use Rattle.std.proofs.lemmas.Bool.Decides.{nat_tests}
+use Rattle.std.proofs.lemmas.Bool.{ne_eqb, eq-eqb}
 use Rattle.stream_syntax.specs.Cutting.{units_behind, events_behind, IsUnbroken}
 use Rattle.stream_syntax.specs.TransportPackets.{null_packet, pid_of, counter_of, payload_of}
 use Rattle.stream_syntax.specs.Units.{last_counter, Succession, Next, Again, Missing, succession, payload_part, part_after, part_of, hand_after, unit_after, unit_at, payload_event, event_after, event_at, is_loss}
@@ -10,7 +10,7 @@ use Rattle.decoder_model.proofs.SentUnits.{no_loss_at}
 use Rattle.ts_packets.specs.Demuxing.{next_hand}
 use Rattle.ts_packets.proofs.UnitLemmas.{hand_push, counter_push}
 use Rattle.ts_packets.proofs.WrittenPackets.{SaysWhatWasWritten}
-use Rattle.slot_stream.proofs.LaidPackets.{laid, other_number}
+use Rattle.slot_stream.proofs.LaidPackets.{laid}
 use Rattle.slot_stream.proofs.SentPieces.{IsFree, AreFurther, FollowsOn, says, unbroken, null_is_no_payload, counter_here}
 use Rattle.slot_stream.specs.SlotStream.{Piece, packet_of}
 
@@ -20,14 +20,11 @@ pub record GivesNothing (pid size : ℕ) (before : List (List ℕ)) (packet : Li
   pub no_loss : is_loss (event_at pid size before packet) ≡ false
   pub no_hand : hand_after pid size (before ++ packet ∷ []) ≡ None
 
-same_pid_is : (a b : ℕ) → a ≡ b → eqb a b ≡ true
-same_pid_is a b h = grind (arith, nat_tests)
-
 -- ---- a packet of another PID
 
 pub other_part : (pid : ℕ) (before : List (List ℕ)) (packet : List ℕ) → pid_of packet ≢ pid → part_of pid before packet ≡ None
 unfolding part_after
-other_part pid before packet h = rw (other_number (pid_of packet) pid h) refl
+other_part pid before packet h = rw (ne_eqb (pid_of packet) pid h) refl
 
 other_gives_nothing : (pid size : ℕ) (before : List (List ℕ)) (packet : List ℕ) → pid_of packet ≢ pid → hand_after pid size before ≡ None → GivesNothing pid size before packet
 other_gives_nothing pid size before packet h hand = record {
@@ -41,13 +38,13 @@ other_gives_nothing pid size before packet h hand = record {
 its_part : (pid counter : ℕ) (before : List (List ℕ)) (piece packet : List ℕ) → SaysWhatWasWritten pid false counter piece packet → part_of pid before packet ≡ payload_part (succession (last_counter pid before) (counter_of packet)) false (payload_of packet)
 unfolding part_after
 its_part pid counter before piece packet told =
-    rw (same_pid_is (pid_of packet) pid told.carries.same_pid, told.carries.sound, told.carries.full, told.carries.begins) refl
+    rw (eq-eqb (pid_of packet) pid told.carries.same_pid, told.carries.sound, told.carries.full, told.carries.begins) refl
 
 its_event : (pid size counter : ℕ) (before : List (List ℕ)) (piece packet : List ℕ) → SaysWhatWasWritten pid false counter piece packet
     → event_at pid size before packet ≡ payload_event size (hand_after pid size before) (succession (last_counter pid before) (counter_of packet)) false (payload_of packet)
 unfolding event_after
 its_event pid size counter before piece packet told =
-    rw (same_pid_is (pid_of packet) pid told.carries.same_pid, told.carries.sound, told.carries.full, told.carries.begins) refl
+    rw (eq-eqb (pid_of packet) pid told.carries.same_pid, told.carries.sound, told.carries.full, told.carries.begins) refl
 
 adds_no_unit : (size : ℕ) (s : Succession) (payload : List ℕ) → unit_after size None (payload_part s false payload) ≡ None
 adds_no_unit size Next payload = refl

@@ -1,5 +1,5 @@
 -- The later units of a set, received alone, are a set without a page: it is broken, and nothing is shown of it.
-use Rattle.std.proofs.Common.{◌≡◌, ◌∙◌, ℕ, zero, suc, ◌+◌, ◌≤◌, Bool, true, false, ◌||◌, cond, eqb, List, [], ◌∷◌, ◌++◌, length, map, drop, Some, None, Err, refl, sym, ap, subst, arith}
+use Rattle.std.proofs.Common.{◌≡◌, ◌∙◌, ℕ, zero, suc, ◌+◌, ◌≤◌, Bool, true, false, ◌||◌, cond, eqb, List, [], ◌∷◌, ◌++◌, length, map, drop, Some, None, refl, sym, ap, subst, arith}
 use Rattle.std.specs.Prelude.{nat_le}
 use Rattle.std.specs.Bool.{if◌then◌else◌}
 use Rattle.std.specs.List.{AllByRecursion, sum_by, list_any}
@@ -18,7 +18,7 @@ use Rattle.cue_list.specs.declared.script.Script.{Script}
 use Rattle.page_epoch.specs.declared.planned_set.PlannedSet.{PlannedSet}
 use Rattle.page_epoch.specs.declared.planned_set.SentClut.{SentClut}
 use Rattle.page_epoch.specs.declared.planned_set.SentRegion.{SentRegion}
-use Rattle.segments.proofs.Readings.{one_reading, every_segment}
+use Rattle.segments.proofs.Readings.{one_reading, no_fault_there}
 use Rattle.segments.proofs.Spellings.{written_segment}
 use Rattle.decoder_model.specs.Contents.{page_in, region_in, page_in_set, where_passes, region_named}
 use Rattle.decoder_model.specs.Faults.{contents_in, twice_among, fault_of_segment}
@@ -79,7 +79,7 @@ same_value page value content writable is = (one_reading (spelled page value) (s
 
 pub not_faulty : (page : ℕ) (value : SegmentValue) (found : SegmentFault) → IsWritable page value → IsSegmentFault (spelled page value) found → ⊥
 not_faulty page value found writable bad =
-    every_segment (spelled page value) (Err found) tt bad value (length (spelled page value)) (omega arith) (subst (λ (all : List ℕ). IsSegment all value) (sym (take-length (spelled page value))) (written_segment page value writable))
+    no_fault_there (spelled page value) (length (spelled page value)) value found (omega arith) (subst (λ (all : List ℕ). IsSegment all value) (sym (take-length (spelled page value))) (written_segment page value writable)) bad
 
 -- all of these are other than an earlier one
 abbrev pub AreOther : List Reading → List SegmentValue → Type 0
@@ -163,10 +163,10 @@ region_with epoch sent = record {
     region = sent.id;
     version = sent.version;
     fill = sent.fill;
-    width = (planned.region_of epoch sent.id).width;
-    height = (planned.region_of epoch sent.id).height;
-    depth = (planned.region_of epoch sent.id).depth;
-    clut = (planned.region_of epoch sent.id).clut;
+    width = (planned.epoch_region epoch sent.id).width;
+    height = (planned.epoch_region epoch sent.id).height;
+    depth = (planned.epoch_region epoch sent.id).depth;
+    clut = (planned.epoch_region epoch sent.id).clut;
     code8 = 0;
     code4 = 0;
     code2 = 0;

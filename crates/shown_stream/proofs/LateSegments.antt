@@ -93,8 +93,8 @@ abbrev display_in : Script → Display
 display_in script = record { version = 0; width = script.width; height = script.height; window = None }
 
 -- together they have room in a unit
-both_small : (script : Script) (page : ℕ) (epoch : Epoch) (set : PlannedSet) → length set.shown ≤ 64 → IsWritable page (of_display (display_in script)) → IsWritable page (planned.page_of script epoch set)
-    → planned.segment_bytes page (of_display (display_in script)) + planned.segment_bytes page (planned.page_of script epoch set) ≤ 65524
+both_small : (script : Script) (page : ℕ) (epoch : Epoch) (set : PlannedSet) → length set.shown ≤ 64 → IsWritable page (of_display (display_in script)) → IsWritable page (planned.page_segment script epoch set)
+    → planned.segment_bytes page (of_display (display_in script)) + planned.segment_bytes page (planned.page_segment script epoch set) ≤ 65524
 both_small script page epoch set few display writable =
     omega (
       arith,
@@ -120,14 +120,14 @@ regrouped xs ys zs x = ap (λ rest. x ∷ rest) (append_assoc xs ys zs)
 
 -- the first unit of a set has its display and its page, as both have room in it: the later units have what comes behind
 first_has_page : (script : Script) (page : ℕ) (set : PlannedSet) (state : State) (epoch : Epoch) (objects first : List SegmentValue) (units : List (List SegmentValue)) → length set.shown ≤ 64
-    → AreUnits (planned.segment_bytes page) (first ∷ units) → first ++ joined_units units ≡ planned.display_of script state ++ (planned.page_of script epoch set ∷ behind_page epoch set objects)
-    → AllByRecursion (IsWritable page) (planned.display_of script state ++ (planned.page_of script epoch set ∷ behind_page epoch set objects)) → EndsWith (behind_page epoch set objects) (joined_units units)
+    → AreUnits (planned.segment_bytes page) (first ∷ units) → first ++ joined_units units ≡ planned.display_segments script state ++ (planned.page_segment script epoch set ∷ behind_page epoch set objects)
+    → AllByRecursion (IsWritable page) (planned.display_segments script state ++ (planned.page_segment script epoch set ∷ behind_page epoch set objects)) → EndsWith (behind_page epoch set objects) (joined_units units)
 first_has_page script page set Normal epoch objects first units few are joined fit =
-    behind_one first (joined_units units) (planned.page_of script epoch set) (behind_page epoch set objects) are.0.0 joined
+    behind_one first (joined_units units) (planned.page_segment script epoch set) (behind_page epoch set objects) are.0.0 joined
 first_has_page script page set Acquisition epoch objects first units few are joined fit =
-    behind_two (planned.segment_bytes page) first units (of_display (display_in script)) (planned.page_of script epoch set) (behind_page epoch set objects) are (both_small script page epoch set few fit.0 fit.1.0) joined
+    behind_two (planned.segment_bytes page) first units (of_display (display_in script)) (planned.page_segment script epoch set) (behind_page epoch set objects) are (both_small script page epoch set few fit.0 fit.1.0) joined
 first_has_page script page set ModeChange epoch objects first units few are joined fit =
-    behind_two (planned.segment_bytes page) first units (of_display (display_in script)) (planned.page_of script epoch set) (behind_page epoch set objects) are (both_small script page epoch set few fit.0 fit.1.0) joined
+    behind_two (planned.segment_bytes page) first units (of_display (display_in script)) (planned.page_segment script epoch set) (behind_page epoch set objects) are (both_small script page epoch set few fit.0 fit.1.0) joined
 
 ends_behind : (k : ℕ) (all : List SegmentValue) (units : List (List SegmentValue)) → EndsWith all (joined_units units) → EndsWith all (joined_units (drop k units))
 ends_behind zero all units h = h
@@ -138,14 +138,14 @@ ends_with_itself : (all : List SegmentValue) → EndsWith all []
 ends_with_itself all = record { front = all; are = sym (append-nil all) }
 
 segments_in_parts : (script : Script) (page : ℕ) (set : PlannedSet) (packets : List (List ℕ)) (sent : TimedSet) → (is : IsSentAs script page set packets sent)
-    → is.segments ≡ planned.display_of script set.state ++ (planned.page_of script is.carried.epoch set ∷ behind_page is.carried.epoch set is.carried.objects)
+    → is.segments ≡ planned.display_segments script set.state ++ (planned.page_segment script is.carried.epoch set ∷ behind_page is.carried.epoch set is.carried.objects)
 segments_in_parts script page set packets sent is =
     let epoch = is.carried.epoch in
     let regions = map (planned.region_segment_of epoch) set.regions in
     let cluts = map (planned.clut_segment_of epoch) set.cluts in
     is.carried.whole
-    ∙ append_assoc (planned.display_of script set.state) (planned.page_of script epoch set ∷ (regions ++ cluts)) (is.carried.objects ++ end_of_set ∷ [])
-    ∙ ap (λ rest. planned.display_of script set.state ++ rest) (regrouped regions cluts (is.carried.objects ++ end_of_set ∷ []) (planned.page_of script epoch set))
+    ∙ append_assoc (planned.display_segments script set.state) (planned.page_segment script epoch set ∷ (regions ++ cluts)) (is.carried.objects ++ end_of_set ∷ [])
+    ∙ ap (λ rest. planned.display_segments script set.state ++ rest) (regrouped regions cluts (is.carried.objects ++ end_of_set ∷ []) (planned.page_segment script epoch set))
 
 -- the segments of the units behind the first ones stand behind the page
 pub later_segments : (script : Script) (page : ℕ) (set : PlannedSet) (packets : List (List ℕ)) (sent : TimedSet) → (is : IsSentAs script page set packets sent) → length set.shown ≤ 64 → (k : ℕ)
@@ -181,7 +181,7 @@ later_are script page set packets sent is few k =
     let ends = later_segments script page set packets sent is few k in
     let all = segments_in_parts script page set packets sent is in
     let fit = subst (AllByRecursion (IsWritable page)) all (recursion_from_All (IsWritable page) is.segments is.carried.fit) in
-    let behind = (parts_of_all (IsWritable page) (planned.display_of script set.state) (planned.page_of script epoch set ∷ behind_page epoch set objects) fit).1.1 in
+    let behind = (parts_of_all (IsWritable page) (planned.display_segments script set.state) (planned.page_segment script epoch set ∷ behind_page epoch set objects) fit).1.1 in
     both_hold (IsWritable page) IsLater (joined_units (drop (suc k) is.units)) (all_at_end (IsWritable page) (behind_page epoch set objects) (joined_units (drop (suc k) is.units)) ends behind)
     (all_at_end IsLater (behind_page epoch set objects) (joined_units (drop (suc k) is.units)) ends (later_behind_page script epoch set objects is.carried.drawn))
 

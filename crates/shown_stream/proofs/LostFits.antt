@@ -25,6 +25,7 @@ use Rattle.shown_stream.proofs.LostWalk.{IsFit}
 use Rattle.shown_stream.proofs.PlannedOrder.{rest_rises, all_above}
 use Rattle.shown_stream.proofs.PlannedTimes.{pts_of}
 use Rattle.shown_stream.proofs.ShownSets.{IsAheadOf}
+use Rattle.stream_syntax.specs.declared.wire.TheConstants.{TIME_ROUND}
 
 -- the flags of the pieces of a set, among those of the pieces of all that are left
 abbrev pub flags_at : List (List (List ℕ)) → List Bool → ℕ → List Bool
@@ -48,7 +49,7 @@ module _ (script : Script) (profile : Profile) (anchor origin page : ℕ) (sets 
     pub whole : (n : ℕ) (set : PlannedSet) → slice_get left n ≡ Some set → ComesWhole (number + n) set → all_of (flags_at units flags n) ≡ true
     pub suits : (n : ℕ) (set : PlannedSet) → slice_get left n ≡ Some set → some_of (flags_at units flags n) ≡ true → IsAheadOf anchor None set.pts
 
-  pub are_fit : (number : ℕ) (plan left : List PlannedSet) (units : List (List (List ℕ))) (sent : List TimedSet) (flags : List Bool) → origin < 8589934592 → length (reverse plan) ≡ number → AreSentAs script page left units sent → AllZip (SetComes script) left sent
+  pub are_fit : (number : ℕ) (plan left : List PlannedSet) (units : List (List (List ℕ))) (sent : List TimedSet) (flags : List Bool) → origin < TIME_ROUND → length (reverse plan) ≡ number → AreSentAs script page left units sent → AllZip (SetComes script) left sent
       → AllByRecursion (IsTimedSet profile.coded page) sent → AllByRecursion (λ (one : TimedSet). 1 ≤ length one.units) sent → HaveDifferentTimes sent → AllByRecursion (IsTick origin) (pts_of left) → IsStrictlyIncreasing (pts_of left)
       → AllByRecursion (IsUnit profile.coded) (all_units units) → length (all_pieces (all_units units)) ≤ length flags → AreTold number left units flags
       → AreFit script profile anchor origin page sets ComesWhole plan left sent (come_whole profile.coded page (all_units units) flags)

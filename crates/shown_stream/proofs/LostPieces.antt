@@ -1,16 +1,15 @@
 -- What arrives of a stream of which some packets are lost: by the pieces whose packets come, one after another.
-use Rattle.std.proofs.Common.{◌≡◌, ◌≢◌, ◌∙◌, ℕ, zero, suc, ◌+◌, ◌-◌, ◌%◌, Bool, true, false, eqb, cond, List, [], ◌∷◌, ◌++◌, length, map, replicate, Option, Some, None, refl, sym, ap, subst, arith, append_assoc}
+use Rattle.std.proofs.Common.{◌≡◌, ◌≢◌, ◌∙◌, ℕ, zero, suc, ◌+◌, ◌-◌, ◌%◌, Bool, true, false, cond, List, [], ◌∷◌, ◌++◌, length, map, replicate, Option, Some, None, refl, sym, ap, subst, arith, append_assoc}
 use Rattle.std.specs.Prelude.{flat_map, filter}
 use Rattle.std.specs.Bool.{if◌then◌else◌}
-use Rattle.std.specs.List.{AllByRecursion, slice_get}
-use Rattle.std.specs.Option.{option_map_or}
-use Rattle.std.proofs.lemmas.Bool.Decides.{nat_tests}
+use Rattle.std.specs.List.{AllByRecursion}
 use Rattle.std.proofs.lemmas.List.{map-append, length-append}
 use Rattle.std.proofs.lemmas.List.Elements.{filter-append}
+use Rattle.std.proofs.lemmas.Bool.{eq-eqb}
 use Rattle.stream_syntax.specs.TransportPackets.{null_packet, pid_of, counter_of}
 use Rattle.stream_syntax.specs.Units.{is_payload, last_counter, succession, payload_part, part_after, part_of, hand_after, unit_after, unit_at, payload_event, event_after, event_at, each_after}
 use Rattle.decoder_model.specs.Arrivals.{Arrival, loss, losses_at, units_at, arrivals_at}
-use Rattle.decoder_model.specs.Streams.{Sending, received_of}
+use Rattle.decoder_model.specs.Streams.{Sending, received_of, is_received_at}
 use Rattle.decoder_model.proofs.SentUnits.{no_loss_at}
 use Rattle.ts_packets.specs.Demuxing.{next_hand}
 use Rattle.ts_packets.proofs.UnitLemmas.{hand_push, counter_push}
@@ -23,19 +22,16 @@ use Rattle.slot_stream.proofs.SentPieces.{IsFree, says, null_is_no_payload, coun
 
 -- ---- a packet
 
-same_pid_is : (a b : ℕ) → a ≡ b → eqb a b ≡ true
-same_pid_is a b h = grind (arith, nat_tests)
-
 its_part : (pid counter : ℕ) (start : Bool) (before : List (List ℕ)) (piece packet : List ℕ) → SaysWhatWasWritten pid start counter piece packet → part_of pid before packet ≡ payload_part (succession (last_counter pid before) counter) start piece
 unfolding part_after
 its_part pid counter start before piece packet told =
-    rw (same_pid_is (pid_of packet) pid told.carries.same_pid, told.carries.sound, told.carries.full, told.carries.begins, told.carries.payload, told.numbered) refl
+    rw (eq-eqb (pid_of packet) pid told.carries.same_pid, told.carries.sound, told.carries.full, told.carries.begins, told.carries.payload, told.numbered) refl
 
 its_event : (pid size counter : ℕ) (start : Bool) (before : List (List ℕ)) (piece packet : List ℕ) → SaysWhatWasWritten pid start counter piece packet
     → event_at pid size before packet ≡ payload_event size (hand_after pid size before) (succession (last_counter pid before) counter) start piece
 unfolding event_after
 its_event pid size counter start before piece packet told =
-    rw (same_pid_is (pid_of packet) pid told.carries.same_pid, told.carries.sound, told.carries.full, told.carries.begins, told.carries.payload, told.numbered) refl
+    rw (eq-eqb (pid_of packet) pid told.carries.same_pid, told.carries.sound, told.carries.full, told.carries.begins, told.carries.payload, told.numbered) refl
 
 -- ---- packets
 
@@ -151,27 +147,23 @@ parted (sending ∷ sendings) (suc count) packet packets e =
     let more = parted sendings count packet packets tail in
     record { nulls = sending ∷ more.nulls; one = more.one; rest = more.rest; are = ap (λ all. sending ∷ all) {y = more.nulls ++ more.one ∷ more.rest} more.are; many = ap suc more.many; all_null = (sym head, more.all_null); is = more.is; others = more.others }
 
--- whether the packet at a place is received
-abbrev pub is_there : List Sending → ℕ → Bool
-is_there sendings place = option_map_or (λ (sending : Sending). sending.received) (slice_get sendings place) false
-
 -- for each slot, from one on, whether its packet is received
 abbrev pub there_at : List Sending → ℕ → List ℕ → List Bool
 there_at sendings from [] = []
-there_at sendings from (slot ∷ slots) = is_there sendings (slot - from) ∷ there_at sendings from slots
+there_at sendings from (slot ∷ slots) = is_received_at sendings (slot - from) ∷ there_at sendings from slots
 
 -- behind a front it is as in the rest
-there_behind : (front rest : List Sending) (k : ℕ) → is_there (front ++ rest) (length front + k) ≡ is_there rest k
-there_behind [] rest k = let same : 0 + k ≡ k = omega arith in ap (is_there rest) same
-there_behind (first ∷ front) rest k = let same : suc (length front) + k ≡ suc (length front + k) = omega arith in ap (is_there (first ∷ (front ++ rest))) same ∙ there_behind front rest k
+there_behind : (front rest : List Sending) (k : ℕ) → is_received_at (front ++ rest) (length front + k) ≡ is_received_at rest k
+there_behind [] rest k = let same : 0 + k ≡ k = omega arith in ap (is_received_at rest) same
+there_behind (first ∷ front) rest k = let same : suc (length front) + k ≡ suc (length front + k) = omega arith in ap (is_received_at (first ∷ (front ++ rest))) same ∙ there_behind front rest k
 
 there_after : (front rest : List Sending) (from next : ℕ) (slots : List ℕ) → from + length front ≡ next → IsAhead next slots → there_at (front ++ rest) from slots ≡ there_at rest next slots
 there_after front rest from next [] e ahead = refl
 there_after front rest from next (slot ∷ slots) e ahead =
     let first = ahead.0 in
     let split : slot - from ≡ length front + (slot - next) = omega arith in
-    ap (λ b. b ∷ there_at (front ++ rest) from slots) (ap (is_there (front ++ rest)) split ∙ there_behind front rest (slot - next))
-    ∙ ap (λ more. is_there rest (slot - next) ∷ more) (there_after front rest from next slots e (sooner next (slot + 1) slots (omega arith) ahead.1))
+    ap (λ b. b ∷ there_at (front ++ rest) from slots) (ap (is_received_at (front ++ rest)) split ∙ there_behind front rest (slot - next))
+    ∙ ap (λ more. is_received_at rest (slot - next) ∷ more) (there_after front rest from next slots e (sooner next (slot + 1) slots (omega arith) ahead.1))
 
 received-append : (xs ys : List Sending) → received_of (xs ++ ys) ≡ received_of xs ++ received_of ys
 received-append xs ys = ap (map (λ (sending : Sending). sending.packet)) (filter-append (λ (sending : Sending). sending.received) xs ys) ∙ map-append (λ (sending : Sending). sending.packet) (filter (λ (sending : Sending). sending.received) xs) (filter (λ (sending : Sending). sending.received) ys)
@@ -184,7 +176,7 @@ there_parts from slot slots sendings packet packets parts ahead =
     let whole : sendings ≡ (parts.nulls ++ parts.one ∷ []) ++ parts.rest = parts.are ∙ sym (append_assoc parts.nulls (parts.one ∷ []) parts.rest) in
     let count : from + length (parts.nulls ++ parts.one ∷ []) ≡ slot + 1 = omega (arith, length-append parts.nulls (parts.one ∷ []), parts.many, least) in
     let at_slot : slot - from ≡ length parts.nulls + 0 = omega (arith, parts.many) in
-    ap (λ b. b ∷ there_at sendings from slots) (ap (λ all. is_there all (slot - from)) parts.are ∙ ap (is_there (parts.nulls ++ parts.one ∷ parts.rest)) at_slot ∙ there_behind parts.nulls (parts.one ∷ parts.rest) 0)
+    ap (λ b. b ∷ there_at sendings from slots) (ap (λ all. is_received_at all (slot - from)) parts.are ∙ ap (is_received_at (parts.nulls ++ parts.one ∷ parts.rest)) at_slot ∙ there_behind parts.nulls (parts.one ∷ parts.rest) 0)
     ∙ ap (λ more. parts.one.received ∷ more) (ap (λ all. there_at all from slots) whole ∙ there_after (parts.nulls ++ parts.one ∷ []) parts.rest from (slot + 1) slots count ahead.1)
 
 -- what arrives of a stream is what its pieces bring

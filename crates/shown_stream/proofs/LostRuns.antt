@@ -6,7 +6,6 @@ use Rattle.sub_base.specs.declared.profile.Profile.{Profile}
 use Rattle.cue_list.specs.Sound.{IsTick}
 use Rattle.cue_list.specs.declared.script.Script.{Script}
 use Rattle.page_epoch.specs.Plan.{IsPlan}
-use Rattle.page_epoch.specs.States.{is_whole}
 use Rattle.page_epoch.specs.declared.planned_set.PlannedSet.{PlannedSet}
 use Rattle.decoder_model.specs.Kept.{lifted_time, last_time, epoch_of}
 use Rattle.decoder_model.specs.Readings.{Content, Reading}
@@ -25,6 +24,7 @@ use Rattle.shown_stream.proofs.LostUnits.{Kind, Fresh, Joined, Apart, Steps, mis
 use Rattle.shown_stream.proofs.PlannedTimes.{pts_of}
 use Rattle.shown_stream.proofs.RunViews.{IsBefore, run_shows}
 use Rattle.shown_stream.proofs.ShownSets.{IsAheadOf, verdict_is, sets_are, is_normal, unknown_with, IsShownSet, shown_set}
+use Rattle.stream_syntax.specs.Segments.{is_entry_state}
 
 -- ---- what is known in a receiver
 
@@ -81,13 +81,13 @@ runs_on script profile anchor sets past plan left set is_plan parts comes lifted
 
 -- or begins
 run_begins : {sent : TimedSet} (script : Script) (profile : Profile) (anchor : ℕ) (sets : List PlannedSet) (past : List (Delivery Reading)) (plan left : List PlannedSet) (set : PlannedSet) → IsPlan script profile sets → sets ≡ reverse plan ++ (set ∷ left)
-    → (comes : SetComes script set sent) → lifted_time anchor past (reading_of comes) ≡ Some set.pts → IsUnknown profile anchor past → is_whole set.state ≡ true → RunsOn script profile anchor sets past plan left set (reading_of comes)
+    → (comes : SetComes script set sent) → lifted_time anchor past (reading_of comes) ≡ Some set.pts → IsUnknown profile anchor past → is_entry_state set.state ≡ true → RunsOn script profile anchor sets past plan left set (reading_of comes)
 run_begins script profile anchor sets past plan left set is_plan parts comes lifted unknown whole =
     runs_with script profile anchor sets past plan left set is_plan parts comes lifted (begins comes.epoch comes.found whole (inr unknown) comes.is)
 
 -- and where no epoch is known none is behind a normal set
 unknown_on : {script : Script} {set : PlannedSet} {sent : TimedSet} (profile : Profile) (anchor : ℕ) (past : List (Delivery Reading)) (comes : SetComes script set sent) → lifted_time anchor past (reading_of comes) ≡ Some set.pts → IsUnknown profile anchor past
-    → is_whole set.state ≡ false → IsUnknown profile anchor (reading_of comes ∷ past)
+    → is_entry_state set.state ≡ false → IsUnknown profile anchor (reading_of comes ∷ past)
 unknown_on {set = set} {sent = sent} profile anchor past comes lifted unknown normal =
     let sets = sets_since profile anchor past in
     let size = size_of_units sent.units in
@@ -101,7 +101,7 @@ unknown_on {set = set} {sent = sent} profile anchor past comes lifted unknown no
 pub record WholeAfter (script : Script) (profile : Profile) (anchor : ℕ) (sets : List PlannedSet) (past : List (Delivery Reading)) (plan left : List PlannedSet) (set : PlannedSet) (delivery : Delivery Reading) : Type 0 where
   pub known : IsUnknown profile anchor (delivery ∷ past) ⊎ IsRunning script profile anchor (delivery ∷ past) (set ∷ plan)
   pub held : (epoch : List (List Content)) → known_epoch profile anchor (delivery ∷ past) ≡ Some epoch → HoldsSet script plan set epoch
-  pub runs : IsRunning script profile anchor past plan ⊎ (is_whole set.state ≡ true) → RunsOn script profile anchor sets past plan left set delivery
+  pub runs : IsRunning script profile anchor past plan ⊎ (is_entry_state set.state ≡ true) → RunsOn script profile anchor sets past plan left set delivery
 
 pub none_known_of : (profile : Profile) (anchor : ℕ) (past : List (Delivery Reading)) → IsUnknown profile anchor past → (known : List (List Content)) → known_epoch profile anchor past ≡ Some known → ⊥
 none_known_of profile anchor past unknown known found = cc
@@ -111,9 +111,9 @@ pub whole_after : {sent : TimedSet} (script : Script) (profile : Profile) (ancho
 whole_after script profile anchor sets past plan left set is_plan parts comes lifted (inr running) =
     let on = runs_on script profile anchor sets past plan left set is_plan parts comes lifted running in
     record { known = inr on.running; held = on.held; runs = λ why. on }
-whole_after script profile anchor sets past plan left set is_plan parts comes lifted (inl unknown) = by (is_whole set.state) refl
+whole_after script profile anchor sets past plan left set is_plan parts comes lifted (inl unknown) = by (is_entry_state set.state) refl
   where
-    by : (b : Bool) → is_whole set.state ≡ b → WholeAfter script profile anchor sets past plan left set (reading_of comes)
+    by : (b : Bool) → is_entry_state set.state ≡ b → WholeAfter script profile anchor sets past plan left set (reading_of comes)
     by true whole =
         let on = run_begins script profile anchor sets past plan left set is_plan parts comes lifted unknown whole in
         record { known = inr on.running; held = on.held; runs = λ why. on }
@@ -125,7 +125,7 @@ whole_after script profile anchor sets past plan left set is_plan parts comes li
           runs = runs;
         }
       where
-        runs : IsRunning script profile anchor past plan ⊎ (is_whole set.state ≡ true) → RunsOn script profile anchor sets past plan left set (reading_of comes)
+        runs : IsRunning script profile anchor past plan ⊎ (is_entry_state set.state ≡ true) → RunsOn script profile anchor sets past plan left set (reading_of comes)
         runs (inl running) = runs_on script profile anchor sets past plan left set is_plan parts comes lifted running
         runs (inr whole) = absurd (cc)
 

@@ -22,13 +22,13 @@ use Rattle.decoder_model.specs.Readings.{Reading, AreDeliveriesRead}
 use Rattle.decoder_model.specs.Received.{HasReceived}
 use Rattle.decoder_model.specs.Sets.{Delivery, runs_of, sets_in, sets_of}
 use Rattle.decoder_model.specs.Shown.{Agrees, view_at}
-use Rattle.decoder_model.specs.Streams.{Sending, SentSet, IsReceived, IsGoodTick, IsCutTo, received_of}
+use Rattle.decoder_model.specs.Streams.{Sending, SentSet, IsReceived, IsGoodTick, IsCutTo, received_of, is_received_at}
 use Rattle.decoder_model.proofs.SentSets.{TimedSet, timed_units, have_units}
 use Rattle.decoder_model.proofs.SentUnits.{no_hand}
 use Rattle.shown_stream.specs.Compiled.{IsCompiledFor, IsCompiledTo, all_units}
 use Rattle.shown_stream.specs.Entered.{IsCutRightly}
 use Rattle.shown_stream.specs.HoldsWhole.{HoldsWhole}
-use Rattle.shown_stream.specs.SentSets.{sent_set, sent_sets, is_received_at, times_received}
+use Rattle.shown_stream.specs.SentSets.{sent_set, sent_sets, times_received}
 use Rattle.shown_stream.specs.Shows.{authored_view, IsAnchorOf, Shows}
 use Rattle.slot_stream.specs.SlotStream.{Piece, all_pieces, IsPiece}
 use Rattle.shown_stream.proofs.ComingSets.{all_come}
@@ -53,6 +53,7 @@ use Rattle.shown_stream.proofs.RisingSlots.{slots_rise}
 use Rattle.slot_stream.proofs.SentPieces.{IsFree, none_refused}
 use Rattle.shown_stream.proofs.SentPlaces.{start_is}
 use Rattle.slot_stream.proofs.SentStream.{pieces_are}
+use Rattle.stream_syntax.specs.declared.wire.TheConstants.{TIME_ROUND}
 
 -- what is received of a compiled stream that is shortly cut, what is shown of it, and what is held
 pub record IsReceivedCut (name : ProfileName) (pid page : ℕ) (script : Script) (bytes : List ℕ) (compiled : IsCompiledTo name pid page script bytes) (sendings : List Sending) (received : List (List ℕ)) (anchor tick : ℕ) : Type 0 where
@@ -67,7 +68,7 @@ pub received_cut : (name : ProfileName) (pid page : ℕ) (script : Script) (byte
 received_cut name pid page script bytes free made compiled sendings received cut anchor suits tick = record {
   past = ends.past;
   has_received = subst (λ (all : List (Delivery (List ℕ))). AreDeliveriesRead all ends.past) (turned_is deliveries [] ∙ append-nil (reverse deliveries) ∙ ap reverse (sym sets_are)) ends.read;
-  shows = λ good. ends.seen (good_from script profile anchor script.origin page tick sets sendings table false 0 [] sets sent come good.before good.entry good.after fits refl good.placed good.not_normal good.come
+  shows = λ good. ends.seen (good_from script profile anchor script.origin page tick sets sendings table false 0 [] sets sent come good.before good.entry good.after fits refl good.placed good.begins good.come
       (recursion_from_All (λ (set : SentSet). set.time ≤ tick → IsReceived sendings set) (good.entry ∷ good.after) good.whole));
   holds = ends.holds;
 }
@@ -177,7 +178,7 @@ received_cut name pid page script bytes free made compiled sendings received cut
           ap (λ all. list_all (λ b. b) all) (flags_are n (slice_get_within sets n set found))
           ∙ all_there sendings (slots_of table n) (recursion_from_All (λ place. is_received_at sendings place ≡ true) (slots_of table n) (subst (λ (k : ℕ). IsReceived sendings (sent_set table k set)) (omega arith) own));
       suits = λ n set found e.
-          suits_received anchor 0 n sendings table sets set (recursion_from_All (λ time. (anchor ≤ time) × (time < anchor + 8589934592)) (times_received sendings (sent_sets table sets)) suits) found
+          suits_received anchor 0 n sendings table sets set (recursion_from_All (λ time. (anchor ≤ time) × (time < anchor + TIME_ROUND)) (times_received sendings (sent_sets table sets)) suits) found
           (ap (λ k. list_any (is_received_at sendings) (slots_of table k)) (omega arith)
           ∙ some_there sendings (slots_of table n) (ap (λ all. list_any (λ b. b) all) (sym (flags_are n (slice_get_within sets n set found))) ∙ e));
     }

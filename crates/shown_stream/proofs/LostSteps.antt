@@ -4,7 +4,7 @@ use Rattle.std.specs.Option.{option_or}
 use Rattle.sub_base.specs.declared.profile.Profile.{Profile}
 use Rattle.cue_list.specs.declared.script.Script.{Script}
 use Rattle.page_epoch.specs.declared.planned_set.PlannedSet.{PlannedSet}
-use Rattle.decoder_model.specs.Kept.{time_round, lifted_behind, lifted_time, last_time, epoch_of}
+use Rattle.decoder_model.specs.Kept.{lifted_behind, lifted_time, last_time, epoch_of}
 use Rattle.decoder_model.specs.Readings.{Reading, AreReadings, IsDeliveryRead, AreDeliveriesRead}
 use Rattle.decoder_model.specs.Sets.{Delivery, lost, whole}
 use Rattle.decoder_model.specs.Shown.{view_at}
@@ -22,6 +22,7 @@ use Rattle.shown_stream.proofs.LateRest.{IsPlannedWell, rest_is_broken}
 use Rattle.shown_stream.proofs.LateSets.{rest_of_set}
 use Rattle.shown_stream.proofs.LostSets.{losts, part_of_set}
 use Rattle.shown_stream.proofs.ShownSets.{IsAheadOf, lifted_at, verdict_is, sets_are, none_known}
+use Rattle.stream_syntax.specs.declared.wire.TheConstants.{TIME_ROUND, TICK_LIMIT}
 
 -- ---- losses
 
@@ -92,8 +93,8 @@ last_is_its : (anchor pts : ℕ) (past : List (Delivery Reading)) (delivery : De
 unfolding last_time
 last_is_its anchor pts past delivery lifted = ap (λ found. option_or found (last_time anchor past)) lifted
 
-kept_part : (anchor : ℕ) (set : PlannedSet) (one : TimedSet) (past : List (Delivery Reading)) (last : Option ℕ) (readings : List Reading) → one.time ≡ set.pts % time_round → AreReadings (all_segments one) readings → last_time anchor past ≡ last → IsAheadOf anchor last set.pts
-    → set.pts < 4611686018427387904 → KeptPart anchor set one past
+kept_part : (anchor : ℕ) (set : PlannedSet) (one : TimedSet) (past : List (Delivery Reading)) (last : Option ℕ) (readings : List Reading) → one.time ≡ set.pts % TIME_ROUND → AreReadings (all_segments one) readings → last_time anchor past ≡ last → IsAheadOf anchor last set.pts
+    → set.pts < TICK_LIMIT → KeptPart anchor set one past
 kept_part anchor set one past last readings time are before ahead low =
     let delivery : Delivery Reading = whole one.time (size_of_units one.units) readings in
     let lifted : lifted_time anchor past delivery ≡ Some set.pts = ap (λ found. lifted_behind anchor found one.time) before ∙ ap (lifted_behind anchor last) time ∙ lifted_at anchor last set.pts ahead low in
@@ -121,7 +122,7 @@ units_read (suc p) (one ∷ units) readings are =
     joined (x ∷ xs) ys (reading ∷ first) more a b = (a.0, joined xs ys first more a.1 b)
 
 -- some units of a set without its end are kept
-pub open_part : {script : Script} {page : ℕ} {set : PlannedSet} {sent : TimedSet} (anchor k p : ℕ) (past : List (Delivery Reading)) (last : Option ℕ) → SetSent script page set sent → last_time anchor past ≡ last → IsAheadOf anchor last set.pts → set.pts < 4611686018427387904
+pub open_part : {script : Script} {page : ℕ} {set : PlannedSet} {sent : TimedSet} (anchor k p : ℕ) (past : List (Delivery Reading)) (last : Option ℕ) → SetSent script page set sent → last_time anchor past ≡ last → IsAheadOf anchor last set.pts → set.pts < TICK_LIMIT
     → KeptPart anchor set (part_of_set k p sent) past
 open_part {set = set} {sent = sent} anchor k p past last its before ahead low =
     let rest = rest_read k sent.units its.comes.readings its.comes.are in
@@ -134,7 +135,7 @@ pub record BrokenPart (profile : Profile) (anchor : ℕ) (set : PlannedSet) (one
   pub unknown : known_epoch profile anchor (kept.delivery ∷ past) ≡ None
 
 pub later_part : {script : Script} {page : ℕ} {set : PlannedSet} {sent : TimedSet} (profile : Profile) (anchor k : ℕ) (past : List (Delivery Reading)) (last : Option ℕ) → 1 ≤ k → SetSent script page set sent → last_time anchor past ≡ last → IsAheadOf anchor last set.pts
-    → set.pts < 4611686018427387904 → BrokenPart profile anchor set (rest_of_set k sent) past
+    → set.pts < TICK_LIMIT → BrokenPart profile anchor set (rest_of_set k sent) past
 unfolding last_time kept_part
 later_part {script = script} {page = page} {set = set} {sent = sent} profile anchor k past last some its before ahead low =
     let rest = rest_read k sent.units its.comes.readings its.comes.are in

@@ -7,7 +7,6 @@ use Rattle.std.proofs.lemmas.Bool.Decides.{nat_tests}
 use Rattle.sub_base.specs.declared.profile.Profile.{Profile}
 use Rattle.cue_list.specs.declared.script.Script.{Script}
 use Rattle.page_epoch.specs.Plan.{IsPlan}
-use Rattle.page_epoch.specs.States.{is_whole}
 use Rattle.page_epoch.specs.declared.planned_set.PlannedSet.{PlannedSet}
 use Rattle.decoder_model.specs.Arrivals.{Arrival}
 use Rattle.decoder_model.specs.Readings.{Reading, AreDeliveriesRead}
@@ -23,13 +22,14 @@ use Rattle.shown_stream.proofs.LostUnits.{Kind, Joined, Arrive, none_arrive}
 use Rattle.shown_stream.proofs.LostWalk.{Before, IsFit, After, after, turned-both}
 use Rattle.shown_stream.proofs.PlannedTimes.{pts_of}
 use Rattle.shown_stream.proofs.RunViews.{IsBefore}
+use Rattle.stream_syntax.specs.Segments.{is_entry_state}
 
 -- from some set on, that is not normal, all sets up to a tick come whole: so far they do or do not
 abbrev pub GoodFrom : ℕ → Bool → List PlannedSet → List TimedSet → List Bool → Type 0
 GoodFrom tick streak [] sent come = streak ≡ true
 GoodFrom tick streak (set ∷ left) [] come = ⊥
 GoodFrom tick streak (set ∷ left) (one ∷ sent) come =
-    cond (nat_le set.pts tick) (GoodFrom tick (all_come (length one.units) come && (streak || is_whole set.state)) left sent (drop (length one.units) come)) (streak ≡ true)
+    cond (nat_le set.pts tick) (GoodFrom tick (all_come (length one.units) come && (streak || is_entry_state set.state)) left sent (drop (length one.units) come)) (streak ≡ true)
 
 module _ (script : Script) (profile : Profile) (anchor origin page : ℕ) (sets : List PlannedSet) (ComesWhole : ℕ → PlannedSet → Type 0) where
   -- what is used of the sets that are left
@@ -104,18 +104,18 @@ module _ (script : Script) (profile : Profile) (anchor origin page : ℕ) (sets 
   good_ends tick streak kind taken past plan (set ∷ left) (one ∷ sent) come deliveries is_plan stands fit on_streak =
       by (cases_lt tick set.pts)
       (λ next front rest now behind more_streak.
-      good_ends tick (all_come (length one.units) come && (streak || is_whole set.state)) next (turned front taken) now (set ∷ plan) left sent (drop (length one.units) come) rest is_plan behind fit.1 more_streak)
+      good_ends tick (all_come (length one.units) come && (streak || is_entry_state set.state)) next (turned front taken) now (set ∷ plan) left sent (drop (length one.units) come) rest is_plan behind fit.1 more_streak)
     where
       New : Bool
-      New = all_come (length one.units) come && (streak || is_whole set.state)
+      New = all_come (length one.units) come && (streak || is_entry_state set.state)
 
       Good : Bool → Type 0
-      Good b = cond b (GoodFrom tick (all_come (length one.units) come && (streak || is_whole set.state)) left sent (drop (length one.units) come)) (streak ≡ true)
+      Good b = cond b (GoodFrom tick (all_come (length one.units) come && (streak || is_entry_state set.state)) left sent (drop (length one.units) come)) (streak ≡ true)
 
       by : (tick < set.pts) ⊎ (set.pts ≤ tick)
           → ((next : Kind) (front rest : List (Delivery (List ℕ))) (now : List (Delivery Reading)) → StandsBefore next (turned front taken) now (set ∷ plan) left sent (drop (length one.units) come) rest
-          → IsStreak tick (all_come (length one.units) come && (streak || is_whole set.state)) next now (set ∷ plan) left
-          → Ends rest (turned front taken) (λ final. GoodFrom tick (all_come (length one.units) come && (streak || is_whole set.state)) left sent (drop (length one.units) come) → Agrees (view_at profile anchor tick final) (authored_view script tick)))
+          → IsStreak tick (all_come (length one.units) come && (streak || is_entry_state set.state)) next now (set ∷ plan) left
+          → Ends rest (turned front taken) (λ final. GoodFrom tick (all_come (length one.units) come && (streak || is_entry_state set.state)) left sent (drop (length one.units) come) → Agrees (view_at profile anchor tick final) (authored_view script tick)))
           → Ends deliveries taken (λ final. Good (nat_le set.pts tick) → Agrees (view_at profile anchor tick final) (authored_view script tick))
       by (inl early) onward =
           let test : nat_le set.pts tick ≡ false = grind (arith, nat_tests) in
@@ -137,12 +137,12 @@ module _ (script : Script) (profile : Profile) (anchor origin page : ℕ) (sets 
             seen = λ good. more.seen (subst Good test good);
           }
         where
-          streaks : (on : After script profile anchor origin page sets ComesWhole kind taken past plan left set one sent come deliveries) → IsStreak tick (all_come (length one.units) come && (streak || is_whole set.state)) on.next on.now (set ∷ plan) left
+          streaks : (on : After script profile anchor origin page sets ComesWhole kind taken past plan left set one sent come deliveries) → IsStreak tick (all_come (length one.units) come && (streak || is_entry_state set.state)) on.next on.now (set ∷ plan) left
           streaks on e =
-              let parts = both (all_come (length one.units) come) streak (is_whole set.state) e in
+              let parts = both (all_come (length one.units) come) streak (is_entry_state set.state) e in
               let runs = on.runs parts.0 (why parts.1) in
               (runs.0, runs.1, λ early. runs.2 tick come_now early)
             where
-              why : (streak ≡ true) ⊎ (is_whole set.state ≡ true) → ((kind ≡ Joined) × IsRunning script profile anchor past plan) ⊎ (is_whole set.state ≡ true)
+              why : (streak ≡ true) ⊎ (is_entry_state set.state ≡ true) → ((kind ≡ Joined) × IsRunning script profile anchor past plan) ⊎ (is_entry_state set.state ≡ true)
               why (inl so_far) = (let was = on_streak so_far in inl (was.0, was.1))
               why (inr whole) = inr whole

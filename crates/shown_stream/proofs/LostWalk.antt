@@ -5,7 +5,6 @@ use Rattle.sub_base.specs.declared.profile.Profile.{Profile}
 use Rattle.cue_list.specs.Sound.{IsTick}
 use Rattle.cue_list.specs.declared.script.Script.{Script}
 use Rattle.page_epoch.specs.Plan.{IsPlan}
-use Rattle.page_epoch.specs.States.{is_whole}
 use Rattle.page_epoch.specs.declared.planned_set.PlannedSet.{PlannedSet}
 use Rattle.decoder_model.specs.Readings.{Reading, AreDeliveriesRead}
 use Rattle.decoder_model.specs.Sets.{Delivery}
@@ -24,6 +23,8 @@ use Rattle.shown_stream.proofs.LostUnits.{Kind, Joined, Apart, missed_from}
 use Rattle.shown_stream.proofs.PlannedTimes.{pts_of}
 use Rattle.shown_stream.proofs.RunViews.{IsBefore}
 use Rattle.shown_stream.proofs.ShownSets.{IsAheadOf, kept_at, last_is}
+use Rattle.stream_syntax.specs.Segments.{is_entry_state}
+use Rattle.stream_syntax.specs.declared.wire.TheConstants.{TICK_LIMIT}
 
 module _ (script : Script) (profile : Profile) (anchor origin page : ℕ) (sets : List PlannedSet) (ComesWhole : ℕ → PlannedSet → Type 0) where
   -- where a receiver stands before a set: what it has got, what is known, and what comes
@@ -44,7 +45,7 @@ module _ (script : Script) (profile : Profile) (anchor origin page : ℕ) (sets 
     pub some : AllByRecursion (λ (other : TimedSet). 1 ≤ length other.units) sent
     pub within : IsTick origin set.pts
     pub above : AllByRecursion (λ time. set.pts < time) (pts_of left)
-    pub low : set.pts < 4611686018427387904
+    pub low : set.pts < TICK_LIMIT
     pub suits : some_come (length one.units) come ≡ true → IsAheadOf anchor None set.pts
     pub told : ComesWhole (length (reverse plan)) set → all_come (length one.units) come ≡ true
 
@@ -57,7 +58,7 @@ module _ (script : Script) (profile : Profile) (anchor origin page : ℕ) (sets 
     pub now : List (Delivery Reading)
     pub stands : Before next (turned front taken) now (set ∷ plan) left sent (drop (length one.units) come) rest
     pub view : (tick : ℕ) → tick < set.pts → view_at profile anchor tick now ≡ view_at profile anchor tick past
-    pub runs : all_come (length one.units) come ≡ true → ((kind ≡ Joined) × IsRunning script profile anchor past plan) ⊎ (is_whole set.state ≡ true)
+    pub runs : all_come (length one.units) come ≡ true → ((kind ≡ Joined) × IsRunning script profile anchor past plan) ⊎ (is_entry_state set.state ≡ true)
         → (next ≡ Joined) × IsRunning script profile anchor now (set ∷ plan) × ((tick : ℕ) → set.pts ≤ tick → IsBefore tick left → Agrees (view_at profile anchor tick now) (authored_view script tick))
 
   pub turned-both : {X : Type 0} (xs ys there : List X) → turned (xs ++ ys) there ≡ turned ys (turned xs there)
@@ -119,8 +120,8 @@ module _ (script : Script) (profile : Profile) (anchor origin page : ℕ) (sets 
         runs = λ all why. by kind why (λ e. pushed.none e) after.runs;
       }
     where
-      by : {now : List (Delivery Reading)} (kind : Kind) → ((kind ≡ Joined) × IsRunning script profile anchor past plan) ⊎ (is_whole set.state ≡ true) → (count_before kind ≡ 0 → now ≡ past)
-          → (IsRunning script profile anchor now plan ⊎ (is_whole set.state ≡ true) → RunsOn script profile anchor sets now plan left set (reading_of fit.its.comes))
+      by : {now : List (Delivery Reading)} (kind : Kind) → ((kind ≡ Joined) × IsRunning script profile anchor past plan) ⊎ (is_entry_state set.state ≡ true) → (count_before kind ≡ 0 → now ≡ past)
+          → (IsRunning script profile anchor now plan ⊎ (is_entry_state set.state ≡ true) → RunsOn script profile anchor sets now plan left set (reading_of fit.its.comes))
           → (Joined ≡ Joined) × IsRunning script profile anchor (reading_of fit.its.comes ∷ now) (set ∷ plan) × ((tick : ℕ) → set.pts ≤ tick → IsBefore tick left → Agrees (view_at profile anchor tick (reading_of fit.its.comes ∷ now)) (authored_view script tick))
       by kind (inl running) same on =
           let none : count_before kind ≡ 0 = ap count_before running.0 in

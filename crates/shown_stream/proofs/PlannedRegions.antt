@@ -13,8 +13,8 @@ use Rattle.cue_list.specs.declared.script.Script.{Script}
 use Rattle.page_epoch.specs.Live.{live_places}
 use Rattle.page_epoch.specs.Plan.{IsPlan}
 use Rattle.page_epoch.specs.Sendable.{IsSendable}
-use Rattle.page_epoch.specs.SentRegions.{is_risen, is_extended, filled, extended, region_version, live_before, sent_region, AreSentRegions}
-use Rattle.page_epoch.specs.Sweeps.{IsNumbered}
+use Rattle.page_epoch.specs.SentRegions.{is_redrawn, is_extended, filled, extended, region_version, live_before, sent_region, AreSentRegions}
+use Rattle.page_epoch.specs.EpochWalks.{IsNumbered}
 use Rattle.page_epoch.specs.declared.planned_set.PlannedSet.{PlannedSet}
 use Rattle.page_epoch.specs.declared.planned_set.SentRegion.{SentRegion}
 use Rattle.page_epoch.proofs.SendLaws.{sendable_all, one_of}
@@ -44,7 +44,7 @@ sent_once v cues whole [] id = omega arith
 sent_once v cues whole (tick ∷ earlier) id =
     let old = live_before cues id earlier in
     let new = live_places cues id tick in
-    by_tests v id (region_version cues id (tick ∷ earlier)) old new whole (is_risen old new) (is_extended old new)
+    by_tests v id (region_version cues id (tick ∷ earlier)) old new whole (is_redrawn old new) (is_extended old new)
 
 all_once : (v : ℕ) (cues : List Cue) (whole : Bool) (seen : List ℕ) (regions : List Region)
     → count_sent v (flat_map (λ (region : Region). sent_region cues whole seen region.id) regions) ≤ sum_by (λ (region : Region). one_if (eqb v region.id)) regions

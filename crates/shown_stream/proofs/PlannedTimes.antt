@@ -8,7 +8,7 @@ use Rattle.std.proofs.lemmas.Bool.Decides.{nat_tests}
 use Rattle.std.proofs.lemmas.List.Elements.{recursion_from_All, All-weaker, All-contains}
 use Rattle.sub_base.specs.Picture.{Picture}
 use Rattle.sub_base.specs.declared.profile.Profile.{Profile}
-use Rattle.stream_syntax.specs.declared.wire.TheConstants.{TIME_ROUND}
+use Rattle.stream_syntax.specs.declared.wire.TheConstants.{TIME_ROUND, HALF_ROUND}
 use Rattle.cue_list.specs.Sound.{IsSound, IsTick, IsColourRow, IsCue}
 use Rattle.cue_list.specs.declared.epoch.ColourRow.{ColourRow}
 use Rattle.cue_list.specs.declared.epoch.Cue.{Cue}
@@ -76,7 +76,7 @@ pts_rise script profile sets plan =
     subst IsStrictlyIncreasing (sym planned.first.times) (front_rises planned.instants (length sets) planned.first.few planned.are_instants.rise)
 
 -- times that are near each other are told as different ones
-told_apart : (start end : ℕ) → start < end → end < start + 4294967296 → eqb (start % TIME_ROUND) (end % TIME_ROUND) ≡ false
+told_apart : (start end : ℕ) → start < end → end < start + HALF_ROUND → eqb (start % TIME_ROUND) (end % TIME_ROUND) ≡ false
 told_apart start end rising near = let differ : (start % TIME_ROUND) ≢ (end % TIME_ROUND) = omega arith in grind (arith, nat_tests)
 
 different_by : (script : Script) (page : ℕ) (sets : List PlannedSet) (units : List (List (List ℕ))) (sent : List TimedSet) → AreSentAs script page sets units sent → IsStrictlyIncreasing (pts_of sets) → AllByRecursion (IsTick script.origin) (pts_of sets)

@@ -72,7 +72,7 @@ drawn_content pictures epoch place segment shallow object =
     let depth = depth_of_cue epoch place in
     let draws = object_draws (picture_of_cue pictures epoch place) depth object.top object.bottom shallow object.blocks in
     record {
-      content = record { value = planned.object_of place (cue_at epoch.cues place).see_through object.top object.bottom; top = draws.top_parts; bottom = draws.bottom_has };
+      content = record { value = planned.object_segment place (cue_at epoch.cues place).see_through object.top object.bottom; top = draws.top_parts; bottom = draws.bottom_has };
       same = sym object.value;
       drawn = record {
         top_bytes = object.top;
@@ -116,7 +116,7 @@ cluts_plain : (epoch : Epoch) (sent : List SentClut) → AllByRecursion HasField
 cluts_plain epoch [] = tt
 cluts_plain epoch (one ∷ sent) = ((refl, refl), cluts_plain epoch sent)
 
-display_plain : (script : Script) (state : State) → AllByRecursion HasFields (map plain (planned.display_of script state))
+display_plain : (script : Script) (state : State) → AllByRecursion HasFields (map plain (planned.display_segments script state))
 display_plain script Normal = tt
 display_plain script Acquisition = ((refl, refl), tt)
 display_plain script ModeChange = ((refl, refl), tt)
@@ -127,7 +127,7 @@ both_plain (x ∷ xs) ys h k = (h.0, both_plain xs ys h.1 k)
 
 leading_plain : (script : Script) (epoch : Epoch) (set : PlannedSet) → AllByRecursion HasFields (map plain (leading_segments script epoch set))
 leading_plain script epoch set =
-    both_plain (planned.display_of script set.state) _ (display_plain script set.state)
+    both_plain (planned.display_segments script set.state) _ (display_plain script set.state)
     ((refl, refl), both_plain (map (planned.region_segment_of epoch) set.regions) (map (planned.clut_segment_of epoch) set.cluts) (regions_plain epoch set.regions) (cluts_plain epoch set.cluts))
 
 values_plain : (values : List SegmentValue) (more : List Content) → values_of (map plain values ++ more) ≡ values ++ values_of more
@@ -188,8 +188,8 @@ behind_display page page_is display values (first ∷ reading ∷ readings) fit 
 
 -- a page, and before it perhaps a display, and segments that are neither, of which no two regions have one id
 no_fault_in : (page : ℕ) (script : Script) (state : State) (page_is : Page) (values : List SegmentValue) (readings : List Reading)
-    → AllByRecursion (IsWritable page) (planned.display_of script state ++ (of_page page_is ∷ values)) → AllByRecursion IsLater values → HaveOtherRegions values
-    → AreReadings (map (spelled page) (planned.display_of script state ++ (of_page page_is ∷ values))) readings → segment_fault readings ≡ None
+    → AllByRecursion (IsWritable page) (planned.display_segments script state ++ (of_page page_is ∷ values)) → AllByRecursion IsLater values → HaveOtherRegions values
+    → AreReadings (map (spelled page) (planned.display_segments script state ++ (of_page page_is ∷ values))) readings → segment_fault readings ≡ None
 no_fault_in page script Normal page_is values [] fit later others are = absurd are
 no_fault_in page script Normal page_is values (reading ∷ readings) fit later others are =
     one_behind page [] (of_page page_is) reading readings fit.0 are.0 refl
@@ -209,12 +209,12 @@ pub record SetRead (script : Script) (page : ℕ) (epoch : Epoch) (set : Planned
   pub is : IsReadSet script epoch set contents
 
 in_parts : (script : Script) (epoch : Epoch) (set : PlannedSet) (objects : List SegmentValue)
-    → leading_segments script epoch set ++ (objects ++ end_of_set ∷ []) ≡ planned.display_of script set.state ++ (planned.page_of script epoch set ∷ behind_page epoch set objects)
+    → leading_segments script epoch set ++ (objects ++ end_of_set ∷ []) ≡ planned.display_segments script set.state ++ (planned.page_segment script epoch set ∷ behind_page epoch set objects)
 in_parts script epoch set objects =
     let regions = map (planned.region_segment_of epoch) set.regions in
     let cluts = map (planned.clut_segment_of epoch) set.cluts in
-    append_assoc (planned.display_of script set.state) (planned.page_of script epoch set ∷ (regions ++ cluts)) (objects ++ end_of_set ∷ [])
-    ∙ ap (λ rest. planned.display_of script set.state ++ rest) (regrouped regions cluts (objects ++ end_of_set ∷ []) (planned.page_of script epoch set))
+    append_assoc (planned.display_segments script set.state) (planned.page_segment script epoch set ∷ (regions ++ cluts)) (objects ++ end_of_set ∷ [])
+    ∙ ap (λ rest. planned.display_segments script set.state ++ rest) (regrouped regions cluts (objects ++ end_of_set ∷ []) (planned.page_segment script epoch set))
 
 -- each set of a plan is read so, where its cues are those of its epoch and no deeper than their regions
 pub set_is_read : (script : Script) (page : ℕ) (set : PlannedSet) (segments : List SegmentValue) (sent : AreSetSegments script page set segments) → IsPlannedWell set → AreShallow script.pictures sent.epoch
@@ -245,13 +245,13 @@ set_is_read script page set segments sent well shallow there = record {
         ∙ ap (λ rest. leading_segments script epoch set ++ rest) (values_end drawn.contents ∙ ap (λ objects. objects ++ end_of_set ∷ []) drawn.same)
         ∙ sym sent.whole
 
-    parts : segments ≡ planned.display_of script set.state ++ (planned.page_of script epoch set ∷ behind_page epoch set sent.objects)
+    parts : segments ≡ planned.display_segments script set.state ++ (planned.page_segment script epoch set ∷ behind_page epoch set sent.objects)
     parts = sent.whole ∙ in_parts script epoch set sent.objects
 
     writable : AllByRecursion (IsWritable page) segments
     writable = recursion_from_All (IsWritable page) segments sent.fit
 
-    fit : AllByRecursion (IsWritable page) (planned.display_of script set.state ++ (planned.page_of script epoch set ∷ behind_page epoch set sent.objects))
+    fit : AllByRecursion (IsWritable page) (planned.display_segments script set.state ++ (planned.page_segment script epoch set ∷ behind_page epoch set sent.objects))
     fit = subst (AllByRecursion (IsWritable page)) parts writable
 
     readings : AreReadings (map (spelled page) (values_of contents)) (map read contents)

@@ -18,7 +18,7 @@ use Rattle.page_epoch.specs.declared.planned_set.PlannedSet.{PlannedSet}
 use Rattle.buffer_model.specs.Calls.{Call}
 use Rattle.schedule.specs.Packets.{no_load, load_of}
 use Rattle.schedule.specs.Slots.{IsLoad}
-use Rattle.set_coder.specs.SetSizes.{painting_of, IsPaintedIn, IsSetLoad}
+use Rattle.set_coder.specs.SetSizes.{sent_painting, IsPaintedIn, IsSetLoad}
 use Rattle.decoder_model.specs.Readings.{Reading, AreDeliveriesRead}
 use Rattle.decoder_model.specs.Sets.{Delivery, sets_of}
 use Rattle.decoder_model.specs.Streams.{entered_at}
@@ -64,7 +64,7 @@ heard_most loads first i = by (nat_le first i)
 one_painting : (script : Script) (set : PlannedSet) (a b : ℕ) → IsPaintedIn script set a → IsPaintedIn script set b → a ≡ b
 one_painting script set a b first second =
     let same : first.epoch ≡ second.epoch = (let both : Some first.epoch ≡ Some second.epoch = sym first.found ∙ second.found in cc) in
-    first.sum ∙ ap (λ (epoch : Epoch). sum_by (painting_of epoch) set.regions) same ∙ sym second.sum
+    first.sum ∙ ap (λ (epoch : Epoch). sum_by (sent_painting epoch) set.regions) same ∙ sym second.sum
 
 -- sets that are painted as the plan says ask what their loads say
 loads_painted : (script : Script) (sets : List PlannedSet) (calls : List (List Call)) (loads : List WriteLoad)

@@ -16,7 +16,7 @@ use Rattle.page_epoch.specs.declared.planned_set.SentClut.{SentClut}
 use Rattle.page_epoch.specs.declared.planned_set.SentRegion.{SentRegion}
 use Rattle.buffer_model.specs.Calls.{Call, Arrived, SetWhole, Dropped}
 use Rattle.set_coder.specs.SetSegments as planned
-use Rattle.set_coder.specs.SetSizes.{painting_of, IsPaintedIn}
+use Rattle.set_coder.specs.SetSizes.{sent_painting, IsPaintedIn}
 use Rattle.decoder_model.specs.Contents.{region_in, region_of}
 use Rattle.decoder_model.specs.Faults.{contents_in}
 use Rattle.decoder_model.specs.Kept.{lifted_time}
@@ -52,13 +52,13 @@ cluts_none epoch (one ∷ sent) = (refl, cluts_none epoch sent)
 
 -- regions are painted as the plan says
 regions_painted : (epoch : Epoch) (sent : List SentRegion) (behind : List SegmentValue) (more : List Content)
-    → paint (map plain (map (planned.region_segment_of epoch) sent ++ behind) ++ more) ≡ sum_by (painting_of epoch) sent + paint (map plain behind ++ more)
+    → paint (map plain (map (planned.region_segment_of epoch) sent ++ behind) ++ more) ≡ sum_by (sent_painting epoch) sent + paint (map plain behind ++ more)
 regions_painted epoch [] behind more = omega arith
 regions_painted epoch (one ∷ sent) behind more =
     omega (
       arith,
       sum_by-cons region_painting (region_with epoch one) (filter_map region_of (map plain (map (planned.region_segment_of epoch) sent ++ behind) ++ more)),
-      sum_by-cons (painting_of epoch) one sent,
+      sum_by-cons (sent_painting epoch) one sent,
       regions_painted epoch sent behind more,
     )
 
@@ -71,14 +71,14 @@ objects_none pictures epoch (place ∷ places) (object ∷ objects) drawn =
     ap (λ found. sum_by region_painting (cons_option found (filter_map region_of (objects ++ plain end_of_set ∷ [])))) (ap region_in drawn.0.value_is) ∙ objects_none pictures epoch places objects drawn.1
 
 behind_display : (script : Script) (state : State) (values : List SegmentValue) (more : List Content)
-    → paint (map plain (planned.display_of script state ++ values) ++ more) ≡ paint (map plain values ++ more)
+    → paint (map plain (planned.display_segments script state ++ values) ++ more) ≡ paint (map plain values ++ more)
 behind_display script Normal values more = refl
 behind_display script Acquisition values more = refl
 behind_display script ModeChange values more = refl
 
 -- a set that is read is painted as the plan says
 pub set_painted : (script : Script) (epoch : Epoch) (set : PlannedSet) (contents : List Content) → IsReadSet script epoch set contents
-    → set_painting contents ≡ sum_by (painting_of epoch) set.regions
+    → set_painting contents ≡ sum_by (sent_painting epoch) set.regions
 set_painted script epoch set contents is =
     let cluts = map (planned.clut_segment_of epoch) set.cluts in
     let back = is.objects ++ plain end_of_set ∷ [] in

@@ -4,16 +4,15 @@ use Rattle.std.proofs.Common.{◌≡◌, ◌∙◌, ℕ, ◌+◌, ◌%◌, ◌==
 use Rattle.std.specs.Option.{option_or}
 use Rattle.std.proofs.lemmas.Bool.{cases_lt}
 use Rattle.sub_base.specs.declared.profile.Profile.{Profile}
-use Rattle.stream_syntax.specs.Segments.{state_number}
+use Rattle.stream_syntax.specs.Segments.{state_number, is_entry_state}
 use Rattle.stream_syntax.specs.declared.page.State.{State}
 use Rattle.stream_syntax.specs.declared.page.State.TheVariants.{Normal, Acquisition, ModeChange}
 use Rattle.cue_list.specs.declared.script.Script.{Script}
-use Rattle.page_epoch.specs.States.{is_whole}
 use Rattle.page_epoch.specs.declared.planned_set.PlannedSet.{PlannedSet}
 use Rattle.decoder_model.specs.BehindLoss.{IsNormal, IsWaitingOrBroken}
 use Rattle.decoder_model.specs.Contents.{page_in_set}
 use Rattle.decoder_model.specs.Faults.{contents_in}
-use Rattle.decoder_model.specs.Kept.{time_round, lifted_behind, lifted_time, last_time, epoch_of}
+use Rattle.decoder_model.specs.Kept.{lifted_behind, lifted_time, last_time, epoch_of}
 use Rattle.decoder_model.specs.Readings.{Content, Reading}
 use Rattle.decoder_model.specs.Sets.{Delivery, whole}
 use Rattle.decoder_model.specs.Shown.{IsClear, Standing, scene_in, standing_with, standing_after, view_of, view_at}
@@ -27,26 +26,27 @@ use Rattle.decoder_model.proofs.Views.{view_before, view_with, view_of_shown}
 use Rattle.shown_plan.proofs.FaultFree.{page_value, page_is}
 use Rattle.shown_plan.proofs.Runs.{has_its_state, RunKeeps}
 use Rattle.shown_stream.proofs.ComingSets.{SetComes, reading_of}
+use Rattle.stream_syntax.specs.declared.wire.TheConstants.{TIME_ROUND, HALF_ROUND, TICK_LIMIT}
 
 -- ---- times
 
 -- a time is lifted as it is, behind sets of which that is the greatest lifted time, and by an anchor where there are none
 abbrev pub IsAheadOf : ℕ → Option ℕ → ℕ → Type 0
-IsAheadOf anchor None time = (anchor ≤ time) × (time < anchor + 8589934592)
-IsAheadOf anchor (Some last) time = (last < time) × (time < last + 4294967296)
+IsAheadOf anchor None time = (anchor ≤ time) × (time < anchor + TIME_ROUND)
+IsAheadOf anchor (Some last) time = (last < time) × (time < last + HALF_ROUND)
 
-pub lifted_at : (anchor : ℕ) (last : Option ℕ) (time : ℕ) → IsAheadOf anchor last time → time < 4611686018427387904 → lifted_behind anchor last (time % time_round) ≡ Some time
+pub lifted_at : (anchor : ℕ) (last : Option ℕ) (time : ℕ) → IsAheadOf anchor last time → time < TICK_LIMIT → lifted_behind anchor last (time % TIME_ROUND) ≡ Some time
 lifted_at anchor None time ahead low = lifted_first anchor time ahead.0 ahead.1
 lifted_at anchor (Some last) time ahead low = lifted_next anchor last time ahead.0 ahead.1 low
 
 -- and so are those of sets, one behind another
 abbrev pub AreAheadOf : ℕ → Option ℕ → List PlannedSet → Type 0
 AreAheadOf anchor last [] = Unit {0}
-AreAheadOf anchor last (set ∷ sets) = IsAheadOf anchor last set.pts × (set.pts < 4611686018427387904) × AreAheadOf anchor (Some set.pts) sets
+AreAheadOf anchor last (set ∷ sets) = IsAheadOf anchor last set.pts × (set.pts < TICK_LIMIT) × AreAheadOf anchor (Some set.pts) sets
 
 -- such a set is kept at its own time
 pub kept_at : {script : Script} {set : PlannedSet} {sent : TimedSet} (anchor : ℕ) (last : Option ℕ) (past : List (Delivery Reading)) (comes : SetComes script set sent) → last_time anchor past ≡ last → IsAheadOf anchor last set.pts
-    → set.pts < 4611686018427387904 → lifted_time anchor past (reading_of comes) ≡ Some set.pts
+    → set.pts < TICK_LIMIT → lifted_time anchor past (reading_of comes) ≡ Some set.pts
 kept_at {set = set} {sent = sent} anchor last past comes before ahead low =
     ap (λ found. lifted_behind anchor found sent.time) before ∙ ap (lifted_behind anchor last) comes.time ∙ lifted_at anchor last set.pts ahead low
 
@@ -58,12 +58,12 @@ last_is anchor past comes kept = ap (λ found. option_or found (last_time anchor
 
 -- ---- a normal set where no epoch is known
 
-normal_state : (state : State) → is_whole state ≡ false → ((state_number state == state_number ModeChange) ≡ false) × ((state_number state == state_number Acquisition) ≡ false)
+normal_state : (state : State) → is_entry_state state ≡ false → ((state_number state == state_number ModeChange) ≡ false) × ((state_number state == state_number Acquisition) ≡ false)
 normal_state Normal e = (refl, refl)
 normal_state Acquisition e = absurd (cc)
 normal_state ModeChange e = absurd (cc)
 
-pub is_normal : {script : Script} {set : PlannedSet} {sent : TimedSet} (comes : SetComes script set sent) → is_whole set.state ≡ false → IsNormal (contents_in comes.readings)
+pub is_normal : {script : Script} {set : PlannedSet} {sent : TimedSet} (comes : SetComes script set sent) → is_entry_state set.state ≡ false → IsNormal (contents_in comes.readings)
 is_normal {script = script} {set = set} comes e =
     let state = normal_state set.state e in
     subst IsNormal (sym comes.contents_are) (
@@ -120,7 +120,7 @@ clear_from anchor lifted tick profile past delivery kept none clear = by (cases_
 
 -- behind a normal set it stays so
 pub still_idle : {script : Script} {set : PlannedSet} {sent : TimedSet} (profile : Profile) (anchor : ℕ) (past : List (Delivery Reading)) (comes : SetComes script set sent) → IsIdle profile anchor past
-    → lifted_time anchor past (reading_of comes) ≡ Some set.pts → is_whole set.state ≡ false → IsIdle profile anchor (reading_of comes ∷ past)
+    → lifted_time anchor past (reading_of comes) ≡ Some set.pts → is_entry_state set.state ≡ false → IsIdle profile anchor (reading_of comes ∷ past)
 still_idle {script = script} {set = set} {sent = sent} profile anchor past comes idle kept normal =
     let sets = sets_since profile anchor past in
     let size = size_of_units sent.units in
@@ -135,7 +135,7 @@ still_idle {script = script} {set = set} {sent = sent} profile anchor past comes
 
 -- and the set waits
 pub waits_with : {script : Script} {set : PlannedSet} {sent : TimedSet} (profile : Profile) (anchor : ℕ) (past : List (Delivery Reading)) (comes : SetComes script set sent) → IsIdle profile anchor past
-    → lifted_time anchor past (reading_of comes) ≡ Some set.pts → is_whole set.state ≡ false → verdict_of profile anchor past (reading_of comes) ≡ Some Waiting
+    → lifted_time anchor past (reading_of comes) ≡ Some set.pts → is_entry_state set.state ≡ false → verdict_of profile anchor past (reading_of comes) ≡ Some Waiting
 waits_with {script = script} {set = set} {sent = sent} profile anchor past comes idle kept normal =
     let sets = sets_since profile anchor past in
     let page = ap page_in_set comes.contents_are ∙ page_is script comes.epoch set comes.contents comes.is in

@@ -7,16 +7,15 @@ use Rattle.std.proofs.lemmas.List.Sums.{sum_by-append, sum_by-cons}
 use Rattle.stream_syntax.specs.declared.wire.TheConstants.{TIME_ROUND}
 use Rattle.stream_syntax.specs.Cutting.{IsUnit}
 use Rattle.stream_syntax.specs.Pes.{written_pes}
-use Rattle.stream_syntax.specs.Segments.{SegmentValue, of_page, of_region, of_clut, of_object, of_display, end_of_set, passed_over, spelled, segment_kind, IsWritable}
+use Rattle.stream_syntax.specs.Segments.{SegmentValue, of_page, of_region, of_clut, of_object, of_display, end_of_set, passed_over, spelled, segment_kind, IsWritable, set_kinds}
 use Rattle.stream_syntax.specs.Tests.{byte_at}
-use Rattle.decoder_model.specs.Frames.{set_kinds}
 use Rattle.decoder_model.proofs.FieldFrames.{IsHeaded}
 use Rattle.decoder_model.proofs.SoleCue.{is_same_id}
 use Rattle.decoder_model.proofs.SentSets.{all-append, SetUnit, TimedSet, timed, size_of_units, all_segments, IsBefore, AreSetUnits, IsTimedSet, IsUnitOf}
 use Rattle.pes_packets.proofs.PesLayout.{pes_is_read}
 use Rattle.pes_packets.proofs.Written.{written_is_pes, written_is_unit}
 use Rattle.segments.proofs.Spellings.{spelled_as, spelled_head}
-use Rattle.set_coder.specs.SetSegments.{data_field, unit_packet}
+use Rattle.set_coder.specs.SetSegments.{segments_field, unit_packet}
 
 -- a segment of a page that is no end of set
 abbrev pub IsInner : SegmentValue → Type 0
@@ -103,7 +102,7 @@ sum_of_lengths : (segments : List (List ℕ)) → sum_by length segments ≡ len
 sum_of_lengths [] = refl
 sum_of_lengths (bytes ∷ segments) = omega (arith, sum_by-append length (bytes ∷ []) segments, sum_of_lengths segments, length-append bytes (concat segments))
 
-field_size : (page : ℕ) (values : List SegmentValue) → length (data_field page values) ≡ 3 + sum_by length (map (spelled page) values)
+field_size : (page : ℕ) (values : List SegmentValue) → length (segments_field page values) ≡ 3 + sum_by length (map (spelled page) values)
 field_size page values =
     omega (arith, ap length (joined_segments page values), sum_of_lengths (map (spelled page) values), length-append (flat_map (spelled page) values) (0xFF ∷ []))
 
@@ -112,7 +111,7 @@ packet_size time field = omega arith
 
 -- the PES packet of a unit has the bytes of its segments and 17 more
 pub unit_size : (page time : ℕ) (values : List SegmentValue) → length (unit_packet page time values) ≡ 17 + sum_by length (map (spelled page) values)
-unit_size page time values = omega (arith, packet_size (time % TIME_ROUND) (data_field page values), field_size page values)
+unit_size page time values = omega (arith, packet_size (time % TIME_ROUND) (segments_field page values), field_size page values)
 
 -- a unit of these segments
 abbrev pub unit_with : ℕ → ℕ → List SegmentValue → SetUnit
@@ -125,9 +124,9 @@ below_round time = omega arith
 written_unit : (page time : ℕ) (values : List SegmentValue) → AreKnown page values → 1 ≤ length values → length (unit_packet page time values) ≤ 65541
     → IsUnitOf page (unit_packet page time values) (timed (time % TIME_ROUND) (unit_with page time values))
 written_unit page time values known some short =
-    let size = packet_size (time % TIME_ROUND) (data_field page values) in
+    let size = packet_size (time % TIME_ROUND) (segments_field page values) in
     let read = pes_is_read (unit_packet page time values) (time % TIME_ROUND) (flat_map (spelled page) values ++ 0xFF ∷ [])
-    (written_is_pes (time % TIME_ROUND) (data_field page values) (below_round time) (omega arith) refl) in
+    (written_is_pes (time % TIME_ROUND) (segments_field page values) (below_round time) (omega arith) refl) in
     record {
       each = all_headed page values known;
       some = omega (arith, same_count page values, some);
@@ -138,8 +137,8 @@ written_unit page time values known some short =
 -- and a demultiplexer that has room for it hands it out whole
 pub handed_out : (size page time : ℕ) (values : List SegmentValue) → length (unit_packet page time values) ≤ size → length (unit_packet page time values) ≤ 65541 → IsUnit size (unit_packet page time values)
 handed_out size page time values fits short =
-    let whole = packet_size (time % TIME_ROUND) (data_field page values) in
-    written_is_unit (time % TIME_ROUND) (data_field page values) (omega arith) size (omega arith)
+    let whole = packet_size (time % TIME_ROUND) (segments_field page values) in
+    written_is_unit (time % TIME_ROUND) (segments_field page values) (omega arith) size (omega arith)
 
 -- ---- a set
 

@@ -1,5 +1,5 @@
 -- The packets that a script is compiled to.
-use Rattle.std.specs.Prelude.{◌≡◌, ℕ, List, All, length, map, flat_map, IsSome}
+use Rattle.std.specs.Prelude.{◌≡◌, ℕ, List, All, length, map, IsSome}
 use Rattle.std.specs.List.{AllZip}
 use Rattle.cue_list.specs.declared.script.Script.{Script}
 use Rattle.page_epoch.specs.Plan.{IsPlan}
@@ -12,6 +12,8 @@ use Rattle.sub_base.specs.Profile.{profile_of}
 use Rattle.sub_base.specs.declared.profile.ProfileName.{ProfileName}
 use Rattle.sub_base.specs.declared.load.WriteLoad.{WriteLoad}
 use Rattle.slot_stream.specs.SlotStream.{all_pieces, stream_of}
+use Rattle.sub_base.specs.Lists.{all_of}
+use Rattle.sub_base.specs.declared.pace.Pace.{Pace}
 
 -- a profile that scripts are compiled for: packets are sent in it
 abbrev pub IsCompiledFor : ProfileName → Type 0
@@ -31,7 +33,11 @@ AreSizedAs loads units = AllZip (λ load set_units. map length set_units ≡ loa
 
 -- the PES packets of all sets, in order
 abbrev pub all_units : List (List (List ℕ)) → List (List ℕ)
-all_units units = flat_map (λ set_units. set_units) units
+all_units units = all_of units
+
+-- how packets are sent: from the script's origin on, in the slots of the profile
+abbrev pub sent_pace : ProfileName → Script → Pace
+sent_pace profile script = pace_of script.origin (profile_of profile)
 
 -- the sets of the script's plan, and what sending them takes
 pub record IsPlanned (profile : ProfileName) (script : Script) (sets : List PlannedSet)
@@ -39,8 +45,8 @@ pub record IsPlanned (profile : ProfileName) (script : Script) (sets : List Plan
   pub plan : IsPlan script (profile_of profile) sets
   pub asked : AreLoads script sets loads
 
--- the packets: those of the PES packets of the plan's sets, each of which can be scheduled, at the slots of their schedule, and null
--- packets at all slots between
+-- the packets: those of the PES packets of the plan's sets, each of which can be scheduled, at the slots of their
+-- schedule, and null packets at all slots between
 pub record IsCompiledTo (profile : ProfileName) (pid page : ℕ) (script : Script) (packets : List ℕ) : Type 0 where
   pub sets : List PlannedSet
   pub loads : List WriteLoad
@@ -50,6 +56,6 @@ pub record IsCompiledTo (profile : ProfileName) (pid page : ℕ) (script : Scrip
   pub carried : AreUnits script page sets units
   pub sized : AreSizedAs loads units
   pub table : Timetable
-  pub schedule : IsSchedule loads (length loads) (pace_of script.origin (profile_of profile)) table
-  pub on_time : IsOnTime loads (length loads) (pace_of script.origin (profile_of profile)) table
+  pub schedule : IsSchedule loads (length loads) (sent_pace profile script) table
+  pub on_time : IsOnTime loads (length loads) (sent_pace profile script) table
   pub sent : packets ≡ stream_of pid (all_pieces (all_units units)) table.slots

@@ -1,5 +1,5 @@
--- What a receiver shows of a compiled stream that it enters late, or of which packets are lost, and what its page memory holds
--- (EN 300 743, clause 5.1.1).
+-- What a receiver shows of a compiled stream that it enters late, or of which packets are lost, and what its page
+-- memory holds (EN 300 743, clause 5.1.1).
 use Rattle.std.specs.Prelude.{◌≡◌, ℕ, true, List, Some, slice_get}
 use Rattle.sub_base.specs.Profile.{profile_of}
 use Rattle.sub_base.specs.declared.profile.ProfileName.{ProfileName}
@@ -15,10 +15,11 @@ use Rattle.shown_stream.specs.KeptSets.{IsKept}
 use Rattle.shown_stream.specs.SentSets.{sent_set, sent_sets, times_from, times_received}
 use Rattle.shown_stream.specs.Shows.{authored_view, IsAnchorOf, Shows, ShowsFrom}
 
--- a receiver of the profile, for a PID and a page, that gets these packets but for the first so many, with any anchor that suits the
--- sets of which packets come. At each tick it shows what the script authors, from the time on of the first set that comes whole and
--- is not of state normal, and nothing before it or where there is none; each set that comes whole is kept at its own time and is not
--- broken; and with each of them whose epoch is known its page memory holds the script
+-- a receiver of the profile, for a PID and a page, that gets these packets but for the first so many, with any anchor
+-- that suits the sets of which packets come. At each tick it shows what the script authors, from the time on of the
+-- first set that comes whole and is not of state normal, and nothing before it or where there is none; each set that
+-- comes whole is kept at its own time and is not broken; and with each of them whose epoch is known its page memory
+-- holds the script
 pub record IsEnteredRightly (profile : ProfileName) (pid page : ℕ) (script : Script) (sets : List PlannedSet)
     (table : Timetable) (packets : List (List ℕ)) (missed : ℕ) : Type 0 where
   pub shown : (anchor : ℕ) → IsAnchorOf (times_from missed (sent_sets table sets)) anchor → (tick : ℕ)
@@ -36,10 +37,10 @@ pub record IsEnteredRightly (profile : ProfileName) (pid page : ℕ) (script : S
       → HoldsWhole script (profile_of profile) anchor sets (λ number set. is_from missed (sent_set table number set)
       ≡ true) past
 
--- a receiver of the profile, for a PID and a page, that gets these packets of a compiled stream, between two neighbouring payload
--- packets of which at most 14 are lost, with any anchor that suits the sets of which packets come. At each tick up to which, from some
--- set on that is not of state normal, all sets have come whole, it shows what the script authors; and with each set that comes
--- whole, and whose epoch is known, its page memory holds the script
+-- a receiver of the profile, for a PID and a page, that gets these packets of a compiled stream, between two
+-- neighbouring payload packets of which at most 14 are lost, with any anchor that suits the sets of which packets come.
+-- At each tick up to which, from some set on that is not of state normal, all sets have come whole, it shows what the
+-- script authors; and with each set that comes whole, and whose epoch is known, its page memory holds the script
 pub record IsCutRightly (profile : ProfileName) (pid page : ℕ) (script : Script) (sets : List PlannedSet)
     (table : Timetable) (sendings : List Sending) (received : List (List ℕ)) : Type 0 where
   pub shown : (anchor : ℕ) → IsAnchorOf (times_received sendings (sent_sets table sets)) anchor → (tick : ℕ)

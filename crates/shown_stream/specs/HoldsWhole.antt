@@ -15,8 +15,9 @@ use Rattle.decoder_model.specs.Verdict.{known_epoch}
 use Rattle.shown_plan.specs.HoldsScript.{HoldsScript}
 use Rattle.shown_plan.specs.WithinNeed.{IsWithinNeed}
 
--- the sets of a known epoch, the latest first, are those of the epoch of a set of the plan, behind these sets of the plan; with the
--- page of the latest the page memory holds the script, in at most the bytes of regions and the nodes that the plan needs for the set
+-- the sets of a known epoch, the latest first, are those of the epoch of a set of the plan, behind these sets of the
+-- plan; with the page of the latest the page memory holds the script, in at most the bytes of regions and the nodes
+-- that the plan needs for the set
 pub record HoldsSet (script : Script) (earlier : List PlannedSet) (set : PlannedSet)
     (known : List (List Content)) : Type 0 where
   pub epoch : Epoch
@@ -29,13 +30,15 @@ pub record HoldsSet (script : Script) (earlier : List PlannedSet) (set : Planned
   pub holds : HoldsScript script epoch (seen_of epoch.start earlier set.pts) set page (taken_of (segments_of known))
   pub within : IsWithinNeed epoch (seen_of epoch.start earlier set.pts) set known
 
--- of the sets of a plan some come whole: with each of them that a receiver has got, at the set's time, and whose epoch is known, the
--- page memory holds the script
-abbrev pub HoldsWhole : Script → Profile → ℕ → List PlannedSet → (ℕ → PlannedSet → Type 0) → List (Delivery Reading)
+-- of the sets of a plan some come whole: with each of them that a receiver has got, at the set's time, and whose epoch
+-- is known, the page memory holds the script
+abbrev pub HoldsWhole : Script → Profile → ℕ → List PlannedSet → (ℕ → PlannedSet → Type 0)
+    → List (Delivery Reading)
     → Type 0
 HoldsWhole script profile anchor sets ComesWhole past =
     (later before : List (Delivery Reading)) (delivery : Delivery Reading) → past ≡ later ++ delivery ∷ before
-    → (front back : List PlannedSet) (set : PlannedSet) → sets ≡ front ++ set ∷ back → ComesWhole (length front) set
+    → (front back : List PlannedSet) (set : PlannedSet) → sets ≡ front ++ set ∷ back
+    → ComesWhole (length front) set
     → lifted_time anchor before delivery ≡ Some set.pts
     → (known : List (List Content)) → known_epoch profile anchor (delivery ∷ before) ≡ Some known
     → HoldsSet script (reverse front) set known

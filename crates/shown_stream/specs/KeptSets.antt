@@ -14,8 +14,8 @@ abbrev pub IsFromEntry : Option SentSet → ℕ → Type 0
 IsFromEntry None time = ⊥
 IsFromEntry (Some entry) time = entry.time ≤ time
 
--- among the sets that a receiver has got, the latest first, is one of the plan, at its own time: it is shown from the entry set on,
--- and else it is shown or waits
+-- among the sets that a receiver has got, the latest first, is one of the plan, at its own time: it is shown from the
+-- entry set on, and else it is shown or waits
 pub record IsKept (profile : Profile) (anchor : ℕ) (entry : Option SentSet) (past : List (Delivery Reading))
     (set : PlannedSet) : Type 0 where
   pub later : List (Delivery Reading)

@@ -1,16 +1,15 @@
 -- The display sets of a plan as they stand in the stream that is sent of them.
-use Rattle.std.specs.Prelude.{ℕ, ◌+◌, Bool, false, not, nat_le, List, [], ◌∷◌, map, filter}
-use Rattle.std.specs.List.{list_any, slice_get}
-use Rattle.std.specs.Option.{option_map_or}
-use Rattle.page_epoch.specs.States.{is_whole}
+use Rattle.std.specs.Prelude.{ℕ, ◌+◌, nat_le, List, [], ◌∷◌, map, filter}
+use Rattle.std.specs.List.{list_any}
+use Rattle.stream_syntax.specs.Segments.{is_entry_state}
 use Rattle.page_epoch.specs.declared.planned_set.PlannedSet.{PlannedSet}
 use Rattle.schedule.specs.Slots.{Timetable, slots_of}
-use Rattle.decoder_model.specs.Streams.{Sending, SentSet}
+use Rattle.decoder_model.specs.Streams.{Sending, SentSet, is_received_at}
 
 -- a set of that number as it is sent: the places of its packets are their slots, as each slot has one packet
 abbrev pub sent_set : Timetable → ℕ → PlannedSet → SentSet
 sent_set table number set =
-    record { time = set.pts; is_normal = not (is_whole set.state); places = slots_of table number }
+    record { time = set.pts; is_entry = is_entry_state set.state; places = slots_of table number }
 
 -- sets from that number on, and all sets of a plan
 abbrev pub sent_from : Timetable → ℕ → List PlannedSet → List SentSet
@@ -24,10 +23,6 @@ sent_sets table sets = sent_from table 0 sets
 abbrev pub times_from : ℕ → List SentSet → List ℕ
 times_from place sets =
     map (λ (set : SentSet). set.time) (filter (λ (set : SentSet). list_any (λ at. nat_le place at) set.places) sets)
-
--- the packet at a place is received
-abbrev pub is_received_at : List Sending → ℕ → Bool
-is_received_at sendings place = option_map_or (λ (sending : Sending). sending.received) (slice_get sendings place) false
 
 -- the times of the sets of which a packet is received
 abbrev pub times_received : List Sending → List SentSet → List ℕ

@@ -5,6 +5,7 @@ use Rattle.cue_list.specs.Authored.{authored_picture}
 use Rattle.cue_list.specs.declared.script.Script.{Script}
 use Rattle.decoder_model.specs.Shown.{View, plane, IsShown, Agrees}
 use Rattle.decoder_model.specs.Streams.{SentSet, IsShownFrom}
+use Rattle.stream_syntax.specs.declared.wire.TheConstants.{TIME_ROUND}
 
 -- the authored picture at a tick
 abbrev pub authored_view : Script → ℕ → View
@@ -14,20 +15,24 @@ authored_view script tick = plane (record {
   colours = authored_picture script.width script.height script.epochs script.pictures tick;
 })
 
--- an anchor from which a receiver lifts times rightly: each of them is from the anchor on, and less than 2 to the 33 ticks behind
-abbrev pub IsAnchorOf : List ℕ → ℕ → Type 0
-IsAnchorOf times anchor = All (λ time. (anchor ≤ time) × (time < anchor + 8589934592)) times
+-- an anchor suits a time: the time is from the anchor on, and less than 2 to the 33 ticks behind
+abbrev pub Suits : ℕ → ℕ → Type 0
+Suits anchor time = (anchor ≤ time) × (time < anchor + TIME_ROUND)
 
--- a receiver of the profile with that anchor that gets these packets, with which the stream ends, shows at a tick, for a PID and
--- a page, what agrees with that view
+-- an anchor from which a receiver lifts times rightly: it suits each of them
+abbrev pub IsAnchorOf : List ℕ → ℕ → Type 0
+IsAnchorOf times anchor = All (Suits anchor) times
+
+-- a receiver of the profile with that anchor that gets these packets, with which the stream ends, shows at a tick, for
+-- a PID and a page, what agrees with that view
 pub record Shows (profile : Profile) (pid page anchor : ℕ) (packets : List (List ℕ)) (tick : ℕ)
     (wanted : View) : Type 0 where
   pub shown : View
   pub is_shown : IsShown profile pid page anchor true packets tick shown
   pub agrees : Agrees shown wanted
 
--- a receiver of the profile with that anchor that gets these packets, with which the stream ends, shows at a tick, by the set
--- with which it enters: nothing without one and before its time, and from then on what agrees with that view
+-- a receiver of the profile with that anchor that gets these packets, with which the stream ends, shows at a tick, by
+-- the set with which it enters: nothing without one and before its time, and from then on what agrees with that view
 pub record ShowsFrom (profile : Profile) (pid page anchor : ℕ) (packets : List (List ℕ)) (entry : Option SentSet)
     (tick : ℕ) (wanted : View) : Type 0 where
   pub shown : View

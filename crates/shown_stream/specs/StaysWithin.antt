@@ -1,10 +1,9 @@
--- The coded data buffer of a receiver that gets a compiled stream, wherever it enters (EN 300 743, clause 5.2): what it holds, and
--- when the display sets are decoded. The packets of the stream arrive in slots: the one of number s in slot s, whoever gets it.
+-- The coded data buffer of a receiver that gets a compiled stream, wherever it enters (EN 300 743, clause 5.2): what it
+-- holds, and when the display sets are decoded. The packets of the stream arrive in slots: the one of number s in slot
+-- s, whoever gets it.
 use Rattle.std.specs.Prelude.{◌≡◌, ℕ, ◌+◌, ◌≤◌, true, false, List, length, map, take, reverse, Some, slice_get}
-use Rattle.sub_base.specs.Pace.{pace_of}
 use Rattle.sub_base.specs.Profile.{profile_of}
 use Rattle.sub_base.specs.declared.load.WriteLoad.{WriteLoad}
-use Rattle.sub_base.specs.declared.pace.Pace.{Pace}
 use Rattle.sub_base.specs.declared.profile.ProfileName.{ProfileName}
 use Rattle.cue_list.specs.declared.script.Script.{Script}
 use Rattle.page_epoch.specs.declared.planned_set.PlannedSet.{PlannedSet}
@@ -17,19 +16,17 @@ use Rattle.decoder_model.specs.Streams.{entered_at, is_from}
 use Rattle.shown_stream.specs.SentSets.{sent_set, sent_sets, times_from}
 use Rattle.shown_stream.specs.Shows.{IsAnchorOf}
 use Rattle.stream_calls.specs.StreamCalls.{AreCallsOf}
+use Rattle.shown_stream.specs.Compiled.{sent_pace}
 
--- how packets are sent: from the script's origin on, in the slots of the profile
-abbrev pub sent_pace : ProfileName → Script → Pace
-sent_pace profile script = pace_of script.origin (profile_of profile)
-
--- these are the calls of the buffer levels, the latest first, in a receiver of the profile, for a PID and a page, with that anchor,
--- that gets the packets but for the first so many: those that come in the slots before that one
-abbrev pub AreCallsBefore : ℕ → ProfileName → ℕ → ℕ → ℕ → ℕ → List (List ℕ) → List Call → Type 0
+-- these are the calls of the buffer levels, the latest first, in a receiver of the profile, for a PID and a page, with
+-- that anchor, that gets the packets but for the first so many: those that come in the slots before that one
+abbrev pub AreCallsBefore : ℕ → ProfileName → ℕ → ℕ → ℕ → ℕ → List (List ℕ) → List Call
+    → Type 0
 AreCallsBefore slot profile pid page anchor missed packets calls =
     AreCallsOf (profile_of profile) pid page anchor missed false (entered_at missed (take slot packets)) calls
 
--- the coded data buffer of a receiver of the profile, for a PID and a page, with that anchor, that gets the packets of a compiled
--- stream but for the first so many
+-- the coded data buffer of a receiver of the profile, for a PID and a page, with that anchor, that gets the packets of
+-- a compiled stream but for the first so many
 pub record StaysWithin (profile : ProfileName) (pid page : ℕ) (script : Script) (sets : List PlannedSet)
     (table : Timetable)
     (packets : List (List ℕ)) (missed anchor : ℕ) : Type 0 where
@@ -39,7 +36,8 @@ pub record StaysWithin (profile : ProfileName) (pid page : ℕ) (script : Script
   pub within : (slot : ℕ) (calls : List Call) → AreCallsBefore slot profile pid page anchor missed packets calls
       → AreWithin (sent_pace profile script) calls
   -- at each slot, with a packet or without, the level is at most the bytes of the buffer
-  pub level : (slot : ℕ) (calls : List Call) → AreCallsBefore (slot + 1) profile pid page anchor missed packets calls
+  pub level : (slot : ℕ) (calls : List Call)
+      → AreCallsBefore (slot + 1) profile pid page anchor missed packets calls
       → level_at (sent_pace profile script) slot 0 calls ≤ (profile_of profile).coded
   -- each set of which no packet is missing is decoded by its time
   pub decoded : (calls : List Call) → AreCallsBefore (length packets) profile pid page anchor missed packets calls
@@ -50,8 +48,8 @@ pub record StaysWithin (profile : ProfileName) (pid page : ℕ) (script : Script
   pub ended : (calls : List Call)
       → AreCallsOf (profile_of profile) pid page anchor missed true (entered_at missed packets) calls
       → AreCallsBefore (length packets) profile pid page anchor missed packets calls
-  -- at each slot the level is no higher than in a receiver that gets the whole stream, with any anchor that suits it, and the same
-  -- sets, from the latest on, are done no later than there
+  -- at each slot the level is no higher than in a receiver that gets the whole stream, with any anchor that suits it,
+  -- and the same sets, from the latest on, are done no later than there
   pub no_worse : (slot other : ℕ) (calls whole : List Call) → IsAnchorOf (times_from 0 (sent_sets table sets)) other
       → AreCallsBefore (slot + 1) profile pid page anchor missed packets calls
       → AreCallsBefore (slot + 1) profile pid page other 0 packets whole

@@ -1,8 +1,10 @@
-//! The packets that a script is compiled to, and what a receiver shows of them: definitions and laws.
+//! The packets that a script is compiled to, and what a receiver shows of them: definitions and
+//! laws.
 //!
-//! Units that are sent in slots come whole, in order and without a loss, and the display sets of a plan with them, be they sent
-//! in one PES packet or in several. A receiver that enters behind any number of packets shows the authored picture from its
-//! entry set on, one that loses packets shows it at each good tick, and both hold the script behind each set that comes whole.
+//! Units that are sent in slots come whole, in order and without a loss, and the display sets of a
+//! plan with them, be they sent in one PES packet or in several. A receiver that enters behind any
+//! number of packets shows the authored picture from its entry set on, one that loses packets shows
+//! it at each good tick, and both hold the script behind each set that comes whole.
 #![tactic(auto)]
 
 mod laws;

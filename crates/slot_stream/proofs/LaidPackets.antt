@@ -1,17 +1,10 @@
 -- The packets of pieces at their slots, with null packets in the slots between, one after another.
-use Rattle.std.proofs.Common.{◌≡◌, ◌≢◌, ◌==◌, true, ◌∙◌, ℕ, zero, suc, ◌+◌, ◌-◌, ◌<◌, ◌≤◌, false, eqb, cond, List, [], ◌∷◌, ◌++◌, length, map, get_or, replicate, Some, None, refl, sym, ap, arith}
+use Rattle.std.proofs.Common.{◌≡◌, ◌∙◌, ℕ, zero, suc, ◌+◌, ◌-◌, ◌<◌, ◌≤◌, cond, List, [], ◌∷◌, ◌++◌, length, map, get_or, replicate, Some, None, refl, sym, ap, arith}
 use Rattle.std.specs.List.{range_with_len, flat_map, concat}
-use Rattle.std.proofs.lemmas.Bool.Decides.{nat_tests}
+use Rattle.std.proofs.lemmas.Bool.{eq-eqb, ne_eqb}
 use Rattle.std.proofs.lemmas.List.{map-append}
 use Rattle.stream_syntax.specs.TransportPackets.{null_packet}
 use Rattle.slot_stream.specs.SlotStream.{Piece, no_piece, packet_of, packet_at, place_from, slot_packet, slot_count, stream_of}
-
--- the test of two numbers that are the same, and of two that are not
-pub equal : (a b : ℕ) → a ≡ b → (a == b) ≡ true
-equal a b h = grind (arith, nat_tests)
-
-pub unequal : (a b : ℕ) → a ≢ b → (a == b) ≡ false
-unequal a b h = grind (arith, nat_tests)
 
 -- the packets from a slot on, the first piece being that of this number
 abbrev pub laid : ℕ → ℕ → ℕ → List Piece → List ℕ → List (List ℕ)
@@ -70,9 +63,6 @@ map-constant {Y} y from (suc count) = ap {B = List Y} (λ rest. y ∷ rest) (map
 
 -- ---- the packets at slots
 
-pub other_number : (a b : ℕ) → a ≢ b → eqb a b ≡ false
-other_number a b h = grind (arith, nat_tests)
-
 -- a slot before all of some is none of them
 none_before : (number slot from : ℕ) (slots : List ℕ) → IsAhead from slots → slot < from
     → place_from number slot slots ≡ None
@@ -80,7 +70,7 @@ none_before number slot from [] h less = refl
 none_before number slot from (first ∷ slots) h less =
     let least = h.0 in
     ap (λ same. cond same (Some number) (place_from (number + 1) slot slots))
-    (other_number first slot (λ e. omega arith))
+    (ne_eqb first slot (λ e. omega arith))
     ∙ none_before (number + 1) slot (first + 1) slots h.1 (omega arith)
 
 -- the packet at a slot, where the first of these slots is that of the piece of this number
@@ -114,12 +104,12 @@ at_slots pid pieces number from (piece ∷ left) (slot ∷ slots) ahead same are
     let here : f slot
     ≡ packet_of pid number piece = ap
     (λ equal. packet_at pid pieces (cond equal (Some number) (place_from (number + 1) slot slots)))
-    (equal slot slot refl)
+    (eq-eqb slot slot refl)
     ∙ ap (packet_of pid number) its_piece in
     let later : (i : ℕ) → i < m → f (slot + 1 + i) ≡ packet_from pid pieces (number + 1) slots (slot + 1 + i)
     = λ i within. ap
     (λ equal. packet_at pid pieces (cond equal (Some number) (place_from (number + 1) (slot + 1 + i) slots)))
-    (other_number slot (slot + 1 + i) (λ e. omega (arith, e))) in
+    (ne_eqb slot (slot + 1 + i) (λ e. omega (arith, e))) in
     ap (λ n. map f (range_with_len from n)) count
     ∙ ap (map f) (range-split g from (suc m))
     ∙ map-append f (range_with_len from g) (range_with_len (from + g) (suc m))

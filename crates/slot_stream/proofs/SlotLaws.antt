@@ -5,8 +5,9 @@ use Rattle.std.specs.List.Sorted.{IsStrictlyIncreasing}
 use Rattle.std.proofs.lemmas.Grind.{flat_map-append}
 use Rattle.std.proofs.lemmas.List.{get_or_default, append-nil}
 use Rattle.std.specs.List.{flat_map, range_with_len}
+use Rattle.std.proofs.lemmas.Bool.{eq-eqb, ne_eqb}
 use Rattle.stream_syntax.specs.TransportPackets.{null_packet}
-use Rattle.slot_stream.proofs.LaidPackets.{equal, unequal, range-split}
+use Rattle.slot_stream.proofs.LaidPackets.{range-split}
 use Rattle.slot_stream.specs.SlotStream.{Piece, place_from, slot_packet, packet_at, packet_of, no_piece}
 use Rattle.slot_stream.specs.SlotWalk.{IsNext}
 
@@ -18,10 +19,10 @@ compared a b = grind arith
 pub place_from-found : (slots : List ℕ) (k i slot : ℕ) → ((j : ℕ) → j < k → get_or slots j 0 ≢ slot) → k < length slots
     → get_or slots k 0 ≡ slot → place_from i slot slots ≡ Some (i + k)
 place_from-found [] k i slot before within is = absurd (omega arith)
-place_from-found (x ∷ slots) zero i slot before within is = rw (equal x slot is) (ap Some (omega arith))
+place_from-found (x ∷ slots) zero i slot before within is = rw (eq-eqb x slot is) (ap Some (omega arith))
 place_from-found (x ∷ slots) (suc k) i slot before within is =
     let first : x ≢ slot = before 0 (omega arith) in
-    rw (unequal x slot first)
+    rw (ne_eqb x slot first)
     (place_from-found slots k (i + 1) slot (λ j h. before (suc j) (omega arith)) (omega arith) is
     ∙ ap Some (omega arith))
 
@@ -31,7 +32,7 @@ pub place_from-none : (slots : List ℕ) (i slot : ℕ) → ((j : ℕ) → j < l
 place_from-none [] i slot others = refl
 place_from-none (x ∷ slots) i slot others =
     let first : x ≢ slot = others 0 (omega arith) in
-    rw (unequal x slot first) (place_from-none slots (i + 1) slot (λ j h. others (suc j) (omega arith)))
+    rw (ne_eqb x slot first) (place_from-none slots (i + 1) slot (λ j h. others (suc j) (omega arith)))
 
 -- later slots are greater
 pub later_slot : (slots : List ℕ) (i j : ℕ) → IsStrictlyIncreasing slots → i < j → j < length slots

@@ -1,7 +1,8 @@
 -- Units cut into packets, and the packets sent at their slots (ISO/IEC 13818-1, 2.4.3.2).
 use Rattle.std.specs.Prelude.{ℕ, ◌+◌, ◌*◌, ◌/◌, ◌%◌, ◌==◌, ◌≤◌, if◌then◌else◌, Bool, false, List, [], ◌∷◌, length, take, drop, slice_index, slice_index_or, Option, Some, None, map}
 use Rattle.std.specs.List.{flat_map, range_with_len}
-use Rattle.stream_syntax.specs.TransportPackets.{written_packet, null_packet}
+use Rattle.stream_syntax.specs.TransportPackets.{written_packet, packet_count, null_packet}
+use Rattle.stream_syntax.specs.declared.wire.TheConstants.{PAYLOAD_LENGTH}
 
 -- a piece of a unit: its bytes, and whether the unit starts with it
 pub record Piece : Type 0 where
@@ -14,11 +15,11 @@ no_piece = record { bytes = []; starts = false }
 
 -- how many pieces of 184 bytes, the last perhaps shorter, a unit has
 abbrev pub piece_count : List ℕ → ℕ
-piece_count unit = (length unit + 183) / 184
+piece_count unit = packet_count (length unit)
 
 -- the piece of a unit at that place, from 0
 abbrev pub piece_of : List ℕ → ℕ → Piece
-piece_of unit k = record { bytes = take 184 (drop (184 * k) unit); starts = k == 0 }
+piece_of unit k = record { bytes = take PAYLOAD_LENGTH (drop (PAYLOAD_LENGTH * k) unit); starts = k == 0 }
 
 -- the pieces of a unit, in order
 abbrev pub pieces_of : List ℕ → List Piece
@@ -57,4 +58,4 @@ stream_of pid pieces slots = flat_map (slot_packet pid pieces slots) (range_with
 
 -- a piece has 1 to 184 bytes
 abbrev pub IsPiece : Piece → Type 0
-IsPiece piece = (1 ≤ length piece.bytes) × (length piece.bytes ≤ 184)
+IsPiece piece = (1 ≤ length piece.bytes) × (length piece.bytes ≤ PAYLOAD_LENGTH)

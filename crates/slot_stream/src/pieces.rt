@@ -17,7 +17,8 @@ pub fn push_units<'a>(
 ) -> Result<(), NoMemory>
     requires units { (units : List (List ℕ)) × AreUnitsOf lengths.now bytes.now units }
     requires each { All IsPiece pieces.old.items }
-    ensures pieces { OnOk result ((units : List (List ℕ)) → AreUnitsOf lengths.now bytes.now units
+    ensures pieces { OnOk result
+        ((units : List (List ℕ)) → AreUnitsOf lengths.now bytes.now units
         → pieces.new.items ≡ pieces.old.items ++ all_pieces units) }
     ensures each { All IsPiece pieces.new.items }
 {

@@ -14,8 +14,8 @@ abbrev pub ticks_asked : List WriteLoad → Pace → ℕ → ℕ
 ticks_asked loads pace i = pace.step * (packets_of loads i + 1) + size_of loads i + (load_of loads i).painted
 
 -- Each set fits the coded data buffer and has no segment that is too long for a PES packet. It asks no more ticks than
--- the window has in which it may be sent, and no more than there are up to its time from the origin and from the time of
--- the set before.
+-- the window has in which it may be sent, and no more than there are up to its time from the origin and from the time
+-- of the set before.
 pub record AreSpaced (loads : List WriteLoad) (pace : Pace) : Type 0 where
   pub step : 1 ≤ pace.step
   pub fits : (i : ℕ) → i < length loads → size_of loads i ≤ pace.coded

@@ -21,7 +21,8 @@ pub fn spaced_sets_arrive_in_time()
 /// So a schedule of spaced sets is refused for want of memory alone.
 pub fn spaced_sets_are_never_refused()
     ensures { (loads : List WriteLoad) (pace : Pace) (fault : ScheduleFault)
-        → All IsLoad loads → AreSpaced loads pace → IsCause loads pace fault → fault ≡ Memory }
+        → All IsLoad loads → AreSpaced loads pace → IsCause loads pace fault
+        → fault ≡ Memory }
 {}
 
 /// Small sets that are shown far apart are spaced, in each profile in which packets are sent, so

@@ -10,7 +10,8 @@ use Rattle.decoder_model.specs.PacketArrivals.{packet_arrival}
 use Rattle.decoder_model.specs.Sets.{has_ended, sets_of}
 use Rattle.decoder_model.proofs.Growth.{packets_add}
 use Rattle.decoder_model.proofs.SentUnits.{all_taken}
-use Rattle.stream_calls.specs.StreamCalls.{count_with, calls_of_packet, calls_from, all_of}
+use Rattle.stream_calls.specs.StreamCalls.{count_with, calls_of_packet, calls_from}
+use Rattle.sub_base.specs.Lists.{all_of}
 
 -- ---- how many sets and losses come
 

@@ -7,7 +7,8 @@ use Rattle.stream_syntax.specs.Units.{event_at}
 use Rattle.stream_syntax.specs.declared.transport.Event.{Event}
 use Rattle.buffer_model.specs.Calls.{Call, Arrived, Dropped}
 use Rattle.decoder_model.specs.PacketArrivals.{PacketArrival, packet_arrival, is_break}
-use Rattle.stream_calls.specs.StreamCalls.{count_with, calls_of_packet, calls_from, all_of}
+use Rattle.stream_calls.specs.StreamCalls.{count_with, calls_of_packet, calls_from}
+use Rattle.sub_base.specs.Lists.{all_of}
 
 map_where : {X Y : Type 0} (f : X → Y) (b : Bool) (xs ys : List X)
     → map f (if b then xs else ys) ≡ (if b then map f xs else map f ys)

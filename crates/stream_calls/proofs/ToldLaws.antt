@@ -3,7 +3,7 @@ use Rattle.std.proofs.Common.{◌≡◌, ◌∙◌, ℕ, suc, ◌+◌, Bool, fal
 use Rattle.std.specs.List.{AllByRecursion, filter_map}
 use Rattle.std.proofs.lemmas.List.{length-reverse, map-append, reverse-append}
 use Rattle.std.proofs.lemmas.List.Elements.{filter_map-append}
-use Rattle.sub_base.specs.Lists.{with_earlier}
+use Rattle.sub_base.specs.Lists.{with_earlier, all_of}
 use Rattle.sub_base.specs.declared.pace.Pace.{Pace}
 use Rattle.sub_base.specs.declared.profile.Profile.{Profile}
 use Rattle.stream_syntax.specs.TransportPackets.{packet_fault}
@@ -16,7 +16,7 @@ use Rattle.decoder_model.specs.Received.{HasReceived}
 use Rattle.decoder_model.specs.Sets.{Delivery, lost, sets_of}
 use Rattle.decoder_model.proofs.Growth.{flat-append}
 use Rattle.decoder_model.proofs.SentSets.{all-append}
-use Rattle.stream_calls.specs.StreamCalls.{set_call, each_behind, itself, calls_of_packet, calls_from, all_of, AreCallsOf}
+use Rattle.stream_calls.specs.StreamCalls.{set_call, each_behind, itself, calls_of_packet, calls_from, AreCallsOf}
 use Rattle.stream_calls.specs.ToldSets.{ToldSet, ToldCall, of_no_set, of_set, told_call, told_behind, told_of, AreToldCalls, calls_told, DoneSet, done_set, told_sets, told_sets_behind}
 use Rattle.stream_calls.proofs.EachBehind.{with_earlier-append, each_count, each_more, each_last}
 use Rattle.stream_calls.proofs.PacketCalls.{AreSound, many, none_yet, calls_of_last, calls_at_end}

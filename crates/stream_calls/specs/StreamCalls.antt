@@ -1,6 +1,6 @@
 -- The calls of the buffer levels that a stream gives, packet by packet (EN 300 743, clause 5.2): packets that arrive,
 -- sets that are whole, and bytes that are dropped. What stands for a call may be the call itself, or tell more of it.
-use Rattle.std.specs.Prelude.{◌≡◌, ℕ, ◌+◌, ◌-◌, ◌==◌, Bool, false, if◌then◌else◌, List, [], ◌∷◌, ◌++◌, length, map, flat_map, take, drop, reverse, Option, Some, None}
+use Rattle.std.specs.Prelude.{◌≡◌, ℕ, ◌+◌, ◌-◌, ◌==◌, Bool, false, if◌then◌else◌, List, [], ◌∷◌, ◌++◌, length, map, take, drop, reverse, Option, Some, None}
 use Rattle.sub_base.specs.declared.load.SetLoad.{SetLoad}
 use Rattle.sub_base.specs.declared.profile.Profile.{Profile}
 use Rattle.stream_syntax.specs.Units.{event_at}
@@ -8,7 +8,7 @@ use Rattle.stream_syntax.specs.declared.transport.Event.{Event}
 use Rattle.buffer_model.specs.Calls.{Call, Arrived, SetWhole, Dropped}
 use Rattle.decoder_model.specs.Arrivals.{packets_taken}
 use Rattle.decoder_model.specs.Kept.{lifted_time}
-use Rattle.sub_base.specs.Lists.{with_earlier}
+use Rattle.sub_base.specs.Lists.{with_earlier, all_of}
 use Rattle.decoder_model.specs.PacketArrivals.{PacketArrival, packet_arrival, is_break}
 use Rattle.decoder_model.specs.Painting.{set_load}
 use Rattle.decoder_model.specs.Readings.{Reading}
@@ -32,7 +32,8 @@ set_call profile anchor past delivery = call_by (lifted_time anchor past deliver
 abbrev pub each_behind : {Y : Type 0} → (List (Delivery Reading) → Delivery Reading → Y)
     → List (Delivery Reading) → List (Delivery Reading) → List Y
 each_behind given older received =
-    map (λ (placed : Delivery Reading × List (Delivery Reading)). given placed.1 placed.0) (with_earlier older received)
+    map (λ (placed : Delivery Reading × List (Delivery Reading)). given placed.1 placed.0)
+    (with_earlier older received)
 
 -- the calls of sets and losses in their order, each behind those before it
 abbrev pub set_calls : Profile → ℕ → List (Delivery Reading) → List (List Call)
@@ -66,10 +67,6 @@ calls_of_packet of event arrival slot sets =
     ++ ((if arrival.before then drop 1 sets else sets) ++ drop_where of arrival.dropped)))
 
 -- ---- a stream
-
--- all that stands for the calls of several sets
-abbrev pub all_of : {X : Type 0} → List (List X) → List X
-all_of {X} sets = flat_map (λ (calls : List X). calls) sets
 
 -- the calls of packets behind others, the first of them in that slot, by the calls of the sets and losses that are
 -- left: those that no packet makes ready come last, with the end of the stream

@@ -51,7 +51,8 @@ told_call profile anchor past delivery =
     (set_call profile anchor past delivery)
 
 -- the told calls of sets and losses in their order, each behind those before it, which are these and then older ones
-abbrev pub told_behind : Profile → ℕ → List (Delivery Reading) → List (Delivery Reading) → List (List ToldCall)
+abbrev pub told_behind : Profile → ℕ → List (Delivery Reading) → List (Delivery Reading)
+    → List (List ToldCall)
 told_behind profile anchor older received = each_behind (told_call profile anchor) older received
 
 -- the call of a set with that end and load: one that is not kept is dropped
@@ -65,7 +66,8 @@ call_of_end (NotLater last) load = Dropped
 
 -- the told calls, the first one first, of packets that were all taken, the first of which stands in that slot, and of
 -- what was received with them, the latest first
-abbrev pub told_of : Profile → ℕ → ℕ → ℕ → ℕ → List (List ℕ) → List (Delivery Reading) → List ToldCall
+abbrev pub told_of : Profile → ℕ → ℕ → ℕ → ℕ → List (List ℕ) → List (Delivery Reading)
+    → List ToldCall
 told_of profile pid page anchor slot packets past =
     calls_from of_no_set profile.coded pid page slot [] packets (told_behind profile anchor [] (reverse past))
 

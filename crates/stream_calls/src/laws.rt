@@ -18,10 +18,11 @@ ghost use Rattle.decoder_model.specs.Sets.{Delivery, lost};
 ghost use Rattle.decoder_model.specs.Verdict.{verdict_of};
 ghost use Rattle.decoder_model.specs.declared.set_end.SetEnd.{SetEnd};
 ghost use Rattle.stream_calls.specs.Before.{IsMoreThan};
-ghost use Rattle.stream_calls.specs.StreamCalls.{AreCallsOf, all_of, calls_of_packet};
+ghost use Rattle.stream_calls.specs.StreamCalls.{AreCallsOf, calls_of_packet};
 ghost use Rattle.stream_calls.specs.ToldSets.{AreToldCalls, ToldCall, calls_told, of_no_set};
 ghost use Rattle.stream_calls.specs.ToldSets.{call_of_end, of_set, set_told, told_call};
 ghost use Rattle.stream_calls.specs.ToldSets.{told_behind, told_of, told_sets, told_sets_behind};
+ghost use Rattle.sub_base.specs.Lists.{all_of};
 
 /// Before the first packet nothing is told.
 pub fn nothing_is_told()
@@ -48,7 +49,8 @@ pub fn packet_brings_calls()
 pub fn end_brings_calls()
     ensures { (profile : Profile) (pid page anchor slot : ℕ) (packets : List (List ℕ))
         (past more : List (Delivery Reading))
-        → packets_taken pid packets ≡ packets → HasReceived profile pid page false packets past
+        → packets_taken pid packets ≡ packets
+        → HasReceived profile pid page false packets past
         → told_of profile pid page anchor slot packets (more ++ past)
         ≡ told_of profile pid page anchor slot packets past
         ++ all_of (told_behind profile anchor past (reverse more)) }

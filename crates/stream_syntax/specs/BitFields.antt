@@ -3,33 +3,33 @@ use Rattle.std.specs.Prelude.{ℕ, ◌+◌, ◌*◌, ◌/◌, ◌^◌, ◌<◌, 
 use Rattle.byteorder.specs.Endian.{big_bytes}
 
 -- a field: its width in bits, and its value
-pub record Field : Type 0 where
+pub record BitField : Type 0 where
   pub width : ℕ
   pub value : ℕ
 
-abbrev pub field : ℕ → ℕ → Field
+abbrev pub field : ℕ → ℕ → BitField
 field bits number = record { width = bits; value = number }
 
 -- how many bits fields have together
-abbrev pub width_of : List Field → ℕ
-width_of [] = 0
-width_of (f ∷ fs) = f.width + width_of fs
+abbrev pub width_of_fields : List BitField → ℕ
+width_of_fields [] = 0
+width_of_fields (f ∷ fs) = f.width + width_of_fields fs
 
 -- the number that the bits of fields make, one field after another
-abbrev pub number_of : List Field → ℕ
-number_of [] = 0
-number_of (f ∷ fs) = f.value * 2 ^ width_of fs + number_of fs
+abbrev pub number_of_fields : List BitField → ℕ
+number_of_fields [] = 0
+number_of_fields (f ∷ fs) = f.value * 2 ^ width_of_fields fs + number_of_fields fs
 
 -- the bytes of a layout: its fields in groups, each of which fills whole bytes
-abbrev pub packed : List (List Field) → List ℕ
+abbrev pub packed : List (List BitField) → List ℕ
 packed [] = []
-packed (fields ∷ groups) = big_bytes (width_of fields / 8) (number_of fields) ++ packed groups
+packed (fields ∷ groups) = big_bytes (width_of_fields fields / 8) (number_of_fields fields) ++ packed groups
 
 -- each value fits the width of its field
-abbrev pub AreFields : List Field → Type 0
+abbrev pub AreFields : List BitField → Type 0
 AreFields [] = ⊤
 AreFields (f ∷ fs) = (f.value < 2 ^ f.width) × AreFields fs
 
-abbrev pub AreGroups : List (List Field) → Type 0
+abbrev pub AreGroups : List (List BitField) → Type 0
 AreGroups [] = ⊤
 AreGroups (fields ∷ groups) = AreFields fields × AreGroups groups

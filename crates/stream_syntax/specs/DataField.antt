@@ -1,9 +1,14 @@
 -- The segments in the data field of a PES packet, behind its first two bytes (EN 300 743, clauses 7.1 and 7.2).
-use Rattle.std.specs.Prelude.{◌≡◌, ℕ, zero, suc, ◌+◌, ◌==◌, Bool, true, false, if◌then◌else◌, List, [], ◌∷◌, length, take, drop, Option, Some, None}
-use Rattle.stream_syntax.specs.declared.wire.TheConstants.{END_OF_FIELD}
-use Rattle.stream_syntax.specs.SegmentTests.{frame_tests}
-use Rattle.stream_syntax.specs.Tests.{word_at, first_fault}
+use Rattle.std.specs.Prelude.{◌≡◌, ℕ, zero, suc, ◌==◌, Bool, true, false, if◌then◌else◌, List, [], ◌∷◌, ◌++◌, length, take, drop, Option, Some, None}
+use Rattle.stream_syntax.specs.declared.wire.TheConstants.{DATA_IDENTIFIER, END_OF_FIELD, SUBTITLE_STREAM}
+use Rattle.stream_syntax.specs.SegmentTests.{frame_tests, segment_size}
+use Rattle.stream_syntax.specs.Tests.{first_fault}
 use Rattle.stream_syntax.specs.declared.segment_fault.SegmentFault.{SegmentFault}
+
+-- the data field of a PES packet with these bytes of segments (7.1): subtitle data of stream 0, the segments, and the
+-- end marker
+abbrev pub data_field : List ℕ → List ℕ
+data_field segments = DATA_IDENTIFIER ∷ SUBTITLE_STREAM ∷ (segments ++ END_OF_FIELD ∷ [])
 
 -- what stands in a segment's place: the bytes of a whole segment, or bytes that begin none, for this reason
 pub data Frame : Type 0 where
@@ -15,17 +20,18 @@ abbrev pub ends_segments : List ℕ → Bool
 ends_segments [] = true
 ends_segments (byte ∷ bytes) = byte == END_OF_FIELD
 
--- how many bytes the segment that begins here has: its head of six, and as many as segment_length says
-abbrev pub segment_size : List ℕ → ℕ
-segment_size bytes = 6 + word_at 4 bytes
-
 -- these frames stand in the bytes, one after another; behind a broken one nothing is looked for
 pub data AreFrames : List ℕ → List Frame → Type 0 where
-  no_more : {bytes : List ℕ} {frames : List Frame} → ends_segments bytes ≡ true → frames ≡ [] → AreFrames bytes frames
-  cut_off : {bytes : List ℕ} {frames : List Frame} (fault : SegmentFault) → ends_segments bytes ≡ false → first_fault (frame_tests bytes) ≡ Some fault
+  no_more : {bytes : List ℕ} {frames : List Frame} → ends_segments bytes ≡ true → frames ≡ []
+      → AreFrames bytes frames
+  cut_off : {bytes : List ℕ} {frames : List Frame} (fault : SegmentFault) → ends_segments bytes ≡ false
+      → first_fault (frame_tests bytes) ≡ Some fault
       → frames ≡ broken fault ∷ [] → AreFrames bytes frames
-  one_more : {bytes : List ℕ} {frames : List Frame} (rest : List Frame) → ends_segments bytes ≡ false → first_fault (frame_tests bytes) ≡ None
-      → AreFrames (drop (segment_size bytes) bytes) rest → frames ≡ segment (take (segment_size bytes) bytes) ∷ rest → AreFrames bytes frames
+  one_more : {bytes : List ℕ} {frames : List Frame} (rest : List Frame) → ends_segments bytes ≡ false
+      → first_fault (frame_tests bytes) ≡ None
+      → AreFrames (drop (segment_size bytes) bytes) rest
+      → frames ≡ segment (take (segment_size bytes) bytes) ∷ rest
+      → AreFrames bytes frames
 
 -- ---- the frames as a function of the bytes
 

@@ -16,7 +16,8 @@ IsRow (reserved width) row = length row ≡ width
 -- the bits are those of the rows of a table, one row after the other
 pub data HasFields : List Field → List ℕ → Type 0 where
   no_row : HasFields [] []
-  row_first : {field : Field} {fields : List Field} {stream : List ℕ} (row rest : List ℕ) → IsRow field row → HasFields fields rest → stream ≡ row ++ rest → HasFields (field ∷ fields) stream
+  row_first : {field : Field} {fields : List Field} {stream : List ℕ} (row rest : List ℕ) → IsRow field row
+      → HasFields fields rest → stream ≡ row ++ rest → HasFields (field ∷ fields) stream
 
 -- what a writer makes of a row: its reserved bits are 1
 abbrev pub written_row : Field → List ℕ
@@ -34,7 +35,8 @@ number_of (bit ∷ rest) = bit * 2 ^ length rest + number_of rest
 
 -- the bytes that bits are, eight bits a byte
 unfoldable pub bytes_of : List ℕ → List ℕ
-bytes_of (a ∷ b ∷ c ∷ d ∷ e ∷ f ∷ g ∷ h ∷ rest) = number_of (a ∷ b ∷ c ∷ d ∷ e ∷ f ∷ g ∷ h ∷ []) ∷ bytes_of rest
+bytes_of (a ∷ b ∷ c ∷ d ∷ e ∷ f ∷ g ∷ h ∷ rest) =
+    number_of (a ∷ b ∷ c ∷ d ∷ e ∷ f ∷ g ∷ h ∷ []) ∷ bytes_of rest
 bytes_of rest = []
 
 -- a number fits its row

@@ -143,14 +143,18 @@ pub record IsLeast (depth : Depth) (code count bits : ℕ) : Type 0 where
 abbrev pub IsAtLeast : List ℕ → List ℕ → Type 0
 IsAtLeast lengths [] = Unit {0}
 IsAtLeast [] (other ∷ others) = ⊥
-IsAtLeast (length ∷ lengths) (other ∷ others) = (other < length) ⊎ ((length ≡ other) × IsAtLeast lengths others)
+IsAtLeast (length ∷ lengths) (other ∷ others) =
+    (other < length) ⊎ ((length ≡ other) × IsAtLeast lengths others)
 
 -- The codes that a writer chooses for a run of a code: they give it with the least bits, and of all that do their
 -- list of lengths is the greatest.
 pub record IsChosen (depth : Depth) (code count : ℕ) (codes : List Code) : Type 0 where
   pub given : Gives depth codes (replicate count code)
-  pub least : (others : List Code) → Gives depth others (replicate count code) → bits_in depth codes ≤ bits_in depth others
-  pub greatest : (others : List Code) → Gives depth others (replicate count code) → bits_in depth others ≡ bits_in depth codes → IsAtLeast (map (pixel_count depth) codes) (map (pixel_count depth) others)
+  pub least : (others : List Code) → Gives depth others (replicate count code)
+      → bits_in depth codes ≤ bits_in depth others
+  pub greatest : (others : List Code) → Gives depth others (replicate count code)
+      → bits_in depth others ≡ bits_in depth codes
+      → IsAtLeast (map (pixel_count depth) codes) (map (pixel_count depth) others)
 
 -- a run of pixels: how many, and their code
 pub record Span : Type 0 where
@@ -172,12 +176,14 @@ pub record AreMaximalRuns (spans : List Span) (pixels : List ℕ) : Type 0 where
 -- these codes are the chosen ones of each run, run after run
 abbrev pub AreChosen : Depth → List Span → List Code → Type 0
 AreChosen depth [] codes = codes ≡ []
-AreChosen depth (span ∷ spans) codes = (front : List Code) × (rest : List Code) × (codes ≡ front ++ rest) × IsChosen depth span.code span.count front × AreChosen depth spans rest
+AreChosen depth (span ∷ spans) codes = (front : List Code) × (rest : List Code) × (codes ≡ front ++ rest)
+    × IsChosen depth span.code span.count front × AreChosen depth spans rest
 
 -- the sum of the least bits of runs
 abbrev pub IsLeastSum : Depth → List Span → ℕ → Type 0
 IsLeastSum depth [] sum = sum ≡ 0
-IsLeastSum depth (span ∷ spans) sum = (here : ℕ) × (rest : ℕ) × IsLeast depth span.code span.count here × IsLeastSum depth spans rest × (sum ≡ here + rest)
+IsLeastSum depth (span ∷ spans) sum = (here : ℕ) × (rest : ℕ) × IsLeast depth span.code span.count here
+    × IsLeastSum depth spans rest × (sum ≡ here + rest)
 
 -- These bytes are the string that a writer gives a row of pixels: it spells the row, with the end and fill bits of 0
 -- to a whole byte; no other string that spells the row has fewer bits; and its codes are the chosen ones of the row's
@@ -189,7 +195,8 @@ pub record IsRowString (depth : Depth) (pixels bytes : List ℕ) : Type 0 where
   pub short : fill < 8
   pub text : bits_of bytes ≡ string_of depth codes ++ replicate fill 0
   pub each : All (λ byte. byte < 256) bytes
-  pub least : (others : List Code) → Gives depth others pixels → length (string_of depth codes) ≤ length (string_of depth others)
+  pub least : (others : List Code) → Gives depth others pixels
+      → length (string_of depth codes) ≤ length (string_of depth others)
   pub spans : List Span
   pub maximal : AreMaximalRuns spans pixels
   pub chosen : AreChosen depth spans codes
@@ -208,4 +215,5 @@ pub record IsReadAs (depth : Depth) (pixels bytes : List ℕ) : Type 0 where
   pub codes : List Code
   pub whole : IsString depth codes bytes
   pub given : Gives depth codes pixels
-  pub only : (others : List Code) (front rest more : List ℕ) → bytes ++ rest ≡ front ++ more → IsString depth others front → (front ≡ bytes) × Gives depth others pixels
+  pub only : (others : List Code) (front rest more : List ℕ) → bytes ++ rest ≡ front ++ more
+      → IsString depth others front → (front ≡ bytes) × Gives depth others pixels

@@ -8,18 +8,22 @@ use Rattle.stream_syntax.specs.declared.segment_fault.SegmentKind.TheVariants.{N
 use Rattle.stream_syntax.specs.declared.code_fault.CodeFault.{CodeFault}
 use Rattle.stream_syntax.specs.declared.pixel_run.Run.{Run}
 use Rattle.stream_syntax.specs.PixelBlocks.{IsBlock, IsBlockFault}
-use Rattle.stream_syntax.specs.Tests.{Test, byte_at, word_at, first_fault}
+use Rattle.stream_syntax.specs.Tests.{Test, test, byte_at, word_at, first_fault}
 use Rattle.sub_base.specs.declared.depth.Depth.TheVariants.{Eight}
 
 -- a test that gives a fault of that kind at that place
 abbrev pub refuse : Bool → ℕ → SegmentKind → Test SegmentFault
-refuse fails place kind = record { fails = fails; fault = record { place = place; kind = kind } }
+refuse fails place kind = test fails (record { place = place; kind = kind })
+
+-- how many bytes the segment that begins these bytes has: its head of six, and as many as segment_length says
+abbrev pub segment_size : List ℕ → ℕ
+segment_size bytes = 6 + word_at 4 bytes
 
 -- the head: it begins with the sync byte, and the segment has all of its bytes
 abbrev pub frame_tests : List ℕ → List (Test SegmentFault)
 frame_tests bytes =
     refuse (not (byte_at 0 bytes == SEGMENT_SYNC)) 0 NoSync
-    ∷ refuse (nat_lt (length bytes) 6 || nat_lt (length bytes) (6 + word_at 4 bytes)) (length bytes) Cut
+    ∷ refuse (nat_lt (length bytes) 6 || nat_lt (length bytes) (segment_size bytes)) (length bytes) Cut
     ∷ []
 
 -- a page: two bytes and six for each entry; its state is not 11
@@ -101,7 +105,8 @@ object_tests body =
     ∷ refuse (coding_method body == 2) 8 Progressive
     ∷ refuse (coding_method body == 3) 8 ReservedMethod
     ∷ refuse (nat_lt (length body) 7) 4 BadLength
-    ∷ refuse (not (length body == object_size body) && not (length body == object_size body + 1 && byte_at (object_size body) body == 0)) 4 BadLength
+    ∷ refuse (not (length body == object_size body)
+    && not (length body == object_size body + 1 && byte_at (object_size body) body == 0)) 4 BadLength
     ∷ []
 
 -- the blocks of an object
@@ -137,15 +142,21 @@ pub record AreBlocks (top bottom : List ℕ) : Type 0 where
 pub data IsBlocksFault : List ℕ → List ℕ → SegmentFault → Type 0 where
   in_top : {top bottom : List ℕ} {fault : SegmentFault} (code : CodeFault) → IsBlockFault Eight top code
       → fault ≡ record { place = 13 + code.place; kind = Code code } → IsBlocksFault top bottom fault
-  in_bottom : {top bottom : List ℕ} {fault : SegmentFault} (runs : List Run) (code : CodeFault) → IsBlock Eight top runs → IsBlockFault Eight bottom code
+  in_bottom : {top bottom : List ℕ} {fault : SegmentFault} (runs : List Run) (code : CodeFault)
+      → IsBlock Eight top runs
+      → IsBlockFault Eight bottom code
       → fault ≡ record { place = 13 + length top + code.place; kind = Code code } → IsBlocksFault top bottom fault
 
 -- the fault of a body: that of the first test that fails, or, where an object passes them, that of its blocks
 pub data IsBodyFault : ℕ → List ℕ → SegmentFault → Type 0 where
-  in_tests : {kind : ℕ} {body : List ℕ} {fault : SegmentFault} → first_fault (body_tests kind body) ≡ Some fault → IsBodyFault kind body fault
-  in_blocks : {kind : ℕ} {body : List ℕ} {fault : SegmentFault} → first_fault (body_tests kind body) ≡ None → kind ≡ OBJECT_DATA → IsBlocksFault (top_in body) (bottom_in body) fault → IsBodyFault kind body fault
+  in_tests : {kind : ℕ} {body : List ℕ} {fault : SegmentFault} → first_fault (body_tests kind body) ≡ Some fault
+      → IsBodyFault kind body fault
+  in_blocks : {kind : ℕ} {body : List ℕ} {fault : SegmentFault} → first_fault (body_tests kind body) ≡ None
+      → kind ≡ OBJECT_DATA → IsBlocksFault (top_in body) (bottom_in body) fault → IsBodyFault kind body fault
 
 -- the fault of the segment that begins the bytes: that of its head, or, where that has none, that of its body
 pub data IsSegmentFault : List ℕ → SegmentFault → Type 0 where
-  in_head : {bytes : List ℕ} {fault : SegmentFault} → first_fault (frame_tests bytes) ≡ Some fault → IsSegmentFault bytes fault
-  in_body : {bytes : List ℕ} {fault : SegmentFault} → first_fault (frame_tests bytes) ≡ None → IsBodyFault (byte_at 1 bytes) (body_of bytes) fault → IsSegmentFault bytes fault
+  in_head : {bytes : List ℕ} {fault : SegmentFault} → first_fault (frame_tests bytes) ≡ Some fault
+      → IsSegmentFault bytes fault
+  in_body : {bytes : List ℕ} {fault : SegmentFault} → first_fault (frame_tests bytes) ≡ None
+      → IsBodyFault (byte_at 1 bytes) (body_of bytes) fault → IsSegmentFault bytes fault

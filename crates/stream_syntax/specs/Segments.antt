@@ -9,7 +9,7 @@ use Rattle.sub_base.specs.declared.depth.Depth.TheVariants.{Two, Four, Eight}
 use Rattle.stream_syntax.specs.declared.wire.TheConstants.{SEGMENT_SYNC, CLUT_DEFINITION, DISPLAY_DEFINITION, END_OF_DISPLAY_SET, OBJECT_DATA, PAGE_COMPOSITION, REGION_COMPOSITION}
 use Rattle.stream_syntax.specs.Fields.{Field, number, reserved, HasFields, FitsFields, written, bytes_of}
 use Rattle.stream_syntax.specs.PixelCodes.{bits_of}
-use Rattle.stream_syntax.specs.SegmentTests.{AreBlocks}
+use Rattle.stream_syntax.specs.SegmentTests.{AreBlocks, segment_size}
 use Rattle.stream_syntax.specs.Tests.{byte_at, word_at}
 use Rattle.stream_syntax.specs.declared.clut.ClutEntry.{ClutEntry}
 use Rattle.stream_syntax.specs.declared.display.Window.{Window}
@@ -102,6 +102,12 @@ abbrev pub state_number : State → ℕ
 state_number Normal = 0
 state_number Acquisition = 1
 state_number ModeChange = 2
+
+-- a receiver can begin at a set of this state (5.1.1): at an acquisition point or a mode change, and at no normal set
+abbrev pub is_entry_state : State → Bool
+is_entry_state Normal = false
+is_entry_state Acquisition = true
+is_entry_state ModeChange = true
 
 abbrev pub page_entry_fields : PageEntry → List Field
 page_entry_fields entry =
@@ -196,7 +202,15 @@ colour_of (full y cr cb t) = shown_of (record { y = y; cr = cr; cb = cb; t = t }
 colour_of (short y cr cb t) = shown_of (record { y = y * 4; cr = cr * 16; cb = cb * 16; t = t * 64 })
 
 abbrev pub entry_of : CodedEntry → ClutEntry
-entry_of coded = record { entry = coded.entry; two = coded.two; four = coded.four; eight = coded.eight; colour = colour_of coded.coded }
+entry_of coded =
+    record {
+      entry = coded.entry;
+      two = coded.two;
+      four = coded.four;
+      eight = coded.eight;
+      colour = colour_of
+          coded.coded;
+    }
 
 -- object data segment (7.2.5), with coding method 0, and with or without the byte that makes its length even
 abbrev pub padding : Bool → List Field
@@ -239,9 +253,22 @@ display_fields further display =
 
 -- ---- when bytes are a segment with a value
 
+-- the segment types of a display set: page, region, CLUT, object, display, and end of display set
+abbrev pub set_kinds : List ℕ
+set_kinds =
+    PAGE_COMPOSITION
+    ∷ REGION_COMPOSITION
+    ∷ CLUT_DEFINITION
+    ∷ OBJECT_DATA
+    ∷ DISPLAY_DEFINITION
+    ∷ END_OF_DISPLAY_SET
+    ∷ []
+
 -- a segment type (7.2) of none of these kinds
 abbrev pub IsPassedOver : ℕ → Type 0
-IsPassedOver kind = (kind < 256) × (kind ≢ PAGE_COMPOSITION) × (kind ≢ REGION_COMPOSITION) × (kind ≢ CLUT_DEFINITION) × (kind ≢ OBJECT_DATA) × (kind ≢ DISPLAY_DEFINITION) × (kind ≢ END_OF_DISPLAY_SET)
+IsPassedOver kind =
+    (kind < 256) × (kind ≢ PAGE_COMPOSITION) × (kind ≢ REGION_COMPOSITION) × (kind ≢ CLUT_DEFINITION)
+    × (kind ≢ OBJECT_DATA) × (kind ≢ DISPLAY_DEFINITION) × (kind ≢ END_OF_DISPLAY_SET)
 
 -- the segment types that have the value
 abbrev pub IsKindOf : SegmentValue → ℕ → Type 0
@@ -257,11 +284,14 @@ IsKindOf passed_over kind = IsPassedOver kind
 -- compatibility, the coding of colours and further bytes, is free
 abbrev pub IsBody : SegmentValue → ℕ → List Field → Type 0
 IsBody (of_page value) kind body = (kind ≡ PAGE_COMPOSITION) × (body ≡ page_fields value)
-IsBody (of_region value) kind body = (kind ≡ REGION_COMPOSITION) × (compatibility : ℕ) × (body ≡ region_fields compatibility value)
+IsBody (of_region value) kind body =
+    (kind ≡ REGION_COMPOSITION) × (compatibility : ℕ) × (body ≡ region_fields compatibility value)
 IsBody (of_clut value) kind body =
-    (kind ≡ CLUT_DEFINITION) × (coded : List CodedEntry) × (map entry_of coded ≡ value.entries) × (body ≡ clut_fields value.clut value.version coded)
+    (kind ≡ CLUT_DEFINITION) × (coded : List CodedEntry) × (map entry_of coded ≡ value.entries)
+    × (body ≡ clut_fields value.clut value.version coded)
 IsBody (of_object value) kind body = (kind ≡ OBJECT_DATA) × (padded : Bool) × (body ≡ object_fields padded value)
-IsBody (of_display value) kind body = (kind ≡ DISPLAY_DEFINITION) × (further : ℕ) × (body ≡ display_fields further value)
+IsBody (of_display value) kind body =
+    (kind ≡ DISPLAY_DEFINITION) × (further : ℕ) × (body ≡ display_fields further value)
 IsBody end_of_set kind body = (kind ≡ END_OF_DISPLAY_SET) × (further : ℕ) × (body ≡ free_bytes further)
 IsBody passed_over kind body = IsPassedOver kind × (further : ℕ) × (body ≡ free_bytes further)
 
@@ -269,7 +299,8 @@ IsBody passed_over kind body = IsPassedOver kind × (further : ℕ) × (body ≡
 abbrev pub IsWindowOf : ℕ → ℕ → Option Window → Type 0
 IsWindowOf width height None = Unit {0}
 IsWindowOf width height (Some window) =
-    (window.left ≤ window.right) × (window.right < width) × (window.top ≤ window.bottom) × (window.bottom < height)
+    (window.left ≤ window.right) × (window.right < width) × (window.top ≤ window.bottom)
+    × (window.bottom < height)
 
 -- what is asked of a value beyond its table: sides are at least 1, the blocks of an object are in their grammar, and a
 -- window lies inside the display
@@ -278,7 +309,8 @@ IsRight (of_page value) = Unit {0}
 IsRight (of_region value) = (1 ≤ value.head.width) × (1 ≤ value.head.height)
 IsRight (of_clut value) = Unit {0}
 IsRight (of_object value) = AreBlocks value.top value.bottom
-IsRight (of_display value) = (1 ≤ value.width) × (1 ≤ value.height) × IsWindowOf value.width value.height value.window
+IsRight (of_display value) =
+    (1 ≤ value.width) × (1 ≤ value.height) × IsWindowOf value.width value.height value.window
 IsRight end_of_set = Unit {0}
 IsRight passed_over = Unit {0}
 
@@ -308,7 +340,14 @@ segment_kind passed_over = 0xFF
 -- each colour in the full range
 abbrev pub in_full : ClutEntry → CodedEntry
 in_full entry =
-    record { entry = entry.entry; two = entry.two; four = entry.four; eight = entry.eight; coded = full entry.colour.y entry.colour.cr entry.colour.cb entry.colour.t }
+    record {
+      entry = entry.entry;
+      two = entry.two;
+      four = entry.four;
+      eight = entry.eight;
+      coded = full entry.colour.y
+          entry.colour.cr entry.colour.cb entry.colour.t;
+    }
 
 -- an object has a byte 00 at its end exactly where its head, its own fixed bytes and its blocks are an odd sum
 abbrev pub is_odd : Object → Bool
@@ -336,16 +375,16 @@ spelled page value = bytes_of (written (written_fields page value))
 pub record IsHeadedBy (kind page : ℕ) (bytes : List ℕ) : Type 0 where
   pub kind_is : byte_at 1 bytes ≡ kind
   pub page_is : word_at 2 bytes ≡ page
-  pub size_is : 6 + word_at 4 bytes ≡ length bytes
+  pub size_is : segment_size bytes ≡ length bytes
 
 -- the colours of a CLUT are as they are shown
-abbrev pub AreShown : SegmentValue → Type 0
-AreShown (of_clut value) = All (λ entry. shown_of entry.colour ≡ entry.colour) value.entries
-AreShown value = Unit {0}
+abbrev pub HasShownColours : SegmentValue → Type 0
+HasShownColours (of_clut value) = All (λ entry. shown_of entry.colour ≡ entry.colour) value.entries
+HasShownColours value = Unit {0}
 
 -- what can be written: each number fits its row, the length of the body among them, the value is right, and its
 -- colours are as they are shown
 pub record IsWritable (page : ℕ) (value : SegmentValue) : Type 0 where
   pub fits : FitsFields (written_fields page value)
   pub right : IsRight value
-  pub shown : AreShown value
+  pub shown : HasShownColours value

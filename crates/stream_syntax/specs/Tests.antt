@@ -14,7 +14,11 @@ pub record Test (Fault : Type 0) : Type 0 where
   pub fails : Bool
   pub fault : Fault
 
+-- a test with the fault that it gives
+abbrev pub test : {Fault : Type 0} → Bool → Fault → Test Fault
+test fails fault = record { fails = fails; fault = fault }
+
 -- the fault of the first test that fails
 abbrev pub first_fault : {Fault : Type 0} → List (Test Fault) → Option Fault
 first_fault [] = None
-first_fault (test ∷ tests) = if test.fails then Some test.fault else first_fault tests
+first_fault (first ∷ tests) = if first.fails then Some first.fault else first_fault tests

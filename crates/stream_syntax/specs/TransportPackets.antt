@@ -1,10 +1,10 @@
 -- Transport packets (ISO/IEC 13818-1, 2.4.3.2 to 2.4.3.5). A packet is a list of 188 bytes.
-use Rattle.std.specs.Prelude.{ℕ, zero, suc, ◌+◌, ◌-◌, ◌*◌, ◌/◌, ◌%◌, Bool, false, ◌==◌, ◌||◌, ◌&&◌, not, nat_lt, if◌then◌else◌, List, [], ◌∷◌, ◌++◌, length, drop, replicate, slice_index, find, Option}
-use Rattle.std.specs.Option.{option_map}
+use Rattle.std.specs.Prelude.{ℕ, zero, suc, ◌+◌, ◌-◌, ◌*◌, ◌/◌, ◌%◌, Bool, false, ◌==◌, ◌||◌, ◌&&◌, not, nat_lt, if◌then◌else◌, List, [], ◌∷◌, ◌++◌, length, drop, replicate, slice_index, Option}
 use Rattle.stream_syntax.specs.declared.wire.TheConstants.{NULL_PID, PAYLOAD_LENGTH, SYNC_BYTE}
 use Rattle.stream_syntax.specs.declared.transport.PacketFault.{PacketFault}
 use Rattle.stream_syntax.specs.declared.transport.PacketFault.TheVariants.{NoSync, ReservedControl, BadAdaptation, Scrambled}
-use Rattle.stream_syntax.specs.BitFields.{Field, field, packed}
+use Rattle.stream_syntax.specs.BitFields.{BitField, field, packed}
+use Rattle.stream_syntax.specs.Tests.{Test, test, first_fault}
 
 -- ---- what a packet says
 
@@ -50,25 +50,25 @@ payload_of packet = if control_of packet == 3 then drop (5 + field_length_of pac
 -- an adaptation field that is longer than the packet, or leaves no byte for a payload that the control announces
 abbrev pub has_bad_field : List ℕ → Bool
 has_bad_field packet =
-    (control_of packet == 2 && nat_lt 183 (field_length_of packet)) || (control_of packet == 3 && nat_lt 182 (field_length_of packet))
+    (control_of packet == 2 && nat_lt 183 (field_length_of packet))
+    || (control_of packet == 3 && nat_lt 182 (field_length_of packet))
 
 -- packets of another PID, and packets that are marked as damaged, are not looked at further
 abbrev pub is_looked_at : ℕ → List ℕ → Bool
 is_looked_at pid packet = (pid_of packet == pid) && not (has_error_flag packet)
 
--- the tests of a packet, in order: whether it fails, and the fault that says so
-abbrev pub packet_tests : ℕ → List ℕ → List (Bool × PacketFault)
+-- the tests of a packet, in order
+abbrev pub packet_tests : ℕ → List ℕ → List (Test PacketFault)
 packet_tests pid packet =
-    (not (has_sync packet), NoSync)
-    ∷ (is_looked_at pid packet && not (scrambling_of packet == 0), Scrambled)
-    ∷ (is_looked_at pid packet && (control_of packet == 0), ReservedControl)
-    ∷ (is_looked_at pid packet && has_bad_field packet, BadAdaptation)
+    test (not (has_sync packet)) NoSync
+    ∷ test (is_looked_at pid packet && not (scrambling_of packet == 0)) Scrambled
+    ∷ test (is_looked_at pid packet && (control_of packet == 0)) ReservedControl
+    ∷ test (is_looked_at pid packet && has_bad_field packet) BadAdaptation
     ∷ []
 
 -- the fault of the first test that fails
 abbrev pub packet_fault : ℕ → List ℕ → Option PacketFault
-packet_fault pid packet =
-    option_map (λ (test : Bool × PacketFault). test.1) (find (λ (test : Bool × PacketFault). test.0) (packet_tests pid packet))
+packet_fault pid packet = first_fault (packet_tests pid packet)
 
 -- ---- what a writer writes
 
@@ -82,7 +82,7 @@ pub record PacketHead : Type 0 where
   pub control : ℕ
   pub counter : ℕ
 
-abbrev pub head_groups : PacketHead → List (List Field)
+abbrev pub head_groups : PacketHead → List (List BitField)
 head_groups head =
     (field 8 SYNC_BYTE ∷ [])
     ∷ (field 1 head.error_flag ∷ field 1 head.start_flag ∷ field 1 head.priority ∷ field 13 head.pid ∷ [])
@@ -112,6 +112,10 @@ abbrev pub written_packet : ℕ → Bool → ℕ → List ℕ → List ℕ
 written_packet pid start counter piece =
     packed (head_groups (written_head pid start (if length piece == PAYLOAD_LENGTH then 1 else 3) counter))
     ++ (adaptation_field (PAYLOAD_LENGTH - length piece) ++ piece)
+
+-- how many packets a unit of that many bytes takes: the payload of each but the last is full
+abbrev pub packet_count : ℕ → ℕ
+packet_count size = (size + (PAYLOAD_LENGTH - 1)) / PAYLOAD_LENGTH
 
 -- the packet that a multiplex has where nothing is to be sent
 abbrev pub null_packet : List ℕ

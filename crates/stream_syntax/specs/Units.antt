@@ -1,12 +1,12 @@
--- The units of a PID in a list of transport packets, and what becomes of each packet (ISO/IEC 13818-1, 2.4.3). The list has
--- no packet that cannot be taken. Units are looked for in the whole list.
-use Rattle.std.specs.Prelude.{ℕ, ◌+◌, ◌%◌, Bool, true, false, ◌==◌, ◌||◌, ◌&&◌, not, nat_lt, if◌then◌else◌, List, [], ◌∷◌, ◌++◌, length, take, drop, reverse, find, Option, Some, None}
+-- The units of a PID in a list of transport packets, and what becomes of each packet (ISO/IEC 13818-1, 2.4.3). The list
+-- has no packet that cannot be taken. Units are looked for in the whole list.
+use Rattle.std.specs.Prelude.{ℕ, ◌+◌, ◌%◌, Bool, true, false, ◌==◌, ◌||◌, ◌&&◌, not, nat_lt, if◌then◌else◌, List, [], ◌∷◌, ◌++◌, length, take, reverse, find, Option, Some, None}
 use Rattle.std.specs.Option.{option_map}
 use Rattle.std.specs.List.{list_any, list_all, flat_map, filter_map}
-use Rattle.byteorder.specs.Endian.{big_number}
 use Rattle.sub_base.specs.Lists.{prefixes}
 use Rattle.stream_syntax.specs.declared.transport.Event.{Event}
 use Rattle.stream_syntax.specs.declared.transport.Event.TheVariants as event
+use Rattle.stream_syntax.specs.Pes.{has_prefix, length_in, need_of}
 use Rattle.stream_syntax.specs.TransportPackets.{has_error_flag, has_start_flag, has_payload, pid_of, counter_of, payload_of}
 
 -- ---- counters
@@ -34,20 +34,20 @@ succession (Some last) found =
 -- ---- the parts of units
 
 -- a packet's part in units: it begins one, adds to one, or breaks one off
-pub data Part : Type 0 where
-  Begins : List ℕ → Part
-  Adds : List ℕ → Part
-  Breaks : Part
+pub data UnitPart : Type 0 where
+  Begins : List ℕ → UnitPart
+  Adds : List ℕ → UnitPart
+  Breaks : UnitPart
 
 -- behind missing packets a unit can begin, and none goes on
-abbrev pub payload_part : Succession → Bool → List ℕ → Option Part
+abbrev pub payload_part : Succession → Bool → List ℕ → Option UnitPart
 payload_part Again start payload = None
 payload_part Next start payload = Some (if start then Begins payload else Adds payload)
 payload_part (Missing expected found) start payload = Some (if start then Begins payload else Breaks)
 
--- the part of a packet by the counter of the payload packet before it. Packets of another PID, packets without payload and
--- doubles have no part; a damaged packet breaks a unit off
-unfoldable pub part_after : ℕ → Option ℕ → List ℕ → Option Part
+-- the part of a packet by the counter of the payload packet before it. Packets of another PID, packets without payload
+-- and doubles have no part; a damaged packet breaks a unit off
+unfoldable pub part_after : ℕ → Option ℕ → List ℕ → Option UnitPart
 part_after pid last packet =
     if not (pid_of packet == pid) then None
     else if has_error_flag packet then Some Breaks
@@ -55,29 +55,30 @@ part_after pid last packet =
     else payload_part (succession last (counter_of packet)) (has_start_flag packet) (payload_of packet)
 
 -- the part of a packet by the packets before it
-abbrev pub part_of : ℕ → List (List ℕ) → List ℕ → Option Part
+abbrev pub part_of : ℕ → List (List ℕ) → List ℕ → Option UnitPart
 part_of pid before packet = part_after pid (last_counter pid before) packet
 
 -- what f gives at each packet of a list, from the packets before it and the packet
-abbrev pub each_after : {X : Type 0} → (List (List ℕ) → List ℕ → X) → List (List ℕ) → List (List ℕ) → List X
+abbrev pub each_after : {X : Type 0} → (List (List ℕ) → List ℕ → X) → List (List ℕ) → List (List ℕ)
+    → List X
 each_after f before [] = []
 each_after f before (packet ∷ packets) = f before packet ∷ each_after f (before ++ packet ∷ []) packets
 
 -- the parts that the packets of a list have, in order
-unfoldable pub parts_of : ℕ → List (List ℕ) → List Part
+unfoldable pub parts_of : ℕ → List (List ℕ) → List UnitPart
 parts_of pid packets = filter_map (λ part. part) (each_after (part_of pid) [] packets)
 
-abbrev pub begins_unit : Part → Bool
+abbrev pub begins_unit : UnitPart → Bool
 begins_unit (Begins payload) = true
 begins_unit (Adds payload) = false
 begins_unit Breaks = false
 
-abbrev pub breaks_unit : Part → Bool
+abbrev pub breaks_unit : UnitPart → Bool
 breaks_unit (Begins payload) = false
 breaks_unit (Adds payload) = false
 breaks_unit Breaks = true
 
-abbrev pub bytes_in : Part → List ℕ
+abbrev pub bytes_in : UnitPart → List ℕ
 bytes_in (Begins payload) = payload
 bytes_in (Adds payload) = payload
 bytes_in Breaks = []
@@ -90,13 +91,9 @@ pub data Fate : Type 0 where
   Whole : List ℕ → Fate
   Over : ℕ → Fate
 
--- PES_packet_length and the six bytes before what it counts
-abbrev pub need_of : List ℕ → ℕ
-need_of bytes = 6 + big_number 2 (drop 4 bytes)
-
 -- another beginning than the start code prefix, or a length of 0, which leaves the end open
 abbrev pub is_unbounded : List ℕ → Bool
-is_unbounded bytes = not (big_number 3 bytes == 1) || (big_number 2 (drop 4 bytes) == 0)
+is_unbounded bytes = not (has_prefix bytes) || (length_in bytes == 0)
 
 unfoldable pub fate_of : ℕ → List ℕ → Fate
 fate_of size bytes =
@@ -112,22 +109,24 @@ is_waiting (Whole bytes) = false
 is_waiting (Over need) = false
 
 -- the parts from the last one on that begins a unit
-abbrev pub last_unit : List Part → List Part
+abbrev pub last_unit : List UnitPart → List UnitPart
 last_unit [] = []
 last_unit (part ∷ parts) =
     if list_any begins_unit parts then last_unit parts else if begins_unit part then part ∷ parts else []
 
-abbrev pub gathered : List Part → List ℕ
+abbrev pub gathered : List UnitPart → List ℕ
 gathered parts = flat_map bytes_in parts
 
 -- the unit that these parts are is in hand: nothing breaks it off, and with no part of it was it handed out or dropped
-unfoldable pub stays_in_hand : ℕ → List Part → Bool
+unfoldable pub stays_in_hand : ℕ → List UnitPart → Bool
 stays_in_hand size unit =
-    list_all (λ part. not (breaks_unit part)) unit && list_all (λ front. is_waiting (fate_of size (gathered front))) (prefixes unit)
+    list_all (λ part. not (breaks_unit part)) unit
+    && list_all (λ front. is_waiting (fate_of size (gathered front))) (prefixes unit)
 
-abbrev pub unit_in_hand : ℕ → List Part → Option (List ℕ)
+abbrev pub unit_in_hand : ℕ → List UnitPart → Option (List ℕ)
 unit_in_hand size [] = None
-unit_in_hand size (part ∷ parts) = if stays_in_hand size (part ∷ parts) then Some (gathered (part ∷ parts)) else None
+unit_in_hand size (part ∷ parts) =
+    if stays_in_hand size (part ∷ parts) then Some (gathered (part ∷ parts)) else None
 
 -- the bytes of the unit in hand after the packets of a list
 unfoldable pub hand_after : ℕ → ℕ → List (List ℕ) → Option (List ℕ)
@@ -136,7 +135,7 @@ hand_after pid size packets = unit_in_hand size (last_unit (parts_of pid packets
 -- ---- what is answered at a packet
 
 -- the bytes of the unit to which a packet belongs, up to this packet, where a unit is there for it
-abbrev pub joined : Option (List ℕ) → Option Part → Option (List ℕ)
+abbrev pub joined : Option (List ℕ) → Option UnitPart → Option (List ℕ)
 joined hand None = None
 joined hand (Some (Begins payload)) = Some payload
 joined hand (Some (Adds payload)) = option_map (λ bytes. bytes ++ payload) hand
@@ -149,7 +148,7 @@ handed_out (Some (Whole bytes)) = Some bytes
 handed_out (Some (Over need)) = None
 
 -- the unit that a packet with this part ends, as it is handed out
-abbrev pub unit_after : ℕ → Option (List ℕ) → Option Part → Option (List ℕ)
+abbrev pub unit_after : ℕ → Option (List ℕ) → Option UnitPart → Option (List ℕ)
 unit_after size hand part = handed_out (option_map (fate_of size) (joined hand part))
 
 -- the unit that a packet ends, by the packets before it
@@ -191,7 +190,8 @@ event_at pid size before packet = event_after pid size (last_counter pid before)
 
 -- the event and the unit at each packet of a list
 abbrev pub events_of : ℕ → ℕ → List (List ℕ) → List (Event × Option (List ℕ))
-events_of pid size packets = each_after (λ before packet. (event_at pid size before packet, unit_at pid size before packet)) [] packets
+events_of pid size packets =
+    each_after (λ before packet. (event_at pid size before packet, unit_at pid size before packet)) [] packets
 
 -- the events that mean a loss
 abbrev pub is_loss : Event → Bool

@@ -1,7 +1,7 @@
 use thiserror::Error;
 
-/// Why a sub-block of a pixel data block is not in the grammar (EN 300 743, pixel-data sub-block). The kinds stand
-/// in the order in which they are tested.
+/// Why a sub-block of a pixel data block is not in the grammar (EN 300 743, pixel-data sub-block).
+/// The kinds stand in the order in which they are tested.
 #[derive(Clone, Copy, Debug, PartialEq, Eq, Error)]
 pub enum CodeKind {
     /// The type byte names no sub-block.
@@ -18,8 +18,8 @@ pub enum CodeKind {
     CutTable,
 }
 
-/// The first sub-block of a pixel data block that is not in the grammar: the place of its type byte, counted from
-/// the block's first byte, and why.
+/// The first sub-block of a pixel data block that is not in the grammar: the place of its type
+/// byte, counted from the block's first byte, and why.
 #[derive(Clone, Copy, Debug, PartialEq, Eq, Error)]
 #[error("{kind} at byte {place}")]
 pub struct CodeFault {

@@ -1,5 +1,5 @@
-/// The part of the display in which regions are placed: its first and last column and its first and last row, the
-/// ends included (EN 300 743, display definition segment, display_window).
+/// The part of the display in which regions are placed: its first and last column and its first and
+/// last row, the ends included (EN 300 743, display definition segment, display_window).
 #[derive(Clone, Copy, Debug, PartialEq, Eq)]
 pub struct Window {
     /// The first column, in pixels of the display.

@@ -1,5 +1,6 @@
-//! What EN 300 743 and ISO/IEC 13818-1 lay down of a subtitle stream: pixel codes and pixel data blocks, segments,
-//! PES packets, transport packets, and the units and losses of a list of packets. The definitions stand in
+//! What EN 300 743 and ISO/IEC 13818-1 lay down of a subtitle stream: pixel codes and pixel data
+//! blocks, segments, PES packets, transport packets, and the units and losses of a list of packets.
+//! The definitions stand in
 //! `specs/`, over numbers and lists; readers and writers above cite them.
 #![tactic(auto)]
 
@@ -33,7 +34,10 @@ pub use region::{Listing, RegionHead};
 pub use segment_fault::{SegmentFault, SegmentKind};
 pub use transport::{Event, PacketFault};
 pub use wire::{
-    CLUT_DEFINITION, DATA_IDENTIFIER, DISPLAY_DEFINITION, END_OF_DISPLAY_SET, END_OF_FIELD,
-    NULL_PID, OBJECT_DATA, PACKET_LENGTH, PAGE_COMPOSITION, PAYLOAD_LENGTH, PRIVATE_STREAM_1,
-    REGION_COMPOSITION, SEGMENT_SYNC, SYNC_BYTE, TIME_ROUND,
+    CLUT_DEFINITION, DATA_IDENTIFIER, DEFAULT_DISPLAY_HEIGHT, DEFAULT_DISPLAY_WIDTH,
+    DISPLAY_DEFINITION, EIGHT_BIT_STRING, END_OF_DISPLAY_SET, END_OF_FIELD, END_OF_LINE,
+    FOUR_BIT_STRING, FOUR_TO_EIGHT_TABLE, HALF_ROUND, NULL_PID, OBJECT_DATA, PACKET_LENGTH,
+    PAGE_COMPOSITION, PAYLOAD_LENGTH, PRIVATE_STREAM_1, REGION_COMPOSITION, SEGMENT_SYNC,
+    SUBTITLE_STREAM, SYNC_BYTE, TICK_LIMIT, TIME_ROUND, TWO_BIT_STRING, TWO_TO_EIGHT_TABLE,
+    TWO_TO_FOUR_TABLE,
 };

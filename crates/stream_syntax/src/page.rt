@@ -1,4 +1,5 @@
-/// The page state of a display set: whether a receiver can begin at it (EN 300 743, page composition segment, page_state).
+/// The page state of a display set: whether a receiver can begin at it (EN 300 743, page
+/// composition segment, page_state).
 #[derive(Clone, Copy, Debug, PartialEq, Eq)]
 pub enum State {
     /// The set changes the page that is shown.

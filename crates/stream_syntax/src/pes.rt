@@ -3,7 +3,8 @@ use thiserror::Error;
 /// Why bytes are no PES packet of a subtitle stream (ISO/IEC 13818-1, 2.4.3.6, and EN 300 743, 7).
 #[derive(Clone, Copy, Debug, PartialEq, Eq, Error)]
 pub enum PesFault {
-    /// The bytes do not begin with the start code prefix, or are too few to hold stream id and length.
+    /// The bytes do not begin with the start code prefix, or are too few to hold stream id and
+    /// length.
     #[error("no start code prefix")]
     NoPrefix,
     /// The stream id, which is here, is not that of private stream 1.
@@ -21,7 +22,8 @@ pub enum PesFault {
     /// A marker bit of the presentation time is 0.
     #[error("a marker bit of the presentation time is 0")]
     BadMarker,
-    /// The data field begins with this byte, or is of another subtitle stream id; it has no subtitle segments.
+    /// The data field begins with this byte, or is of another subtitle stream id; it has no
+    /// subtitle segments.
     #[error("the data field begins with {0} and has no subtitle segments")]
     OtherField(u8),
 }

@@ -12,13 +12,14 @@ pub struct Listing {
     pub y: u16,
 }
 
-/// A region without its objects (EN 300 743, region composition segment): its sides in pixels, the bits of its
-/// pixel codes, its CLUT, and the codes with which it is filled at each depth.
+/// A region without its objects (EN 300 743, region composition segment): its sides in pixels, the
+/// bits of its pixel codes, its CLUT, and the codes with which it is filled at each depth.
 #[derive(Clone, Copy, Debug, PartialEq, Eq)]
 pub struct RegionHead {
     /// The id of the region.
     pub region: u8,
-    /// The version, 0 to 15: a segment of the same version as the last one of its id changes nothing.
+    /// The version, 0 to 15: a segment of the same version as the last one of its id changes
+    /// nothing.
     pub version: u8,
     /// Whether the region is filled with the code of its depth before its objects are drawn.
     pub fill: bool,

@@ -31,7 +31,8 @@ pub enum SegmentKind {
     /// The coding method has the reserved value 3.
     #[error("a reserved coding method")]
     ReservedMethod,
-    /// A pixel data block of the object is not in the grammar: its own fault, whose place counts in that block.
+    /// A pixel data block of the object is not in the grammar: its own fault, whose place counts in
+    /// that block.
     #[error("{0}")]
     Code(CodeFault),
     /// The window is empty, or passes the display.

@@ -1,3 +1,4 @@
+pub mod ListLaws
 pub mod NumberLaws
 pub mod PictureLaws
 pub mod TransferSteps

@@ -28,7 +28,8 @@ bit_of weight entry = entry / weight % 2
 
 -- each of the three is at that strength where its bit of the lowest three is set
 abbrev pub primaries_of : ℕ → ℕ → Sixths
-primaries_of strength entry = record { red = strength * bit_of 1 entry; green = strength * bit_of 2 entry; blue = strength * bit_of 4 entry }
+primaries_of strength entry =
+    record { red = strength * bit_of 1 entry; green = strength * bit_of 2 entry; blue = strength * bit_of 4 entry }
 
 -- each of the three has a low and a high bit, of the lowest three and of the next but one three, with these strengths
 abbrev pub graded_of : ℕ → ℕ → ℕ → ℕ → Sixths
@@ -54,15 +55,19 @@ default_of_four entry =
     else if nat_lt entry 8 then colour_of_mix (primaries_of 6 entry) 0
     else colour_of_mix (primaries_of 3 entry) 0
 
--- where the bit of weight 128 is 0: the strengths 0, 2, 4, 6, opaque, or at 50% transparency where that of weight 8 is 1
+-- where the bit of weight 128 is 0: the strengths 0, 2, 4, 6, opaque, or at 50% transparency where that of weight 8 is
+-- 1
 abbrev pub full_or_half_of : ℕ → Colour
-full_or_half_of entry = if bit_of 8 entry == 0 then colour_of_mix (graded_of 0 2 4 entry) 0 else colour_of_mix (graded_of 0 2 4 entry) 128
+full_or_half_of entry =
+    if bit_of 8 entry == 0 then colour_of_mix (graded_of 0 2 4 entry) 0 else colour_of_mix (graded_of 0 2 4 entry) 128
 
 -- where the bit of weight 128 is 1: the strengths 3 to 6, or 0 to 3 where that of weight 8 is 1
 abbrev pub light_or_dark_of : ℕ → Colour
-light_or_dark_of entry = if bit_of 8 entry == 0 then colour_of_mix (graded_of 3 1 2 entry) 0 else colour_of_mix (graded_of 0 1 2 entry) 0
+light_or_dark_of entry =
+    if bit_of 8 entry == 0 then colour_of_mix (graded_of 3 1 2 entry) 0 else colour_of_mix (graded_of 0 1 2 entry) 0
 
--- entry 0 is clear; 1 to 7 the primaries and their mixtures at 75% transparency; the others by the bits of weight 128 and 8
+-- entry 0 is clear; 1 to 7 the primaries and their mixtures at 75% transparency; the others by the bits of weight 128
+-- and 8
 abbrev pub default_of_eight : ℕ → Colour
 default_of_eight entry =
     if entry == 0 then clear

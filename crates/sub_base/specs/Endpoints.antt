@@ -3,8 +3,8 @@ use Rattle.std.specs.Prelude.{◌≡◌, ℕ, ◌≤◌, List, length, take, Opt
 use Rattle.std.specs.Io.KnownBytes.{Appends, Consumes, Keeps, IsAtEnd}
 use Rattle.sub_base.specs.Counts.{HasRisen, counted}
 
--- what is seen of a source: what is left in it, where it tells that, the count of the bytes that it gave, and that of its
--- faults
+-- what is seen of a source: what is left in it, where it tells that, the count of the bytes that it gave, and that of
+-- its faults
 pub record Supplied : Type 0 where
   pub left : Option (List ℕ)
   pub given : ℕ

@@ -17,7 +17,8 @@ has_leading_zero text = nat_lt 1 (length text) && (slice_index text 0 == 48)
 
 -- one to that many digits, the first of several not 0
 abbrev pub is_number : ℕ → List ℕ → Bool
-is_number most text = nat_lt 0 (length text) && nat_le (length text) most && list_all is_digit text && not (has_leading_zero text)
+is_number most text =
+    nat_lt 0 (length text) && nat_le (length text) most && list_all is_digit text && not (has_leading_zero text)
 
 -- the number that the text is, of at most that many digits
 abbrev pub number_of : ℕ → List ℕ → Option ℕ

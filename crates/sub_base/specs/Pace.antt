@@ -1,5 +1,5 @@
 -- How packets are sent to a receiver of a profile: one at most at each step.
-use Rattle.std.specs.Prelude.{◌≡◌, ℕ, ◌+◌, ◌*◌, ◌^◌, ◌<◌, ◌≤◌, max, nat_le, if◌then◌else◌, unwrap_or, IsSome}
+use Rattle.std.specs.Prelude.{◌≡◌, ℕ, ◌+◌, ◌*◌, ◌/◌, ◌^◌, ◌<◌, ◌≤◌, max, nat_le, if◌then◌else◌, unwrap_or, IsSome}
 use Rattle.sub_base.specs.declared.load.SetLoad.{SetLoad}
 use Rattle.sub_base.specs.declared.pace.Pace.{Pace}
 use Rattle.sub_base.specs.declared.profile.Profile.{Profile}
@@ -18,8 +18,12 @@ pace_of origin profile = record { origin = origin; step = unwrap_or profile.step
 abbrev pub tick_of : Pace → ℕ → ℕ
 tick_of pace slot = pace.origin + slot * pace.step
 
--- the tick at which a display set is done: it is decoded a byte a tick, and painted, once its last packet is there and the
--- set before is shown
+-- the ticks that painting a region with these sides takes: one for each 64 pixels that are begun
+abbrev pub painting_ticks : (width height : ℕ) → ℕ
+painting_ticks width height = (width * height + 63) / 64
+
+-- the tick at which a display set is done: it is decoded a byte a tick, and painted, once its last packet is there and
+-- the set before is shown
 abbrev pub done_tick : (last_arrival shown_before : ℕ) → SetLoad → ℕ
 done_tick last_arrival shown_before load = max last_arrival shown_before + load.size + load.painted
 

@@ -1,4 +1,4 @@
-use Rattle.std.specs.Prelude.{◌≡◌, ℕ, ◌+◌, ◌-◌, ◌*◌, ◌/◌, ◌%◌, ◌<◌, ◌≤◌, ◌^◌, List, length, All, map, take, drop, slice_index}
+use Rattle.std.specs.Prelude.{◌≡◌, ℕ, ◌+◌, ◌-◌, ◌*◌, ◌/◌, ◌%◌, ◌<◌, ◌≤◌, ◌^◌, ◌&&◌, Bool, nat_le, nat_lt, List, length, All, map, take, drop, slice_index}
 use Rattle.std.specs.List.{range_with_len}
 use Rattle.sub_base.specs.declared.depth.Depth.{Depth}
 use Rattle.sub_base.specs.Depth.{code_count}
@@ -55,3 +55,8 @@ pub record HasEqualFields (picture : Picture) : Type 0 where
 -- the picture of these sides, depth and codes
 abbrev pub picture_of : ℕ → ℕ → Depth → List ℕ → Picture
 picture_of width height depth codes = record { width = width; height = height; depth = depth; codes = codes }
+
+-- a place lies in a rectangle by its corner and sides
+abbrev pub is_inside : (left top width height x y : ℕ) → Bool
+is_inside left top width height x y =
+    nat_le left x && (nat_lt x (left + width) && (nat_le top y && nat_lt y (top + height)))

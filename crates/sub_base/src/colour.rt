@@ -4,8 +4,8 @@ ghost use Rattle.sub_base.specs.Depth.{code_count};
 
 use crate::depth::Depth;
 
-/// A colour of a CLUT entry: luminance, the two colour differences, and transparency, where 0 is opaque and 255
-/// lets all of the video through (EN 300 743, CLUT definition segment).
+/// A colour of a CLUT entry: luminance, the two colour differences, and transparency, where 0 is
+/// opaque and 255 lets all of the video through (EN 300 743, CLUT definition segment).
 #[derive(Clone, Copy, Debug, PartialEq, Eq)]
 pub struct Colour {
     /// Luminance, 0 to 255. 0 is read as full transparency.
@@ -27,7 +27,8 @@ pub const CLEAR: Colour = Colour {
 };
 
 impl Colour {
-    /// The colour as a receiver shows it: a luminance of 0 means full transparency (EN 300 743, Y_value).
+    /// The colour as a receiver shows it: a luminance of 0 means full transparency (EN 300 743,
+    /// Y_value).
     pub fn shown(self) -> Colour
         ensures { result ≡ shown_of self }
     {
@@ -35,8 +36,8 @@ impl Colour {
     }
 }
 
-/// The colour of a CLUT entry that no CLUT definition segment has set: this project's rounding of the default
-/// CLUTs of EN 300 743, clause 10.
+/// The colour of a CLUT entry that no CLUT definition segment has set: this project's rounding of
+/// the default CLUTs of EN 300 743, clause 10.
 pub fn default_colour(depth: Depth, entry: u8) -> Colour
     requires { entry < code_count depth }
     ensures { result ≡ default_of depth entry }
@@ -66,8 +67,9 @@ fn colour_of(mix: Sixths, t: u8) -> Colour
     requires blue { mix.blue ≤ 6 }
     ensures { result ≡ colour_of_mix mix t }
 {
-    // The coefficients of ITU-R BT.601 in thousandths. The divisor is 6 * 1,000, and half of it is in each sum, so that values
-    // are rounded to the nearest. 771,000 is 128 * 6,000 and that half: the differences of grey are 128.
+    // The coefficients of ITU-R BT.601 in thousandths. The divisor is 6 * 1,000, and half of it is
+    // in each sum, so that values are rounded to the nearest. 771,000 is 128 * 6,000 and that half:
+    // the differences of grey are 128.
     let Sixths { red, green, blue } = mix;
     Colour {
         y: (16 + (65_481 * red + 128_553 * green + 24_966 * blue + 3_000) / 6_000) as u8,
@@ -118,7 +120,8 @@ fn graded(base: u32, low: u32, high: u32, entry: u8) -> Sixths
 
 fn grey(strength: u32, t: u8) -> Colour
     requires { strength ≤ 6 }
-    ensures { result ≡ colour_of_mix (record { red = strength; green = strength; blue = strength }) t }
+    ensures { result
+        ≡ colour_of_mix (record { red = strength; green = strength; blue = strength }) t }
 {
     colour_of(
         Sixths {

@@ -1,8 +1,8 @@
 ghost use Rattle.std.specs.Prelude.{◌≡◌, ℕ};
 ghost use Rattle.sub_base.specs.Depth.{bits_of, code_count as codes_of};
 
-/// The bits of a pixel code: how many colours a region or a picture can have (EN 300 743, region composition
-/// segment, region_depth).
+/// The bits of a pixel code: how many colours a region or a picture can have (EN 300 743, region
+/// composition segment, region_depth).
 #[derive(Clone, Copy, Debug, PartialEq, Eq)]
 pub enum Depth {
     /// 2 bits, 4 colours.

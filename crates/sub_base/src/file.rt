@@ -7,7 +7,8 @@ use std::io::{Read, Write};
 /// A file or stream as a source. It tells nothing of what is in it.
 #[derive(Drop)]
 pub struct FileSource<R: Read + Drop> {
-    // None where the file could not be opened. The first read says so, in the command's own order of its sources.
+    // None where the file could not be opened. The first read says so, in the command's own order
+    // of its sources.
     inner: Option<R>,
     given: u64,
     faults: u64,
@@ -51,8 +52,8 @@ impl<R: Read + Drop> Source for FileSource<R> {
 /// A file or stream as a sink. It tells nothing of what was written.
 #[derive(Drop)]
 pub struct FileSink<W: Write + Drop> {
-    // None where the file could not be made. The first write says so: a command that is refused before it writes ends as
-    // if it could.
+    // None where the file could not be made. The first write says so: a command that is refused
+    // before it writes ends as if it could.
     inner: Option<W>,
     faults: u64,
 }
@@ -75,7 +76,8 @@ impl<W: Write + Drop> Sink for FileSink<W> {
             None => None,
         };
         match outcome {
-            // A writer that takes nothing of a piece has failed: a loop over what is left would not end.
+            // A writer that takes nothing of a piece has failed: a loop over what is left would not
+            // end.
             Some(count) if count > 0 || piece.is_empty() => Ok(count),
             _ => {
                 self.faults = self.faults.saturating_add(1);

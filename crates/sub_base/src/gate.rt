@@ -1,4 +1,5 @@
-/// What a drawing band calls once as it begins, so that a test can see which bands were at work together.
+/// What a drawing band calls once as it begins, so that a test can see which bands were at work
+/// together.
 pub trait BandGate {
     /// The band with this number, counted from 0, begins.
     fn enter(&self, band: u32);

@@ -9,7 +9,8 @@ use crate::transfer::{Sink, Source};
 use std::alloc::Global;
 use std::marker::Model;
 
-/// Bytes in memory as a source, for tests: it gives up to a number of bytes a call, and fails at given calls.
+/// Bytes in memory as a source, for tests: it gives up to a number of bytes a call, and fails at
+/// given calls.
 #[derive(Drop)]
 pub struct MemSource {
     bytes: Vec<u8>,
@@ -27,17 +28,32 @@ impl Model for MemSource {
 
     ghost Value = { Supply };
 
-    ghost view = { λ s. record { left = drop s.place s.bytes.items; most = s.most; fails = s.fails.items; calls = s.calls; given = s.given; faults = s.faults } };
+    ghost view = { λ s. record {
+      left = drop s.place s.bytes.items;
+      most = s.most;
+      fails = s.fails.items;
+      calls = s.calls;
+      given = s.given;
+      faults = s.faults;
+    } };
 
     ghost invariant = { λ s. (s.place ≤ vec_len s.bytes) × (0 < s.most) };
 }
 
 impl MemSource {
-    /// A source of these bytes that gives at most `most` a call, and fails at the calls with the numbers `fails`,
-    /// counted from 1. Takes no memory.
+    /// A source of these bytes that gives at most `most` a call, and fails at the calls with the
+    /// numbers `fails`, counted from 1. Takes no memory.
     pub fn make(_alloc: Global, bytes: Vec<u8>, most: usize, fails: Vec<u64>) -> MemSource
         requires { 1 ≤ most }
-        ensures { result ≡ record { left = bytes.items; most = most; fails = fails.items; calls = 0; given = 0; faults = 0 } }
+        ensures { result
+            ≡ record {
+              left = bytes.items;
+              most = most;
+              fails = fails.items;
+              calls = 0;
+              given = 0;
+              faults = 0;
+            } }
     {
         MemSource {
             bytes,
@@ -68,7 +84,8 @@ impl Source for MemSource {
         ensures fails { IsErr result ↔ IsToFail self.old.fails self.old.calls }
         ensures counts { self.new.calls ≡ counted self.old.calls 1 }
         ensures same { (self.new.fails ≡ self.old.fails) × (self.new.most ≡ self.old.most) }
-        ensures most { IfOk result (λ n. n ≡ min (min self.old.most (length buf.new)) (length self.old.left)) }
+        ensures most { IfOk result
+            (λ n. n ≡ min (min self.old.most (length buf.new)) (length self.old.left)) }
     {
         self.calls = self.calls.saturating_add(1);
         if self.fails.contains(&self.calls) {
@@ -109,17 +126,24 @@ impl Model for MemSink {
 
     ghost Value = { Store };
 
-    ghost view = { λ s. record { written = s.taken.items; most = s.most; fails = s.fails.items; calls = s.calls; faults = s.faults } };
+    ghost view = { λ s. record {
+      written = s.taken.items;
+      most = s.most;
+      fails = s.fails.items;
+      calls = s.calls;
+      faults = s.faults;
+    } };
 
     ghost invariant = { λ s. 0 < s.most };
 }
 
 impl MemSink {
-    /// An empty sink that takes at most `most` bytes a call, and fails at the calls with the numbers `fails`, counted
-    /// from 1. Takes no memory.
+    /// An empty sink that takes at most `most` bytes a call, and fails at the calls with the
+    /// numbers `fails`, counted from 1. Takes no memory.
     pub fn make(alloc: Global, most: usize, fails: Vec<u64>) -> MemSink
         requires { 1 ≤ most }
-        ensures { result ≡ record { written = []; most = most; fails = fails.items; calls = 0; faults = 0 } }
+        ensures { result
+            ≡ record { written = []; most = most; fails = fails.items; calls = 0; faults = 0 } }
     {
         MemSink {
             taken: Vec::new(alloc),
@@ -144,14 +168,16 @@ impl Sink for MemSink {
     fn write(&mut self, piece: &[u8]) -> Result<usize, WriteFailed>
         ensures bound { WritesAtMost result piece.now }
         ensures some { IfOk result (λ n. 0 < length piece.now → 0 < n) }
-        ensures bytes { WriteAppends (Some self.old.written) (Some self.new.written) result piece.now }
+        ensures bytes { WriteAppends (Some self.old.written) (Some self.new.written) result
+            piece.now }
         ensures kept { self.old.faults ≤ self.new.faults }
         ensures cause { OnErr result (HasRisen self.old.faults self.new.faults) }
 
         // A call that succeeds leaves the count of faults, and one that fails raises it by one.
         ensures counted { FaultsCount self.old.faults self.new.faults result }
 
-        // It fails at the listed calls, and else only where what was written has to grow and finds no memory.
+        // It fails at the listed calls, and else only where what was written has to grow and finds
+        // no memory.
         ensures fails { IsToFail self.old.fails self.old.calls → IsErr result }
         ensures counts { self.new.calls ≡ counted self.old.calls 1 }
         ensures same { (self.new.fails ≡ self.old.fails) × (self.new.most ≡ self.old.most) }

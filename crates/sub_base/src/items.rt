@@ -3,7 +3,8 @@ ghost use Rattle.std.specs.Prelude.{◌≡◌, ◌∷◌, [], ◌++◌, OnOk, On
 use std::alloc::{AllocFailed, Global};
 use std::marker::Model;
 
-/// A list that lends its items as a slice; contracts see it as the list of what the items stand for.
+/// A list that lends its items as a slice; contracts see it as the list of what the items stand
+/// for.
 #[derive(Drop)]
 pub struct Items<T> {
     items: Vec<T>,
@@ -22,7 +23,8 @@ impl<T> Items<T> {
     pub fn new(_alloc: Global, items: Vec<T>) -> Items<T>
         ensures { result ≡ items.items }
     {
-        // The allocator is asked for all the same, as by every call that makes a value which may grow.
+        // The allocator is asked for all the same, as by every call that makes a value which may
+        // grow.
         Items { items }
     }
 
@@ -36,7 +38,7 @@ impl<T> Items<T> {
     /// Puts an item last. After want of memory the list is as before.
     pub fn push(&mut self, item: T) -> Result<(), AllocFailed<T>>
         ensures ok { OnOk result (self.new ≡ self.old ++ item ∷ []) }
-        ensures err { OnErr result (self.new ≡ self.old) }
+        ensures kept { OnErr result (self.new ≡ self.old) }
     {
         self.items.push(item)
     }

@@ -1,5 +1,5 @@
-//! What every part of the product speaks of: colours and pixel depths, the profiles of receivers, the words of
-//! a command line, and the sources and sinks through which bytes come and go.
+//! What every part of the product speaks of: colours and pixel depths, the profiles of receivers,
+//! the words of a command line, and the sources and sinks through which bytes come and go.
 #![tactic(auto)]
 
 // Numbers, lists and memory.
@@ -36,7 +36,7 @@ pub use in_memory::{MemSink, MemSource};
 pub use items::Items;
 pub use load::{SetLoad, UNIT_ROOM, WriteLoad};
 pub use number::{decimal_number, number_in};
-pub use pace::Pace;
+pub use pace::{Pace, SECOND};
 pub use profile::{Profile, ProfileName};
 pub use transfer::{Sink, Source, read_all, write_whole};
 pub use words::Words;

@@ -6,7 +6,8 @@ use crate::items::Items;
 /// The most bytes of segments that one PES packet has room for.
 pub const UNIT_ROOM: u64 = 65_524;
 
-/// What a display set asks of a receiver: when it is shown, how many bytes it has, and how long it is painted.
+/// What a display set asks of a receiver: when it is shown, how many bytes it has, and how long it
+/// is painted.
 #[derive(Clone, Copy, Debug, PartialEq, Eq)]
 pub struct SetLoad {
     /// The presentation time, in ticks of 90 kHz.
@@ -18,7 +19,8 @@ pub struct SetLoad {
 }
 
 impl SetLoad {
-    /// The tick at which the set is done, where its last packet is there at `last_arrival` and the set before is shown at
+    /// The tick at which the set is done, where its last packet is there at `last_arrival` and the
+    /// set before is shown at
     /// `shown_before`: a tick for each byte, and the ticks of its painting, from the later of these two on.
     pub fn done(&self, last_arrival: u64, shown_before: u64) -> u64
         requires { done_tick last_arrival shown_before self.now < 2 ^ 64 }

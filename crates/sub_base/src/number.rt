@@ -2,7 +2,8 @@ ghost use Rattle.std.specs.Prelude.{◌≡◌, ◌≤◌, ◌<◌, length, true,
 ghost use Rattle.std.specs.List.{list_all};
 ghost use Rattle.sub_base.specs.Number.{number_of, value_from, is_digit, is_number as is_number_of, has_leading_zero, number_in as number_in_of};
 
-/// The number that the text is in decimal, without a sign and without leading zeros, of at most that many digits.
+/// The number that the text is in decimal, without a sign and without leading zeros, of at most
+/// that many digits.
 pub fn decimal_number(text: &[u8], most_digits: usize) -> Option<u64>
     requires { most_digits ≤ 19 }
     ensures { result ≡ number_of most_digits text.now }

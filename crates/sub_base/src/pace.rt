@@ -3,8 +3,11 @@ ghost use Rattle.sub_base.specs.Pace.{tick_of, pace_of, IsSending, IsSound};
 
 use crate::profile::Profile;
 
-/// How packets are sent to a receiver: slot 0 is at the origin, a tick of 90 kHz, and each further slot a step later.
-/// The receiver's coded data buffer has that many bytes.
+/// The ticks of 90 kHz in a second.
+pub const SECOND: u64 = 90_000;
+
+/// How packets are sent to a receiver: slot 0 is at the origin, a tick of 90 kHz, and each further
+/// slot a step later. The receiver's coded data buffer has that many bytes.
 #[derive(Clone, Copy, Debug)]
 pub struct Pace {
     /// The tick of slot 0.

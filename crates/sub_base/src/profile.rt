@@ -8,13 +8,15 @@ pub enum ProfileName {
     Sd,
     /// High definition: displays of up to 1,920 by 1,080 pixels.
     Hd,
-    /// Displays of up to 4,096 by 2,304 pixels. For reading alone: it has no pace at which packets are sent.
+    /// Displays of up to 4,096 by 2,304 pixels. For reading alone: it has no pace at which packets
+    /// are sent.
     Wide,
     /// High definition, with the buffers of `Wide`.
     Large,
 }
 
-/// What a receiver of a profile has: this project's numbers, since EN 300 743 leaves most of them open.
+/// What a receiver of a profile has: this project's numbers, since EN 300 743 leaves most of them
+/// open.
 #[derive(Clone, Copy, Debug, PartialEq, Eq)]
 pub struct Profile {
     /// The coded data buffer, in bytes.

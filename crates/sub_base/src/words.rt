@@ -32,7 +32,7 @@ impl Words {
     /// Puts the word last. After want of memory the words are as before.
     pub fn push(&mut self, word: &str) -> Result<(), NoMemory>
         ensures ok { OnOk result (self.new ≡ self.old ++ word.now ∷ []) }
-        ensures err { OnErr result (self.new ≡ self.old) }
+        ensures kept { OnErr result (self.new ≡ self.old) }
     {
         let alloc = *self.words.allocator();
         self.words.push(String::from_str(alloc, word)?)?;

@@ -6,10 +6,11 @@ use Rattle.std.proofs.lemmas.Bool.{cases_lt, le-ltb, lt-ltb, ne_eqb}
 use Rattle.std.proofs.lemmas.List.{append-nil, length-append, take_all}
 use Rattle.byteorder.specs.Endian.{big_number}
 use Rattle.stream_syntax.specs.TransportPackets.{pid_of, has_error_flag, has_payload, has_start_flag, counter_of, payload_of}
-use Rattle.stream_syntax.specs.Units.{is_payload, last_counter, Succession, Next, Again, Missing, succession, payload_part, is_unbounded, Part, Begins, Adds, Fate, Waits, Whole, need_of, fate_of, part_after, part_of, hand_after, is_waiting, joined, handed_out, unit_after, unit_at, followed, payload_event, event_after, is_loss}
+use Rattle.stream_syntax.specs.Units.{is_payload, last_counter, Succession, Next, Again, Missing, succession, payload_part, is_unbounded, UnitPart, Begins, Adds, Fate, Waits, Whole, fate_of, part_after, part_of, hand_after, is_waiting, joined, handed_out, unit_after, unit_at, followed, payload_event, event_after, is_loss}
 use Rattle.stream_syntax.specs.Cutting.{IsUnit, CarriesPiece, IsBetween, HasCounter, IsCut, units_behind, AnyCutting, IsUnbroken, IsGapless, events_behind, NothingLost}
 use Rattle.ts_packets.specs.Demuxing.{kept, next_hand}
 use Rattle.ts_packets.proofs.UnitLemmas.{hand_push, counter_push}
+use Rattle.stream_syntax.specs.Pes.{need_of}
 
 -- ---- what becomes of the prefixes of a unit
 
@@ -89,7 +90,7 @@ other_part pid last packet (inr (inr double)) =
       ap (λ counted. cond counted (Some (counter_of packet)) last) told.1 ∙ sym double.3,
     )
 
-abbrev piece_part : Bool → List ℕ → Part
+abbrev piece_part : Bool → List ℕ → UnitPart
 piece_part true piece = Begins piece
 piece_part false piece = Adds piece
 

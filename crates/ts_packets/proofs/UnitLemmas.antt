@@ -6,7 +6,7 @@ use Rattle.std.specs.List.{list_any, list_all, filter_map, cons_option}
 use Rattle.std.proofs.lemmas.List.{append-nil, reverse-append, map-append}
 use Rattle.stream_syntax.specs.TransportPackets.{counter_of}
 use Rattle.sub_base.specs.Lists.{prefixes}
-use Rattle.stream_syntax.specs.Units.{is_payload, last_counter, Part, Begins, Adds, Breaks, part_of, each_after, parts_of, begins_unit, breaks_unit, bytes_in, fate_of, is_waiting, last_unit, gathered, stays_in_hand, unit_in_hand, hand_after, joined}
+use Rattle.stream_syntax.specs.Units.{is_payload, last_counter, UnitPart, Begins, Adds, Breaks, part_of, each_after, parts_of, begins_unit, breaks_unit, bytes_in, fate_of, is_waiting, last_unit, gathered, stays_in_hand, unit_in_hand, hand_after, joined}
 use Rattle.ts_packets.specs.Demuxing.{kept, next_hand}
 
 -- ---- what is told of each packet
@@ -57,11 +57,11 @@ list_all_push test (first ∷ items) item = both (test first) _ _ _ (list_all_pu
     both false c d e same = refl
 
 -- the parts of a unit with one more, where there is a unit
-abbrev extended : List Part → Part → List Part
+abbrev extended : List UnitPart → UnitPart → List UnitPart
 extended [] part = []
 extended (first ∷ parts) part = (first ∷ parts) ++ part ∷ []
 
-last_unit_push : (parts : List Part) (part : Part) → last_unit (parts ++ part ∷ []) ≡ cond (begins_unit part) (part ∷ []) (extended (last_unit parts) part)
+last_unit_push : (parts : List UnitPart) (part : UnitPart) → last_unit (parts ++ part ∷ []) ≡ cond (begins_unit part) (part ∷ []) (extended (last_unit parts) part)
 last_unit_push [] part = refl
 last_unit_push (first ∷ parts) part =
     ap (λ any. cond any (last_unit (parts ++ part ∷ [])) (cond (begins_unit first) (first ∷ (parts ++ part ∷ [])) [])) (list_any_push begins_unit parts part)
@@ -76,22 +76,22 @@ last_unit_push (first ∷ parts) part =
 
 -- ---- the unit in hand
 
-fronts_push : (parts : List Part) (part : Part) → prefixes (parts ++ part ∷ []) ≡ prefixes parts ++ (parts ++ part ∷ []) ∷ []
+fronts_push : (parts : List UnitPart) (part : UnitPart) → prefixes (parts ++ part ∷ []) ≡ prefixes parts ++ (parts ++ part ∷ []) ∷ []
 fronts_push [] part = refl
 fronts_push (first ∷ parts) part =
-    ap (λ xs. (first ∷ []) ∷ map (λ (front : List Part). first ∷ front) xs) (fronts_push parts part)
-    ∙ ap (λ xs. (first ∷ []) ∷ xs) (map-append (λ (front : List Part). first ∷ front) (prefixes parts) ((parts ++ part ∷ []) ∷ []))
+    ap (λ xs. (first ∷ []) ∷ map (λ (front : List UnitPart). first ∷ front) xs) (fronts_push parts part)
+    ∙ ap (λ xs. (first ∷ []) ∷ xs) (map-append (λ (front : List UnitPart). first ∷ front) (prefixes parts) ((parts ++ part ∷ []) ∷ []))
 
-gathered_push : (parts : List Part) (part : Part) → gathered (parts ++ part ∷ []) ≡ gathered parts ++ bytes_in part
+gathered_push : (parts : List UnitPart) (part : UnitPart) → gathered (parts ++ part ∷ []) ≡ gathered parts ++ bytes_in part
 gathered_push [] part = append-nil (bytes_in part)
 gathered_push (first ∷ parts) part =
     ap (λ xs. bytes_in first ++ xs) (gathered_push parts part) ∙ sym (append_assoc (bytes_in first) (gathered parts) (bytes_in part))
 
 -- a front of a unit waits for more
-abbrev waits : ℕ → List Part → Bool
+abbrev waits : ℕ → List UnitPart → Bool
 waits size front = is_waiting (fate_of size (gathered front))
 
-stays_push : (size : ℕ) (unit : List Part) (part : Part) → stays_in_hand size (unit ++ part ∷ [])
+stays_push : (size : ℕ) (unit : List UnitPart) (part : UnitPart) → stays_in_hand size (unit ++ part ∷ [])
     ≡ ((list_all (λ p. not (breaks_unit p)) unit && not (breaks_unit part)) && (list_all (waits size) (prefixes unit) && is_waiting (fate_of size (gathered unit ++ bytes_in part))))
 unfolding stays_in_hand
 stays_push size unit part =
@@ -111,7 +111,7 @@ hand_breaks : (sound waiting : Bool) (bytes : List ℕ) → cond ((sound && fals
 hand_breaks true waiting bytes = refl
 hand_breaks false waiting bytes = refl
 
-extended_hand : (size : ℕ) (unit : List Part) (part : Part) → begins_unit part ≡ false → unit_in_hand size (extended unit part) ≡ kept size (joined (unit_in_hand size unit) (Some part))
+extended_hand : (size : ℕ) (unit : List UnitPart) (part : UnitPart) → begins_unit part ≡ false → unit_in_hand size (extended unit part) ≡ kept size (joined (unit_in_hand size unit) (Some part))
 unfolding stays_in_hand
 extended_hand size unit (Begins payload) e = absurd cc
 extended_hand size [] (Adds payload) e = refl
@@ -132,7 +132,7 @@ begun_hand size payload = alone (is_waiting (fate_of size (payload ++ []))) ∙ 
     alone true = refl
     alone false = refl
 
-one_part : (size : ℕ) (parts : List Part) (part : Part) → unit_in_hand size (last_unit (parts ++ part ∷ [])) ≡ kept size (joined (unit_in_hand size (last_unit parts)) (Some part))
+one_part : (size : ℕ) (parts : List UnitPart) (part : UnitPart) → unit_in_hand size (last_unit (parts ++ part ∷ [])) ≡ kept size (joined (unit_in_hand size (last_unit parts)) (Some part))
 one_part size parts (Begins payload) = ap (unit_in_hand size) (last_unit_push parts (Begins payload)) ∙ begun_hand size payload
 one_part size parts (Adds payload) = ap (unit_in_hand size) (last_unit_push parts (Adds payload)) ∙ extended_hand size (last_unit parts) (Adds payload) refl
 one_part size parts Breaks = ap (unit_in_hand size) (last_unit_push parts Breaks) ∙ extended_hand size (last_unit parts) Breaks refl
@@ -143,7 +143,7 @@ unfolding hand_after
 hand_push pid size packets packet =
     ap (λ parts. unit_in_hand size (last_unit parts)) (parts_push pid packets packet) ∙ with_part (part_of pid packets packet)
   where
-    with_part : (part : Option Part) → unit_in_hand size (last_unit (parts_of pid packets ++ cons_option part [])) ≡ next_hand size (unit_in_hand size (last_unit (parts_of pid packets))) part
+    with_part : (part : Option UnitPart) → unit_in_hand size (last_unit (parts_of pid packets ++ cons_option part [])) ≡ next_hand size (unit_in_hand size (last_unit (parts_of pid packets))) part
     with_part None = ap (λ parts. unit_in_hand size (last_unit parts)) (append-nil (parts_of pid packets))
     with_part (Some part) = one_part size (parts_of pid packets) part
 

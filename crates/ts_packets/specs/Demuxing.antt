@@ -1,6 +1,6 @@
 -- What a demultiplexer keeps, and what that has to do with the packets that it was fed.
 use Rattle.std.specs.Prelude.{◌≡◌, ℕ, ◌+◌, Bool, if◌then◌else◌, List, [], ◌∷◌, ◌++◌, take, min, Option, Some, None}
-use Rattle.stream_syntax.specs.Units.{Part, last_counter, hand_after, fate_of, is_waiting, joined}
+use Rattle.stream_syntax.specs.Units.{UnitPart, last_counter, hand_after, fate_of, is_waiting, joined}
 
 pub record Demuxing : Type 0 where
   pub pid : ℕ
@@ -36,11 +36,12 @@ kept size None = None
 kept size (Some bytes) = if is_waiting (fate_of size bytes) then Some bytes else None
 
 -- the unit in hand after a packet with this part
-abbrev pub next_hand : ℕ → Option (List ℕ) → Option Part → Option (List ℕ)
+abbrev pub next_hand : ℕ → Option (List ℕ) → Option UnitPart → Option (List ℕ)
 next_hand size hand None = hand
 next_hand size hand (Some part) = kept size (joined hand (Some part))
 
--- the bytes that a unit in hand and one further packet can have: a unit needs at most 65541 bytes, or has fewer than six
+-- the bytes that a unit in hand and one further packet can have: a unit needs at most 65541 bytes, or has fewer than
+-- six
 abbrev pub room_of : ℕ → ℕ
 room_of size = min size 65541 + 189
 

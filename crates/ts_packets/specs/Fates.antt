@@ -11,8 +11,8 @@ IsFate size bytes told fate.Waits = (told ≡ Waits) × (length bytes ≤ min si
 IsFate size bytes told (fate.Whole count) = (told ≡ Whole (take count bytes)) × (count ≤ length bytes)
 IsFate size bytes told (fate.Over need) = told ≡ Over need
 
--- the bytes that a unit has at most: a waiting one has fewer than it needs, which are 65541 at most, or fewer than six, and one packet's
--- payload comes to it
+-- the bytes that a unit has at most: a waiting one has fewer than it needs, which are 65541 at most, or fewer than six,
+-- and one packet's payload comes to it
 abbrev pub longest_unit : ℕ
 longest_unit = 65730
 

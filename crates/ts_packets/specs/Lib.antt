@@ -1,10 +1,7 @@
 pub use Rattle.stream_syntax.specs.Cutting
 pub use Rattle.stream_syntax.specs.BitFields
 pub use Rattle.stream_syntax.specs.TransportPackets
-pub mod Numbering
 pub use Rattle.stream_syntax.specs.Units
 pub mod Demuxing
 pub mod Fates
-pub mod Feeding
-pub mod Kinds
-pub mod Steps
+pub mod Private

@@ -1,5 +1,6 @@
 ghost use Rattle.std.specs.Prelude.{◌≡◌, ◌≤◌, None, length};
 ghost use Rattle.stream_syntax.specs.Units.{fate_of};
+ghost use Rattle.stream_syntax.specs.declared.wire.TheConstants.{PAYLOAD_LENGTH};
 ghost use Rattle.ts_packets.specs.Fates.{IsFate, IsShort, longest_unit};
 
 use crate::kind::{Kind, Payload, kind_of};
@@ -35,9 +36,16 @@ impl Model for Demux {
 
     ghost Value = { Demuxing };
 
-    ghost view = { λ d. record { pid = d.pid; size = d.size; counter = d.counter; holds = d.holds; bytes = d.bytes.items } };
+    ghost view = { λ d. record {
+      pid = d.pid;
+      size = d.size;
+      counter = d.counter;
+      holds = d.holds;
+      bytes = d.bytes.items;
+    } };
 
-    ghost invariant = { λ d. (room_of d.size ≤ vec_capacity d.bytes) × (d.holds ≡ true → length d.bytes.items ≤ min d.size 65541 + 5) };
+    ghost invariant = { λ d. (room_of d.size ≤ vec_capacity d.bytes)
+        × (d.holds ≡ true → length d.bytes.items ≤ min d.size 65541 + 5) };
 }
 
 /// What became of a packet, and the unit that it ended.
@@ -75,10 +83,11 @@ impl Demux {
     ghost use Rattle.stream_syntax.specs.Units.{Next, Missing, fate_of, event_at, unit_at, succession};
     ghost use Rattle.ts_packets.specs.Demuxing.{lent_bytes, taken_up, Stands};
     ghost use Rattle.ts_packets.specs.Fates.{IsFate, IsShort, longest_unit};
-    ghost use Rattle.ts_packets.specs.Feeding.{IsFed};
-    ghost use Rattle.ts_packets.specs.Steps.{Answers, StepsOn};
+    ghost use Rattle.ts_packets.specs.Private.Feeding.{IsFed};
+    ghost use Rattle.ts_packets.specs.Private.Steps.{Answers, StepsOn};
 
-    /// A demultiplexer that was fed no packet. Units with a length of more than `size` bytes are dropped.
+    /// A demultiplexer that was fed no packet. Units with a length of more than `size` bytes are
+    /// dropped.
     pub fn make(alloc: Global, pid: u16, size: u64) -> Result<Demux, NoMemory>
         ensures pid { IfOk result (λ demux. demux.pid ≡ pid) }
         ensures size { IfOk result (λ demux. demux.size ≡ size) }
@@ -95,8 +104,9 @@ impl Demux {
         })
     }
 
-    /// Takes the next packet: what becomes of it, and the unit that it ends, as it stands in the demultiplexer's own
-    /// memory. A packet that cannot be taken is not counted among the packets, and leaves the demultiplexer as it was.
+    /// Takes the next packet: what becomes of it, and the unit that it ends, as it stands in the
+    /// demultiplexer's own memory. A packet that cannot be taken is not counted among the packets,
+    /// and leaves the demultiplexer as it was.
     pub fn feed(&mut self, packet: &[u8; 188]) -> Result<Fed<'_>, PacketFault>
         ensures* after { sem 𝓛 (IsFed self.entry packet.now result) }
 
@@ -104,14 +114,17 @@ impl Demux {
         ensures fault { MatchResult result (λ _. packet_fault self.old.pid packet.now ≡ None)
             (λ fault. packet_fault self.old.pid packet.now ≡ Some fault) }
 
-        // For each list of packets that it stands for, the answer is the event and the unit at this packet behind them.
+        // For each list of packets that it stands for, the answer is the event and the unit at this
+        // packet behind them.
         ensures event { IfOk result (λ fed. (packets : List (List ℕ)) → Stands self.old packets
             → fed.event ≡ event_at self.old.pid self.old.size packets packet.now) }
         ensures unit { IfOk result (λ fed. (packets : List (List ℕ)) → Stands self.old packets
             → option_copied fed.unit ≡ unit_at self.old.pid self.old.size packets packet.now) }
 
-        // A PES packet with a length has at most 65,541 bytes, and one without a length ends with its packet.
-        ensures short { IfOk result (λ fed. ForSome fed.unit (λ unit. length unit.now ≤ longest_unit)) }
+        // A PES packet with a length has at most 65,541 bytes, and one without a length ends with
+        // its packet.
+        ensures short { IfOk result
+            (λ fed. ForSome fed.unit (λ unit. length unit.now ≤ longest_unit)) }
     {
         let step = self.step(packet)?;
         Ok(Fed {
@@ -124,7 +137,8 @@ impl Demux {
     fn first_bytes(&self, count: Option<usize>) -> Option<&[u8]>
         requires { ForSome count (λ n. n ≤ length self.now.bytes) }
         ensures lent { option_copied result ≡ lent_bytes self.now.bytes count }
-        ensures short { ForSome result (λ bytes. (n : ℕ) × (count ≡ Some n) × (length bytes.now ≡ n)) }
+        ensures short { ForSome result
+            (λ bytes. (n : ℕ) × (count ≡ Some n) × (length bytes.now ≡ n)) }
     {
         match count {
             Some(count) => Some(&self.bytes[..count]),
@@ -135,8 +149,10 @@ impl Demux {
     /// Takes one packet, or finds why it cannot be taken.
     fn step(&mut self, packet: &[u8; 188]) -> Result<Step, PacketFault>
         ensures steps { MatchResult result (λ step. StepsOn self.old self.new step packet.now)
-            (λ fault. (self.new ≡ self.old) × (packet_fault self.old.pid packet.now ≡ Some fault)) }
-        ensures short { IfOk result (λ step. ForSome step.unit (λ count. count ≤ longest_unit)) }
+            (λ fault. (self.new ≡ self.old)
+            × (packet_fault self.old.pid packet.now ≡ Some fault)) }
+        ensures short { IfOk result
+            (λ step. ForSome step.unit (λ count. count ≤ longest_unit)) }
     {
         match kind_of(self.pid, packet)? {
             Kind::Other => Ok(Step::alone(Event::Other)),
@@ -148,7 +164,7 @@ impl Demux {
 
     /// Takes a packet's payload by its counter.
     fn take(&mut self, payload: Payload<'_>) -> Step
-        requires { length payload.bytes.now ≤ 184 }
+        requires { length payload.bytes.now ≤ PAYLOAD_LENGTH }
         ensures answers { let order = succession self.old.counter payload.entry.counter in
             Answers self.old self.new result order payload.entry.start payload.entry.bytes.now }
         ensures counter { self.new.counter ≡ Some payload.entry.counter }
@@ -173,8 +189,9 @@ impl Demux {
 
     /// Takes a payload that has the next counter.
     fn follow(&mut self, payload: Payload<'_>) -> Step
-        requires { length payload.bytes.now ≤ 184 }
-        ensures answers { Answers self.old self.new result Next payload.entry.start payload.entry.bytes.now }
+        requires { length payload.bytes.now ≤ PAYLOAD_LENGTH }
+        ensures answers { Answers self.old self.new result Next payload.entry.start
+            payload.entry.bytes.now }
         ensures counter { self.new.counter ≡ self.old.counter }
         ensures short { ForSome result.unit (λ count. count ≤ longest_unit) }
     {
@@ -195,7 +212,7 @@ impl Demux {
 
     /// Takes a payload behind missing packets.
     fn resume(&mut self, expected: u8, payload: Payload<'_>) -> Step
-        requires { length payload.bytes.now ≤ 184 }
+        requires { length payload.bytes.now ≤ PAYLOAD_LENGTH }
         ensures answers { let order = Missing expected payload.entry.counter in
             Answers self.old self.new result order payload.entry.start payload.entry.bytes.now }
         ensures counter { self.new.counter ≡ self.old.counter }
@@ -223,7 +240,7 @@ impl Demux {
 
     /// Begins a unit with these bytes.
     fn begin(&mut self, payload: &[u8]) -> Fate
-        requires { length payload.now ≤ 184 }
+        requires { length payload.now ≤ PAYLOAD_LENGTH }
         ensures state { self.new ≡ taken_up self.old payload.now }
         ensures fate { IsFate self.old.size payload.now (fate_of self.old.size payload.now) result }
         ensures short { IsShort result }
@@ -236,7 +253,7 @@ impl Demux {
     /// Puts these bytes behind those of the unit in hand.
     fn join(&mut self, payload: &[u8]) -> Fate
         requires held { self.old.holds ≡ true }
-        requires short { length payload.now ≤ 184 }
+        requires short { length payload.now ≤ PAYLOAD_LENGTH }
         ensures state { self.new ≡ taken_up self.old (self.old.bytes ++ payload.now) }
         ensures fate { let bytes = self.old.bytes ++ payload.now in
             IsFate self.old.size bytes (fate_of self.old.size bytes) result }
@@ -263,7 +280,7 @@ impl Fate {
     ghost use Rattle.std.specs.Prelude.{◌≡◌, ◌≤◌};
     ghost use Rattle.std.specs.Option.{ForSome};
     ghost use Rattle.ts_packets.specs.Fates.{IsShort, longest_unit};
-    ghost use Rattle.ts_packets.specs.Steps.{answered};
+    ghost use Rattle.ts_packets.specs.Private.Steps.{answered};
 
     /// What a packet with this event answers where its unit has this fate.
     fn answer(self, size: u64, event: Event) -> Step
@@ -296,7 +313,8 @@ fn fate_of_unit(size: u64, bytes: &[u8]) -> Fate
         return Fate::Waits;
     }
     let length = BigEndian::read_u16(&bytes[4..LENGTH_END]);
-    // No PES packet, or one without a length: it is for the reader of units to say what is wrong with it.
+    // No PES packet, or one without a length: it is for the reader of units to say what is wrong
+    // with it.
     if bytes[0] != 0 || bytes[1] != 0 || bytes[2] != 1 || length == 0 {
         return Fate::Whole(bytes.len());
     }

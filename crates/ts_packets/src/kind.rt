@@ -1,6 +1,6 @@
 ghost use Rattle.std.specs.Prelude.{◌≡◌, ℕ, ◌<◌, ◌≤◌, length, drop, MatchResult, None, Some};
 ghost use Rattle.stream_syntax.specs.TransportPackets.{packet_fault, counter_of, has_start_flag};
-ghost use Rattle.ts_packets.specs.Kinds.{IsKind};
+ghost use Rattle.ts_packets.specs.Private.Kinds.{IsKind};
 
 use crate::packetiser::HEAD_LENGTH;
 use byteorder::{BigEndian, ByteOrder};
@@ -29,9 +29,11 @@ pub struct Payload<'a> {
     pub bytes: &'a [u8],
 }
 
-/// Reads what a packet is for a PID, with the first of its faults. A packet of another PID costs two comparisons.
+/// Reads what a packet is for a PID, with the first of its faults. A packet of another PID costs
+/// two comparisons.
 pub fn kind_of(pid: u16, packet: &[u8; 188]) -> Result<Kind<'_>, PacketFault>
-    ensures { MatchResult result (λ kind. (packet_fault pid packet.now ≡ None) × IsKind pid packet.now kind)
+    ensures { MatchResult result
+        (λ kind. (packet_fault pid packet.now ≡ None) × IsKind pid packet.now kind)
         (λ fault. packet_fault pid packet.now ≡ Some fault) }
 {
     if packet[0] != SYNC_BYTE {

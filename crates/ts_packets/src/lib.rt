@@ -1,5 +1,5 @@
-//! Transport packets of one PID, both ways (ISO/IEC 13818-1, 2.4.3.2 to 2.4.3.5): a unit's pieces into packets, and
-//! from a list of packets the units and the losses.
+//! Transport packets of one PID, both ways (ISO/IEC 13818-1, 2.4.3.2 to 2.4.3.5): a unit's pieces
+//! into packets, and from a list of packets the units and the losses.
 #![tactic(auto)]
 
 // Packets out of a unit.

@@ -2,7 +2,7 @@ ghost use Rattle.std.specs.Prelude.{◌≡◌, ℕ, ◌+◌, ◌-◌, ◌*◌, �
 ghost use Rattle.stream_syntax.specs.BitFields.{packed};
 ghost use Rattle.stream_syntax.specs.TransportPackets.{written_head, head_groups, adaptation_field, written_packet, null_packet as null_bytes, pid_of, counter_of, packet_fault};
 ghost use Rattle.stream_syntax.specs.Cutting.{CarriesPiece};
-ghost use Rattle.ts_packets.specs.Numbering.{after_packet};
+ghost use Rattle.ts_packets.specs.Private.Numbering.{after_packet};
 
 use byteorder::{BigEndian, ByteOrder};
 use std::marker::Model;
@@ -22,7 +22,7 @@ pub struct Packetiser {
 
 impl Model for Packetiser {
     ghost use Rattle.std.specs.Prelude.{◌<◌};
-    ghost use Rattle.ts_packets.specs.Numbering.{Numbering};
+    ghost use Rattle.ts_packets.specs.Private.Numbering.{Numbering};
 
     ghost Value = { Numbering };
 
@@ -41,7 +41,8 @@ impl Packetiser {
         Packetiser { pid, counter: 0 }
     }
 
-    /// Writes one packet with this piece of a unit, 1 to 184 bytes; `start` says that the unit begins with it.
+    /// Writes one packet with this piece of a unit, 1 to 184 bytes; `start` says that the unit
+    /// begins with it.
     pub fn packet(&mut self, piece: &[u8], start: bool, out: &mut [u8; 188])
         requires some { 1 ≤ length piece.now }
         requires fits { length piece.now ≤ PAYLOAD_LENGTH }
@@ -83,7 +84,8 @@ fn write_packet(pid: u16, counter: u8, piece: &[u8], start: bool, out: &mut [u8;
     ensures { out.new ≡ written_packet pid start counter piece.now }
 {
     let room = PAYLOAD_LENGTH - piece.len();
-    // What a payload leaves free is filled in front of it: behind a PES packet there is no stuffing.
+    // What a payload leaves free is filled in front of it: behind a PES packet there is no
+    // stuffing.
     let control = if room == 0 { 1 } else { 3 };
     let (head, rest) = out.split_at_mut(HEAD_LENGTH);
     let (field, payload) = rest.split_at_mut(room);
@@ -105,10 +107,11 @@ fn head_of(pid: u16, start: bool, control: u8, counter: u8) -> [u8; HEAD_LENGTH]
     head
 }
 
-/// Fills the place of an adaptation field: the count of the bytes behind it, flags of 0, and stuffing.
+/// Fills the place of an adaptation field: the count of the bytes behind it, flags of 0, and
+/// stuffing.
 #[tactic(auto, using(crate::proofs::Adaptation::long_field, crate::proofs::Adaptation::short_field))]
 fn write_adaptation_field(field: &mut [u8])
-    requires { length field.old ≤ 184 }
+    requires { length field.old ≤ PAYLOAD_LENGTH }
     ensures { field.new ≡ adaptation_field (length field.old) }
 {
     field.fill(STUFFING);

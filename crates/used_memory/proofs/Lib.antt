@@ -1,3 +1,2 @@
-pub mod RegionBytes
 pub mod MoreSegments
 pub mod UsedWithin

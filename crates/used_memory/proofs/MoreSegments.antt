@@ -1,59 +1,28 @@
 -- With the segments of a set that has no fault the regions of an epoch still fit the pixel buffer.
-use Rattle.std.proofs.Common.{◌≡◌, ◌∙◌, ℕ, ◌+◌, ◌-◌, ◌*◌, ◌/◌, ◌==◌, ◌&&◌, ◌≤◌, nat_lt, refl, sym, ap, subst, arith}
+use Rattle.std.proofs.Common.{◌≡◌, ◌∙◌, ℕ, ◌+◌, ◌-◌, ◌&&◌, ◌≤◌, nat_lt, refl, sym, ap, subst, arith}
 use Rattle.std.proofs.Common.{Bool, true, false, cond, List, [], ◌∷◌, ◌++◌, reverse, Option, Some, None}
-use Rattle.std.specs.Option.{option_or, is_none}
+use Rattle.std.specs.Option.{is_none}
 use Rattle.std.proofs.lemmas.Bool.Decides.{nat_tests}
 use Rattle.std.proofs.lemmas.List.{append_assoc, reverse-append}
-use Rattle.sub_base.specs.Depth as depths
 use Rattle.sub_base.specs.Lists.{first_given, with_earlier}
 use Rattle.sub_base.specs.declared.profile.Profile.{Profile}
 use Rattle.stream_syntax.specs.Segments.{Region}
-use Rattle.stream_syntax.specs.declared.region.RegionHead.{RegionHead}
 use Rattle.decoder_model.specs.Contents.{region_of}
-use Rattle.decoder_model.specs.Faults.{has_same_shape, changed_region, changed_from, region_changed}
+use Rattle.decoder_model.specs.Faults.{changed_region, changed_from, region_changed}
 use Rattle.decoder_model.specs.Faults.{region_too_large, pixels_full}
-use Rattle.decoder_model.specs.Nodes.{pixel_bytes, pixels_used}
+use Rattle.decoder_model.specs.Nodes.{region_bytes, pixels_used}
 use Rattle.decoder_model.specs.Readings.{Content}
 use Rattle.decoder_model.specs.Taken.{is_taken, last_region, taken_among, taken_of}
 use Rattle.decoder_model.specs.declared.set_fault.SetFault.{SetFault}
-use Rattle.decoder_model.specs.declared.set_fault.SetFault.TheVariants.{RegionChanged, PixelFull}
+use Rattle.decoder_model.specs.declared.set_fault.SetFault.TheVariants.{PixelFull}
 use Rattle.decoder_model.proofs.TakenLaws.{taken_first, held_first}
-use Rattle.used_memory.proofs.RegionBytes.{of_segments, used_with_new, used_with_same, used_with_other}
-
--- a search that finds nothing finds nothing first, and nothing behind
-pub neither : {X : Type 0} (a b : Option X) → option_or a b ≡ None → (a ≡ None) × (b ≡ None)
-neither None b e = (refl, e)
-neither (Some x) b e = absurd (cc)
+use Rattle.page_core.proofs.PixelRoom.{neither, of_segments, same_bytes, shape_kept, used_with_new, used_with_same, used_with_other}
 
 -- the regions of taken segments fit the buffer
 abbrev pub HaveRoom : Profile → List Content → Type 0
 HaveRoom profile taken = pixels_used (of_segments taken) ≤ profile.pixels
 
 -- ---- what a region without a fault needs
-
-both : (a b : Bool) → (a && b) ≡ true → (a ≡ true) × (b ≡ true)
-both true b is = (refl, is)
-both false b is = absurd (cc)
-
-same_bytes : (a b : RegionHead) → has_same_shape a b ≡ true → pixel_bytes a ≡ pixel_bytes b
-same_bytes a b same =
-    let same_depth = depths.bits_of a.depth == depths.bits_of b.depth in
-    let sides = both (a.width == b.width) ((a.height == b.height) && same_depth) same in
-    let rest = both (a.height == b.height) same_depth sides.1 in
-    let wide : a.width ≡ b.width = (let is = sides.0 in grind (arith, nat_tests)) in
-    let high : a.height ≡ b.height = (let is = rest.0 in grind (arith, nat_tests)) in
-    let deep : depths.bits_of a.depth ≡ depths.bits_of b.depth = (let is = rest.1 in grind (arith, nat_tests)) in
-    λ i. (wide i * deep i + 7) / 8 * high i
-
-unchanged : (region last : Region) → changed_from region (Some last) ≡ None
-    → pixel_bytes region.head ≡ pixel_bytes last.head
-unchanged region last none = by (has_same_shape region.head last.head) refl none
-  where
-    by : (same : Bool) → has_same_shape region.head last.head ≡ same
-        → cond same None (Some (RegionChanged region.head.region)) ≡ None
-        → pixel_bytes region.head ≡ pixel_bytes last.head
-    by true same none = same_bytes region.head last.head same
-    by false other none = absurd (cc)
 
 -- the fault of a region that needs so many bytes where so many are free
 abbrev too_large_by : ℕ → ℕ → Bool → Option SetFault
@@ -66,9 +35,9 @@ within_free need free false is none = grind (arith, nat_tests)
 
 fits : (profile : Profile) (taken : List Content) (region : Region) → last_region region.head.region taken ≡ None
     → region_too_large profile (of_segments taken) region ≡ None
-    → pixel_bytes region.head ≤ profile.pixels - pixels_used (of_segments taken)
+    → region_bytes region.head ≤ profile.pixels - pixels_used (of_segments taken)
 fits profile taken region new none =
-    let need : ℕ = pixel_bytes region.head in
+    let need : ℕ = region_bytes region.head in
     let free : ℕ = profile.pixels - pixels_used (of_segments taken) in
     within_free need free (nat_lt free need) refl
     (sym (ap (λ (last : Option Region). too_large_by need free (is_none last && nat_lt free need)) new) ∙ none)
@@ -90,12 +59,13 @@ with_taken profile earlier content taken shape room within = by (region_of conte
         → (last : Option Region) → last_region region.head.region (taken_among earlier) ≡ last
         → HaveRoom profile (content ∷ taken_among earlier)
     with_region region is same small None new =
-        let more : pixel_bytes region.head ≤ profile.pixels - pixels_used (taken_of earlier) =
+        let more : region_bytes region.head ≤ profile.pixels - pixels_used (taken_of earlier) =
         fits profile (taken_among earlier) region new small in
         omega (arith, used_with_new content region (taken_among earlier) is new, more, within)
     with_region region is same small (Some last) known =
-        let size : pixel_bytes region.head ≡ pixel_bytes last.head =
-        unchanged region last (sym (ap (changed_from region) known) ∙ same) in
+        let size : region_bytes region.head ≡ region_bytes last.head =
+        same_bytes region.head last.head
+        (shape_kept region last (sym (ap (changed_from region) known) ∙ same)) in
         omega (arith, used_with_same content region last (taken_among earlier) is known size, within)
 
     by : (found : Option Region) → region_of content ≡ found → HaveRoom profile (content ∷ taken_among earlier)

@@ -23,7 +23,8 @@ use Rattle.decoder_model.specs.declared.set_fault.SetFault.{SetFault}
 use Rattle.decoder_model.specs.declared.set_fault.SetFault.TheVariants.{CompositionFull}
 use Rattle.decoder_model.proofs.AfterLoss.{still_unknown}
 use Rattle.decoder_model.proofs.Epochs.{epoch_begun, epoch_on, epoch_entered}
-use Rattle.used_memory.proofs.MoreSegments.{HaveRoom, neither, with_more}
+use Rattle.page_core.proofs.PixelRoom.{neither}
+use Rattle.used_memory.proofs.MoreSegments.{HaveRoom, with_more}
 
 -- ---- the sets of an epoch
 

@@ -3,9 +3,9 @@
 ghost use Rattle.std.specs.Prelude.{◌≡◌, ◌==◌, ◌<◌, ℕ, IfSome, MatchOption, None, Some, length, option_map, slice_index_or, if◌then◌else◌};
 ghost use Rattle.comp_pool.specs.Changes.{replaced};
 ghost use Rattle.comp_pool.specs.Pool.{IsInList, NoneTwice, list_of, node_count};
-ghost use Rattle.page_core.specs.ClutSteps.{IsPushed, IsVersionOf, with_clut, with_colour};
+ghost use Rattle.page_core.specs.Private.ClutSteps.{IsPushed, IsVersionOf, with_clut, with_colour};
 ghost use Rattle.page_core.specs.Composition.{KeptClut, clut_in};
-ghost use Rattle.page_core.specs.Nodes.{clut_node, place_kept};
+ghost use Rattle.page_core.specs.Private.Nodes.{clut_node, place_kept};
 
 use crate::composition::{CompositionMemory, node_at};
 use crate::node::{ClutNode, Node, TablePlace};
@@ -25,7 +25,8 @@ impl CompositionMemory {
         version_at(&self.pool, node_at(&self.cluts, id))
     }
 
-    /// Keeps the version of a CLUT. A CLUT that is new takes a node, and is left out where none is free.
+    /// Keeps the version of a CLUT. A CLUT that is new takes a node, and is left out where none is
+    /// free.
     pub(crate) fn set_clut(&mut self, clut: u8, version: u8)
         ensures { self.new ≡ with_clut clut version self.old }
     {
@@ -42,7 +43,9 @@ impl CompositionMemory {
 
     /// One more table entry is set, and has this node; none where no node is free.
     pub(crate) fn push_colour(&mut self, place: TablePlace) -> Option<NodeId>
-        ensures { MatchOption result ((self.old.free ≡ 0) × (self.new ≡ self.old)) (λ node. (0 < self.old.free) × (self.new ≡ with_colour (place_kept place) self.old)) }
+        ensures { MatchOption result ((self.old.free ≡ 0) × (self.new ≡ self.old))
+            (λ node. (0 < self.old.free)
+            × (self.new ≡ with_colour (place_kept place) self.old)) }
     {
         push(&mut self.pool, COLOURS, Node::Colour(place))
     }
@@ -51,7 +54,8 @@ impl CompositionMemory {
 // Puts an item at the end of a list; none where no node is free.
 fn push(pool: &mut Pool<Node>, list: u32, item: Node) -> Option<NodeId>
     requires { list < length pool.old.lists }
-    ensures { MatchOption result ((pool.old.free ≡ 0) × (pool.new ≡ pool.old)) (λ node. (0 < pool.old.free) × IsPushed list (node, item) pool.old pool.new) }
+    ensures { MatchOption result ((pool.old.free ≡ 0) × (pool.new ≡ pool.old))
+        (λ node. (0 < pool.old.free) × IsPushed list (node, item) pool.old pool.new) }
 {
     match pool.push_back(list, item) {
         Ok(node) => Some(node),
@@ -74,7 +78,9 @@ fn replace(pool: &mut Pool<Node>, node: NodeId, item: Node)
 
 // The node of an id is this one.
 fn set_node(nodes: &mut [Option<NodeId>; 256], id: u8, node: NodeId)
-    ensures { (other : ℕ) → other < 256 → slice_index_or nodes.new other None ≡ (if id == other then Some node else slice_index_or nodes.old other None) }
+    ensures { (other : ℕ) → other < 256
+        → slice_index_or nodes.new other None
+        ≡ (if id == other then Some node else slice_index_or nodes.old other None) }
 {
     nodes[usize::from(id)] = Some(node);
 }

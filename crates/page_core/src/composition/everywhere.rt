@@ -8,12 +8,12 @@ ghost use Rattle.pixel_store.specs.Regions.{KeepsOthers};
 ghost use Rattle.segments.specs.Contents.{object_value};
 ghost use Rattle.stream_syntax.specs.Segments.{of_object};
 ghost use Rattle.page_core.specs.Composition.{KeptRegion};
-ghost use Rattle.page_core.specs.Everywhere.{AreApart, AreIdsApart, AreKeptWritten, AreWritten, HasNoFault, HasNoFaults, HasRegionAt, HaveRegions, IsEverywhere, IsPaintedAt, KeepsAt, KeepsRoom, IsWrittenAt, IsWrittenIn, with_all_painted};
-ghost use Rattle.page_core.specs.Listings.{code_by_pair, painted_node, painter_of};
-ghost use Rattle.page_core.specs.Lists.{IsRewritten};
-ghost use Rattle.page_core.specs.Nodes.{kept_in, list_count, listings_list, region_node};
-ghost use Rattle.page_core.specs.ObjectFaults.{fault_in_kept, fault_in_node, fault_in_pair, fault_in_region_node, least_of, told};
-ghost use Rattle.page_core.specs.Painted.{HasRegion};
+ghost use Rattle.page_core.specs.Private.Everywhere.{AreApart, AreIdsApart, AreKeptWritten, AreWritten, HasNoFault, HasNoFaults, HasRegionAt, HaveRegions, IsEverywhere, IsPaintedAt, KeepsAt, KeepsRoom, IsWrittenAt, IsWrittenIn, with_all_painted};
+ghost use Rattle.page_core.specs.Private.Listings.{code_by_pair, painted_node, painter_of};
+ghost use Rattle.page_core.specs.Private.Lists.{IsRewritten};
+ghost use Rattle.page_core.specs.Private.Nodes.{kept_in, list_count, listings_list, region_node};
+ghost use Rattle.page_core.specs.Private.ObjectFaults.{fault_in_kept, fault_in_node, fault_in_pair, fault_in_region_node, least_of, told};
+ghost use Rattle.page_core.specs.Private.Painted.{HasRegion};
 
 use crate::composition::CompositionMemory;
 use crate::composition::listings::{Painter, listings_of, paint_list};
@@ -29,33 +29,42 @@ use stream_syntax::SegmentFault;
 const REGIONS: u32 = 1;
 
 impl CompositionMemory {
-    /// Paints the object through all listings that it paints, region by region, and keeps its version for them. Answers its fault in the
-    /// region of the least id in which it has one; it writes nothing there.
+    /// Paints the object through all listings that it paints, region by region, and keeps its
+    /// version for them. Answers its fault in the region of the least id in which it has one; it
+    /// writes nothing there.
     pub(crate) fn paint_everywhere(
         &mut self,
         object: &ObjectSeg<'_>,
         store: &mut Store,
     ) -> Option<SegmentFault>
-        requires regions { All (λ (kept : KeptRegion). HasRegion kept.head kept.slot store.old) self.old.regions }
+        requires regions { All (λ (kept : KeptRegion). HasRegion kept.head kept.slot store.old)
+            self.old.regions }
         requires top { length object.now.top.now ≤ 65535 }
         requires bottom { length object.now.bottom.now ≤ 65535 }
         ensures composition { self.new ≡ with_all_painted (painter_of object.now) self.old }
-        ensures regions { All (λ (kept : KeptRegion). HasRegion kept.head kept.slot store.new) self.old.regions }
+        ensures regions { All (λ (kept : KeptRegion). HasRegion kept.head kept.slot store.new)
+            self.old.regions }
         ensures room { KeepsRoom store.old store.new }
         ensures fault { (content : Content)
             → AreFields (of_object (object_value object.now)) content.top content.bottom
             → AreIdsApart self.old.regions
-            → option_map SetFault.Segment result ≡ option_map (λ found. found.1) (least_of (fault_in_kept (painter_of object.now) content (object_value object.now)) self.old.regions) }
+            → option_map SetFault.Segment result
+            ≡ option_map (λ found. found.1)
+            (least_of (fault_in_kept (painter_of object.now) content (object_value object.now))
+            self.old.regions) }
         ensures written { (content : Content)
             → AreFields (of_object (object_value object.now)) content.top content.bottom
-            → least_of (fault_in_kept (painter_of object.now) content (object_value object.now)) self.old.regions ≡ None → AreIdsApart self.old.regions
-            → AreKeptWritten (painter_of object.now) content self.old.regions store.old store.new }
+            → least_of (fault_in_kept (painter_of object.now) content (object_value object.now))
+            self.old.regions ≡ None → AreIdsApart self.old.regions
+            → AreKeptWritten (painter_of object.now) content self.old.regions store.old
+            store.new }
     {
         fault_of(paint_regions(&mut self.pool, painter(object), object, store))
     }
 }
 
-/// Paints the object in all regions, one after another, and answers its fault in the region of the least id in which it has one.
+/// Paints the object in all regions, one after another, and answers its fault in the region of the
+/// least id in which it has one.
 fn paint_regions(
     pool: &mut Pool<Node>,
     painter: Painter,
@@ -70,12 +79,16 @@ fn paint_regions(
     ensures regions { HaveRegions pool.old store.new }
     ensures room { KeepsRoom store.old store.new }
     ensures fault { (content : Content)
-        → AreFields (of_object (object_value object.now)) content.top content.bottom → AreApart pool.old
-        → option_map told result ≡ least_of (fault_in_pair pool.old painter content (object_value object.now)) (list_of pool.old 1) }
+        → AreFields (of_object (object_value object.now)) content.top content.bottom
+        → AreApart pool.old
+        → option_map told result
+        ≡ least_of (fault_in_pair pool.old painter content (object_value object.now))
+        (list_of pool.old 1) }
     ensures written { (content : Content)
         → AreFields (of_object (object_value object.now)) content.top content.bottom
         → HasNoFaults painter content (object_value object.now) pool.old → AreApart pool.old
-        → AreWritten painter content pool.old (kept_in region_node (list_of pool.old 1)) store.old store.new }
+        → AreWritten painter content pool.old (kept_in region_node (list_of pool.old 1)) store.old
+        store.new }
 {
     let mut least = None;
     let mut place = pool.first(REGIONS);
@@ -103,10 +116,12 @@ fn paint_at(
     ensures others { KeepsAt node store.old store.new }
     ensures fault { (content : Content)
         → AreFields (of_object (object_value object.now)) content.top content.bottom
-        → option_map told result ≡ fault_in_node pool.old painter content (object_value object.now) node }
+        → option_map told result
+        ≡ fault_in_node pool.old painter content (object_value object.now) node }
     ensures written { (content : Content)
         → AreFields (of_object (object_value object.now)) content.top content.bottom
-        → IsWrittenAt painter content (object_value object.now) pool.old node store.old store.new }
+        → IsWrittenAt painter content (object_value object.now) pool.old node store.old
+        store.new }
 {
     match node {
         Node::Region(region) => paint_in(pool, painter, object, &region, store),
@@ -114,7 +129,8 @@ fn paint_at(
     }
 }
 
-/// Paints the object through the listings of a region that it paints, or answers its fault there. Where it has one it writes nothing.
+/// Paints the object through the listings of a region that it paints, or answers its fault there.
+/// Where it has one it writes nothing.
 fn paint_in(
     pool: &mut Pool<Node>,
     painter: Painter,
@@ -126,11 +142,13 @@ fn paint_in(
     requires region { HasRegion region.now.head region.now.slot store.old }
     requires top { length object.now.top.now ≤ 65535 }
     requires bottom { length object.now.bottom.now ≤ 65535 }
-    ensures nodes { IsRewritten (listings_list region.now.head.region) (painted_node painter) pool.old pool.new }
+    ensures nodes { IsRewritten (listings_list region.now.head.region) (painted_node painter)
+        pool.old pool.new }
     ensures others { KeepsOthers region.now.slot store.old store.new }
     ensures fault { (content : Content)
         → AreFields (of_object (object_value object.now)) content.top content.bottom
-        → option_map told result ≡ fault_in_region_node pool.old painter content (object_value object.now) region.now }
+        → option_map told result
+        ≡ fault_in_region_node pool.old painter content (object_value object.now) region.now }
     ensures written { (content : Content)
         → AreFields (of_object (object_value object.now)) content.top content.bottom
         → HasNoFault painter content (object_value object.now) pool.old region.now

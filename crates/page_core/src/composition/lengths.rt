@@ -25,7 +25,8 @@ impl CompositionMemory {
     /// How many listings the region of that id has, where there is one.
     pub(crate) fn listing_count(&self, id: u8) -> u32
         requires { self.now.size < 2 ^ 31 }
-        ensures { (kept : KeptRegion) → region_in self.now id ≡ Some kept → result ≡ length kept.listings }
+        ensures { (kept : KeptRegion) → region_in self.now id ≡ Some kept
+            → result ≡ length kept.listings }
     {
         length_of(&self.pool, listings_of(id))
     }

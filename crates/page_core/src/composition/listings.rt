@@ -3,17 +3,18 @@
 ghost use Rattle.std.specs.Prelude.{◌≡◌, ◌<◌, length};
 ghost use Rattle.sub_base.specs.Lists.{last_given};
 ghost use Rattle.comp_pool.specs.Pool.{list_of};
-ghost use Rattle.page_core.specs.Listings.{code_by_node, code_by_pair, due_node, painted_node as painted_node_of};
-ghost use Rattle.page_core.specs.Lists.{IsRewritten};
-ghost use Rattle.page_core.specs.Nodes.{list_count, listing_in, listings_list};
-ghost use Rattle.page_core.specs.Painted.{HasRegion, IsWritten};
+ghost use Rattle.page_core.specs.Private.Listings.{code_by_node, code_by_pair, due_node, painted_node as painted_node_of};
+ghost use Rattle.page_core.specs.Private.Lists.{IsRewritten};
+ghost use Rattle.page_core.specs.Private.Nodes.{list_count, listing_in, listings_list};
+ghost use Rattle.page_core.specs.Private.Painted.{HasRegion, IsWritten};
 
 use crate::node::{ListingNode, Node, RegionNode};
 use crate::painting_objects::Fields;
 use comp_pool::Pool;
 use pixel_store::Store;
 
-/// What an object is painted by: its id, its version, and whether pixels of code 1 leave the region as it is.
+/// What an object is painted by: its id, its version, and whether pixels of code 1 leave the region
+/// as it is.
 #[derive(Clone, Copy)]
 pub(crate) struct Painter {
     pub(crate) object: u16,
@@ -43,7 +44,9 @@ pub(crate) fn paint_list(
     requires region { HasRegion region.now.head region.now.slot store.old }
     requires depth { fields.now.depth ≡ region.now.head.depth }
     ensures nodes { IsRewritten list (painted_node_of object) pool.old pool.new }
-    ensures written { IsWritten region.now.slot (λ x y. last_given (code_by_pair object fields.now x y) (list_of pool.old list)) store.old store.new }
+    ensures written { IsWritten region.now.slot
+        (λ x y. last_given (code_by_pair object fields.now x y) (list_of pool.old list)) store.old
+        store.new }
 {
     let mut place = pool.first(list);
     while let Some(node) = place {
@@ -53,7 +56,8 @@ pub(crate) fn paint_list(
     }
 }
 
-/// Paints the object through what a node has, where that is a listing that it paints, and answers what the node has then.
+/// Paints the object through what a node has, where that is a listing that it paints, and answers
+/// what the node has then.
 fn painted_node(
     node: Node,
     object: Painter,
@@ -64,7 +68,8 @@ fn painted_node(
     requires region { HasRegion region.now.head region.now.slot store.old }
     requires depth { fields.now.depth ≡ region.now.head.depth }
     ensures node { result ≡ painted_node_of object node }
-    ensures written { IsWritten region.now.slot (λ x y. code_by_node object fields.now x y (listing_in node)) store.old store.new }
+    ensures written { IsWritten region.now.slot
+        (λ x y. code_by_node object fields.now x y (listing_in node)) store.old store.new }
 {
     match node {
         Node::Listing(kept) => Node::Listing(painted_listing(kept, object, fields, region, store)),
@@ -83,7 +88,9 @@ fn painted_listing(
     requires region { HasRegion region.now.head region.now.slot store.old }
     requires depth { fields.now.depth ≡ region.now.head.depth }
     ensures node { Node.Listing result ≡ painted_node_of object (Node.Listing kept) }
-    ensures written { IsWritten region.now.slot (λ x y. code_by_node object fields.now x y (listing_in (Node.Listing kept))) store.old store.new }
+    ensures written { IsWritten region.now.slot
+        (λ x y. code_by_node object fields.now x y (listing_in (Node.Listing kept))) store.old
+        store.new }
 {
     if !is_due(kept, object) {
         return kept;
@@ -95,7 +102,8 @@ fn painted_listing(
     }
 }
 
-/// Whether the object paints a listing: it names the object, and is unpainted or was painted with another version.
+/// Whether the object paints a listing: it names the object, and is unpainted or was painted with
+/// another version.
 pub(crate) fn is_due(kept: ListingNode, object: Painter) -> bool
     ensures { result ≡ due_node object kept }
 {

@@ -3,7 +3,7 @@
 ghost use Rattle.std.specs.Prelude.{◌≡◌, ◌==◌, ◌∷◌, [], MatchOption};
 ghost use Rattle.std.specs.List.{list_any};
 ghost use Rattle.stream_syntax.specs.declared.page.PageEntry.{PageEntry as EntryOf};
-ghost use Rattle.page_core.specs.Nodes.{entry_in as entry_of};
+ghost use Rattle.page_core.specs.Private.Nodes.{entry_in as entry_of};
 
 use crate::composition::CompositionMemory;
 use crate::node::Node;
@@ -25,7 +25,7 @@ impl<'a> Model for Entries<'a> {
     ghost use Rattle.std.specs.Prelude.{List};
     ghost use Rattle.stream_syntax.specs.declared.page.PageEntry.{PageEntry};
     ghost use Rattle.comp_pool.specs.Pool.{list_of};
-    ghost use Rattle.page_core.specs.Entries.{entries_left, IsWalk};
+    ghost use Rattle.page_core.specs.Private.Entries.{entries_left, IsWalk};
 
     ghost Value = { List PageEntry };
 
@@ -37,7 +37,8 @@ impl<'a> Model for Entries<'a> {
 impl Entries<'_> {
     /// The next entry; none exactly after the last one.
     pub(crate) fn next_entry(&mut self) -> Option<PageEntry>
-        ensures { MatchOption result ((self.old ≡ []) × (self.new ≡ [])) (λ entry. self.old ≡ entry ∷ self.new) }
+        ensures { MatchOption result ((self.old ≡ []) × (self.new ≡ []))
+            (λ entry. self.old ≡ entry ∷ self.new) }
     {
         let node = self.next?;
         let entry = entry_in(self.pool.item(node));

@@ -3,8 +3,8 @@
 ghost use Rattle.std.specs.Prelude.{◌≡◌, ◌<◌, length, option_map};
 ghost use Rattle.std.specs.List.{list_any};
 ghost use Rattle.comp_pool.specs.Pool.{list_of};
-ghost use Rattle.page_core.specs.Listings.{painter_of};
-ghost use Rattle.page_core.specs.ObjectFaults.{is_due_node, is_due_pair, lesser, told};
+ghost use Rattle.page_core.specs.Private.Listings.{painter_of};
+ghost use Rattle.page_core.specs.Private.ObjectFaults.{is_due_node, is_due_pair, lesser, told};
 
 use crate::composition::listings::{Painter, is_due};
 use crate::composition::walk::Walk;

@@ -4,7 +4,7 @@ ghost use Rattle.std.specs.Prelude.{◌≡◌, ◌+◌, ◌<◌, ◌≤◌, [], 
 ghost use Rattle.comp_pool.specs.Pool.{list_of};
 ghost use Rattle.segments.specs.Contents.{page_value};
 ghost use Rattle.page_core.specs.Composition.{with_entries};
-ghost use Rattle.page_core.specs.PageEntries.{HasEntries};
+ghost use Rattle.page_core.specs.Private.PageEntries.{HasEntries};
 
 use crate::composition::CompositionMemory;
 use crate::node::Node;
@@ -17,7 +17,8 @@ const ENTRIES: u32 = 0;
 impl CompositionMemory {
     /// Puts the entries of a page in the place of those that were there.
     pub(crate) fn set_entries(&mut self, page: &PageSeg<'_>)
-        requires room { length (page_value page.now).entries ≤ self.old.free + length self.old.entries }
+        requires room { length (page_value page.now).entries
+            ≤ self.old.free + length self.old.entries }
         ensures { self.new ≡ with_entries (page_value page.now).entries self.old }
     {
         self.pool.clear(ENTRIES);

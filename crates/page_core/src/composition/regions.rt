@@ -5,8 +5,8 @@ ghost use Rattle.std.specs.Option.{is_some};
 ghost use Rattle.comp_pool.specs.Pool.{IsInList};
 ghost use Rattle.segments.specs.Contents.{region_value};
 ghost use Rattle.page_core.specs.Composition.{AreIdsApart, region_in, taken_nodes};
-ghost use Rattle.page_core.specs.PoolChanges.{HasListings, IsRegionSet};
-ghost use Rattle.page_core.specs.RegionSteps.{slot_in, with_head, with_listings, with_region, without_listings};
+ghost use Rattle.page_core.specs.Private.PoolChanges.{HasListings, IsRegionSet};
+ghost use Rattle.page_core.specs.Private.RegionSteps.{slot_in, with_head, with_listings, with_region, without_listings};
 
 use crate::composition::listings::listings_of;
 use crate::composition::{CompositionMemory, node_at};
@@ -29,7 +29,8 @@ impl CompositionMemory {
     /// Puts the listings of a segment behind those of its region, all of them unpainted.
     pub(crate) fn add_listings(&mut self, region: &RegionSeg<'_>)
         requires room { length (region_value region.now).listings ≤ self.old.free }
-        ensures { self.new ≡ with_listings region.now.region (region_value region.now).listings self.old }
+        ensures { self.new
+            ≡ with_listings region.now.region (region_value region.now).listings self.old }
     {
         push_listings(&mut self.pool, listings_of(region.region), region);
     }

@@ -22,7 +22,7 @@ impl<'a> Model for Walk<'a> {
     ghost use Rattle.comp_pool.specs.Places.{rest_from};
     ghost use Rattle.comp_pool.specs.Pool.{list_of};
     ghost use Rattle.comp_pool.specs.declared.node.NodeId.{NodeId};
-    ghost use Rattle.page_core.specs.Steps.{IsWalkOf};
+    ghost use Rattle.page_core.specs.Private.Steps.{IsWalkOf};
     ghost use Rattle.page_core.specs.declared.node.Node.{Node};
 
     ghost Value = { List (NodeId × Node) };
@@ -47,7 +47,8 @@ impl Walk<'_> {
 
     /// What the next node has; none exactly behind the last one.
     pub(crate) fn next_item(&mut self) -> Option<Node>
-        ensures { MatchOption result ((self.old ≡ []) × (self.new ≡ [])) (λ item. (node : NodeOf) × (self.old ≡ (node, item) ∷ self.new)) }
+        ensures { MatchOption result ((self.old ≡ []) × (self.new ≡ []))
+            (λ item. (node : NodeOf) × (self.old ≡ (node, item) ∷ self.new)) }
     {
         let node = self.next?;
         let item = self.pool.item(node);

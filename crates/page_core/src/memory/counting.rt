@@ -7,9 +7,9 @@ ghost use Rattle.decoder_model.specs.Nodes.{nodes_of};
 ghost use Rattle.decoder_model.specs.Readings.{Content};
 ghost use Rattle.decoder_model.specs.Taken.{segments_of, taken_of};
 ghost use Rattle.segments.specs.Contents.{page_value};
-ghost use Rattle.page_core.specs.Accepted.{IsBefore};
-ghost use Rattle.page_core.specs.Counting.{kept_need};
-ghost use Rattle.page_core.specs.Sound.{IsSound};
+ghost use Rattle.page_core.specs.Private.Accepted.{IsBefore};
+ghost use Rattle.page_core.specs.Private.Counting.{kept_need};
+ghost use Rattle.page_core.specs.Private.Sound.{IsSound};
 
 use crate::counting::{clut_nodes, region_nodes};
 use crate::memory::Core;
@@ -19,9 +19,11 @@ use segments::PageSeg;
 impl Core {
     /// The fault of a set that needs more nodes than there are. Nothing is changed.
     pub(crate) fn nodes_fault(&mut self, page: &PageSeg<'_>, bytes: &[u8]) -> Option<SetFault>
-        ensures answer { (before : List (List Content)) (set : List Content) → IsBefore before self.old → IsSound set bytes.now
+        ensures answer { (before : List (List Content)) (set : List Content)
+            → IsBefore before self.old → IsSound set bytes.now
             → page_in_set set ≡ Some (page_value page.now)
-            → result ≡ composition_fault self.old.profile (taken_of (segments_of (set ∷ before))) (page_value page.now) }
+            → result ≡ composition_fault self.old.profile
+            (taken_of (segments_of (set ∷ before))) (page_value page.now) }
         ensures same { self.new ≡ self.old }
     {
         let need = self.nodes_needed(page, bytes);
@@ -33,12 +35,16 @@ impl Core {
         })
     }
 
-    // How many nodes the epoch needs with a set: those that are taken but for the entries of the page, and what the set changes.
+    // How many nodes the epoch needs with a set: those that are taken but for the entries of the
+    // page, and what the set changes.
     fn nodes_needed(&mut self, page: &PageSeg<'_>, bytes: &[u8]) -> u64
-        ensures needed { (before : List (List Content)) (set : List Content) → IsBefore before self.old → IsSound set bytes.now
+        ensures needed { (before : List (List Content)) (set : List Content)
+            → IsBefore before self.old → IsSound set bytes.now
             → page_in_set set ≡ Some (page_value page.now)
-            → result ≡ nodes_of (taken_of (segments_of (set ∷ before))) (page_value page.now) }
-        ensures few { (before : List (List Content)) (set : List Content) → IsBefore before self.old → IsSound set bytes.now
+            → result ≡ nodes_of (taken_of (segments_of (set ∷ before)))
+            (page_value page.now) }
+        ensures few { (before : List (List Content)) (set : List Content)
+            → IsBefore before self.old → IsSound set bytes.now
             → page_in_set set ≡ Some (page_value page.now) → result < 2 ^ 32 }
         ensures same { self.new ≡ self.old }
     {

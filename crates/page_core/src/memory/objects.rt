@@ -8,9 +8,9 @@ ghost use Rattle.segments.specs.Contents.{object_value};
 ghost use Rattle.stream_syntax.specs.Segments.{of_object};
 ghost use Rattle.page_core.specs.Handed.{AreContents, HasFieldSizes};
 ghost use Rattle.page_core.specs.Memory.{Holds};
-ghost use Rattle.page_core.specs.RegionTests.{first_in};
-ghost use Rattle.page_core.specs.SetSteps.{KeepsButObjects};
-ghost use Rattle.page_core.specs.Walks.{is_object};
+ghost use Rattle.page_core.specs.Private.RegionTests.{first_in};
+ghost use Rattle.page_core.specs.Private.SetSteps.{KeepsButObjects};
+ghost use Rattle.page_core.specs.Private.Walks.{is_object};
 
 use super::Core;
 use crate::walking::next_object;
@@ -20,9 +20,11 @@ use segments::{ObjectSeg, SegmentFault};
 impl Core {
     /// Takes the object segments of a set, one after another; the first that has a fault ends it.
     pub(crate) fn take_objects(&mut self, bytes: &[u8]) -> Option<SetFault>
-        ensures fault { (older set : List Content) → Holds older self.old → AreContents set bytes.now
+        ensures fault { (older set : List Content) → Holds older self.old
+            → AreContents set bytes.now
             → result ≡ first_in object_too_deep older (filter is_object set) }
-        ensures taken { (older set : List Content) → Holds older self.old → AreContents set bytes.now
+        ensures taken { (older set : List Content) → Holds older self.old
+            → AreContents set bytes.now
             → result ≡ None
             → Holds (reverse (filter is_object set) ++ older) self.new }
         ensures rest { KeepsButObjects self.old self.new }
@@ -37,12 +39,14 @@ impl Core {
         None
     }
 
-    /// Paints an object through all listings that it paints, or answers its fault; what it has painted then is of no use.
+    /// Paints an object through all listings that it paints, or answers its fault; what it has
+    /// painted then is of no use.
     fn take_object(&mut self, object: &ObjectSeg<'_>) -> Option<SetFault>
         requires fields { HasFieldSizes (of_object (object_value object.now)) }
         ensures fault { (older : List Content) (content : Content) → Holds older self.old
             → of_object (object_value object.now) ≡ content.value
-            → AreFields content.value content.top content.bottom → result ≡ object_too_deep older content }
+            → AreFields content.value content.top content.bottom
+            → result ≡ object_too_deep older content }
         ensures taken { (older : List Content) (content : Content) → Holds older self.old
             → of_object (object_value object.now) ≡ content.value
             → AreFields content.value content.top content.bottom → result ≡ None

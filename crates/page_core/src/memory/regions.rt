@@ -6,9 +6,9 @@ ghost use Rattle.decoder_model.specs.Readings.{Content};
 ghost use Rattle.decoder_model.specs.Taken.{taken_of};
 ghost use Rattle.page_core.specs.Handed.{AreContents};
 ghost use Rattle.page_core.specs.Memory.{Holds};
-ghost use Rattle.page_core.specs.RegionSteps.{AreRegionsRight, KeepsButRegions, with_regions_of};
-ghost use Rattle.page_core.specs.RegionTests.{AreApart};
-ghost use Rattle.page_core.specs.Walks.{is_region};
+ghost use Rattle.page_core.specs.Private.RegionSteps.{AreRegionsRight, KeepsButRegions, with_regions_of};
+ghost use Rattle.page_core.specs.Private.RegionTests.{AreApart};
+ghost use Rattle.page_core.specs.Private.Walks.{is_region};
 
 use super::Core;
 use crate::region_taking::{clear_renewed, take_all};
@@ -16,10 +16,14 @@ use crate::region_taking::{clear_renewed, take_all};
 impl Core {
     /// Takes the region segments of a set.
     pub(super) fn take_regions(&mut self, bytes: &[u8])
-        ensures holds { (older set : List Content) → Holds older self.old → AreContents set bytes.now → AreApart [] (filter is_region set)
+        ensures holds { (older set : List Content) → Holds older self.old
+            → AreContents set bytes.now → AreApart [] (filter is_region set)
             → AreRegionsRight older set self.old → Holds (with_regions_of older set) self.new }
-        ensures pixels { (older set : List Content) → Holds older self.old → AreContents set bytes.now → AreApart [] (filter is_region set)
-            → AreRegionsRight older set self.old → self.new.store.free ≡ self.new.profile.pixels - pixels_used (taken_of (with_regions_of older set)) }
+        ensures pixels { (older set : List Content) → Holds older self.old
+            → AreContents set bytes.now → AreApart [] (filter is_region set)
+            → AreRegionsRight older set self.old
+            → self.new.store.free
+            ≡ self.new.profile.pixels - pixels_used (taken_of (with_regions_of older set)) }
         ensures rest { KeepsButRegions self.old self.new }
     {
         clear_renewed(&mut self.composition, bytes);

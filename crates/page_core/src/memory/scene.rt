@@ -9,12 +9,10 @@ ghost use Rattle.page_core.specs.Scenes.{Shows, until_in};
 use super::Core;
 use crate::rows;
 use std::marker::Model;
-use sub_base::Colour;
+use sub_base::{Colour, SECOND};
 
-/// The ticks of a second.
-const SECOND: u64 = 90_000;
-
-/// The page that a core shows. Contracts see it as what the core keeps. It can be read by several threads at a time.
+/// The page that a core shows. Contracts see it as what the core keeps. It can be read by several
+/// threads at a time.
 #[derive(Drop)]
 pub struct Scene<'a> {
     core: &'a Core,
@@ -29,13 +27,16 @@ impl<'a> Model for Scene<'a> {
 }
 
 impl Core {
-    /// The page that is shown: that of the last set that was kept, which was shown, and nothing was lost since.
+    /// The page that is shown: that of the last set that was kept, which was shown, and nothing was
+    /// lost since.
     pub fn scene(&self) -> Scene<'_>
         requires { self.now.known ≡ true }
         ensures same { result ≡ self.now }
         ensures display { IsDisplayOf self.now.profile self.now.display }
         ensures shown { (past : List (Delivery Reading)) → Stands past self.now
-            → (standing : Standing) × (standing_after self.now.profile self.now.anchor past ≡ Some standing) × Shows standing self.now }
+            → (standing : Standing)
+            × (standing_after self.now.profile self.now.anchor past ≡ Some standing)
+            × Shows standing self.now }
     {
         let _ = &self.known; // The invariant is wanted.
         Scene { core: self }
@@ -59,7 +60,8 @@ impl Scene<'_> {
         core.display.height
     }
 
-    /// The lifted time at which the page is timed out. `None` exactly for a time-out of 0, which is never over.
+    /// The lifted time at which the page is timed out. `None` exactly for a time-out of 0, which is
+    /// never over.
     pub fn until(&self) -> Option<u64>
         ensures { result ≡ until_in self.now }
     {
@@ -88,10 +90,11 @@ impl Scene<'_> {
         );
     }
 
-    /// Lends the packed bytes of a line of a region. `None` exactly where the page lists no region of that id or the line is not
-    /// below the region's height.
+    /// Lends the packed bytes of a line of a region. `None` exactly where the page lists no region
+    /// of that id or the line is not below the region's height.
     pub fn packed_row(&self, id: u8, line: u16) -> Option<&[u8]>
-        ensures { IsLineLent self.now (listed_in self.now id) line (option_map (λ bytes. bytes.now) result) }
+        ensures { IsLineLent self.now (listed_in self.now id) line
+            (option_map (λ bytes. bytes.now) result) }
     {
         let core = self.core;
         rows::packed_row(&core.composition, &core.store, id, line)

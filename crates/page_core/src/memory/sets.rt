@@ -1,4 +1,5 @@
-//! What becomes of a set that a core is handed (EN 300 743, clause 5.1): its verdict, and what the page memory has with it.
+//! What becomes of a set that a core is handed (EN 300 743, clause 5.1): its verdict, and what the
+//! page memory has with it.
 
 ghost use Rattle.std.specs.Prelude.{◌≡◌, ◌-◌, ◌<◌, ◌≤◌, ◌^◌, ◌∷◌, [], List, ℕ, Some, None, true, length, option_and_then, option_map};
 ghost use Rattle.decoder_model.specs.Contents.{display_in_set, page_in_set};
@@ -13,15 +14,15 @@ ghost use Rattle.decoder_model.specs.Verdict.{sets_since, verdict_of, verdict_on
 ghost use Rattle.decoder_model.specs.declared.set_end.SetEnd.TheVariants.{Broken, NotLater, Shown};
 ghost use Rattle.decoder_model.specs.declared.set_fault.SetFault.{SetFault as WhyBroken};
 ghost use Rattle.segments.specs.Contents.{display_value, page_value};
-ghost use Rattle.page_core.specs.Accepted.{IsBefore};
+ghost use Rattle.page_core.specs.Private.Accepted.{IsBefore};
 ghost use Rattle.page_core.specs.Composition.{with_entries};
-ghost use Rattle.page_core.specs.Epochs.{HasOneDisplay};
+ghost use Rattle.page_core.specs.Private.Epochs.{HasOneDisplay};
 ghost use Rattle.stream_syntax.specs.Segments.{Display};
 ghost use Rattle.page_core.specs.Memory.{Holds, IsForgotten, IsSameReceiver, IsWhole, Stands, showing};
-ghost use Rattle.page_core.specs.RegionTests.{before_regions};
-ghost use Rattle.page_core.specs.Seen.{IsFound};
-ghost use Rattle.page_core.specs.SetSteps.{HasEpoch, KeepsButPage, with_composition};
-ghost use Rattle.page_core.specs.Sound.{IsSound};
+ghost use Rattle.page_core.specs.Private.RegionTests.{before_regions};
+ghost use Rattle.page_core.specs.Private.Seen.{IsFound};
+ghost use Rattle.page_core.specs.Private.SetSteps.{HasEpoch, KeepsButPage, with_composition};
+ghost use Rattle.page_core.specs.Private.Sound.{IsSound};
 
 use super::Core;
 use crate::taking::Accepted;
@@ -29,8 +30,9 @@ use decoder_model::{SetEnd, SetFault};
 use segments::{DisplaySeg, PageSeg};
 
 impl Core {
-    /// A whole set of this page, as the bytes of its segments, and what becomes of it. Where it is kept and has a fault, all is
-    /// given up and the core waits; a set that is not later than one that was kept changes nothing.
+    /// A whole set of this page, as the bytes of its segments, and what becomes of it. Where it is
+    /// kept and has a fault, all is given up and the core waits; a set that is not later than one
+    /// that was kept changes nothing.
     pub fn take_set(&mut self, pts: u64, bytes: &[u8]) -> SetEnd
         requires { pts < 2 ^ 33 }
         ensures stands { (past : List (Delivery Reading)) (size : ℕ) (readings : List Reading)
@@ -38,7 +40,8 @@ impl Core {
             → Stands (whole pts size readings ∷ past) self.new }
         ensures answer { (past : List (Delivery Reading)) (size : ℕ) (readings : List Reading)
             → Stands past self.old → AreRead readings bytes.now
-            → Some result ≡ verdict_of self.old.profile self.old.anchor past (whole pts size readings) }
+            → Some result
+            ≡ verdict_of self.old.profile self.old.anchor past (whole pts size readings) }
         ensures known { result ≡ Shown → self.new.known ≡ true }
         ensures unchanged { (time : ℕ) → result ≡ NotLater time → self.new ≡ self.old }
         ensures broken { (why : WhyBroken) → result ≡ Broken why → IsForgotten self.new }
@@ -62,7 +65,8 @@ impl Core {
             → Stands past self.old
             → lifted_time self.old.anchor past (whole pts size readings) ≡ Some time
             → AreRead readings bytes.now
-            → result ≡ verdict_on_kept self.old.profile (sets_since self.old.profile self.old.anchor past) readings }
+            → result ≡ verdict_on_kept self.old.profile
+            (sets_since self.old.profile self.old.anchor past) readings }
         ensures kept { (last : ℕ) → result ≡ NotLater last → ⊥ }
         ensures known { result ≡ Shown → self.new.known ≡ true }
         ensures broken { (why : WhyBroken) → result ≡ Broken why → IsForgotten self.new }
@@ -82,11 +86,13 @@ impl Core {
 
     // A set of an epoch is tested and taken. With a fault, what is left of it is of no use.
     fn take_in_epoch(&mut self, accepted: &Accepted<'_>, bytes: &[u8]) -> Option<SetFault>
-        ensures fault { (set : List Content) (before : List (List Content)) → IsBefore before self.old
+        ensures fault { (set : List Content) (before : List (List Content))
+            → IsBefore before self.old
             → IsFound set accepted.now.found → IsSound set bytes.now
             → page_in_set set ≡ Some (page_value accepted.now.page)
             → result ≡ epoch_fault self.old.profile before set (page_value accepted.now.page) }
-        ensures taken { (set : List Content) (before : List (List Content)) → IsBefore before self.old
+        ensures taken { (set : List Content) (before : List (List Content))
+            → IsBefore before self.old
             → IsFound set accepted.now.found → IsSound set bytes.now
             → page_in_set set ≡ Some (page_value accepted.now.page) → result ≡ None
             → HasEpoch set before (page_value accepted.now.page) self.new }
@@ -109,9 +115,11 @@ impl Core {
         self.take_objects(bytes)
     }
 
-    // The display that a set defines is in force; where it defines none, the one from before it stays.
+    // The display that a set defines is in force; where it defines none, the one from before it
+    // stays.
     fn take_display(&mut self, display: Option<DisplaySeg>)
-        requires fits { option_and_then (fault_of_display self.old.profile) (option_map display_value display) ≡ None }
+        requires fits { option_and_then (fault_of_display self.old.profile)
+            (option_map display_value display) ≡ None }
         ensures holds { (older set : List Content) → Holds older self.old
             → display_in_set set ≡ option_map display_value display
             → ((one : Display) → display_in_set set ≡ Some one → HasOneDisplay set one)
@@ -125,7 +133,8 @@ impl Core {
 
     // Takes the entries of the page out: the regions of a set may need their nodes.
     fn clear_page(&mut self)
-        ensures cleared { self.new ≡ with_composition (with_entries [] self.old.composition) self.old }
+        ensures cleared { self.new
+            ≡ with_composition (with_entries [] self.old.composition) self.old }
         ensures whole { IsWhole self.new }
     {
         self.composition.clear_entries();
@@ -133,14 +142,17 @@ impl Core {
 
     // The page of a set stands.
     fn take_page(&mut self, page: &PageSeg<'_>)
-        ensures holds { (segments : List Content) → Holds segments self.old → Holds segments self.new }
+        ensures holds { (segments : List Content) → Holds segments self.old
+            → Holds segments self.new }
         ensures entries { (segments : List Content) → Holds segments self.old
             → self.old.composition.entries ≡ []
             → nodes_of (taken_of segments) (page_value page.now) ≤ self.old.profile.nodes
             → self.new.composition.entries ≡ (page_value page.now).entries }
-        ensures free { (segments : List Content) → Holds segments self.old → self.old.composition.entries ≡ []
+        ensures free { (segments : List Content) → Holds segments self.old
+            → self.old.composition.entries ≡ []
             → nodes_of (taken_of segments) (page_value page.now) ≤ self.old.profile.nodes
-            → self.new.composition.free ≡ self.new.profile.nodes - nodes_of (taken_of segments) (page_value page.now) }
+            → self.new.composition.free
+            ≡ self.new.profile.nodes - nodes_of (taken_of segments) (page_value page.now) }
         ensures time_out { self.new.time_out ≡ (page_value page.now).time_out }
         ensures known { self.new.known ≡ true }
         ensures rest { KeepsButPage self.old self.new }

@@ -1,4 +1,4 @@
-use Rattle.region_paint.specs.Painted.{IsScreen}
+use Rattle.region_paint.specs.Private.Painted.{IsScreen}
 use Rattle.region_paint.proofs.measure.Given as goal
 
 abbrev pub invariant-loop-length : goal.invariant-loop-length

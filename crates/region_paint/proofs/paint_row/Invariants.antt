@@ -1,5 +1,5 @@
 use Rattle.std.proofs.Common.{◌-◌, ◌≤◌}
-use Rattle.region_paint.specs.Painted.{IsScreen}
+use Rattle.region_paint.specs.Private.Painted.{IsScreen}
 use Rattle.region_paint.proofs.paint_row.Given as goal
 
 abbrev pub invariant-loop-x : goal.invariant-loop-x

@@ -1,4 +1,4 @@
-use Rattle.region_paint.specs.Painted.{IsScreen}
+use Rattle.region_paint.specs.Private.Painted.{IsScreen}
 use Rattle.region_paint.proofs.paint_times.Given as goal
 
 abbrev pub invariant-loop : goal.invariant-loop

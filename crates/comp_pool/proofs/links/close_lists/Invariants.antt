@@ -1,5 +1,5 @@
 use Rattle.std.proofs.Common.{◌≡◌, ◌<◌, ◌≤◌, ◌⊎◌, ℕ, length, get_or}
-use Rattle.comp_pool.specs.Links.{IsClosed, IsLast}
+use Rattle.comp_pool.specs.Private.Links.{IsClosed, IsLast}
 use Rattle.comp_pool.proofs.links.close_lists.Given as goal
 
 abbrev pub invariant-loop-node : goal.invariant-loop-node

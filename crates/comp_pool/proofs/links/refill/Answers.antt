@@ -1,5 +1,5 @@
 use Rattle.std.proofs.Common.{◌∙◌, ◌<◌, length, arith}
-use Rattle.comp_pool.specs.Links.{lists_of}
+use Rattle.comp_pool.specs.Private.Links.{lists_of}
 use Rattle.comp_pool.proofs.Closing.{each_end, free_forward, free_backward}
 use Rattle.comp_pool.proofs.links.refill.Goals as goal
 

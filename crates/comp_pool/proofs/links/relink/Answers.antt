@@ -1,6 +1,6 @@
 use Rattle.std.proofs.Common.{◌<◌, length, set, arith}
 use Rattle.std.proofs.lemmas.List.{length-set}
-use Rattle.comp_pool.specs.Links.{lists_of, list_at, dropping}
+use Rattle.comp_pool.specs.Private.Links.{lists_of, list_at, dropping}
 use Rattle.comp_pool.proofs.Chains.{Split-from_Contains}
 use Rattle.comp_pool.proofs.Moves.{node_of, detached, p_below, q_below}
 use Rattle.comp_pool.proofs.Attach.{t_below, attached}

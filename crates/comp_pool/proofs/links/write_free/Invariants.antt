@@ -1,5 +1,5 @@
 use Rattle.std.proofs.Common.{◌≡◌, ◌<◌, ◌≤◌, ℕ, get_or}
-use Rattle.comp_pool.specs.Links.{next_when_free, back_when_free}
+use Rattle.comp_pool.specs.Private.Links.{next_when_free, back_when_free}
 use Rattle.comp_pool.proofs.links.write_free.Given as goal
 
 abbrev pub invariant-loop-place : goal.invariant-loop-place

@@ -1,7 +1,7 @@
 use Rattle.std.proofs.Common.{◌≡◌, sym, ap, subst, ℕ, List, length, arith}
 use Rattle.std.proofs.lemmas.List.{length_push}
 use Rattle.comp_pool.specs.declared.node.NodeId.{NodeId}
-use Rattle.comp_pool.specs.Sample.{HasIndex}
+use Rattle.comp_pool.specs.Private.Sample.{HasIndex}
 use Rattle.comp_pool.proofs.ItemLaws.{list_count_after_push}
 use Rattle.comp_pool.proofs.SampleLaws.{one_more}
 use Rattle.comp_pool.proofs.tests.push_all.Goals as goal

@@ -1,6 +1,6 @@
 use Rattle.std.proofs.Common.{◌≡◌, ◌<◌, ℕ, length}
 use Rattle.comp_pool.specs.Pool.{NoneTwice}
-use Rattle.comp_pool.specs.Sample.{HasIndex}
+use Rattle.comp_pool.specs.Private.Sample.{HasIndex}
 use Rattle.comp_pool.proofs.tests.push_all.Given as goal
 
 abbrev pub invariant-loop-item : goal.invariant-loop-item

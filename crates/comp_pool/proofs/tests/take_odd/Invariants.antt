@@ -1,6 +1,6 @@
 use Rattle.std.proofs.Common.{ℕ, ◌+◌, ◌*◌, ◌≤◌}
 use Rattle.comp_pool.specs.Pool.{NoneTwice}
-use Rattle.comp_pool.specs.Sample.{HasIndex}
+use Rattle.comp_pool.specs.Private.Sample.{HasIndex}
 use Rattle.comp_pool.proofs.tests.take_odd.Given as goal
 
 abbrev pub invariant-loop-k : goal.invariant-loop-k

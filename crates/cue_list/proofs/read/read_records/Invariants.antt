@@ -1,5 +1,5 @@
 use Rattle.std.proofs.Common.{length}
-use Rattle.cue_list.specs.HasRead.{HasRead}
+use Rattle.cue_list.specs.Private.HasRead.{HasRead}
 use Rattle.cue_list.specs.Rows.{IsReadable, rows_left, unread}
 use Rattle.cue_list.proofs.read.read_records.Given as goal
 

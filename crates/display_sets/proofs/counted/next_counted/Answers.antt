@@ -1,19 +1,22 @@
-use Rattle.std.proofs.Common.{sym, ◌∙◌}
-use Rattle.display_sets.proofs.CountedLaws.{counted_none, counted_broken, passed, first_segment}
+use Rattle.std.proofs.Common.{◌∙◌, sym, subst, Some}
+use Rattle.segments.specs.Framing.{IsFirstFrame, TellsFirst, frames_left}
+use Rattle.display_sets.proofs.CountedLaws.{whole_inside, passed, first_segment}
 use Rattle.display_sets.proofs.counted.next_counted.Goals as goal
 
-pub returns-in-Err : goal.returns-in-Err
-returns-in-Err c = c.loop-rest.invariant.same ∙ counted_broken c.args.page c.loop-rest.rest.now c.in-Err.fault (sym c.ends_segments.ensures ∙ c.loop-rest-test.true) c.in-Err.ensures.fault
+pub split_at-requires : goal.split_at-requires
+split_at-requires c =
+    let told : IsFirstFrame (frames_left c.loop-head.head-iterator) (frames_left c.next.new.self) c.in-Ok.frame =
+    subst (λ head. TellsFirst c.loop-head.head-iterator (Some head) c.next.new.self) c.in-Ok.is c.in-Some.ensures.steps in
+    whole_inside c.args.page c.args.field.now c.loop-head.rest.now _ _ c.in-Ok.frame c.loop-head.invariant told
 
 pub returns-then-is_of_page : goal.returns-then-is_of_page
 returns-then-is_of_page c =
-    first_segment c.args.page c.in-Ok.frame.whole c.in-Ok.frame.kind c.in-Ok.frame.page c.args.field.now c.loop-rest.rest.now _ c.loop-rest.invariant (sym c.ends_segments.ensures ∙ c.loop-rest-test.true)
-    c.in-Ok.ensures.fault c.in-Ok.ensures.whole c.in-Ok.ensures.within c.in-Ok.ensures.kind c.in-Ok.ensures.page (sym c.is_of_page.ensures ∙ c.if-is_of_page.true) c.split_at.ensures.front c.split_at.ensures.back
+    let told : IsFirstFrame (frames_left c.loop-head.head-iterator) (frames_left c.next.new.self) c.in-Ok.frame =
+    subst (λ head. TellsFirst c.loop-head.head-iterator (Some head) c.next.new.self) c.in-Ok.is c.in-Some.ensures.steps in
+    first_segment c.args.page c.args.field.now c.loop-head.rest.now _ _ c.in-Ok.frame _ c.loop-head.invariant told (sym c.is_of_page.ensures ∙ c.if-is_of_page.true) c.split_at.ensures.front c.split_at.ensures.back
 
-pub loop-rest-preserved : goal.loop-rest-preserved
-loop-rest-preserved c =
-    passed c.args.page c.in-Ok.frame.whole c.in-Ok.frame.kind c.in-Ok.frame.page c.args.field.now c.loop-rest.rest.now c.split_at.result.1.now c.loop-rest.invariant (sym c.ends_segments.ensures ∙ c.loop-rest-test.true)
-    c.in-Ok.ensures.fault c.in-Ok.ensures.whole c.in-Ok.ensures.kind c.in-Ok.ensures.page (sym c.is_of_page.ensures ∙ c.if-is_of_page.false) c.split_at.ensures.back
-
-pub returns : goal.returns
-returns c = c.loop-rest.invariant.same ∙ counted_none c.args.page c.loop-rest.rest.now (sym c.ends_segments.ensures ∙ c.loop-rest-test.false)
+pub loop-head-preserved : goal.loop-head-preserved
+loop-head-preserved c =
+    let told : IsFirstFrame (frames_left c.loop-head.head-iterator) (frames_left c.next.new.self) c.in-Ok.frame =
+    subst (λ head. TellsFirst c.loop-head.head-iterator (Some head) c.next.new.self) c.in-Ok.is c.in-Some.ensures.steps in
+    passed c.args.page c.args.field.now c.loop-head.rest.now c.split_at.result.1.now _ _ c.in-Ok.frame c.loop-head.invariant told (sym c.is_of_page.ensures ∙ c.if-is_of_page.false) c.split_at.ensures.back

@@ -1,7 +1,7 @@
 use Rattle.std.proofs.Common.{◌∙◌, ℕ, subst}
 use Rattle.packet_walk.proofs.EndLaws.{end_told}
 use Rattle.dvbsub_cmd.specs.Checks.{check_tells, checks}
-use Rattle.dvbsub_cmd.specs.Closing.{is_whole_end}
+use Rattle.dvbsub_cmd.specs.Private.Closing.{is_whole_end}
 use Rattle.dvbsub_cmd.specs.StreamOutcome.{IsStreamCause}
 use Rattle.dvbsub_cmd.proofs.CheckLaws.{tells_as_asked}
 use Rattle.dvbsub_cmd.proofs.CloseLaws.{closed}

@@ -2,7 +2,7 @@ use Rattle.std.proofs.Common.{◌∙◌, ◌<◌, ℕ, List, None, drop, sym, su
 use Rattle.std.specs.List.Sorted.{IsStrictlyIncreasing}
 use Rattle.dump_text.specs.DumpText.{anchor_of}
 use Rattle.packet_walk.proofs.EndLaws.{end_told}
-use Rattle.dvbsub_cmd.specs.Closing.{is_whole_end}
+use Rattle.dvbsub_cmd.specs.Private.Closing.{is_whole_end}
 use Rattle.dvbsub_cmd.specs.Command.{asked_ticks}
 use Rattle.dvbsub_cmd.specs.Dumps.{dump_tells, dumps}
 use Rattle.dvbsub_cmd.specs.StreamOutcome.{IsStreamCause}

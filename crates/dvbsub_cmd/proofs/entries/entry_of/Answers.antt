@@ -1,7 +1,7 @@
 use Rattle.std.proofs.Common.{◌∙◌, ap, length, refl, sym, arith}
 use Rattle.std.proofs.lemmas.Option.{slice_get_read}
 use Rattle.shown_stream.proofs.EnteredTimes.{drop_found}
-use Rattle.dvbsub_cmd.specs.Entries.{is_entry}
+use Rattle.dvbsub_cmd.specs.Private.Entries.{is_entry}
 use Rattle.dvbsub_cmd.proofs.EntryLaws.{entered_here, entered_later, entered_nowhere}
 use Rattle.dvbsub_cmd.proofs.entries.entry_of.Goals as goal
 

@@ -2,8 +2,8 @@ use Rattle.std.proofs.Common.{◌∙◌, ℕ, List, Option, Some, ap, drop, subs
 use Rattle.std.specs.Prelude.{slice_get}
 use Rattle.page_epoch.specs.declared.planned_set.PlannedSet.{PlannedSet}
 use Rattle.dvbsub_cmd.proofs.EnterLaws.{entry_first, entry_shown}
-use Rattle.dvbsub_cmd.specs.Entries.{HasEntry}
-use Rattle.dvbsub_cmd.specs.Generating.{AreShown}
+use Rattle.dvbsub_cmd.specs.Private.Entries.{HasEntry}
+use Rattle.dvbsub_cmd.specs.Private.Generating.{AreShown}
 use Rattle.dvbsub_cmd.specs.declared.gen_text.Entry.{Entry}
 use Rattle.dvbsub_cmd.proofs.gen_text.enter.Goals as goal
 

@@ -1,6 +1,6 @@
 use Rattle.std.proofs.Common.{◌∙◌, refl, sym}
 use Rattle.dvbsub_cmd.proofs.ExpectLaws.{written_whole, written_front}
-use Rattle.dvbsub_cmd.specs.Generating.{told_lines}
+use Rattle.dvbsub_cmd.specs.Private.Generating.{told_lines}
 use Rattle.dvbsub_cmd.proofs.gen_text.write_gen_text.Goals as goal
 
 pub returns-then-has_failed : goal.returns-then-has_failed

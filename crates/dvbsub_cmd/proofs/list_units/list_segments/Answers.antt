@@ -1,22 +1,34 @@
-use Rattle.std.proofs.Common.{List, ℕ, subst, sym, ◌∙◌, length-drop, arith, ap, length}
+use Rattle.std.proofs.Common.{◌≡◌, ◌∙◌, [], ◌∷◌, Some, subst, sym, ap, rules, arith}
+use Rattle.stream_syntax.specs.DataField.{broken, frames_of}
+use Rattle.stream_syntax.proofs.FrameLaws.{bytes_held, frames_held}
+use Rattle.segments.specs.Framing.{IsFirstFrame, TellsFirst, frames_left}
 use Rattle.dvbsub_cmd.specs.ListText.{IsSegmentLine}
-use Rattle.dvbsub_cmd.proofs.ListLaws.{line_more, lines_ended, lines_broken}
+use Rattle.dvbsub_cmd.proofs.ListLaws.{no_lines, line_more, lines_ended, lines_broken}
 use Rattle.dvbsub_cmd.proofs.list_units.list_segments.Goals as goal
+
+pub loop-head-init : goal.loop-head-init
+loop-head-init g c =
+    let same : frames_left c.into_iter-head-iterator.result ≡ frames_of c.args.segments.now = search rules in
+    record { place = omega (arith, ap bytes_held same, frames_held c.args.segments.now); told = no_lines _ _ _ _ same }
 
 pub returns-in-Err : goal.returns-in-Err
 returns-in-Err g c =
-    lines_broken _ _ _ _ _ _ c.loop-rest.place c.loop-rest.rest.now c.args.segments.now c.as_bytes.result.now c.in-Err.fault c.loop-rest.invariant.told
-    (sym c.ends_segments.ensures ∙ c.loop-rest-test.true) c.in-Err.ensures.fault (c.as_bytes.ensures ∙ c.fault_line-line.ensures.line) c.put.ensures
+    let told : (frames_left c.loop-head.head-iterator ≡ broken c.in-Err.fault ∷ []) × (frames_left c.next.new.self ≡ []) =
+    subst (λ head. TellsFirst c.loop-head.head-iterator (Some head) c.next.new.self) c.in-Err.is c.in-Some.ensures.steps in
+    lines_broken _ _ _ _ _ _ c.loop-head.place c.args.segments.now c.as_bytes.result.now (frames_left c.loop-head.head-iterator) c.in-Err.fault c.loop-head.invariant.told
+    told.0 (c.as_bytes.ensures ∙ c.fault_line-line.ensures.line) c.put.ensures
 
-pub loop-rest-preserved : goal.loop-rest-preserved
-loop-rest-preserved g c =
-    let line_is : IsSegmentLine c.loop-rest.place c.split_at.result.0.now c.as_bytes-in-loop-rest.result.now =
-    subst (λ (t : List ℕ). IsSegmentLine c.loop-rest.place c.split_at.result.0.now t) (sym c.as_bytes-in-loop-rest.ensures) c.framed_line-line.ensures.line in
+pub loop-head-preserved : goal.loop-head-preserved
+loop-head-preserved g c =
+    let told : IsFirstFrame (frames_left c.loop-head.head-iterator) (frames_left c.next.new.self) c.in-Ok.frame =
+    subst (λ head. TellsFirst c.loop-head.head-iterator (Some head) c.next.new.self) c.in-Ok.is c.in-Some.ensures.steps in
+    let line_is : IsSegmentLine c.loop-head.place told.bytes c.as_bytes-in-loop-head.result.now =
+    subst (λ line. IsSegmentLine c.loop-head.place told.bytes line) (sym c.as_bytes-in-loop-head.ensures) (c.write_framed_line.ensures.line told.bytes told.is_frame told.exact) in
     record {
-      place = omega (arith, c.in-Ok.ensures.within, c.split_at.ensures.back_len, c.loop-rest.invariant.place, ap (λ (l : List ℕ). length l) c.split_at.ensures.back, length-drop c.in-Ok.frame.whole c.loop-rest.rest.now);
-      told = line_more _ _ _ _ _ _ c.loop-rest.place c.loop-rest.rest.now c.args.segments.now c.as_bytes-in-loop-rest.result.now c.split_at.result.1.now c.in-Ok.frame.whole c.loop-rest.invariant.told
-          (sym c.ends_segments.ensures ∙ c.loop-rest-test.true) c.in-Ok.ensures.fault c.split_at.result.0.now c.split_at.ensures.front c.in-Ok.ensures.within line_is c.put-in-loop-rest.ensures c.in-Ok.ensures.whole c.split_at.ensures.back;
+      place = omega (arith, c.loop-head.invariant.place, ap bytes_held told.first, told.exact);
+      told = line_more _ _ _ _ _ _ c.loop-head.place _ _ _ c.as_bytes-in-loop-head.result.now c.in-Ok.frame c.loop-head.invariant.told told line_is c.put-in-loop-head.ensures;
     }
 
 pub returns : goal.returns
-returns g c = lines_ended _ _ _ _ c.loop-rest.place c.loop-rest.rest.now c.args.segments.now c.loop-rest.invariant.told (sym c.ends_segments.ensures ∙ c.loop-rest-test.false)
+returns g c =
+    lines_ended _ _ _ _ c.loop-head.place c.args.segments.now (frames_left c.loop-head.head-iterator) c.loop-head.invariant.told c.in-None.ensures.steps.0

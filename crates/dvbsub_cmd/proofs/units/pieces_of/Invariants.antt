@@ -1,5 +1,5 @@
 use Rattle.std.proofs.Common.{◌≡◌, ℕ, List, take, All}
-use Rattle.dvbsub_cmd.specs.SetUnits.{AreCut}
+use Rattle.dvbsub_cmd.specs.Private.SetUnits.{AreCut}
 use Rattle.shown_stream.specs.Compiled.{all_units}
 use Rattle.slot_stream.specs.SlotStream.{IsPiece, all_pieces}
 use Rattle.dvbsub_cmd.proofs.units.pieces_of.Given as goal

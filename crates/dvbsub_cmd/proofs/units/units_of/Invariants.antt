@@ -1,5 +1,5 @@
 use Rattle.std.proofs.Common.{ℕ, List, take}
-use Rattle.dvbsub_cmd.specs.SetUnits.{AreWritten}
+use Rattle.dvbsub_cmd.specs.Private.SetUnits.{AreWritten}
 use Rattle.dvbsub_cmd.proofs.units.units_of.Given as goal
 
 abbrev pub invariant-loop-set : goal.invariant-loop-set

@@ -1,5 +1,5 @@
 -- The entry is marked.
-use Rattle.page_core.specs.Nodes.{place_kept}
+use Rattle.page_core.specs.Private.Nodes.{place_kept}
 use Rattle.page_core.proofs.ColourSteps.{colour_marked}
 use Rattle.page_core.proofs.cluts.push_entry.Goals as goal
 

@@ -1,6 +1,6 @@
 -- The first node is a colour.
 use Rattle.page_core.proofs.ColourNodes.{popped_as}
-use Rattle.page_core.specs.Nodes.{colour_in, place_kept}
+use Rattle.page_core.specs.Private.Nodes.{colour_in, place_kept}
 use Rattle.page_core.proofs.composition.pop_colour.Goals as goal
 
 pub returns-in-Some : goal.returns-in-Some

@@ -1,6 +1,6 @@
 -- The CLUT segments so far are counted.
 use Rattle.std.proofs.Common.{◌≡◌, length, map}
-use Rattle.page_core.specs.Marks.{uncounted}
+use Rattle.page_core.specs.Private.Marks.{uncounted}
 use Rattle.page_core.proofs.ClutCounts.{IsCountingAny}
 use Rattle.page_core.proofs.counting.clut_nodes.Given as goal
 

@@ -1,7 +1,7 @@
 -- The entry is counted, or was set or counted.
 use Rattle.std.proofs.Common.{◌∙◌, arith, refl, sym}
 use Rattle.page_core.specs.Memory.{ink_place}
-use Rattle.page_core.specs.Nodes.{place_kept}
+use Rattle.page_core.specs.Private.Nodes.{place_kept}
 use Rattle.page_core.proofs.CountedMarks.{none_counted, one_counted, uncounted_same}
 use Rattle.page_core.proofs.counting.count_place.Goals as goal
 

@@ -2,9 +2,9 @@
 use Rattle.std.proofs.Common.{[], ap, subst, sym, ◌∙◌, slice_set}
 use Rattle.std.proofs.lemmas.List.Elements.{All-head}
 use Rattle.page_core.specs.Composition.{Composition}
-use Rattle.page_core.specs.Marks.{AreMarked}
+use Rattle.page_core.specs.Private.Marks.{AreMarked}
 use Rattle.page_core.specs.Memory.{AreInks, IsInTable, ink_place}
-use Rattle.page_core.specs.Nodes.{place_kept}
+use Rattle.page_core.specs.Private.Nodes.{place_kept}
 use Rattle.page_core.proofs.InkTables.{set_no_more}
 use Rattle.page_core.proofs.MarkTables.{unset_marked}
 use Rattle.page_core.proofs.forget.reset_colours.Goals as goal

@@ -1,6 +1,6 @@
 -- What is set so far, with its marks, and the default colours beside it.
 use Rattle.std.proofs.Common.{◌≡◌, [], length}
-use Rattle.page_core.specs.Marks.{AreMarked}
+use Rattle.page_core.specs.Private.Marks.{AreMarked}
 use Rattle.page_core.specs.Memory.{AreInks}
 use Rattle.page_core.proofs.forget.reset_colours.Given as goal
 

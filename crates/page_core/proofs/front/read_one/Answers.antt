@@ -1,16 +1,18 @@
--- The reading of whole bytes by what the reader of segments says of all values and faults.
-use Rattle.std.proofs.Common.{take}
-use Rattle.segments.specs.Contents.{contents}
-use Rattle.page_core.proofs.Fronts.{matches_ok, matches_err}
-use Rattle.page_core.proofs.RegionHeads.{right_value}
+-- The reading of a frame by what its reader says of all values and faults.
+use Rattle.std.proofs.Common.{arith}
+use Rattle.segments.proofs.Framing.{body_size}
+use Rattle.page_core.proofs.Fronts.{matches_result, right_result}
 use Rattle.page_core.proofs.front.read_one.Goals as goal
 
-pub returns-in-Ok-clause-matches : goal.returns-in-Ok-clause-matches
-returns-in-Ok-clause-matches c reading is_reading =
-    matches_ok c.args.bytes.now c.in-Ok.segment c.in-Ok._whole reading c.in-Ok.ensures.every_segment (λ fault is_fault. absurd (let no = c.in-Ok.ensures.every_fault fault is_fault in cc)) is_reading
+pub segment-requires : goal.segment-requires
+segment-requires c =
+    let bytes = c.requires.0 in
+    let framed = c.requires.1 in
+    omega (arith, body_size bytes c.args.frame.now framed, framed.each 4, framed.each 5)
 
-pub returns-in-Ok-clause-right : goal.returns-in-Ok-clause-right
-returns-in-Ok-clause-right c = right_value (take c.in-Ok._whole c.args.bytes.now) (contents c.in-Ok.segment) c.in-Ok.ensures.segment
+pub returns-clause-matches : goal.returns-clause-matches
+returns-clause-matches c segment reading framed is_reading =
+    matches_result segment c.args.frame.now.whole _ reading (c.segment.ensures.every_segment segment framed) (c.segment.ensures.every_fault segment framed) is_reading
 
-pub returns-in-Err-clause-matches : goal.returns-in-Err-clause-matches
-returns-in-Err-clause-matches c reading is_reading = matches_err c.args.bytes.now c.in-Err.fault reading c.in-Err.ensures.every_segment (λ fault is_fault. let is = c.in-Err.ensures.every_fault fault is_fault in cc) is_reading
+pub returns-clause-right : goal.returns-clause-right
+returns-clause-right c = right_result c.requires.0 c.args.frame.now.whole _ (c.segment.ensures.segment c.requires.0 c.requires.1)

@@ -1,7 +1,7 @@
 -- One more default colour.
 use Rattle.std.proofs.Common.{◌%◌, arith}
 use Rattle.sub_base.specs.Colour.{clear}
-use Rattle.page_core.specs.Inks.{default_ink}
+use Rattle.page_core.specs.Private.Inks.{default_ink}
 use Rattle.page_core.specs.Memory.{colours_of_clut}
 use Rattle.page_core.proofs.InkTables.{filled_by_one}
 use Rattle.page_core.proofs.inks.fill_with_defaults.Goals as goal

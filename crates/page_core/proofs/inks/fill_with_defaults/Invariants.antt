@@ -1,7 +1,7 @@
 -- The default colours so far.
 use Rattle.std.proofs.Common.{◌≡◌, ◌<◌, ◌%◌, ℕ, slice_index_or}
 use Rattle.sub_base.specs.Colour.{clear}
-use Rattle.page_core.specs.Inks.{default_ink}
+use Rattle.page_core.specs.Private.Inks.{default_ink}
 use Rattle.page_core.specs.Memory.{colours_of_clut}
 use Rattle.page_core.proofs.inks.fill_with_defaults.Given as goal
 

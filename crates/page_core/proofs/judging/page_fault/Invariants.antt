@@ -5,7 +5,7 @@ use Rattle.decoder_model.specs.Contents.{in_order}
 use Rattle.decoder_model.specs.Faults.{page_fault, unknown_region}
 use Rattle.decoder_model.specs.Readings.{Content}
 use Rattle.segments.specs.Contents.{page_value}
-use Rattle.page_core.specs.Judging.{AreDefined, KnowsRegions}
+use Rattle.page_core.specs.Private.Judging.{AreDefined, KnowsRegions}
 use Rattle.page_core.proofs.judging.page_fault.Given as goal
 
 abbrev pub invariant-loop-i : goal.invariant-loop-i

@@ -1,6 +1,6 @@
 -- The stamps before the index are swept, and the others are as they were.
 use Rattle.std.proofs.Common.{◌≡◌, ◌==◌, ◌≤◌, ◌<◌, ℕ, cond, slice_index_or}
-use Rattle.page_core.specs.Marks.{all_set}
+use Rattle.page_core.specs.Private.Marks.{all_set}
 use Rattle.page_core.proofs.marks.sweep_all.Given as goal
 
 abbrev pub invariant-loop-index : goal.invariant-loop-index

@@ -4,7 +4,7 @@ use Rattle.decoder_model.specs.Readings.{Content}
 use Rattle.pixel_store.specs.Regions.{Regions}
 use Rattle.page_core.specs.Composition.{AreIdsApart}
 use Rattle.page_core.specs.Handed.{AreContents}
-use Rattle.page_core.specs.RegionSteps.{AreStored, KeepsBesideRegions}
+use Rattle.page_core.specs.Private.RegionSteps.{AreStored, KeepsBesideRegions}
 use Rattle.page_core.proofs.RenewedRegions.{IsClearing}
 use Rattle.page_core.proofs.region_taking.clear_renewed.Given as goal
 

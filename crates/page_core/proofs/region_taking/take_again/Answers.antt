@@ -3,7 +3,7 @@ use Rattle.std.proofs.Common.{◌≡◌, ◌∙◌, true, sym, ap, subst, arith}
 use Rattle.decoder_model.specs.Faults.{has_same_shape}
 use Rattle.pixel_store.specs.Regions.{KeepsOthers}
 use Rattle.segments.specs.Contents.{region_value}
-use Rattle.page_core.specs.Painted.{HasRegion}
+use Rattle.page_core.specs.Private.Painted.{HasRegion}
 use Rattle.page_core.proofs.RegionsStored.{region_again, stored_again}
 use Rattle.page_core.proofs.region_taking.take_again.Goals as goal
 

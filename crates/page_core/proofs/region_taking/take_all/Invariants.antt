@@ -3,9 +3,9 @@ use Rattle.std.proofs.Common.{◌≡◌, [], List, filter, length}
 use Rattle.sub_base.specs.declared.profile.Profile.{Profile}
 use Rattle.decoder_model.specs.Readings.{Content}
 use Rattle.page_core.specs.Handed.{AreContents}
-use Rattle.page_core.specs.RegionSteps.{AreReady, AreStored, KeepsBesideRegions}
-use Rattle.page_core.specs.RegionTests.{AreApart}
-use Rattle.page_core.specs.Walks.{is_region}
+use Rattle.page_core.specs.Private.RegionSteps.{AreReady, AreStored, KeepsBesideRegions}
+use Rattle.page_core.specs.Private.RegionTests.{AreApart}
+use Rattle.page_core.specs.Private.Walks.{is_region}
 use Rattle.page_core.proofs.RegionReady.{IsTaking}
 use Rattle.page_core.proofs.region_taking.take_all.Given as goal
 

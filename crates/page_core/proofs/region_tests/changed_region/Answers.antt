@@ -2,7 +2,7 @@
 use Rattle.std.proofs.Common.{◌∙◌, ◌++◌, sym}
 use Rattle.decoder_model.specs.Faults.{region_changed}
 use Rattle.segments.specs.Contents.{region_value}
-use Rattle.page_core.specs.RegionTests.{before_regions}
+use Rattle.page_core.specs.Private.RegionTests.{before_regions}
 use Rattle.page_core.proofs.RegionLaws.{starts, next_tested, passes, fails, ends, fault_by_head, changed_in_order}
 use Rattle.page_core.proofs.region_tests.changed_region.Goals as goal
 

@@ -3,8 +3,8 @@ use Rattle.std.proofs.Common.{[], List, length, filter}
 use Rattle.decoder_model.specs.Faults.{region_changed}
 use Rattle.decoder_model.specs.Readings.{Content}
 use Rattle.page_core.specs.Handed.{AreContents}
-use Rattle.page_core.specs.RegionTests.{AreApart, HasHeads}
-use Rattle.page_core.specs.Walks.{is_region}
+use Rattle.page_core.specs.Private.RegionTests.{AreApart, HasHeads}
+use Rattle.page_core.specs.Private.Walks.{is_region}
 use Rattle.page_core.proofs.RegionLaws.{IsTested}
 use Rattle.page_core.proofs.region_tests.changed_region.Given as goal
 

@@ -6,8 +6,8 @@ use Rattle.decoder_model.specs.Nodes.{pixels_used}
 use Rattle.decoder_model.specs.Readings.{Content}
 use Rattle.decoder_model.specs.Taken.{taken_of}
 use Rattle.page_core.specs.Handed.{AreContents}
-use Rattle.page_core.specs.RegionTests.{AreApart, HasHeads}
-use Rattle.page_core.specs.Walks.{is_region}
+use Rattle.page_core.specs.Private.RegionTests.{AreApart, HasHeads}
+use Rattle.page_core.specs.Private.Walks.{is_region}
 use Rattle.page_core.proofs.PixelRoom.{IsRoomed}
 use Rattle.page_core.proofs.region_tests.full_pixels.Given as goal
 

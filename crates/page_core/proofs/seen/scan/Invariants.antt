@@ -3,7 +3,7 @@ use Rattle.std.proofs.Common.{length, List, option_map}
 use Rattle.decoder_model.specs.Readings.{Reading}
 use Rattle.decoder_model.specs.Received.{AreRead}
 use Rattle.segments.specs.Contents.{page_value, display_value}
-use Rattle.page_core.specs.Seen.{Progress}
+use Rattle.page_core.specs.Private.Seen.{Progress}
 use Rattle.page_core.proofs.seen.scan.Given as goal
 
 abbrev pub invariant-loop-front : goal.invariant-loop-front

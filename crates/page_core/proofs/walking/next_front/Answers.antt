@@ -1,7 +1,7 @@
 -- The front of what is left from the first segment of a type on.
 use Rattle.std.proofs.Common.{arith}
 use Rattle.std.proofs.lemmas.Bool.{eq-eqb, ne_eqb}
-use Rattle.page_core.specs.Walks.{is_content_of}
+use Rattle.page_core.specs.Private.Walks.{is_content_of}
 use Rattle.page_core.proofs.NextContents.{front_of, passed, found, none_left, start}
 use Rattle.page_core.proofs.walking.next_front.Goals as goal
 
@@ -10,7 +10,7 @@ loop-front-init c = (omega arith, λ set are. start (is_content_of c.args.kind) 
 
 pub returns-then-front-kind-clause-next : goal.returns-then-front-kind-clause-next
 returns-then-front-kind-clause-next c set are =
-    found c.args.kind set c.in-Some.front (eq-eqb c.in-Some.front.kind c.args.kind c.if-front-kind.true)
+    found c.args.kind set c.in-Some.front (eq-eqb c.in-Some.front.frame.kind c.args.kind c.if-front-kind.true)
     (front_of c.args.kind set c.loop-front.rest.now c.in-Some.front c.requires c.in-Some.ensures.shorter c.in-Some.ensures.cut (c.loop-front.invariant.1 set are))
 
 pub returns-then-front-kind-clause-shorter : goal.returns-then-front-kind-clause-shorter
@@ -23,7 +23,7 @@ loop-front-preserved c =
       omega arith,
       λ set are.
           let f = front_of c.args.kind set c.loop-front.rest.now c.in-Some.front c.requires c.in-Some.ensures.shorter c.in-Some.ensures.cut (c.loop-front.invariant.1 set are) in
-          passed c.args.kind set c.in-Some.front (ne_eqb c.in-Some.front.kind c.args.kind c.if-front-kind.false) f,
+          passed c.args.kind set c.in-Some.front (ne_eqb c.in-Some.front.frame.kind c.args.kind c.if-front-kind.false) f,
     )
 
 pub returns-clause-next : goal.returns-clause-next

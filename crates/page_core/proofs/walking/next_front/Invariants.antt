@@ -2,7 +2,7 @@
 use Rattle.std.proofs.Common.{List, length, ◌≤◌}
 use Rattle.decoder_model.specs.Readings.{Content}
 use Rattle.page_core.specs.Handed.{AreContents}
-use Rattle.page_core.specs.Walks.{IsLeftOf, is_content_of}
+use Rattle.page_core.specs.Private.Walks.{IsLeftOf, is_content_of}
 use Rattle.page_core.proofs.walking.next_front.Given as goal
 
 abbrev pub invariant-loop-front : goal.invariant-loop-front

@@ -6,9 +6,9 @@ use Rattle.page_core.proofs.walking.next_of.Goals as goal
 pub returns-in-Ok-clause-next : goal.returns-in-Ok-clause-next
 returns-in-Ok-clause-next c set are =
     let n = c.in_ok-front.ensures.next set are in
-    next_is c.args.kind set c.in_ok-front.front c.in-Ok.segment n (c.in-Ok.ensures.matches (read n.content) n.is_content)
+    next_is c.args.kind set c.in_ok-front.front c.in-Ok.segment n (c.in-Ok.ensures.matches n.segment (read n.content) n.framed n.is_content)
 
 pub returns-in-Err-clause-next : goal.returns-in-Err-clause-next
 returns-in-Err-clause-next c set are =
     let n = c.in_ok-front.ensures.next set are in
-    absurd (c.in-Err.ensures.matches (read n.content) n.is_content)
+    absurd (c.in-Err.ensures.matches n.segment (read n.content) n.framed n.is_content)

@@ -4,7 +4,7 @@ use Rattle.std.proofs.lemmas.List.{map-append}
 use Rattle.std.proofs.lemmas.List.Elements.{All-push}
 use Rattle.page_epoch.specs.declared.clut_changes.ClutChanges.{ClutChanges}
 use Rattle.page_epoch.specs.SentCluts.{clut_count}
-use Rattle.page_epoch.specs.Changes.{AreChanges}
+use Rattle.page_epoch.specs.Private.Changes.{AreChanges}
 use Rattle.page_epoch.proofs.ListLaws.{keep_place, pass_place}
 use Rattle.page_epoch.proofs.clut_changes.all_changes.Goals as goal
 use Rattle.page_epoch.proofs.clut_changes.all_changes.Goals.{then-is_named+in_ok-changes_of+in_ok-push, else-is_named}

@@ -1,6 +1,6 @@
 use Rattle.std.proofs.Common.{◌≡◌, ◌==◌, All, filter, map}
 use Rattle.std.specs.List.{range_with_len, list_any}
-use Rattle.page_epoch.specs.Changes.{AreChanges}
+use Rattle.page_epoch.specs.Private.Changes.{AreChanges}
 use Rattle.page_epoch.proofs.clut_changes.all_changes.Given as goal
 
 abbrev pub invariant-loop-clut : goal.invariant-loop-clut

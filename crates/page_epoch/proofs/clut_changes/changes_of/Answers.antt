@@ -2,7 +2,7 @@ use Rattle.std.proofs.Common.{◌∙◌, ◌<◌, ℕ, List, All, length, sym, s
 use Rattle.std.specs.List.Sorted.{IsNonDecreasingBy, IsStrictlyIncreasing}
 use Rattle.std.proofs.lemmas.List.Sorted.{All-permutation}
 use Rattle.page_epoch.specs.SentCluts.{row_at}
-use Rattle.page_epoch.specs.Changes.{AreTicksOf, AreInOrder}
+use Rattle.page_epoch.specs.Private.Changes.{AreTicksOf, AreInOrder}
 use Rattle.page_epoch.proofs.RowLaws.{own_within}
 use Rattle.page_epoch.proofs.ChangeLaws.{changes_from}
 use Rattle.page_epoch.proofs.clut_changes.changes_of.Goals as goal

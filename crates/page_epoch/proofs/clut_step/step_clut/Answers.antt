@@ -1,6 +1,6 @@
 use Rattle.std.proofs.Common.{◌∙◌, ◌<◌, ℕ, List, All, length, unwrap_or, sym, ap, subst, arith}
 use Rattle.page_epoch.specs.SentCluts.{clut_with, rows_from}
-use Rattle.page_epoch.specs.Courses.{clut_after, row_nodes}
+use Rattle.page_epoch.specs.EpochStates.{clut_after, row_nodes}
 use Rattle.page_epoch.proofs.RowLaws.{defined_within, defined_few}
 use Rattle.page_epoch.proofs.ChangeLaws.{HaveCome, come_by, defined_before, unchanged_before, none_sent, last_from, defined_at, changed_at, others_defined}
 use Rattle.page_epoch.proofs.clut_step.step_clut.Goals as goal

@@ -1,7 +1,7 @@
 use Rattle.std.proofs.Common.{◌+◌, ◌++◌, ◌∷◌, ℕ, List, [], Option, sym, subst, arith}
 use Rattle.std.specs.Option.{option_to_list}
 use Rattle.page_epoch.specs.declared.planned_set.SentClut.{SentClut}
-use Rattle.page_epoch.specs.Changes.{AreChanges}
+use Rattle.page_epoch.specs.Private.Changes.{AreChanges}
 use Rattle.page_epoch.proofs.ClutLaws.{HaveStepped, HaveStepped-more}
 use Rattle.page_epoch.proofs.clut_step.step_cluts.Goals as goal
 

@@ -1,5 +1,5 @@
 use Rattle.std.proofs.Common.{◌≡◌, map, take}
-use Rattle.page_epoch.specs.Courses.{AreOwn}
+use Rattle.page_epoch.specs.EpochStates.{AreOwn}
 use Rattle.page_epoch.proofs.layout.with_cues.Given as goal
 
 abbrev pub invariant-loop-region : goal.invariant-loop-region

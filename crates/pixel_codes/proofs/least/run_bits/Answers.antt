@@ -2,7 +2,7 @@ use Rattle.std.proofs.Common.{◌≡◌, ◌+◌, ◌*◌, ◌%◌, ◌≤◌, s
 use Rattle.std.proofs.lemmas.Nat.{mul-le}
 use Rattle.std.proofs.Math.Nat.{div-le_self}
 use Rattle.stream_syntax.specs.PixelCodes.{IsLeast}
-use Rattle.pixel_codes.specs.Least.{table_bits}
+use Rattle.pixel_codes.specs.Private.Least.{table_bits}
 use Rattle.pixel_codes.proofs.Chosen.{table_least, longest_bits-le, rest_bits-le}
 use Rattle.pixel_codes.proofs.least.run_bits.Goals as goal
 

@@ -1,6 +1,6 @@
 use Rattle.std.proofs.Common.{◌≡◌, ◌+◌, ◌-◌, ◌≤◌, length, drop}
 use Rattle.std.specs.List.{prefix_len}
-use Rattle.pixel_codes.specs.Maximal.{is_code}
+use Rattle.pixel_codes.specs.Private.Maximal.{is_code}
 use Rattle.pixel_codes.proofs.maximal.end_by_one.Given as goal
 
 abbrev pub invariant-loop-place : goal.invariant-loop-place

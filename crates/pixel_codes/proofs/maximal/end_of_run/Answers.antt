@@ -1,6 +1,6 @@
 use Rattle.std.proofs.Common.{sym, ap, ◌∙◌, arith}
 use lib.Count.{count_trailing_zeros}
-use Rattle.pixel_codes.specs.Maximal.{is_code, differs}
+use Rattle.pixel_codes.specs.Private.Maximal.{is_code, differs}
 use Rattle.pixel_codes.proofs.LaneRuns.{run_bound, run_through, run_stops, not-not}
 use Rattle.pixel_codes.proofs.maximal.end_of_run.Goals as goal
 

@@ -1,6 +1,6 @@
 use Rattle.std.proofs.Common.{◌++◌, ap, ◌∙◌, List, ℕ}
 use Rattle.std.proofs.lemmas.Result.{on_ok_weaker}
-use Rattle.pixel_codes.specs.Stream.{stream}
+use Rattle.pixel_codes.specs.Private.Stream.{stream}
 use Rattle.pixel_codes.proofs.row.append_end.Goals as goal
 
 pub returns-clause-text : goal.returns-clause-text

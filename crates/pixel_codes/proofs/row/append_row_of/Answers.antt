@@ -2,8 +2,8 @@ use Rattle.std.proofs.Common.{◌++◌, ap, List, ℕ, arith}
 use Rattle.std.specs.Prelude.{flat_map}
 use Rattle.std.proofs.lemmas.Result.{on_ok_weaker}
 use Rattle.stream_syntax.specs.PixelCodes.{bits_of, spelled}
-use Rattle.pixel_codes.specs.Rows.{runs_of, codes_of}
-use Rattle.pixel_codes.specs.Stream.{stream}
+use Rattle.pixel_codes.specs.Private.Rows.{runs_of, codes_of}
+use Rattle.pixel_codes.specs.Private.Stream.{stream}
 use Rattle.pixel_codes.proofs.Writing.{extends_none, extends_trans, no_bits}
 use Rattle.pixel_codes.proofs.Rows.{one_run, no_run, whole_string}
 use Rattle.pixel_codes.proofs.row.append_row_of.Goals as goal

@@ -2,8 +2,8 @@ use Rattle.std.proofs.Common.{◌≡◌, ◌≤◌, ◌-◌, ◌++◌, length, d
 use Rattle.std.specs.Prelude.{flat_map}
 use Rattle.stream_syntax.specs.PixelCodes.{bits_of, spelled}
 use Rattle.pixel_codes.specs.Lists.{Extends}
-use Rattle.pixel_codes.specs.Rows.{runs_of, codes_of}
-use Rattle.pixel_codes.specs.Stream.{stream}
+use Rattle.pixel_codes.specs.Private.Rows.{runs_of, codes_of}
+use Rattle.pixel_codes.specs.Private.Stream.{stream}
 use Rattle.pixel_codes.proofs.row.append_row_of.Given as goal
 
 abbrev pub invariant-loop-place : goal.invariant-loop-place

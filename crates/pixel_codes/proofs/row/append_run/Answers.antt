@@ -1,4 +1,4 @@
-use Rattle.pixel_codes.specs.Stream.{stream}
+use Rattle.pixel_codes.specs.Private.Stream.{stream}
 use Rattle.pixel_codes.proofs.Writing.{extends_trans}
 use Rattle.pixel_codes.proofs.Rows.{one_code, no_code}
 use Rattle.pixel_codes.proofs.row.append_run.Goals as goal

@@ -1,9 +1,9 @@
 use Rattle.std.proofs.Common.{◌≡◌, ◌++◌}
 use Rattle.std.specs.Prelude.{flat_map}
 use Rattle.stream_syntax.specs.PixelCodes.{spelled}
-use Rattle.pixel_codes.specs.Least.{chosen}
+use Rattle.pixel_codes.specs.Private.Least.{chosen}
 use Rattle.pixel_codes.specs.Lists.{Extends}
-use Rattle.pixel_codes.specs.Stream.{stream}
+use Rattle.pixel_codes.specs.Private.Stream.{stream}
 use Rattle.pixel_codes.proofs.row.append_run.Given as goal
 
 abbrev pub invariant-loop-left : goal.invariant-loop-left

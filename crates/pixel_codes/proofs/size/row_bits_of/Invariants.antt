@@ -1,6 +1,6 @@
 use Rattle.std.proofs.Common.{◌+◌, ◌-◌, ◌*◌, ◌≤◌, ℕ, length, drop}
 use Rattle.stream_syntax.specs.PixelCodes.{IsLeastSum}
-use Rattle.pixel_codes.specs.Rows.{runs_of}
+use Rattle.pixel_codes.specs.Private.Rows.{runs_of}
 use Rattle.pixel_codes.proofs.size.row_bits_of.Given as goal
 
 abbrev pub invariant-loop-place : goal.invariant-loop-place

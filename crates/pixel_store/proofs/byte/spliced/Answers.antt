@@ -1,6 +1,6 @@
 use Rattle.std.proofs.Common.{◌≡◌, ◌^◌, ◌*◌, ◌%◌, arith}
 use Rattle.std.proofs.lemmas.Nat.{one_shl}
-use Rattle.pixel_store.specs.Painting.{splice}
+use Rattle.pixel_store.specs.Private.Painting.{splice}
 use Rattle.pixel_store.proofs.Fields.{splice_small}
 use Rattle.pixel_store.proofs.byte.spliced.Goals as goal
 

@@ -1,4 +1,4 @@
-use Rattle.pixel_store.specs.Painting.{Fills}
+use Rattle.pixel_store.specs.Private.Painting.{Fills}
 use Rattle.pixel_store.proofs.extent.fill_each_row.Given as goal
 
 abbrev pub invariant-loop-y : goal.invariant-loop-y

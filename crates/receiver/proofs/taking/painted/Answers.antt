@@ -3,7 +3,7 @@ use Rattle.std.proofs.Common.{◌∙◌, Some, sym, ap, subst}
 use Rattle.decoder_model.specs.Faults.{contents_in}
 use Rattle.decoder_model.specs.Painting.{painting_by}
 use Rattle.decoder_model.specs.declared.set_end.SetEnd.{SetEnd}
-use Rattle.receiver.specs.Verdicts.{IsVerdictOf}
+use Rattle.receiver.specs.Private.Verdicts.{IsVerdictOf}
 use Rattle.receiver.proofs.Loads.{contents_are}
 use Rattle.receiver.proofs.taking.painted.Goals as goal
 

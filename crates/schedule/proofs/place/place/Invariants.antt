@@ -2,7 +2,7 @@ use Rattle.std.proofs.Common.{length, ◌-◌, ◌≡◌, ℕ, ◌+◌, ◌^◌,
 use Rattle.schedule.specs.Packets.{sum_below, size_of}
 use Rattle.sub_base.specs.Pace.{tick_of}
 use Rattle.schedule.specs.Slots.{left_of}
-use Rattle.schedule.specs.Safe.{AreDone}
+use Rattle.schedule.specs.Private.Safe.{AreDone}
 use Rattle.schedule.proofs.place.place.Given as goal
 
 abbrev pub invariant-loop-gone : goal.invariant-loop-gone

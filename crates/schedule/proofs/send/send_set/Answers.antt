@@ -1,11 +1,12 @@
 use Rattle.std.proofs.Common.{◌≡◌, ℕ, ◌+◌, ◌<◌, length, arith, sym, subst, ap, ◌∙◌, refl}
 use Rattle.std.specs.Prelude.{slice_index}
 use Rattle.sub_base.specs.declared.load.WriteLoad.{WriteLoad}
-use Rattle.schedule.specs.Packets.{units_of, payload_of, packet_count, payload_in}
-use Rattle.schedule.specs.Search.{IsWithin, sent_of}
+use Rattle.schedule.specs.Packets.{units_of, payload_of, payload_in}
+use Rattle.schedule.specs.Private.Search.{IsWithin, sent_of}
 use Rattle.schedule.proofs.PacketLaws.{packets_before, packets_before-none, packets_before-more, packets_before-all, packets_before-within, payload_at, packets-most, some_bytes, load_at, read_at}
 use Rattle.schedule.proofs.SendLaws.{IsWithin-begins, IsWithin-ends}
 use Rattle.schedule.proofs.send.send_set.Goals as goal
+use Rattle.stream_syntax.specs.TransportPackets.{packet_count}
 
 pub loop-size-init : goal.loop-size-init
 loop-size-init c =

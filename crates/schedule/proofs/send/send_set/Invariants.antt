@@ -1,7 +1,7 @@
 use Rattle.std.proofs.Common.{◌≡◌, ℕ, ◌<◌, length}
 use Rattle.std.specs.Prelude.{slice_index}
 use Rattle.schedule.specs.Packets.{units_of}
-use Rattle.schedule.specs.Search.{IsWithin}
+use Rattle.schedule.specs.Private.Search.{IsWithin}
 use Rattle.schedule.proofs.PacketLaws.{packets_before}
 use Rattle.schedule.proofs.send.send_set.Given as goal
 

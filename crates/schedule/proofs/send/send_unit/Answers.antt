@@ -2,7 +2,7 @@ use Rattle.std.proofs.Common.{◌≡◌, ℕ, ◌+◌, mul-le-mul_left, List, []
 use Rattle.std.specs.Prelude.{slice_index}
 use Rattle.std.proofs.Math.ListN.{get_or-append}
 use Rattle.schedule.specs.Packets.{payload_of}
-use Rattle.schedule.specs.Search.{IsWithin, sent_of}
+use Rattle.schedule.specs.Private.Search.{IsWithin, sent_of}
 use Rattle.schedule.proofs.PacketLaws.{payloads-most, packets-most}
 use Rattle.schedule.proofs.SendLaws.{IsWithin-more}
 use Rattle.schedule.proofs.SumLaws.{sum_below-more}

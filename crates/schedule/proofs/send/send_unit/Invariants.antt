@@ -1,6 +1,6 @@
 use Rattle.std.proofs.Common.{◌≡◌, ℕ, ◌+◌, ◌<◌, length}
 use Rattle.std.specs.Prelude.{slice_index}
-use Rattle.schedule.specs.Search.{IsWithin, sent_of}
+use Rattle.schedule.specs.Private.Search.{IsWithin, sent_of}
 use Rattle.schedule.proofs.send.send_unit.Given as goal
 
 abbrev pub invariant-loop-packet : goal.invariant-loop-packet

@@ -1,7 +1,7 @@
 use Rattle.std.proofs.Common.{◌≤◌, List, length, subst, sym}
 use Rattle.std.specs.Prelude.{All}
 use Rattle.stream_syntax.specs.declared.clut.ClutEntry.{ClutEntry}
-use Rattle.set_bench.specs.Sent.{IsSent}
+use Rattle.set_bench.specs.Private.Sent.{IsSent}
 use Rattle.set_bench.proofs.SegmentLaws.{clut_writable}
 use Rattle.set_bench.proofs.sets.append_clut.Goals as goal
 

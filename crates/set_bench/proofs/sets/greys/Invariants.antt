@@ -1,5 +1,5 @@
 use Rattle.std.proofs.Common.{◌≤◌, All, length}
-use Rattle.set_bench.specs.Sent.{IsSent}
+use Rattle.set_bench.specs.Private.Sent.{IsSent}
 use Rattle.set_bench.proofs.sets.greys.Given as goal
 
 abbrev pub invariant-loop-entry : goal.invariant-loop-entry

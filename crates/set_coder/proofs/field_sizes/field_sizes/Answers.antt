@@ -1,5 +1,5 @@
 use Rattle.std.proofs.Common.{ap, length, arith}
-use Rattle.set_coder.specs.Rows.{room_of}
+use Rattle.set_coder.specs.Private.Rows.{room_of}
 use Rattle.set_coder.proofs.FieldLaws.{few_rows, room_fields}
 use Rattle.set_coder.proofs.field_sizes.field_sizes.Goals as goal
 

@@ -1,4 +1,4 @@
-use Rattle.set_coder.specs.Rows.{room_of}
+use Rattle.set_coder.specs.Private.Rows.{room_of}
 use Rattle.set_coder.proofs.SizeLaws.{rows_more, room_more, rows_all}
 use Rattle.set_coder.proofs.field_sizes.rows_size.Goals as goal
 

@@ -1,6 +1,6 @@
 use Rattle.std.proofs.Common.{◌+◌, ◌*◌, ◌≤◌, ℕ, length}
 use Rattle.stream_syntax.specs.FieldBlocks.{AreRowSizes}
-use Rattle.set_coder.specs.Rows.{AreRows, room_of}
+use Rattle.set_coder.specs.Private.Rows.{AreRows, room_of}
 use Rattle.set_coder.proofs.field_sizes.rows_size.Given as goal
 
 abbrev pub invariant-loop-row : goal.invariant-loop-row

@@ -1,5 +1,5 @@
 use Rattle.std.proofs.Common.{ap, arith}
-use Rattle.set_coder.specs.Rows.{room_of}
+use Rattle.set_coder.specs.Private.Rows.{room_of}
 use Rattle.set_coder.proofs.FieldLaws.{written_more, written_all}
 use Rattle.set_coder.proofs.fields.append_field.Goals as goal
 

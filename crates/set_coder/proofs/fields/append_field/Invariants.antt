@@ -1,5 +1,5 @@
 use Rattle.std.proofs.Common.{◌+◌, ◌*◌, ◌≤◌, length}
-use Rattle.set_coder.specs.Rows.{room_of}
+use Rattle.set_coder.specs.Private.Rows.{room_of}
 use Rattle.set_coder.proofs.FieldLaws.{Written}
 use Rattle.set_coder.proofs.fields.append_field.Given as goal
 

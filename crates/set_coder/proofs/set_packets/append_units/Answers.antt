@@ -3,7 +3,7 @@ use Rattle.std.specs.Prelude.{slice_index}
 use Rattle.std.specs.List.{concat}
 use Rattle.std.proofs.lemmas.List.{append-nil, drop_more, drop_all}
 use Rattle.pixel_codes.proofs.Writing.{extends_trans}
-use Rattle.set_coder.specs.UnitParts.{AreUnitParts, part_packet}
+use Rattle.set_coder.specs.Private.UnitParts.{AreUnitParts, part_packet}
 use Rattle.set_coder.proofs.UnitPartLaws.{first_part, no_part, next_packet}
 use Rattle.set_coder.proofs.set_packets.append_units.Goals as goal
 

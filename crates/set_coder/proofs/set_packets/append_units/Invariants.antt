@@ -1,7 +1,7 @@
 use Rattle.std.proofs.Common.{◌≡◌, ℕ, ◌++◌, List, map, drop}
 use Rattle.std.specs.List.{concat}
 use Rattle.pixel_codes.specs.Lists.{Extends}
-use Rattle.set_coder.specs.UnitParts.{AreUnitParts, part_packet}
+use Rattle.set_coder.specs.Private.UnitParts.{AreUnitParts, part_packet}
 use Rattle.set_coder.proofs.set_packets.append_units.Given as goal
 
 abbrev pub invariant-loop-length : goal.invariant-loop-length

@@ -2,7 +2,7 @@ use Rattle.std.proofs.Common.{◌≡◌, ℕ, List, map, sym, subst, ◌∙◌}
 use Rattle.std.specs.List.{flat_map}
 use Rattle.std.proofs.lemmas.Result.{on_ok_weaker}
 use Rattle.stream_syntax.specs.Segments.{spelled}
-use Rattle.set_coder.specs.UnitParts.{AreUnitParts}
+use Rattle.set_coder.specs.Private.UnitParts.{AreUnitParts}
 use Rattle.set_coder.proofs.SetPacketLaws.{units_of, set_packets}
 use Rattle.set_coder.proofs.set_packets.write_with.Goals as goal
 

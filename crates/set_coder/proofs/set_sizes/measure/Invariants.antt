@@ -1,6 +1,6 @@
 use Rattle.std.proofs.Common.{ℕ, ◌+◌, ◌≤◌, List}
-use Rattle.set_coder.specs.Measuring.{IsMeasured, CanTake}
-use Rattle.set_coder.specs.SizesLeft.{IsMeasurable, segments_left}
+use Rattle.set_coder.specs.Private.Measuring.{IsMeasured, CanTake}
+use Rattle.set_coder.specs.Private.SizesLeft.{IsMeasurable, segments_left}
 use Rattle.set_coder.proofs.MeasureLaws.{AreFirstSizes}
 use Rattle.set_coder.proofs.set_sizes.measure.Given as goal
 

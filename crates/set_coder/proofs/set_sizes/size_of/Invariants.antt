@@ -1,6 +1,6 @@
 use Rattle.std.proofs.Common.{◌≡◌, ℕ, ◌+◌, ◌*◌, ◌^◌, ◌≤◌, List, sum}
 use Rattle.pes_packets.specs.Units.{IsOpenAfter}
-use Rattle.set_coder.specs.SizesLeft.{IsMeasurable, segments_left}
+use Rattle.set_coder.specs.Private.SizesLeft.{IsMeasurable, segments_left}
 use Rattle.set_coder.proofs.MeasureLaws.{AreFirstSizes}
 use Rattle.set_coder.proofs.set_sizes.size_of.Given as goal
 

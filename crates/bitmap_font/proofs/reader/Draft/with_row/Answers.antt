@@ -1,7 +1,7 @@
 use Rattle.std.proofs.Common.{◌≡◌, ◌∙◌, ◌+◌, ◌*◌, ◌/◌, length, ap, length-append, arith}
 use Rattle.bitmap_font.specs.Font.{row_bytes}
-use Rattle.bitmap_font.specs.State.{width_of}
-use Rattle.bitmap_font.specs.Reader.{draft_of}
+use Rattle.bitmap_font.specs.LineFaults.{width_of}
+use Rattle.bitmap_font.specs.Private.Reader.{draft_of}
 use Rattle.bitmap_font.specs.Values.{bytes_from}
 use Rattle.bitmap_font.proofs.ValueLaws.{row_done, length-bytes_from}
 use Rattle.bitmap_font.proofs.reader.Draft.with_row.Goals as goal
@@ -19,7 +19,7 @@ returns-clause-draft c =
       length-bytes_from c.args.text.now (length c.args.text.now / 2),
     ) in
     record {
-      state = record { given = c.requires.draft.state.given; blank = λ none. absurd (omega (arith, (c.requires.draft.state.blank none).0)) };
+      lines = record { given = c.requires.draft.lines.given; blank = λ none. absurd (omega (arith, (c.requires.draft.lines.blank none).0)) };
       shape = c.requires.draft.shape;
       advance = c.requires.draft.advance;
       whole = λ bitmap. omega (arith, c.requires.draft.whole bitmap, row_done c.args.self.left row c.requires.due);

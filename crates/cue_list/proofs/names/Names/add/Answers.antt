@@ -1,6 +1,6 @@
 use Rattle.std.proofs.Common.{◌≡◌, List, ℕ, arith}
 use Rattle.std.proofs.lemmas.Map.Text.{text_keys}
-use Rattle.cue_list.specs.Names.{place_by, named_with}
+use Rattle.cue_list.specs.Private.Names.{place_by, named_with}
 use Rattle.cue_list.proofs.names.Names.add.Goals as goal
 
 pub returns-clause-added : goal.returns-clause-added

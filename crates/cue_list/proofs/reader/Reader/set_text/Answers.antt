@@ -1,5 +1,5 @@
 use Rattle.std.proofs.Common.{chars}
-use Rattle.cue_list.specs.State.{past_of}
+use Rattle.cue_list.specs.Private.State.{past_of}
 use Rattle.cue_list.proofs.SettingLaws.{missing-none, text_head-set, set-refused-as}
 use Rattle.cue_list.proofs.reader.Reader.set_text.Goals as goal
 

@@ -1,8 +1,8 @@
 use Rattle.std.proofs.Common.{◌+◌, map, arith}
 use Rattle.std.proofs.lemmas.Grind.{common_steps}
 use Rattle.csv.specs.Records.{fields_of}
-use Rattle.cue_list.specs.State.{past_of, head_of}
-use Rattle.cue_list.specs.Ticks.{near_by}
+use Rattle.cue_list.specs.Private.State.{past_of, head_of}
+use Rattle.cue_list.specs.Private.Ticks.{near_by}
 use Rattle.cue_list.proofs.CueLaws.{cue-next}
 use Rattle.cue_list.proofs.reader.Reader.take_cue.Goals as goal
 

@@ -1,6 +1,6 @@
 use Rattle.std.proofs.Common.{arith}
 use Rattle.std.proofs.lemmas.Grind.{common_steps}
-use Rattle.cue_list.specs.Ticks.{named_by}
+use Rattle.cue_list.specs.Private.Ticks.{named_by}
 use Rattle.cue_list.proofs.TicksLaws.{near-with}
 use Rattle.cue_list.proofs.ticks.Ticks.add.Goals as goal
 

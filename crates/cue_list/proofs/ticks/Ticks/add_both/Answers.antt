@@ -1,5 +1,5 @@
 use Rattle.std.proofs.Common.{◌∙◌, ap}
-use Rattle.cue_list.specs.Ticks.{near_by, near_with}
+use Rattle.cue_list.specs.Private.Ticks.{near_by, near_with}
 use Rattle.cue_list.proofs.TicksLaws.{near_with-not}
 use Rattle.cue_list.proofs.ticks.Ticks.add_both.Goals as goal
 

@@ -1,7 +1,7 @@
 -- The listings of a segment are put in.
 use Rattle.std.proofs.Common.{subst, arith}
 use Rattle.segments.specs.Contents.{region_value}
-use Rattle.page_core.specs.PoolChanges.{HasListings}
+use Rattle.page_core.specs.Private.PoolChanges.{HasListings}
 use Rattle.page_core.proofs.RegionPools.{value_with_listings, sorted_with_listings}
 use Rattle.page_core.proofs.composition.CompositionMemory.add_listings.Goals as goal
 

@@ -1,7 +1,7 @@
 -- The listings of a region are taken out.
 use Rattle.std.proofs.Common.{◌∙◌, ap, arith}
 use Rattle.comp_pool.specs.Changes.{cleared}
-use Rattle.page_core.specs.Nodes.{listings_list}
+use Rattle.page_core.specs.Private.Nodes.{listings_list}
 use Rattle.page_core.proofs.RegionPools.{emptied, value_without_listings, sorted_without_listings}
 use Rattle.page_core.proofs.composition.CompositionMemory.clear_listings.Goals as goal
 

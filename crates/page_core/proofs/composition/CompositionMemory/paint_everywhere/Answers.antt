@@ -1,9 +1,9 @@
 use Rattle.std.proofs.Common.{◌≡◌, ◌∙◌, None, ap, subst, sym}
 use Rattle.page_core.proofs.EverywhereKept.{have_regions, no_faults, are_apart, all_written, regions_have, everywhere_composition, everywhere_kept}
 use Rattle.segments.specs.Contents.{object_value}
-use Rattle.page_core.specs.Everywhere.{AreKeptWritten, with_all_painted}
-use Rattle.page_core.specs.Listings.{painter_of}
-use Rattle.page_core.specs.ObjectFaults.{fault_in_kept, least_of}
+use Rattle.page_core.specs.Private.Everywhere.{AreKeptWritten, with_all_painted}
+use Rattle.page_core.specs.Private.Listings.{painter_of}
+use Rattle.page_core.specs.Private.ObjectFaults.{fault_in_kept, least_of}
 use Rattle.page_core.specs.declared.composition.listings.Painter.{Painter}
 use Rattle.page_core.proofs.ObjectRegions.{fault_answered}
 use Rattle.page_core.proofs.composition.CompositionMemory.paint_everywhere.Goals as goal

@@ -1,6 +1,6 @@
 -- The CLUT is known, or new, or left out.
 use Rattle.std.proofs.Common.{◌∙◌}
-use Rattle.page_core.specs.Nodes.{node_of}
+use Rattle.page_core.specs.Private.Nodes.{node_of}
 use Rattle.page_core.proofs.ClutNodes.{clut_left_out, clut_listed, clut_pushed_is, clut_pushed_kept, mapped_none, replaced_is, replaced_kept}
 use Rattle.page_core.proofs.composition.CompositionMemory.set_clut.Goals as goal
 

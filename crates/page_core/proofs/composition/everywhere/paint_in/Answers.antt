@@ -5,10 +5,10 @@ use Rattle.sub_base.specs.Lists.{last_given}
 use Rattle.comp_pool.specs.Pool.{list_of}
 use Rattle.decoder_model.specs.declared.set_fault.SetFault.TheVariants.{Segment}
 use Rattle.segments.specs.Contents.{object_value}
-use Rattle.page_core.specs.Listings.{code_by_pair}
-use Rattle.page_core.specs.Nodes.{listings_list}
-use Rattle.page_core.specs.ObjectFaults.{is_due_pair}
-use Rattle.page_core.specs.Painted.{FieldRuns, IsWritten, field_runs}
+use Rattle.page_core.specs.Private.Listings.{code_by_pair}
+use Rattle.page_core.specs.Private.Nodes.{listings_list}
+use Rattle.page_core.specs.Private.ObjectFaults.{is_due_pair}
+use Rattle.page_core.specs.Private.Painted.{FieldRuns, IsWritten, field_runs}
 use Rattle.page_core.proofs.EverywhereLaws.{none_rewritten, none_written, region_fault, no_region_fault}
 use Rattle.page_core.proofs.composition.everywhere.paint_in.Goals as goal
 

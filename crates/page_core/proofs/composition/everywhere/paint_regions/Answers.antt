@@ -3,7 +3,7 @@ use Rattle.comp_pool.specs.Pool.{IsInList}
 use Rattle.comp_pool.proofs.NodeLaws.{in_some_list}
 use Rattle.comp_pool.proofs.WalkLaws.{walk_start}
 use Rattle.segments.specs.Contents.{object_value}
-use Rattle.page_core.specs.ObjectFaults.{told}
+use Rattle.page_core.specs.Private.ObjectFaults.{told}
 use Rattle.page_core.proofs.EverywhereLaws.{least_begins, least_goes_on, least_ends}
 use Rattle.page_core.proofs.EverywhereWalks.{all_begin, all_go_on, from_node}
 use Rattle.page_core.proofs.EverywhereWrites.{regions_stay, room_kept, writing_all_begins, writing_all_goes_on}

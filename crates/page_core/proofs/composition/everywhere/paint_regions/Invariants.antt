@@ -4,8 +4,8 @@ use Rattle.comp_pool.specs.Places.{rest_from}
 use Rattle.comp_pool.specs.Pool.{list_of}
 use Rattle.decoder_model.specs.Readings.{Content, AreFields}
 use Rattle.segments.specs.Contents.{object_value}
-use Rattle.page_core.specs.Everywhere.{AreApart, HaveRegions, KeepsRoom}
-use Rattle.page_core.specs.ObjectFaults.{told}
+use Rattle.page_core.specs.Private.Everywhere.{AreApart, HaveRegions, KeepsRoom}
+use Rattle.page_core.specs.Private.ObjectFaults.{told}
 use Rattle.page_core.proofs.EverywhereLaws.{IsLeastSoFar}
 use Rattle.page_core.proofs.EverywhereWalks.{IsPaintingAll}
 use Rattle.page_core.proofs.EverywhereWrites.{IsWritingAll}

@@ -1,7 +1,7 @@
 use Rattle.std.proofs.Common.{◌≡◌, length}
 use Rattle.std.specs.List.{list_any}
 use Rattle.comp_pool.specs.Pool.{list_of}
-use Rattle.page_core.specs.ObjectFaults.{is_due_pair}
+use Rattle.page_core.specs.Private.ObjectFaults.{is_due_pair}
 use Rattle.page_core.proofs.composition.objects.is_painting.Given as goal
 
 abbrev pub invariant-loop-node : goal.invariant-loop-node

@@ -1,7 +1,7 @@
 -- The node has another item.
 use Rattle.std.proofs.Common.{Option, subst, sym}
 use Rattle.comp_pool.specs.declared.node.NodeId.{NodeId}
-use Rattle.page_core.specs.PoolChanges.{IsItemSet, IsRegionSet}
+use Rattle.page_core.specs.Private.PoolChanges.{IsItemSet, IsRegionSet}
 use Rattle.page_core.proofs.composition.regions.set_node.Goals as goal
 
 pub returns-in-Some : goal.returns-in-Some

@@ -6,8 +6,8 @@ use Rattle.decoder_model.specs.Nodes.{nodes_of}
 use Rattle.decoder_model.specs.Readings.{Content}
 use Rattle.decoder_model.specs.Taken.{segments_of, taken_of}
 use Rattle.segments.specs.Contents.{page_value}
-use Rattle.page_core.specs.Accepted.{IsBefore}
-use Rattle.page_core.specs.Sound.{IsSound}
+use Rattle.page_core.specs.Private.Accepted.{IsBefore}
+use Rattle.page_core.specs.Private.Sound.{IsSound}
 use Rattle.page_core.proofs.CoreCounts.{core_needs, sum_is}
 use Rattle.page_core.proofs.memory.Core.nodes_needed.Goals as goal
 

@@ -4,7 +4,7 @@ use Rattle.stream_syntax.specs.Segments.{Display}
 use Rattle.segments.specs.Contents.{display_value}
 use Rattle.page_core.specs.Cores.{memory_of}
 use Rattle.page_core.specs.Memory.{Holds, showing}
-use Rattle.page_core.specs.RegionTests.{before_regions}
+use Rattle.page_core.specs.Private.RegionTests.{before_regions}
 use Rattle.page_core.proofs.DisplaySteps.{display_behind}
 use Rattle.page_core.proofs.QuietSteps.{before_regions_hold}
 use Rattle.page_core.proofs.memory.Core.take_display.Goals as goal

@@ -6,10 +6,10 @@ use Rattle.decoder_model.specs.Nodes.{nodes_of, pixels_used}
 use Rattle.decoder_model.specs.Readings.{Content}
 use Rattle.decoder_model.specs.Taken.{segments_of, taken_of}
 use Rattle.segments.specs.Contents.{page_value}
-use Rattle.page_core.specs.Accepted.{IsBefore}
-use Rattle.page_core.specs.Judging.{fault_before_nodes}
+use Rattle.page_core.specs.Private.Accepted.{IsBefore}
+use Rattle.page_core.specs.Private.Judging.{fault_before_nodes}
 use Rattle.page_core.specs.Memory.{Memory, IsWhole, Holds}
-use Rattle.page_core.specs.SetSteps.{before_objects}
+use Rattle.page_core.specs.Private.SetSteps.{before_objects}
 use Rattle.page_core.proofs.SetOrder.{objects_in_order, set_in_order}
 use Rattle.page_core.proofs.SetVerdicts.{early_fault, fault_of_nodes, fault_of_objects}
 use Rattle.page_core.proofs.SetsTaken.{regions_taken, page_taken}

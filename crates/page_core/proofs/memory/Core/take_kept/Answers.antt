@@ -5,7 +5,7 @@ use Rattle.decoder_model.specs.Faults.{contents_in, epoch_fault}
 use Rattle.decoder_model.specs.Verdict.{sets_since}
 use Rattle.decoder_model.specs.declared.set_end.SetEnd.TheVariants.{Broken}
 use Rattle.segments.specs.Contents.{page_value}
-use Rattle.page_core.specs.Accepted.{IsEarly}
+use Rattle.page_core.specs.Private.Accepted.{IsEarly}
 use Rattle.page_core.proofs.Pasts.{ended_stands}
 use Rattle.page_core.proofs.SetVerdicts.{in_epoch, verdict_is, shown_stands, same_twice}
 use Rattle.page_core.proofs.memory.Core.take_kept.Goals as goal

@@ -1,11 +1,11 @@
 -- An object is painted, or has a fault.
 use Rattle.std.proofs.Common.{[], ◌∙◌, refl, subst, sym}
 use Rattle.page_core.specs.Composition.{Composition}
-use Rattle.page_core.specs.Marks.{AreMarked}
+use Rattle.page_core.specs.Private.Marks.{AreMarked}
 use Rattle.stream_syntax.specs.Segments.{SegmentValue}
 use Rattle.decoder_model.specs.Readings.{AreFields}
 use Rattle.segments.specs.Contents.{object_value}
-use Rattle.page_core.specs.Listings.{IsPainter, painter_of}
+use Rattle.page_core.specs.Private.Listings.{IsPainter, painter_of}
 use Rattle.page_core.specs.Memory.{Holds}
 use Rattle.page_core.proofs.ObjectMemory.{regions_there, still_whole, painted_holds, fault_is, no_fault_is}
 use Rattle.page_core.proofs.memory.Core.take_object.Goals as goal

@@ -3,7 +3,7 @@ use Rattle.std.proofs.Common.{List, length}
 use Rattle.decoder_model.specs.Readings.{Content}
 use Rattle.page_core.specs.Handed.{AreContents}
 use Rattle.page_core.specs.Memory.{Holds}
-use Rattle.page_core.specs.SetSteps.{KeepsButObjects}
+use Rattle.page_core.specs.Private.SetSteps.{KeepsButObjects}
 use Rattle.page_core.proofs.ObjectWalks.{AreTaken}
 use Rattle.page_core.proofs.memory.Core.take_objects.Given as goal
 

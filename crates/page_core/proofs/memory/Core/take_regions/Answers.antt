@@ -1,8 +1,8 @@
 -- The regions of a set are taken.
 use Rattle.std.proofs.Common.{refl, sym, subst, filter}
 use Rattle.page_core.specs.Memory.{Holds}
-use Rattle.page_core.specs.RegionSteps.{AreRegionsRight}
-use Rattle.page_core.specs.Walks.{is_region}
+use Rattle.page_core.specs.Private.RegionSteps.{AreRegionsRight}
+use Rattle.page_core.specs.Private.Walks.{is_region}
 use Rattle.page_core.proofs.RegionNeeds.{are_regions}
 use Rattle.page_core.proofs.RegionsBegin.{ready_begins}
 use Rattle.page_core.proofs.RegionsHeld.{core_behind, held_behind, keeps_from, keeps_regions, stored_whole}

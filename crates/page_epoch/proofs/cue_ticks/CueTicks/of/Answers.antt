@@ -2,7 +2,7 @@ use Rattle.std.proofs.Common.{◌∙◌, ℕ, List, sym, ap, subst, arith}
 use Rattle.std.specs.List.Sorted.{IsPermutation, IsNonDecreasing}
 use Rattle.std.proofs.lemmas.List.{take_all}
 use Rattle.std.proofs.lemmas.List.Sorted.{IsNonDecreasingBy-from_sort}
-use Rattle.page_epoch.specs.Showing.{starts_of, ends_of}
+use Rattle.page_epoch.specs.Private.Showing.{starts_of, ends_of}
 use Rattle.page_epoch.proofs.cue_ticks.CueTicks.of.Goals as goal
 
 pub returns : goal.returns

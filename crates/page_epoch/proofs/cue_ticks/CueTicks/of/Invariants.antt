@@ -1,5 +1,5 @@
 use Rattle.std.proofs.Common.{◌≡◌, take}
-use Rattle.page_epoch.specs.Showing.{starts_of, ends_of}
+use Rattle.page_epoch.specs.Private.Showing.{starts_of, ends_of}
 use Rattle.page_epoch.proofs.cue_ticks.CueTicks.of.Given as goal
 
 abbrev pub invariant-loop-epoch : goal.invariant-loop-epoch

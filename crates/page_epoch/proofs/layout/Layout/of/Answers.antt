@@ -5,10 +5,10 @@ use Rattle.cue_list.specs.declared.epoch.Cue.{Cue}
 use Rattle.cue_list.specs.declared.epoch.ColourRow.{ColourRow}
 use Rattle.page_epoch.specs.SentRegions.{AreOrdered}
 use Rattle.page_epoch.specs.SentCluts.{named_cluts}
-use Rattle.page_epoch.specs.Changes.{AreChanges}
-use Rattle.page_epoch.specs.Courses.{AreOwn}
-use Rattle.page_epoch.specs.Layouts.{AreSpots}
-use Rattle.page_epoch.specs.Needs.{region_pixels, pixel_need}
+use Rattle.page_epoch.specs.Private.Changes.{AreChanges}
+use Rattle.page_epoch.specs.EpochStates.{AreOwn}
+use Rattle.page_epoch.specs.Private.Layouts.{ArePageRegions}
+use Rattle.page_epoch.specs.Needs.{region_need, pixel_need}
 use Rattle.page_epoch.proofs.layout.Layout.of.Goals as goal
 
 pub from_top-requires : goal.from_top-requires
@@ -25,9 +25,9 @@ returns c = record {
   ordered_ids = subst (λ (regions : List Region). AreOrdered (λ (region : Region). region.id) regions c.in_ok-regions.regions.items) c.as_slice.ensures c.in_ok-regions.ensures;
   by_id = c.in_ok-by_id.ensures.ids ∙ ap (map (λ (region : Region). region.id)) c.deref.ensures.value;
   own = subst (λ (cues : List Cue). AreOwn cues c.in_ok-by_id.by_id) c.as_slice-2.ensures c.in_ok-by_id.ensures.own;
-  by_y = subst (λ (regions : List Region). AreSpots regions c.in_ok-by_y.by_y) c.deref-2.ensures.value c.in_ok-by_y.ensures;
+  by_y = subst (λ (regions : List Region). ArePageRegions regions c.in_ok-by_y.by_y) c.deref-2.ensures.value c.in_ok-by_y.ensures;
   cluts = c.in_ok-cluts.ensures.named ∙ ap named_cluts c.as_slice-3.ensures;
   changes = subst (λ (colours : List ColourRow). All (AreChanges colours) c.in_ok-cluts.cluts) c.as_slice-3.ensures c.in_ok-cluts.ensures.changes;
-  pixels = c.pixel_need-pixels.ensures ∙ ap pixel_need c.deref-3.ensures.value ∙ sum_by-IsPermutation region_pixels c.args.epoch.now.regions c.in_ok-regions.regions.items
+  pixels = c.pixel_need-pixels.ensures ∙ ap pixel_need c.deref-3.ensures.value ∙ sum_by-IsPermutation region_need c.args.epoch.now.regions c.in_ok-regions.regions.items
       (subst (λ (regions : List Region). AreOrdered (λ (region : Region). region.id) regions c.in_ok-regions.regions.items) c.as_slice.ensures c.in_ok-regions.ensures).same;
 }

@@ -2,9 +2,9 @@ use Rattle.std.proofs.Common.{◌≡◌, sym, ap, ◌∙◌, ◌+◌, ◌∷◌,
 use Rattle.sub_base.specs.declared.depth.Depth.{Depth}
 use Rattle.stream_syntax.specs.declared.pixel_run.Run.{Run}
 use Rattle.pixel_codes.specs.declared.token.Token.TheVariants.{Pixels}
-use Rattle.pixel_codes.specs.Tables.{maps_of}
-use Rattle.pixel_codes.specs.Walk.{Pen, runs_left}
-use Rattle.pixel_codes.specs.Cursor.{pen_of}
+use Rattle.pixel_codes.specs.Private.Tables.{maps_of}
+use Rattle.pixel_codes.specs.Private.Walk.{Pen, runs_left}
+use Rattle.pixel_codes.specs.Private.Cursor.{pen_of}
 use Rattle.pixel_codes.proofs.Steps.{at_token, pixels_fit, one_run, no_run, bits_left-some}
 use Rattle.pixel_codes.proofs.cursor.Cursor.draw.Goals as goal
 

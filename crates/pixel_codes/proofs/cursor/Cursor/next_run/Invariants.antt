@@ -1,5 +1,5 @@
 use Rattle.std.proofs.Common.{◌≡◌}
-use Rattle.pixel_codes.specs.Cursor.{left_of, to_go}
+use Rattle.pixel_codes.specs.Private.Cursor.{left_of, to_go}
 use Rattle.pixel_codes.proofs.cursor.Cursor.next_run.Given as goal
 
 abbrev pub invariant-loop-run : goal.invariant-loop-run

@@ -1,9 +1,9 @@
 use Rattle.std.proofs.Common.{refl, sym, ap, ◌∙◌, ◌+◌, arith, Some, None, Option}
 use Rattle.sub_base.specs.declared.depth.Depth.{Depth}
 use Rattle.pixel_codes.specs.declared.part.Head.TheVariants.{PixelString, Table, LineEnd}
-use Rattle.pixel_codes.specs.Tables.{maps_of}
-use Rattle.pixel_codes.specs.Walk.{Pen, runs_left}
-use Rattle.pixel_codes.specs.Cursor.{pen_of}
+use Rattle.pixel_codes.specs.Private.Tables.{maps_of}
+use Rattle.pixel_codes.specs.Private.Walk.{Pen, runs_left}
+use Rattle.pixel_codes.specs.Private.Cursor.{pen_of}
 use Rattle.pixel_codes.proofs.Steps.{at_end, at_part, past_table, cut_table, bits_left-none}
 use Rattle.pixel_codes.proofs.cursor.Cursor.step_at_part.Goals as goal
 

@@ -1,7 +1,7 @@
 use Rattle.std.proofs.Common.{refl, sym, ap, ◌∙◌, List, arith, Some, None, ℕ}
 use Rattle.pixel_codes.specs.declared.token.Token.TheVariants.{End}
-use Rattle.pixel_codes.specs.Walk.{runs_left}
-use Rattle.pixel_codes.specs.Cursor.{pen_of}
+use Rattle.pixel_codes.specs.Private.Walk.{runs_left}
+use Rattle.pixel_codes.specs.Private.Cursor.{pen_of}
 use Rattle.pixel_codes.proofs.Steps.{at_token, end_fits, read_is, bits_left-some}
 use Rattle.pixel_codes.proofs.cursor.Cursor.step_in_string.Goals as goal
 

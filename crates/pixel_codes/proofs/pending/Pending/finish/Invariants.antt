@@ -1,7 +1,7 @@
 use Rattle.std.proofs.Common.{◌≡◌, ◌<◌, ◌^◌, ◌++◌}
 use Rattle.stream_syntax.specs.PixelCodes.{bits, bits_of}
 use Rattle.pixel_codes.specs.Lists.{Extends}
-use Rattle.pixel_codes.specs.Stream.{stream}
+use Rattle.pixel_codes.specs.Private.Stream.{stream}
 use Rattle.pixel_codes.proofs.pending.Pending.finish.Given as goal
 
 abbrev pub invariant-loop-count : goal.invariant-loop-count

@@ -1,6 +1,6 @@
 use Rattle.std.proofs.Common.{◌≡◌, ◌∙◌, ap, List, ℕ}
-use Rattle.pixel_store.specs.Extents.{pixel}
-use Rattle.pixel_store.specs.Stores.{extent_at}
+use Rattle.pixel_store.specs.Private.Extents.{pixel}
+use Rattle.pixel_store.specs.Private.Stores.{extent_at}
 use Rattle.pixel_store.proofs.StoreCalls.{extent_fits, code_read}
 use Rattle.pixel_store.proofs.store.Store.code_at.Goals as goal
 

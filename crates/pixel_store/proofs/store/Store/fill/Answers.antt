@@ -1,5 +1,5 @@
 use Rattle.std.proofs.Common.{◌≡◌}
-use Rattle.pixel_store.specs.Stores.{extent_at, regions_in}
+use Rattle.pixel_store.specs.Private.Stores.{extent_at, regions_in}
 use Rattle.pixel_store.proofs.CallLaws.{fill_after}
 use Rattle.pixel_store.proofs.StoreCalls.{extent_fits, filled_store}
 use Rattle.pixel_store.proofs.store.Store.fill.Goals as goal

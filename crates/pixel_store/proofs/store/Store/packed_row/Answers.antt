@@ -1,7 +1,7 @@
 use Rattle.std.proofs.Common.{◌≡◌, ◌∙◌, ◌+◌, ap, sym, subst, List, ℕ, slice_range}
-use Rattle.pixel_store.specs.Extents.{row_start, stride_of}
+use Rattle.pixel_store.specs.Private.Extents.{row_start, stride_of}
 use Rattle.pixel_store.specs.Regions.{IsPackedRow, region_at}
-use Rattle.pixel_store.specs.Stores.{extent_at}
+use Rattle.pixel_store.specs.Private.Stores.{extent_at}
 use Rattle.pixel_store.proofs.StoreCalls.{extent_fits, row_read}
 use Rattle.pixel_store.proofs.store.Store.packed_row.Goals as goal
 

@@ -1,6 +1,6 @@
 use Rattle.std.proofs.Common.{◌≡◌, ◌+◌, ◌<◌, ◌≤◌, min, subst, sym, arith}
 use Rattle.pixel_store.specs.Regions.{Region}
-use Rattle.pixel_store.specs.Stores.{extent_at, regions_in}
+use Rattle.pixel_store.specs.Private.Stores.{extent_at, regions_in}
 use Rattle.pixel_store.proofs.CallLaws.{run_after, outside_after}
 use Rattle.pixel_store.proofs.StoreCalls.{extent_fits, run_store, region_is}
 use Rattle.pixel_store.proofs.store.Store.paint_run.Goals as goal

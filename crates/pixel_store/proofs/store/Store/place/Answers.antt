@@ -1,13 +1,14 @@
 use Rattle.std.proofs.Common.{◌≡◌, ◌∙◌, ◌<◌, ◌≤◌, ◌+◌, ◌⊎◌, ℕ, length, get_or, refl, inl, inr, ap, subst, arith}
 use Rattle.std.proofs.lemmas.List.{length-map}
 use Rattle.pixel_store.specs.declared.extent.Extent.{Extent}
-use Rattle.pixel_store.specs.Extents.{size_of}
-use Rattle.pixel_store.specs.Regions.{Regions, with_region, need_of}
-use Rattle.pixel_store.specs.Stores.{region_in, regions_in}
+use Rattle.pixel_store.specs.Private.Extents.{size_of}
+use Rattle.pixel_store.specs.Regions.{Regions, with_region}
+use Rattle.pixel_store.specs.Private.Stores.{region_in, regions_in}
 use Rattle.pixel_store.proofs.CallLaws.{place_after}
 use Rattle.pixel_store.proofs.Placing.{placed_store, placed_view}
 use Rattle.pixel_store.proofs.StoreCalls.{places_one}
 use Rattle.pixel_store.proofs.store.Store.place.Goals as goal
+use Rattle.sub_base.specs.Depth.{pixel_bytes}
 
 pub invariant_of-self : goal.invariant_of-self
 invariant_of-self c =
@@ -47,7 +48,7 @@ returns-clause-slot c =
     let xs = inside.bytes.items in
     let extents = inside.extents.items in
     let At : Regions → Type 0 = λ s. c.len-2.result ≡ length s.regions in
-    let Room : Regions → Type 0 = λ s. need_of c.args.width c.args.height c.args.depth ≤ s.free in
+    let Room : Regions → Type 0 = λ s. pixel_bytes c.args.width c.args.height c.args.depth ≤ s.free in
     let at : At c.args.self.now = subst At c.self.view_is (omega (arith, c.len-2.ensures, length-map extents (region_in xs))) in
     let room : Room c.args.self.now = subst Room c.self.view_is (omega (arith, c.size-need.ensures, c.len.ensures)) in
     places_one c.args.width c.args.height c.args.depth c.len-2.result c.args.self.now

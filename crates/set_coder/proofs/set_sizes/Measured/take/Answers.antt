@@ -2,7 +2,7 @@ use Rattle.std.proofs.Common.{ℕ, ◌∷◌, [], ◌++◌, max, List, Result, O
 use Rattle.std.specs.Prelude.{option_to_list}
 use Rattle.pes_packets.specs.declared.units.OpenUnit.{OpenUnit}
 use Rattle.pes_packets.specs.Units.{IsOpenAfter}
-use Rattle.set_coder.specs.Measuring.{IsGreatest}
+use Rattle.set_coder.specs.Private.Measuring.{IsGreatest}
 use Rattle.set_coder.proofs.MeasureLaws.{sum_with, greatest_more}
 use Rattle.set_coder.proofs.set_sizes.Measured.take.Goals as goal
 

@@ -1,0 +1,4 @@
+-- What functions of this crate do inside: no other crate cites these.
+pub mod Links
+pub mod View
+pub mod Sample

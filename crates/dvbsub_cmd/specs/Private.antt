@@ -1,0 +1,6 @@
+-- What functions of this crate do inside: no other crate cites these.
+pub mod Closing
+pub mod Sending
+pub mod SetUnits
+pub mod Entries
+pub mod Generating

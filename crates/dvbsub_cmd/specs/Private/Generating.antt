@@ -1,0 +1,79 @@
+-- What stands between the steps of `gen`.
+use Rattle.std.specs.Prelude.{◌≡◌, ℕ, ◌*◌, ◌/◌, ◌≤◌, List, ◌++◌, length, map, All, None, codes}
+use Rattle.std.specs.List.Sorted.{IsStrictlyIncreasing}
+use Rattle.check_text.specs.CheckText.{IsPeak}
+use Rattle.cue_list.specs.declared.script.Script.{Script}
+use Rattle.decoder_model.specs.Streams.{entered_at, entry_set}
+use Rattle.generated_script.specs.Generated.{IsGenerated}
+use Rattle.packet_source.specs.declared.limits.TheConstants.{STREAM_LIMIT}
+use Rattle.page_epoch.specs.declared.planned_set.PlannedSet.{PlannedSet}
+use Rattle.shown_stream.specs.Compiled.{IsCompiledTo}
+use Rattle.shown_stream.specs.SentSets.{sent_sets}
+use Rattle.shown_stream.specs.Shows.{Shows, ShowsFrom, authored_view}
+use Rattle.stream_syntax.specs.TransportPackets.{packet_fault}
+use Rattle.sub_base.specs.Profile.{profile_of}
+use Rattle.sub_base.specs.declared.profile.ProfileName.{ProfileName}
+use Rattle.dvbsub_cmd.specs.GenText.{entry_line, entry_time, generated_page, generated_pid, number_line}
+use Rattle.dvbsub_cmd.specs.declared.gen_text.Entry.{Entry}
+use Rattle.dvbsub_cmd.specs.declared.gen_text.Told.{Told}
+use Rattle.dvbsub_cmd.specs.declared.generated.Generated.{Generated}
+
+-- the script is generated from a number, and its packets are in memory: those that it is compiled to, by these sets
+-- and slots
+pub record IsCompiledFrom (number : ℕ) (profile : ProfileName) (made : Generated) : Type 0 where
+  pub generated : IsGenerated number made.script
+  pub compiled : IsCompiledTo profile generated_pid generated_page made.script made.stream.written
+  pub sets : compiled.sets ≡ made.sent.plan.sets
+  pub table : compiled.table ≡ made.sent.schedule
+
+-- packets that a receiver takes, no more than a stream may have
+pub record AreTakable (packets : List (List ℕ)) : Type 0 where
+  pub few : length packets ≤ STREAM_LIMIT
+  pub passed : All (λ packet. packet_fault generated_pid packet ≡ None) packets
+
+-- ticks that rise, and none of them so late that lifted times would begin behind the tick 0
+pub record AreTold (ticks : List ℕ) : Type 0 where
+  pub rising : IsStrictlyIncreasing ticks
+  pub early : All (λ tick. tick ≤ 4294967296) ticks
+
+-- a receiver of the profile that gets these packets shows what the script authors at these ticks
+abbrev pub AreShown : ProfileName → Script → List (List ℕ) → List ℕ → Type 0
+AreShown profile script packets ticks =
+    All (λ tick. Shows (profile_of profile) generated_pid generated_page 0 packets tick (authored_view script tick))
+    ticks
+
+-- the packets in memory of a generated script, and the times of its sets. Whoever gets the packets but for the
+-- first so many shows what the script authors from the entry set on
+pub record AreOf (profile : ProfileName) (made : Generated) (packets : List (List ℕ))
+    (times : List ℕ) : Type 0 where
+  pub takable : AreTakable packets
+  pub paired : length made.sent.schedule.dones ≡ length made.sent.plan.sets
+  pub times_are : times ≡ map (λ (set : PlannedSet). set.pts) made.sent.plan.sets
+  pub told : AreTold times
+  pub shown : (missed tick : ℕ)
+      → ShowsFrom (profile_of profile) generated_pid generated_page 0 (entered_at missed packets)
+      (entry_set missed (sent_sets made.sent.schedule made.sent.plan.sets)) tick (authored_view made.script tick)
+
+-- a receiver that gets all packets but the first so many, and the time of its entry set
+abbrev pub entry_behind : Generated → ℕ → Entry
+entry_behind made missed = record {
+  missed = missed;
+  time = entry_time (entry_set missed (sent_sets made.sent.schedule made.sent.plan.sets));
+}
+
+-- what is told of the packets in memory
+pub record AreToldAs (profile : ProfileName) (made : Generated) (packets : List (List ℕ)) (told : Told) : Type 0 where
+  pub sets_are : told.sets ≡ length made.sent.plan.sets
+  pub packets_are : told.packets ≡ length packets
+  pub peak_is : IsPeak (profile_of profile) generated_pid generated_page 0 packets told.peak
+  pub whole_is : told.whole ≡ entry_behind made 0
+  pub third_is : told.third ≡ entry_behind made (length packets / 3)
+  pub two_thirds_are : told.two_thirds ≡ entry_behind made (2 * length packets / 3)
+
+-- the lines of what is told
+abbrev pub told_lines : Told → List ℕ
+told_lines told =
+    number_line (codes "sets") told.sets ++ number_line (codes "packets") told.packets
+    ++ number_line (codes "peak") told.peak
+    ++ entry_line told.whole.missed told.whole.time ++ entry_line told.third.missed told.third.time
+    ++ entry_line told.two_thirds.missed told.two_thirds.time

@@ -1,0 +1,26 @@
+-- What functions of this crate do inside: no other crate cites these.
+pub mod Epochs
+pub mod Inks
+pub mod Judging
+pub mod Known
+pub mod Lists
+pub mod Painted
+pub mod Nodes
+pub mod RegionTests
+pub mod Seen
+pub mod Entries
+pub mod Walks
+pub mod Sound
+pub mod Listings
+pub mod Steps
+pub mod ObjectFaults
+pub mod Everywhere
+pub mod PageEntries
+pub mod Accepted
+pub mod SetSteps
+pub mod ClutSteps
+pub mod RegionSteps
+pub mod Losses
+pub mod PoolChanges
+pub mod Marks
+pub mod Counting

@@ -1,5 +1,0 @@
-use Rattle.schedule.proofs.MakeLaws.{IsScheduled}
-use Rattle.schedule.proofs.schedule.Schedule.make.Given as goal
-
-abbrev pub invariant-loop-set : goal.invariant-loop-set
-invariant-loop-set l = IsScheduled l.loads l.pace l.set l.slots.items l.ends.items l.dones.items l.shown l.search

@@ -1,0 +1,8 @@
+-- What functions of this crate do inside: no other crate cites these.
+pub mod BothBlocks
+pub mod Rows
+pub mod SizesLeft
+pub mod UnitParts
+pub mod Usable
+pub mod Sample
+pub mod Measuring

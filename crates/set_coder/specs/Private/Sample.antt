@@ -1,0 +1,39 @@
+-- The epoch of the tests: a region of four pixels, in which two cues are shown, and a colour.
+use Rattle.std.specs.Prelude.{[], ◌∷◌, false, true}
+use Rattle.sub_base.specs.declared.depth.Depth.TheVariants.{Four}
+use Rattle.cue_list.specs.declared.epoch.ColourRow.{ColourRow}
+use Rattle.cue_list.specs.declared.epoch.Cue.{Cue}
+use Rattle.cue_list.specs.declared.epoch.Epoch.{Epoch}
+use Rattle.cue_list.specs.declared.epoch.Region.{Region}
+
+abbrev pub sample_region : Region
+sample_region = record { id = 0; x = 0; y = 0; width = 4; height = 1; depth = Four; clut = 0 }
+
+abbrev pub sample_colour : ColourRow
+sample_colour =
+    record {
+      tick = 90000;
+      row = 6;
+      clut = 0;
+      depth = Four;
+      entry = 2;
+      colour = record { y = 81; cr = 240; cb = 90; t = 192 };
+    }
+
+abbrev pub solid_cue : Cue
+solid_cue = record { start = 90000; end = 270000; row = 9; region = 0; x = 0; y = 0; picture = 0; see_through = false }
+
+abbrev pub through_cue : Cue
+through_cue =
+    record { start = 135000; end = 270000; row = 10; region = 0; x = 0; y = 0; picture = 1; see_through = true }
+
+abbrev pub sample : Epoch
+sample =
+    record {
+      start = 90000;
+      row = 4;
+      regions = sample_region ∷ [];
+      colours = sample_colour ∷ [];
+      cues = solid_cue
+          ∷ through_cue ∷ [];
+    }
