@@ -23,9 +23,12 @@ def run(words):
     start = time.monotonic()
     child = os.fork()
     if child == 0:
-        os.dup2(os.open(os.devnull, os.O_WRONLY), 1)
-        first_of_all()
-        os.execvp(words[0], words)
+        try:
+            os.dup2(os.open(os.devnull, os.O_WRONLY), 1)
+            first_of_all()
+            os.execvp(words[0], words)
+        finally:
+            os._exit(127)
     _, status, usage = os.wait4(child, 0)
     clock = time.monotonic() - start
     if status:
