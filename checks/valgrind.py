@@ -193,11 +193,15 @@ def main(words):
     make_program()
     cases = [case for name, stream in hostile_streams(step) for case in stream_cases(name, stream)]
     cases += list(script_cases(step)) + list(sink_cases())
+    done = bad = 0
     with tempfile.TemporaryDirectory() as folder, ThreadPoolExecutor(max_workers=jobs) as workers:
-        results = list(workers.map(lambda pair: run(folder, *pair), enumerate(cases)))
-    bad = [result for result in results if result]
-    print("".join(f"    {result}\n" for result in bad), end="")
-    print(f"{len(cases)} cases, {len(bad)} wrong")
+        for result in workers.map(lambda pair: run(folder, *pair), enumerate(cases)):
+            done += 1
+            bad += result is not None
+            if result:
+                print(f"    {result}", flush=True)
+            if done % 50 == 0 or done == len(cases):
+                print(f"{done} of {len(cases)} cases, {bad} wrong", flush=True)
     return 1 if bad else 0
 
 
