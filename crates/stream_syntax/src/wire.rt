@@ -59,7 +59,8 @@ pub const DEFAULT_DISPLAY_WIDTH: u32 = 720;
 /// The rows of the display where no display definition comes.
 pub const DEFAULT_DISPLAY_HEIGHT: u32 = 576;
 
-/// The type of a sub-block with codes of 2 bits a pixel (EN 300 743, table 21, as the types below).
+/// The type of a sub-block with codes of 2 bits a pixel (EN 300 743, data_type of a
+/// pixel-data sub-block, as the types below).
 pub const TWO_BIT_STRING: u8 = 0x10;
 
 /// The type of a sub-block with codes of 4 bits a pixel.
