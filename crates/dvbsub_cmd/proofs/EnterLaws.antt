@@ -1,11 +1,9 @@
 -- From the entry set on, the pictures of a generated script are shown.
-use Rattle.std.proofs.Common.{◌≡◌, ◌∙◌, ℕ, zero, suc, ◌<◌, ◌≤◌, List, [], ◌∷◌, length, drop, get_or, length-drop, Option, Some, None, refl, sym, ap, subst, arith}
+use Rattle.std.proofs.Common.{◌≡◌, ◌∙◌, ℕ, zero, suc, ◌<◌, ◌≤◌, List, [], ◌∷◌, length, drop, length-drop, Option, Some, None, refl, sym, ap, subst, arith}
 use Rattle.std.specs.Prelude.{slice_get}
 use Rattle.std.specs.List.{AllByRecursion}
 use Rattle.std.specs.List.Sorted.{IsStrictlyIncreasing}
-use Rattle.std.proofs.lemmas.List.{get_or-drop, length-map}
 use Rattle.std.proofs.lemmas.List.Elements.{All-drop, All-from_recursion}
-use Rattle.std.proofs.lemmas.Option.{slice_get_within}
 use Rattle.cue_list.specs.declared.script.Script.{Script}
 use Rattle.decoder_model.specs.Streams.{SentSet, entry_set}
 use Rattle.page_epoch.specs.declared.planned_set.PlannedSet.{PlannedSet}
@@ -41,9 +39,6 @@ module _ (times : List ℕ) (sets : List PlannedSet) (times_are : times ≡ pts_
   times_behind : drop number times ≡ pts_of (set ∷ drop (suc number) sets)
   times_behind = ap (drop number) times_are ∙ drop_pts number sets ∙ ap pts_of (drop_found number sets set found)
 
-  pub time_inside : number < length times
-  time_inside = let inside = slice_get_within sets number set found in omega (arith, ap (λ (t : List ℕ). length t) times_are, length-map sets (λ (s : PlannedSet). s.pts))
-
   pub told_behind : AreTold times → AreTold (drop number times)
   told_behind told = record {
     rising = subst IsStrictlyIncreasing (sym (ap (drop number) times_are ∙ drop_pts number sets)) (drop_rises number sets (subst IsStrictlyIncreasing times_are told.rising));
@@ -67,9 +62,6 @@ shown_late name script packets entry (tick ∷ ticks) shows late =
 
 module _ (name : ProfileName) (made : Generated) (packets : List (List ℕ)) (times : List ℕ) (of : AreOf name made packets times) (missed number : ℕ)
     (entry : HasEntry missed made.sent.schedule made.sent.plan.sets (Some number)) where
-  pub entry_inside : number < length times
-  entry_inside = time_inside times made.sent.plan.sets of.times_are number entry.0 entry.1
-
   pub entry_told : AreTold (drop number times)
   entry_told = told_behind times made.sent.plan.sets of.times_are number entry.0 entry.1 of.told
 
@@ -85,13 +77,6 @@ module _ (name : ProfileName) (made : Generated) (packets : List (List ℕ)) (ti
   pub entry_first : slice_get (drop number times) 0 ≡ entry_time (entry_set missed (sent_sets made.sent.schedule made.sent.plan.sets))
   entry_first =
       ap (λ (ticks : List ℕ). slice_get ticks 0) (times_behind times made.sent.plan.sets of.times_are number entry.0 entry.1) ∙ sym (ap entry_time entry.2)
-
-  -- it is the one at the set's place
-  pub entry_is : entry_time (entry_set missed (sent_sets made.sent.schedule made.sent.plan.sets)) ≡ Some (get_or times number 0)
-  entry_is =
-      let first : get_or (drop number times) 0 0 ≡ entry.0.pts = ap (λ (ticks : List ℕ). get_or ticks 0 0) (times_behind times made.sent.plan.sets of.times_are number entry.0 entry.1) in
-      let same : get_or times number 0 ≡ get_or (drop number times) 0 0 = sym (get_or-drop number times 0 0 ∙ ap (λ (n : ℕ). get_or times n 0) (omega arith)) in
-      ap entry_time entry.2 ∙ ap (λ (time : ℕ). Some time) (sym (same ∙ first))
 
 -- no receiver enters
 pub no_entry_is : (missed : ℕ) (made : Generated) → HasEntry missed made.sent.schedule made.sent.plan.sets None → entry_time (entry_set missed (sent_sets made.sent.schedule made.sent.plan.sets)) ≡ None
