@@ -1,5 +1,5 @@
 -- From the entry set on, the pictures of a generated script are shown.
-use Rattle.std.proofs.Common.{◌≡◌, ◌∙◌, ℕ, zero, suc, ◌<◌, ◌≤◌, List, [], ◌∷◌, length, drop, length-drop, Option, Some, None, refl, sym, ap, subst, arith}
+use Rattle.std.proofs.Common.{◌≡◌, ◌∙◌, ℕ, zero, suc, ◌≤◌, List, [], ◌∷◌, drop, Option, Some, refl, sym, ap, subst, arith}
 use Rattle.std.specs.Prelude.{slice_get}
 use Rattle.std.specs.List.{AllByRecursion}
 use Rattle.std.specs.List.Sorted.{IsStrictlyIncreasing}
@@ -12,20 +12,12 @@ use Rattle.shown_stream.proofs.PlannedOrder.{all_above}
 use Rattle.shown_stream.proofs.PlannedTimes.{pts_of}
 use Rattle.shown_stream.specs.SentSets.{sent_set, sent_sets}
 use Rattle.shown_stream.specs.Shows.{Shows, ShowsFrom, authored_view}
-use Rattle.stream_syntax.specs.TransportPackets.{packet_fault}
 use Rattle.sub_base.specs.Profile.{profile_of}
 use Rattle.sub_base.specs.declared.profile.ProfileName.{ProfileName}
 use Rattle.dvbsub_cmd.specs.Private.Entries.{HasEntry}
 use Rattle.dvbsub_cmd.specs.GenText.{entry_time, generated_page, generated_pid}
-use Rattle.dvbsub_cmd.specs.Private.Generating.{AreOf, AreShown, AreTakable, AreTold}
+use Rattle.dvbsub_cmd.specs.Private.Generating.{AreOf, AreShown, AreTold}
 use Rattle.dvbsub_cmd.specs.declared.generated.Generated.{Generated}
-
--- the packets behind some are taken as well
-pub takable_behind : (packets : List (List ℕ)) (missed : ℕ) → AreTakable packets → AreTakable (drop missed packets)
-takable_behind packets missed are = record {
-  few = let all = are.few in omega (arith, length-drop missed packets);
-  passed = All-drop (λ packet. packet_fault generated_pid packet ≡ None) missed packets are.passed;
-}
 
 -- ---- times
 
@@ -62,9 +54,6 @@ shown_late name script packets entry (tick ∷ ticks) shows late =
 
 module _ (name : ProfileName) (made : Generated) (packets : List (List ℕ)) (times : List ℕ) (of : AreOf name made packets times) (missed number : ℕ)
     (entry : HasEntry missed made.sent.schedule made.sent.plan.sets (Some number)) where
-  pub entry_told : AreTold (drop number times)
-  entry_told = told_behind times made.sent.plan.sets of.times_are number entry.0 entry.1 of.told
-
   pub entry_shown : AreShown name made.script (drop missed packets) (drop number times)
   entry_shown =
       let sent : SentSet = sent_set made.sent.schedule number entry.0 in
@@ -77,7 +66,3 @@ module _ (name : ProfileName) (made : Generated) (packets : List (List ℕ)) (ti
   pub entry_first : slice_get (drop number times) 0 ≡ entry_time (entry_set missed (sent_sets made.sent.schedule made.sent.plan.sets))
   entry_first =
       ap (λ (ticks : List ℕ). slice_get ticks 0) (times_behind times made.sent.plan.sets of.times_are number entry.0 entry.1) ∙ sym (ap entry_time entry.2)
-
--- no receiver enters
-pub no_entry_is : (missed : ℕ) (made : Generated) → HasEntry missed made.sent.schedule made.sent.plan.sets None → entry_time (entry_set missed (sent_sets made.sent.schedule made.sent.plan.sets)) ≡ None
-no_entry_is missed made none = ap entry_time none
