@@ -77,6 +77,7 @@ impl Line {
     }
 
     /// Puts the number at the end, in decimal.
+    #[inline(always)]
     pub fn push_number(&mut self, number: u64)
         requires { length self.old + 20 ≤ 128 }
         ensures line { self.new ≡ self.old ++ decimal number }
@@ -87,6 +88,7 @@ impl Line {
     }
 
     /// Puts a space and the number at the end.
+    #[inline(always)]
     pub fn push_then_number(&mut self, number: u64)
         requires { length self.old ≤ 80 }
         ensures line { self.new ≡ self.old ++ then_number number }

@@ -1,5 +1,5 @@
 -- The text of a list of packets, one packet after the other.
-use Rattle.std.proofs.Common.{◌≡◌, ℕ, ◌+◌, ◌<◌, ◌⊎◌, inl, inr, List, [], ◌∷◌, ◌++◌, length, take, get_or, Option, append-nil, length-append, refl, sym, ap, subst, ◌∙◌, arith}
+use Rattle.std.proofs.Common.{◌≡◌, ℕ, ◌+◌, ◌<◌, ◌⊎◌, inl, inr, List, [], ◌∷◌, ◌++◌, length, take, get_or, Option, None, append-nil, length-append, refl, sym, ap, subst, ◌∙◌, arith}
 use Rattle.std.specs.List.{flat_map}
 use Rattle.std.proofs.lemmas.List.{take-append-le}
 use Rattle.std.proofs.lemmas.Grind.{flat_map-append}
@@ -7,6 +7,7 @@ use Rattle.std.proofs.Math.ListN.{get_or-append}
 use Rattle.std.proofs.Math.Seq.{get_or-append_seam, take-append_seam}
 use Rattle.stream_syntax.specs.Units.{event_at, unit_at}
 use Rattle.stream_syntax.specs.declared.transport.Event.{Event}
+use Rattle.stream_syntax.specs.declared.transport.Event.TheVariants as event
 use Rattle.packet_walk.specs.Told.{TellsOne}
 use Rattle.ts_packets.specs.Demuxing.{Demuxing, Stands, GoesOn}
 use Rattle.dvbsub_cmd.specs.Listing.{IsListed}
@@ -14,7 +15,7 @@ use Rattle.dvbsub_cmd.specs.ListLines.{loss_line}
 use Rattle.dvbsub_cmd.specs.ListText.{ArePacketLines, AreEndLines, IsListText, unit_limit}
 use Rattle.command_text.specs.Putting.{Buffered, PutsOut}
 use Rattle.sub_base.specs.Endpoints.{Received}
-use Rattle.command_text.proofs.PutLaws.{PutsOut-both}
+use Rattle.command_text.proofs.PutLaws.{PutsOut-both, PutsOut-nothing}
 
 -- a number below the next one is below it, or it
 below_next : (k n : ℕ) → k < n + 1 → (k < n) ⊎ (k ≡ n)
@@ -74,3 +75,14 @@ packet_listed before mid next old new was between is place packet event unit goe
         PutsOut-both before mid next was between is (loss_line place event) end.0 loss end.2,
       );
 }
+
+-- a packet of another PID has no lines, and changes nothing
+pub other_listed : (now : Received) (demux : Demuxing) (buffer : Buffered) (place : ℕ) (packet : List ℕ)
+    → GoesOn demux demux packet
+    → ((packets : List (List ℕ)) → event_at demux.pid demux.size packets packet ≡ event.Other)
+    → ((packets : List (List ℕ)) → unit_at demux.pid demux.size packets packet ≡ None)
+    → TellsOne IsListed now now demux demux buffer buffer place packet
+other_listed now demux buffer place packet goes event_is unit_is =
+    packet_listed now now now demux demux buffer buffer buffer place packet event.Other None goes
+    (λ packets _. sym (event_is packets)) (λ packets _. sym (unit_is packets))
+    (PutsOut-nothing now buffer) ([], refl, PutsOut-nothing now buffer)

@@ -42,6 +42,7 @@ impl PacketTeller for Lister {
 
     ghost stands = { λ lister. IsListed lister.demux };
 
+    #[inline(always)]
     fn take_packet<K: Sink>(
         &mut self,
         out: &mut K,
@@ -54,6 +55,8 @@ impl PacketTeller for Lister {
 }
 
 /// Takes the packet of that place, and puts out its lines; or finds why it cannot be taken.
+// In the loop over packets itself, as what it calls but for the lines of a unit.
+#[inline(always)]
 fn list_packet<K: Sink>(
     sink: &mut K,
     buffer: &mut TextBuffer,
@@ -73,6 +76,10 @@ fn list_packet<K: Sink>(
         (K.received sink.new)
         demux.old demux.new buffer.old buffer.new) }
 {
+    // Most packets of a stream are such, and need no more than this.
+    if demux.is_other(packet) {
+        return Ok(());
+    }
     let fed = demux.feed(packet)?;
     // The loss came before the unit that ends with this packet.
     list_loss(sink, buffer, place, fed.event);
@@ -81,6 +88,7 @@ fn list_packet<K: Sink>(
 }
 
 /// Puts out the line of the event, where it is a loss.
+#[inline(always)]
 fn list_loss<K: Sink>(sink: &mut K, buffer: &mut TextBuffer, place: u64, event: Event)
     ensures { PutsOut
         (K.received sink.old)
@@ -97,6 +105,7 @@ fn list_loss<K: Sink>(sink: &mut K, buffer: &mut TextBuffer, place: u64, event: 
 }
 
 /// Puts out the lines of the unit that ends with the packet of that place, where one does.
+#[inline(always)]
 fn list_end<K: Sink>(sink: &mut K, buffer: &mut TextBuffer, place: u64, unit: Option<&[u8]>)
     ensures { (lines : List ℕ) × AreEndLines place (option_copied unit.entry) lines × PutsOut
         (K.received sink.old)

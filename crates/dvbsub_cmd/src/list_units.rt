@@ -10,6 +10,7 @@ use segments::{Frame, frames};
 use sub_base::Sink;
 
 /// Puts out the lines of a unit that ends with the packet of that place.
+#[inline(never)]
 pub fn list_unit<K: Sink>(sink: &mut K, buffer: &mut TextBuffer, place: u64, unit: &[u8])
     ensures { (lines : List ℕ) × AreUnitLines place unit.now lines × PutsOut
         (K.received sink.old)
@@ -40,18 +41,19 @@ fn list_segments<K: Sink>(sink: &mut K, buffer: &mut TextBuffer, segments: &[u8]
     let mut place = 2u64;
     let mut line = Line::new();
     for head in frames(segments) {
-        let frame = match head {
-            Ok(frame) => frame,
+        match head {
+            Ok(frame) => {
+                write_framed_line(&mut line, place, &frame);
+                put(sink, buffer, line.as_bytes());
+                place += frame.whole as u64;
+            }
             Err(fault) => {
                 // Where a head is faulty, nothing says where the next segment begins.
                 let line = fault_line(place, fault);
                 put(sink, buffer, line.as_bytes());
                 return;
             }
-        };
-        write_framed_line(&mut line, place, &frame);
-        put(sink, buffer, line.as_bytes());
-        place += frame.whole as u64;
+        }
     }
 }
 

@@ -33,6 +33,8 @@ impl<'a> Iterator for FieldFrames<'a> {
 
     ghost remaining = { item_count frames_left };
 
+    // A head is read in the loop itself, and not handed over in memory.
+    #[inline(always)]
     fn next(&mut self) -> Option<Result<Frame<'a>, SegmentFault>> {
         if ends_segments(self.rest) {
             return None;
@@ -53,6 +55,7 @@ impl<'a> Iterator for FieldFrames<'a> {
 
 /// The frame of the segment at the front of a field that has not ended, and the bytes behind this
 /// segment.
+#[inline(always)]
 fn first_frame(field: &[u8]) -> Result<(Frame<'_>, &[u8]), SegmentFault>
     requires { has_ended field.now ≡ false }
     ensures frame { IfOk result

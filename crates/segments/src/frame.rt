@@ -29,6 +29,7 @@ pub struct Frame<'a> {
 /// Reads the head of the segment that begins the bytes; other bytes may follow it.
 ///
 /// The fault is `NoSync` or `Cut`.
+#[inline(always)]
 pub fn read_frame(bytes: &[u8]) -> Result<Frame<'_>, SegmentFault>
     ensures fault { result_err result ≡ first_fault (frame_tests bytes.now) }
     ensures kind { IfOk result (λ frame. frame.kind ≡ byte_at 1 bytes.now) }

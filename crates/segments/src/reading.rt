@@ -73,6 +73,8 @@ impl<'a> Frame<'a> {
     ///
     /// The fault is that of the first test of the body that fails: its place counts from the
     /// segment's first byte.
+    // A caller that knows the type, or asks only whether there is a fault, does without the rest.
+    #[inline(always)]
     pub fn segment(&self) -> Result<Segment<'a>, SegmentFault>
         // No head frames more.
         requires { length self.now.body.now < 65536 }
@@ -97,6 +99,7 @@ impl<'a> Frame<'a> {
 }
 
 /// Reads a body by its segment type.
+#[inline(always)]
 fn by_kind(kind: u8, body: &[u8]) -> Result<Segment<'_>, SegmentFault>
     requires { length body.now < 65536 }
     ensures value { IfOk result (λ segment. contents segment ≡ value_in kind body.now) }

@@ -64,6 +64,18 @@ other_steps d packet takes other = record {
   within = λ _ e. absurd cc;
 }
 
+-- a packet of another PID changes nothing and tells nothing, whatever came before it
+pub other_goes_on : (d : Demuxing) (packet : List ℕ) → packet_fault d.pid packet ≡ None → nat_eq (pid_of packet) d.pid ≡ false → GoesOn d d packet
+other_goes_on d packet takes other = steps_goes_on d d (alone event.Other) packet (other_steps d packet takes other)
+
+pub other_event : (pid size : ℕ) (packet : List ℕ) → nat_eq (pid_of packet) pid ≡ false → (packets : List (List ℕ)) → event_at pid size packets packet ≡ event.Other
+unfolding event_after
+other_event pid size packet other packets = rw other refl
+
+pub other_unit : (pid size : ℕ) (packet : List ℕ) → nat_eq (pid_of packet) pid ≡ false → (packets : List (List ℕ)) → unit_at pid size packets packet ≡ None
+unfolding part_after
+other_unit pid size packet other packets = rw other refl
+
 pub damaged_steps : (d : Demuxing) (packet : List ℕ) → packet_fault d.pid packet ≡ None → nat_eq (pid_of packet) d.pid ≡ true → has_error_flag packet ≡ true
     → StepsOn d (record d { holds = false }) (alone event.ErrorFlag) packet
 unfolding part_after event_after

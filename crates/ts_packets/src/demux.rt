@@ -3,7 +3,7 @@ ghost use Rattle.stream_syntax.specs.Units.{fate_of};
 ghost use Rattle.stream_syntax.specs.declared.wire.TheConstants.{PAYLOAD_LENGTH};
 ghost use Rattle.ts_packets.specs.Fates.{IsFate, IsShort, longest_unit};
 
-use crate::kind::{Kind, Payload, kind_of};
+use crate::kind::{Kind, Payload, is_other, kind_of};
 use byteorder::{BigEndian, ByteOrder};
 use std::alloc::Global;
 use std::marker::Model;
@@ -76,12 +76,12 @@ struct Step {
 }
 
 impl Demux {
-    ghost use Rattle.std.specs.Prelude.{◌≡◌, ℕ, ◌≤◌, true, false, List, [], ◌++◌, length, MatchResult, IfOk, Some, None};
+    ghost use Rattle.std.specs.Prelude.{◌≡◌, ℕ, ◌≤◌, ◌==◌, ◌↔◌, true, false, List, [], ◌++◌, length, IsTrue, MatchResult, IfOk, Some, None};
     ghost use Rattle.std.specs.Option.{option_copied, ForSome};
     ghost use Rattle.std.specs.Borrow.{sem};
-    ghost use Rattle.stream_syntax.specs.TransportPackets.{packet_fault};
+    ghost use Rattle.stream_syntax.specs.TransportPackets.{packet_fault, pid_of};
     ghost use Rattle.stream_syntax.specs.Units.{Next, Missing, fate_of, event_at, unit_at, succession};
-    ghost use Rattle.ts_packets.specs.Demuxing.{lent_bytes, taken_up, Stands};
+    ghost use Rattle.ts_packets.specs.Demuxing.{lent_bytes, taken_up, GoesOn, Stands};
     ghost use Rattle.ts_packets.specs.Fates.{IsFate, IsShort, longest_unit};
     ghost use Rattle.ts_packets.specs.Private.Feeding.{IsFed};
     ghost use Rattle.ts_packets.specs.Private.Steps.{Answers, StepsOn};
@@ -104,9 +104,27 @@ impl Demux {
         })
     }
 
+    /// Whether a packet can be taken and is of another PID, as most packets of a stream are. To
+    /// feed it would tell of nothing and change nothing, so that a walk need not do it.
+    #[inline(always)]
+    pub fn is_other(&self, packet: &[u8; 188]) -> bool
+        ensures other { IsTrue result ↔ (packet_fault self.now.pid packet.now ≡ None)
+            × ((pid_of packet.now == self.now.pid) ≡ false) }
+        ensures goes_on { IsTrue result → GoesOn self.now self.now packet.now }
+        ensures event { IsTrue result → (packets : List (List ℕ))
+            → event_at self.now.pid self.now.size packets packet.now ≡ Event.Other }
+        ensures unit { IsTrue result → (packets : List (List ℕ))
+            → unit_at self.now.pid self.now.size packets packet.now ≡ None }
+    {
+        is_other(self.pid, packet)
+    }
+
     /// Takes the next packet: what becomes of it, and the unit that it ends, as it stands in the
     /// demultiplexer's own memory. A packet that cannot be taken is not counted among the packets,
     /// and leaves the demultiplexer as it was.
+    // What most packets go through is inlined, down to `join`: a packet costs so little that to
+    // hand its event over in memory would be a good part of it.
+    #[inline(always)]
     pub fn feed(&mut self, packet: &[u8; 188]) -> Result<Fed<'_>, PacketFault>
         ensures* after { sem 𝓛 (IsFed self.entry packet.now result) }
 
@@ -147,6 +165,7 @@ impl Demux {
     }
 
     /// Takes one packet, or finds why it cannot be taken.
+    #[inline(always)]
     fn step(&mut self, packet: &[u8; 188]) -> Result<Step, PacketFault>
         ensures steps { MatchResult result (λ step. StepsOn self.old self.new step packet.now)
             (λ fault. (self.new ≡ self.old)
@@ -163,6 +182,7 @@ impl Demux {
     }
 
     /// Takes a packet's payload by its counter.
+    #[inline(always)]
     fn take(&mut self, payload: Payload<'_>) -> Step
         requires { length payload.bytes.now ≤ PAYLOAD_LENGTH }
         ensures answers { let order = succession self.old.counter payload.entry.counter in
@@ -188,6 +208,7 @@ impl Demux {
     }
 
     /// Takes a payload that has the next counter.
+    #[inline(always)]
     fn follow(&mut self, payload: Payload<'_>) -> Step
         requires { length payload.bytes.now ≤ PAYLOAD_LENGTH }
         ensures answers { Answers self.old self.new result Next payload.entry.start
@@ -211,6 +232,7 @@ impl Demux {
     }
 
     /// Takes a payload behind missing packets.
+    #[inline(never)]
     fn resume(&mut self, expected: u8, payload: Payload<'_>) -> Step
         requires { length payload.bytes.now ≤ PAYLOAD_LENGTH }
         ensures answers { let order = Missing expected payload.entry.counter in
@@ -239,6 +261,7 @@ impl Demux {
     }
 
     /// Begins a unit with these bytes.
+    #[inline(always)]
     fn begin(&mut self, payload: &[u8]) -> Fate
         requires { length payload.now ≤ PAYLOAD_LENGTH }
         ensures state { self.new ≡ taken_up self.old payload.now }
@@ -251,6 +274,7 @@ impl Demux {
     }
 
     /// Puts these bytes behind those of the unit in hand.
+    #[inline(always)]
     fn join(&mut self, payload: &[u8]) -> Fate
         requires held { self.old.holds ≡ true }
         requires short { length payload.now ≤ PAYLOAD_LENGTH }
@@ -283,6 +307,7 @@ impl Fate {
     ghost use Rattle.ts_packets.specs.Private.Steps.{answered};
 
     /// What a packet with this event answers where its unit has this fate.
+    #[inline(always)]
     fn answer(self, size: u64, event: Event) -> Step
         ensures answer { result ≡ answered size event self }
         ensures short { IsShort self → ForSome result.unit (λ count. count ≤ longest_unit) }
@@ -304,6 +329,7 @@ impl Fate {
 
 /// What becomes of a unit of which these bytes are there.
 #[tactic(auto, unfolding(stream_syntax::specs::Units::fate_of))]
+#[inline(always)]
 fn fate_of_unit(size: u64, bytes: &[u8]) -> Fate
     requires { length bytes.now ≤ longest_unit }
     ensures fate { IsFate size bytes.now (fate_of size bytes.now) result }

@@ -1,5 +1,5 @@
-ghost use Rattle.std.specs.Prelude.{◌≡◌, ℕ, ◌<◌, ◌≤◌, length, drop, MatchResult, None, Some};
-ghost use Rattle.stream_syntax.specs.TransportPackets.{packet_fault, counter_of, has_start_flag};
+ghost use Rattle.std.specs.Prelude.{◌≡◌, ℕ, ◌<◌, ◌≤◌, ◌==◌, ◌↔◌, false, not, length, drop, IsTrue, MatchResult, None, Some};
+ghost use Rattle.stream_syntax.specs.TransportPackets.{packet_fault, pid_of, counter_of, has_start_flag};
 ghost use Rattle.ts_packets.specs.Private.Kinds.{IsKind};
 
 use crate::packetiser::HEAD_LENGTH;
@@ -29,8 +29,25 @@ pub struct Payload<'a> {
     pub bytes: &'a [u8],
 }
 
+/// Whether a packet begins with the sync byte and has another PID.
+#[inline(always)]
+pub fn is_other(pid: u16, packet: &[u8; 188]) -> bool
+    ensures { IsTrue result
+        ↔ (packet_fault pid packet.now ≡ None) × ((pid_of packet.now == pid) ≡ false) }
+{
+    packet[0] == SYNC_BYTE && has_other_pid(pid, packet)
+}
+
+#[inline(always)]
+fn has_other_pid(pid: u16, packet: &[u8; 188]) -> bool
+    ensures { result ≡ not (pid_of packet.now == pid) }
+{
+    BigEndian::read_u16(&packet[1..3]) & 0x1FFF != pid
+}
+
 /// Reads what a packet is for a PID, with the first of its faults. A packet of another PID costs
 /// two comparisons.
+#[inline(always)]
 pub fn kind_of(pid: u16, packet: &[u8; 188]) -> Result<Kind<'_>, PacketFault>
     ensures { MatchResult result
         (λ kind. (packet_fault pid packet.now ≡ None) × IsKind pid packet.now kind)
@@ -39,8 +56,7 @@ pub fn kind_of(pid: u16, packet: &[u8; 188]) -> Result<Kind<'_>, PacketFault>
     if packet[0] != SYNC_BYTE {
         return Err(PacketFault::NoSync);
     }
-    // Most packets of a stream end here.
-    if BigEndian::read_u16(&packet[1..3]) & 0x1FFF != pid {
+    if has_other_pid(pid, packet) {
         return Ok(Kind::Other);
     }
     // Nothing that follows in a damaged packet can be trusted, so that it is tested no further.

@@ -126,6 +126,7 @@ fn each_event_has_its_numbers(rt: HostRuntime) -> Result<(), Fail> {
         for (byte, given) in packet.iter_mut().zip(&head) {
             *byte = *given;
         }
+        assert_eq!(rt; demux.is_other(&packet), event == Event::Other);
         let fed = demux.feed(&packet)?;
         assert_eq!(rt; fed.event, event);
         assert_eq!(rt; fed.unit.map_or(0, |unit| unit.len()), length);
@@ -142,6 +143,7 @@ fn faults_leave_the_demultiplexer_as_it_was(rt: HostRuntime) -> Result<(), Fail>
     let mut demux = Demux::make(rt.alloc(), 256, u64::MAX)?;
     let table = [
         ([0x48, 0x41, 0x00, 0x31, 0x98], PacketFault::NoSync),
+        ([0x48, 0x41, 0x01, 0x31, 0x98], PacketFault::NoSync),
         ([0x47, 0x01, 0x00, 0x50, 0x00], PacketFault::Scrambled),
         ([0x47, 0x01, 0x00, 0x00, 0x00], PacketFault::ReservedControl),
         ([0x47, 0x01, 0x00, 0x20, 0xB8], PacketFault::BadAdaptation),
@@ -149,6 +151,7 @@ fn faults_leave_the_demultiplexer_as_it_was(rt: HostRuntime) -> Result<(), Fail>
         ([0x47, 0x01, 0x00, 0x30, 0xB7], PacketFault::BadAdaptation),
     ];
     for (head, fault) in table {
+        assert!(rt; !demux.is_other(&packet_of(&head, &[])));
         assert_eq!(rt; demux.feed(&packet_of(&head, &[])).err(), Some(fault));
     }
     let fed = demux.feed(&packet_of(&SECOND_HEAD, &SECOND_UNIT))?;
