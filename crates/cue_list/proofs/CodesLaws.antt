@@ -1,9 +1,11 @@
 -- Codes that are put in their places, digit by digit.
 use Rattle.std.proofs.Common.{zero, suc, ◌≡◌, ◌∙◌, refl, sym, ap, ap₂, subst, ℕ, ◌+◌, ◌*◌, ◌%◌, ◌<◌, ◌≤◌, nat_lt, Bool, true, false, ◌&&◌, if◌then◌else◌, List, [], ◌∷◌, ◌++◌, length, take, drop, set, get_or, Option, Some, None, is_some, unwrap_or, All, append_assoc, arith, add-one}
 use Rattle.std.specs.List.{list_all}
+use Rattle.std.specs.Simd.{first_chunks}
+use Rattle.std.proofs.Math.Nat.{mul-suc}
 use Rattle.std.proofs.Math.Seq.{drop-cons}
 use Rattle.std.proofs.lemmas.Bool.Decides.{nat_tests}
-use Rattle.std.proofs.lemmas.List.{take_more_set, length-set}
+use Rattle.std.proofs.lemmas.List.{get_or-drop, get_or-take, take_more_set, length-set}
 use Rattle.std.proofs.lemmas.List.Elements.{All-push}
 use Rattle.std.proofs.lemmas.List.Folds.{list_all_more}
 use Rattle.cue_list.specs.Cells.{◌>>=◌}
@@ -92,6 +94,17 @@ double_codes-next text i within =
     let one : i + 1 ≡ suc i = omega arith in
     let two : i + 1 + 1 ≡ suc (suc i) = omega arith in
     rw (two, one) (pair_next text i (omega arith))
+
+-- a digit of a text that is cut into chunks of that width
+pub digit_in_chunk : (width count k j : ℕ) (text : List ℕ) → k < count → j < width
+    → get_or (get_or (first_chunks width count text) k []) j 0 ≡ get_or text (width * k + j) 0
+digit_in_chunk width zero k j text within inside = absurd (omega (arith, within))
+digit_in_chunk width (suc count) zero j text within inside =
+    get_or-take width text j 0 inside ∙ ap (λ n. get_or text n 0) (omega arith)
+digit_in_chunk width (suc count) (suc k) j text within inside =
+    digit_in_chunk width count k j (drop width text) (omega (arith, within)) inside
+    ∙ get_or-drop width text (width * k + j) 0
+    ∙ ap (λ n. get_or text n 0) (omega (arith, mul-suc width k))
 
 -- what holds of the codes of the first pairs of digits
 pub record AreDouble (text codes : List ℕ) (place : ℕ) (right : Bool) : Type 0 where

@@ -53,10 +53,13 @@ fn put_double_codes(text: &[u8], codes: &mut [u8]) -> bool
     ensures codes { result ≡ true → double_codes text.now ≡ Some codes.new }
     ensures count { length codes.new ≡ length codes.old }
 {
+    // As pairs, of which a processor loads many at once.
+    let (pairs, _) = text.as_chunks::<2>();
     let mut right = true;
     for place in 0..codes.len() {
-        let high = digit_value(text[2 * place]);
-        let low = digit_value(text[2 * place + 1]);
+        let [first, second] = pairs[place];
+        let high = digit_value(first);
+        let low = digit_value(second);
         // A character that is no digit is 255. What it makes here is not used, but has to fit a
         // byte.
         codes[place] = high % 16 * 16 + low % 16;

@@ -14,16 +14,21 @@ pub(crate) fn hex_value(digit: char) -> Option<u8>
     }
 }
 
-/// The same for a byte, and 255 where it is no such digit. There is no branch in it: digits come in
-/// any order.
+/// The same for a byte, and 255 where it is no such digit. Digits come in any order, so that there
+/// is no branch in it, and few comparisons: many are read at once.
 #[inline(always)]
 pub(crate) fn digit_value(digit: u8) -> u8
     ensures { result ≡ unwrap_or (hex_value_of digit) 255 }
 {
-    match digit {
-        b'0'..=b'9' => digit - b'0',
-        b'A'..=b'F' => digit - b'A' + 10,
-        b'a'..=b'f' => digit - b'a' + 10,
-        _ => 255,
+    let number = digit.wrapping_sub(b'0');
+    let capital = digit.wrapping_sub(b'A');
+    // A small letter stands 32 behind the same capital one.
+    let letter = capital.min(capital.wrapping_sub(32));
+    if number < 10 {
+        number
+    } else if letter < 6 {
+        letter + 10
+    } else {
+        255
     }
 }
