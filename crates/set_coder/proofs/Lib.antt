@@ -9,6 +9,7 @@ pub mod SampleLaws
 pub mod SetPacketLaws
 pub mod SetSizeLaws
 pub mod SizeLaws
+pub mod SlotLaws
 pub mod UnitPartLaws
 pub mod UsableLaws
 pub mod WritableLaws

@@ -6,3 +6,4 @@ pub mod UnitParts
 pub mod Usable
 pub mod Sample
 pub mod Measuring
+pub mod Keeping

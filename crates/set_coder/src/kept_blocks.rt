@@ -1,12 +1,14 @@
-ghost use Rattle.std.specs.Prelude.{◌≡◌, ℕ, ◌+◌, ◌*◌, ◌<◌, ◌≤◌, ◌++◌, [], List, length, slice_index_or, IfOk, IfSome, OnOk, IsTrue, ◌↔◌};
+ghost use Rattle.std.specs.Prelude.{◌≡◌, ℕ, ◌+◌, ◌*◌, ◌<◌, ◌≤◌, ◌++◌, [], List, length, slice_get, slice_index_or, IfOk, IfSome, IsSome, OnOk, IsTrue, ◌↔◌, All, Any, Contains};
 ghost use Rattle.stream_syntax.specs.PixelBlocks.{IsNoDeeper};
 ghost use Rattle.stream_syntax.specs.FieldBlocks.{AreFieldBlocks, AreFieldSizes, DrawsPicture};
-ghost use Rattle.set_coder.specs.KeptBlocks.{IsCoded, AreCoded};
+ghost use Rattle.set_coder.specs.KeptBlocks.{IsCoded, AreCoded, CanBeKept, IsOf, IsKept, IsCueKept, AreKept, place_in, place_of, AreLedTo};
+ghost use Rattle.set_coder.specs.Private.Keeping.{StaysKept, with_place, HasSlots};
 
 use crate::coded_picture::{BlockLookup, CodedPicture, KeptBlocks, Slots};
 use crate::field_sizes::{FieldSizes, field_sizes};
 use crate::fields::{FieldLengths, write_fields};
-use cue_list::{Epoch, Script};
+use crate::named::region_of;
+use cue_list::{Cue, Epoch, Script};
 use indexed_picture::Indexed;
 use pixel_codes::is_no_deeper;
 use std::alloc::Global;
@@ -23,7 +25,9 @@ impl KeptBlocks {
     /// Codes the pictures that the cues of a script show. Blocks of more bytes than the largest
     /// coded data buffer has are not kept.
     pub fn of_script(alloc: Global, script: &Script) -> Result<KeptBlocks, NoMemory>
-        ensures { IfOk result (λ kept. AreCoded script.now.pictures kept.coded.items) }
+        ensures right { IfOk result (λ kept. AreCoded script.now.pictures kept.coded.items) }
+        ensures kept { IfOk result (λ kept. AreKept script.now kept.coded.items) }
+        ensures led { IfOk result (λ kept. AreLedTo kept.slots.items kept.coded.items) }
     {
         let mut kept = KeptBlocks {
             slots: vec![in alloc; Slots::none(); script.pictures.len()]?,
@@ -37,45 +41,105 @@ impl KeptBlocks {
 
     /// Keeps the blocks of the pictures that the cues of an epoch show.
     fn keep_epoch(&mut self, pictures: &[Indexed], epoch: &Epoch) -> Result<(), NoMemory>
-        requires { AreCoded pictures.now self.old.coded.items }
-        ensures { OnOk result (AreCoded pictures.now self.new.coded.items) }
+        requires right { AreCoded pictures.now self.old.coded.items }
+        requires slots { HasSlots pictures.now self.old }
+        ensures right { OnOk result (AreCoded pictures.now self.new.coded.items) }
+        ensures slots { OnOk result (HasSlots pictures.now self.new) }
+        ensures kept { OnOk result
+            (All (IsCueKept pictures.now self.new.coded.items epoch.now) epoch.now.cues) }
+        ensures stay { OnOk result (StaysKept self.old.coded.items self.new.coded.items) }
     {
         for cue in epoch.cues.as_slice() {
-            if let Some(region) = epoch
-                .regions
-                .as_slice()
-                .iter()
-                .find(|region| region.id == cue.region)
-            {
-                self.keep(pictures, cue.picture, region.depth)?;
-            }
+            self.keep_cue(pictures, epoch, cue)?;
         }
         Ok(())
+    }
+
+    /// Keeps the blocks of the picture that a cue shows, for the depth of its region.
+    fn keep_cue(&mut self, pictures: &[Indexed], epoch: &Epoch, cue: &Cue) -> Result<(), NoMemory>
+        requires right { AreCoded pictures.now self.old.coded.items }
+        requires slots { HasSlots pictures.now self.old }
+        ensures right { OnOk result (AreCoded pictures.now self.new.coded.items) }
+        ensures slots { OnOk result (HasSlots pictures.now self.new) }
+        ensures kept { OnOk result
+            (IsCueKept pictures.now self.new.coded.items epoch.now cue.now) }
+        ensures stay { OnOk result (StaysKept self.old.coded.items self.new.coded.items) }
+    {
+        match region_of(epoch, cue.region) {
+            Some(region) => self.keep(pictures, cue.picture, region.depth),
+            None => Ok(()),
+        }
     }
 
     /// Keeps the blocks of a picture, where they are not kept yet.
     fn keep(&mut self, pictures: &[Indexed], number: u32, region: Depth) -> Result<(), NoMemory>
-        requires { AreCoded pictures.now self.old.coded.items }
-        ensures { OnOk result (AreCoded pictures.now self.new.coded.items) }
+        requires right { AreCoded pictures.now self.old.coded.items }
+        requires slots { HasSlots pictures.now self.old }
+        ensures right { OnOk result (AreCoded pictures.now self.new.coded.items) }
+        ensures slots { OnOk result (HasSlots pictures.now self.new) }
+        ensures kept { OnOk result (IsKept pictures.now self.new.coded.items number region) }
+        ensures stay { OnOk result (StaysKept self.old.coded.items self.new.coded.items) }
     {
         let place = number as usize;
         // No script has such a picture. Tested here, that need not be a premise.
-        if place >= pictures.len() || place >= self.slots.len() {
+        if place >= pictures.len() {
             return Ok(());
         }
         let picture = &pictures[place];
-        if self.slots.as_slice()[place].of(region).is_some() || !can_be_kept(picture, region) {
+        if self.holds(number, region) || !can_be_kept(picture, region) {
             return Ok(());
         }
+        self.add(pictures, picture, number, region)
+    }
+
+    /// Codes a picture and keeps its blocks.
+    fn add(
+        &mut self,
+        pictures: &[Indexed],
+        picture: &Indexed,
+        number: u32,
+        region: Depth,
+    ) -> Result<(), NoMemory>
+        requires coded { AreCoded pictures.now self.old.coded.items }
+        requires picture { slice_get pictures.now number ≡ Some picture.now }
+        requires shallow { IsNoDeeper picture.now.depth region }
+        requires slots { HasSlots pictures.now self.old }
+        requires fresh { Any (IsOf number region) self.old.coded.items → ⊥ }
+        ensures right { OnOk result (AreCoded pictures.now self.new.coded.items) }
+        ensures slots { OnOk result (HasSlots pictures.now self.new) }
+        ensures kept { OnOk result (Any (IsOf number region) self.new.coded.items) }
+        ensures stay { OnOk result (StaysKept self.old.coded.items self.new.coded.items) }
+    {
         let coded = code(*self.coded.allocator(), picture, number, region)?;
         let last = self.coded.len();
         self.coded.push(coded)?;
-        self.slots.as_mut_slice()[place].set(region, last);
+        self.lead(number, region, last);
         Ok(())
     }
 
+    /// Lets the slot of a picture lead to its blocks.
+    fn lead(&mut self, number: u32, region: Depth, at: usize)
+        requires { number < length self.old.slots.items }
+        ensures coded { self.new.coded ≡ self.old.coded }
+        ensures each { length self.new.slots.items ≡ length self.old.slots.items }
+        ensures here { place_of self.new.slots.items number region ≡ Some at }
+        ensures others { (other : ℕ) (depth : Depth) → ((other ≡ number) × (depth ≡ region) → ⊥)
+            → place_of self.new.slots.items other depth ≡ place_of self.old.slots.items other depth }
+    {
+        self.slots.as_mut_slice()[number as usize].set(region, at);
+    }
+
+    /// Whether blocks of the picture of that number are kept for a region of that depth.
+    fn holds(&self, number: u32, region: Depth) -> bool
+        requires { AreLedTo self.now.slots.items self.now.coded.items }
+        ensures { IsTrue result ↔ Any (IsOf number region) self.now.coded.items }
+    {
+        self.lookup().led_to(number, region).is_some()
+    }
+
     pub(crate) fn lookup(&self) -> BlockLookup<'_>
-        ensures { result.coded.now ≡ self.now.coded.items }
+        ensures coded { result.coded.now ≡ self.now.coded.items }
+        ensures slots { result.slots.now ≡ self.now.slots.items }
     {
         BlockLookup {
             slots: self.slots.as_slice(),
@@ -93,7 +157,9 @@ impl Slots {
         }
     }
 
-    fn of(&self, region: Depth) -> Option<usize> {
+    fn of(&self, region: Depth) -> Option<usize>
+        ensures { result ≡ place_in self.now region }
+    {
         match region {
             Depth::Two => self.two,
             Depth::Four => self.four,
@@ -101,7 +167,9 @@ impl Slots {
         }
     }
 
-    fn set(&mut self, region: Depth, place: usize) {
+    fn set(&mut self, region: Depth, place: usize)
+        ensures { self.new ≡ with_place self.old region place }
+    {
         match region {
             Depth::Two => self.two = Some(place),
             Depth::Four => self.four = Some(place),
@@ -112,7 +180,8 @@ impl Slots {
 
 /// Whether a picture can be coded for a region of a depth, and has not too many bytes then.
 fn can_be_kept(picture: &Indexed, region: Depth) -> bool
-    ensures { IsTrue result → IsNoDeeper picture.now.depth region }
+    ensures shallow { IsTrue result → IsNoDeeper picture.now.depth region }
+    ensures all { CanBeKept picture.now region → IsTrue result }
 {
     if !is_no_deeper(picture.depth(), region) {
         return false;
@@ -158,6 +227,37 @@ impl<'a> BlockLookup<'a> {
         }
     }
 
+    /// Where the slots of the picture of that number say that its blocks stand.
+    fn place_of(&self, number: u32, region: Depth) -> Option<usize>
+        ensures { result ≡ place_of self.now.slots.now number region }
+    {
+        let number = number as usize;
+        if number >= self.slots.len() {
+            return None;
+        }
+        self.slots[number].of(region)
+    }
+
+    /// The blocks of the picture of that number for a region of that depth, where its slot leads to
+    /// them.
+    fn led_to(&self, number: u32, region: Depth) -> Option<&'a CodedPicture>
+        ensures named { IfSome result (λ coded. IsOf number region coded.now) }
+        ensures among { IfSome result (λ coded. Contains self.now.coded.now coded.now) }
+        ensures found { AreLedTo self.now.slots.now self.now.coded.now
+            → Any (IsOf number region) self.now.coded.now → IsSome result }
+    {
+        let at = self.place_of(number, region)?;
+        if at >= self.coded.len() {
+            return None;
+        }
+        let coded = &self.coded[at];
+        // Slots are a hint: what they lead to is looked at before it is used.
+        if coded.number != number || coded.region != region {
+            return None;
+        }
+        Some(coded)
+    }
+
     /// The blocks of a picture, where they are kept. That they are of these pictures is asked by
     /// the contract alone.
     fn find(
@@ -169,22 +269,11 @@ impl<'a> BlockLookup<'a> {
     ) -> Option<&'a CodedPicture>
         requires kept { AreCoded _pictures.now self.now.coded.now }
         requires picture { _picture.now ≡ slice_index_or _pictures.now number _picture.now }
-        ensures { IfSome result (λ coded. IsCoded _picture.now region coded.now) }
+        ensures right { IfSome result (λ coded. IsCoded _picture.now region coded.now) }
+        ensures found { AreLedTo self.now.slots.now self.now.coded.now
+            → Any (IsOf number region) self.now.coded.now → IsSome result }
     {
-        let place = number as usize;
-        if place >= self.slots.len() {
-            return None;
-        }
-        let at = self.slots[place].of(region)?;
-        if at >= self.coded.len() {
-            return None;
-        }
-        let coded = &self.coded[at];
-        // Slots are a hint: what they lead to is looked at before it is used.
-        if coded.number != number || coded.region != region {
-            return None;
-        }
-        Some(coded)
+        self.led_to(number, region)
     }
 
     /// What `write_fields` does for a picture, from the blocks that are kept where they are.

@@ -1,7 +1,7 @@
 ghost use Rattle.std.specs.Prelude.{◌≡◌, Some, slice_get};
 ghost use Rattle.page_epoch.specs.Live.{cue_at};
 ghost use Rattle.page_epoch.specs.SentCluts.{row_at};
-ghost use Rattle.page_epoch.specs.Sendable.{HasRegion, HasCue, HasColour, IsSendable, IsSendableIn};
+ghost use Rattle.page_epoch.specs.Sendable.{find_region, HasRegion, HasCue, HasColour, IsSendable, IsSendableIn};
 ghost use Rattle.set_coder.specs.SetSegments.{epoch_region};
 ghost use Rattle.set_coder.specs.Private.Usable.{IsUsable, AreDrawable};
 
@@ -19,19 +19,26 @@ pub(crate) fn epoch_of<'a>(script: &'a Script, set: &PlannedSet) -> &'a Epoch
     &script.epochs.as_slice()[set.epoch as usize]
 }
 
+/// The first region of that number, where the epoch has one.
+pub(crate) fn region_of(epoch: &Epoch, id: u8) -> Option<Region>
+    ensures { result ≡ find_region epoch.now id }
+{
+    let regions = epoch.regions.as_slice();
+    for region in regions {
+        if region.id == id {
+            return Some(*region);
+        }
+    }
+    None
+}
+
 /// The region of that number.
 pub(crate) fn epoch_region(epoch: &Epoch, id: u8) -> Region
     requires { HasRegion epoch.now id }
     ensures { result ≡ epoch_region epoch.now id }
 {
-    let regions = epoch.regions.as_slice();
-    for region in regions {
-        if region.id == id {
-            return *region;
-        }
-    }
     // A plan names regions of its epoch alone.
-    unreachable!()
+    region_of(epoch, id).unwrap()
 }
 
 /// The cue at that place.

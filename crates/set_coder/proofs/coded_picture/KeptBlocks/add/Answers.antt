@@ -1,0 +1,30 @@
+use Rattle.std.proofs.Common.{◌≡◌, length, arith, rules, Some, ap, ◌∙◌}
+use Rattle.std.proofs.lemmas.Option.{slice_get_within}
+use Rattle.set_coder.proofs.KeptLaws.{one_more, last_kept, more_stay}
+use Rattle.set_coder.proofs.SlotLaws.{more_led}
+use Rattle.set_coder.proofs.coded_picture.KeptBlocks.add.Goals as goal
+
+pub lead-requires : goal.lead-requires
+lead-requires c = omega (arith, c.requires.slots.each, slice_get_within c.args.pictures.now c.args.number c.args.picture.now c.requires.picture)
+
+pub returns-clause-right : goal.returns-clause-right
+returns-clause-right c =
+    let coded = c.in_ok-coded in
+    one_more c.args.pictures.now c.args.picture.now c.args.number c.args.region coded.coded c.args.self.now.coded.items c.lead.new.self.coded.items c.requires.picture coded.ensures.number coded.ensures.region coded.ensures.coded c.requires.coded (ap (λ v. v.items) c.lead.ensures.coded ∙ c.in_ok-push.ensures.items)
+
+pub returns-clause-kept : goal.returns-clause-kept
+returns-clause-kept c =
+    let coded = c.in_ok-coded in
+    last_kept c.args.number c.args.region coded.coded c.args.self.now.coded.items c.lead.new.self.coded.items coded.ensures.number coded.ensures.region (ap (λ v. v.items) c.lead.ensures.coded ∙ c.in_ok-push.ensures.items)
+
+pub returns-clause-stay : goal.returns-clause-stay
+returns-clause-stay c = more_stay c.in_ok-coded.coded c.args.self.now.coded.items c.lead.new.self.coded.items (ap (λ v. v.items) c.lead.ensures.coded ∙ c.in_ok-push.ensures.items)
+
+pub returns-clause-slots : goal.returns-clause-slots
+returns-clause-slots c =
+    let coded = c.in_ok-coded in
+    let last : c.len-last.result ≡ length c.args.self.now.coded.items = search rules in
+    record {
+      each = c.lead.ensures.each ∙ c.requires.slots.each;
+      led = more_led c.args.self.now.slots.items c.lead.new.self.slots.items coded.coded c.args.self.now.coded.items c.lead.new.self.coded.items c.args.number c.args.region c.requires.slots.led (ap (λ v. v.items) c.lead.ensures.coded ∙ c.in_ok-push.ensures.items) coded.ensures.number coded.ensures.region (c.lead.ensures.here ∙ ap Some last) c.lead.ensures.others c.requires.fresh;
+    }

@@ -1,0 +1,24 @@
+-- Blocks that are kept while more of them are, and the slots that lead to them.
+use Rattle.std.specs.Prelude.{◌≡◌, ℕ, List, length, Any, Some}
+use Rattle.sub_base.specs.Picture.{Picture}
+use Rattle.sub_base.specs.declared.depth.Depth.{Depth}
+use Rattle.sub_base.specs.declared.depth.Depth.TheVariants.{Two, Four, Eight}
+use Rattle.set_coder.specs.declared.coded_picture.CodedPicture.{CodedPicture}
+use Rattle.set_coder.specs.declared.coded_picture.KeptBlocks.{KeptBlocks}
+use Rattle.set_coder.specs.declared.coded_picture.Slots.{Slots}
+use Rattle.set_coder.specs.KeptBlocks.{IsOf, AreLedTo}
+
+-- of what blocks were kept, blocks are kept still
+abbrev pub StaysKept : List CodedPicture → List CodedPicture → Type 0
+StaysKept old new = (number : ℕ) (region : Depth) → Any (IsOf number region) old → Any (IsOf number region) new
+
+-- the slots with another place for regions of a depth
+abbrev pub with_place : Slots → Depth → ℕ → Slots
+with_place slots Two place = record slots { two = Some place }
+with_place slots Four place = record slots { four = Some place }
+with_place slots Eight place = record slots { eight = Some place }
+
+-- each picture has its slots, and they lead to what is kept of it
+pub record HasSlots (pictures : List Picture) (kept : KeptBlocks) : Type 0 where
+  pub each : length kept.slots.items ≡ length pictures
+  pub led : AreLedTo kept.slots.items kept.coded.items
