@@ -3,7 +3,7 @@ use Rattle.std.proofs.Common.{◌≡◌, ◌∙◌, ℕ, zero, suc, ◌≤◌, L
 use Rattle.std.specs.Prelude.{slice_get}
 use Rattle.std.specs.List.{AllByRecursion}
 use Rattle.std.specs.List.Sorted.{IsStrictlyIncreasing}
-use Rattle.std.proofs.lemmas.List.Elements.{All-drop, All-from_recursion}
+use Rattle.std.proofs.lemmas.List.Elements.{All-from_recursion}
 use Rattle.cue_list.specs.declared.script.Script.{Script}
 use Rattle.decoder_model.specs.Streams.{SentSet, entry_set}
 use Rattle.page_epoch.specs.declared.planned_set.PlannedSet.{PlannedSet}
@@ -31,15 +31,10 @@ module _ (times : List ℕ) (sets : List PlannedSet) (times_are : times ≡ pts_
   times_behind : drop number times ≡ pts_of (set ∷ drop (suc number) sets)
   times_behind = ap (drop number) times_are ∙ drop_pts number sets ∙ ap pts_of (drop_found number sets set found)
 
-  pub told_behind : AreTold times → AreTold (drop number times)
-  told_behind told = record {
-    rising = subst IsStrictlyIncreasing (sym (ap (drop number) times_are ∙ drop_pts number sets)) (drop_rises number sets (subst IsStrictlyIncreasing times_are told.rising));
-    early = All-drop (λ tick. tick ≤ 4294967296) number times told.early;
-  }
-
   later_times : AreTold times → AllByRecursion (λ tick. set.pts ≤ tick) (drop number times)
   later_times told =
-      let rising : IsStrictlyIncreasing (pts_of (set ∷ drop (suc number) sets)) = subst IsStrictlyIncreasing times_behind (told_behind told).rising in
+      let behind : IsStrictlyIncreasing (drop number times) = subst IsStrictlyIncreasing (sym (ap (drop number) times_are ∙ drop_pts number sets)) (drop_rises number sets (subst IsStrictlyIncreasing times_are told.rising)) in
+      let rising : IsStrictlyIncreasing (pts_of (set ∷ drop (suc number) sets)) = subst IsStrictlyIncreasing times_behind behind in
       subst (AllByRecursion (λ tick. set.pts ≤ tick)) (sym times_behind) (omega arith, all_above set.pts (pts_of (drop (suc number) sets)) rising)
 
 -- ---- pictures
