@@ -14,14 +14,17 @@ loss_line place event.Other = []
 loss_line place event.NoPayload = []
 loss_line place event.Double = []
 loss_line place event.Dropped = []
-loss_line place (event.Gap expected found) = codes "gap" ++ then_number place ++ then_number expected ++ then_number found ++ line_end
+loss_line place (event.Gap expected found) =
+    codes "gap" ++ then_number place ++ then_number expected ++ then_number found ++ line_end
 loss_line place event.ErrorFlag = codes "error" ++ then_number place ++ line_end
 loss_line place (event.Short have) = codes "short" ++ then_number place ++ line_end
 loss_line place (event.TooLong need size) = codes "long" ++ then_number place ++ line_end
 
 -- the line of a unit that ends with the packet of that place: its presentation time in ticks, and its bytes
 abbrev pub unit_line : ℕ → ℕ → ℕ → List ℕ
-unit_line place pts size = codes "unit" ++ then_number place ++ codes " pts" ++ then_number pts ++ codes " length" ++ then_number size ++ line_end
+unit_line place pts size =
+    codes "unit" ++ then_number place ++ codes " pts" ++ then_number pts ++ codes " length"
+    ++ then_number size ++ line_end
 
 -- the line of a unit that is no PES packet of subtitles
 abbrev pub pes_line : ℕ → PesFault → List ℕ
@@ -29,9 +32,12 @@ pes_line place fault = codes "pes" ++ then_number place ++ codes " " ++ pes_faul
 
 -- the line of a segment that begins at that place of its field: its type, its page id, and the bytes of its body
 abbrev pub segment_line : ℕ → ℕ → ℕ → ℕ → List ℕ
-segment_line place kind page size = codes "segment" ++ then_number place ++ codes " " ++ two_hex kind ++ then_number page ++ then_number size ++ line_end
+segment_line place kind page size =
+    codes "segment" ++ then_number place ++ codes " " ++ two_hex kind ++ then_number page
+    ++ then_number size ++ line_end
 
 -- the line in place of a segment that begins at that place of its field and is refused: the place of the fault in the
 -- field
 abbrev pub fault_line : ℕ → SegmentFault → List ℕ
-fault_line place fault = codes "fault" ++ then_number (place + fault.place) ++ codes " " ++ segment_kind_name fault.kind ++ line_end
+fault_line place fault =
+    codes "fault" ++ then_number (place + fault.place) ++ codes " " ++ segment_kind_name fault.kind ++ line_end

@@ -56,8 +56,10 @@ plan_text (plan.CompositionFull row need) = (codes "plan CompositionFull" ++ the
 abbrev pub schedule_text : ℕ → ScheduleFault → List ℕ
 schedule_text row schedule.Memory = codes "memory"
 schedule_text row (schedule.CodedFull set size) = (codes "schedule CodedFull" ++ then_number row) ++ then_number size
-schedule_text row (schedule.Late set done pts) = ((codes "schedule Late" ++ then_number row) ++ then_number done) ++ then_number pts
-schedule_text row (schedule.SegmentFull set longest) = (codes "schedule SegmentFull" ++ then_number row) ++ then_number longest
+schedule_text row (schedule.Late set done pts) =
+    ((codes "schedule Late" ++ then_number row) ++ then_number done) ++ then_number pts
+schedule_text row (schedule.SegmentFull set longest) =
+    (codes "schedule SegmentFull" ++ then_number row) ++ then_number longest
 
 -- the place, from 0, of the first packet of a stream that cannot be taken, and why
 abbrev pub stream_text : ℕ → PacketFault → List ℕ
