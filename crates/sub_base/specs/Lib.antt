@@ -8,3 +8,6 @@ pub mod Number
 pub mod Pace
 pub mod Picture
 pub mod Profile
+pub mod Seen
+pub mod ToolOutcome
+pub mod Which

@@ -16,10 +16,11 @@ mod load;
 mod pace;
 mod profile;
 
-// A command's words, its sources and sinks, and how these fail.
+// A command's words, its sources and sinks, how these fail, and how a tool ends.
 mod faults;
 mod file;
 mod in_memory;
+mod status;
 mod transfer;
 mod words;
 
@@ -38,6 +39,7 @@ pub use load::{SetLoad, UNIT_ROOM, WriteLoad};
 pub use number::{decimal_number, number_in};
 pub use pace::{Pace, SECOND};
 pub use profile::{Profile, ProfileName};
+pub use status::{FaultName, ToolStatus, Which};
 pub use transfer::{Sink, Source, read_all, write_whole};
 pub use words::Words;
 
