@@ -1,0 +1,9 @@
+pub mod CrcLaws
+pub mod OwnCrc
+pub mod LoopLaws
+pub mod SectionLaws
+pub mod WritingLaws
+pub mod ReadAgain
+pub mod RowsLaid
+pub mod RowsAgain
+pub mod SectionRows

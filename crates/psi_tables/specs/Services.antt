@@ -1,0 +1,42 @@
+-- What programme tables name: the PID of a service's PMT, and the PID of its subtitles.
+use Rattle.std.specs.Prelude.{ℕ, ◌==◌, Bool, ◌&&◌, if◌then◌else◌, List, Option, Some, None, find, option_map}
+use Rattle.std.specs.List.{list_any}
+use Rattle.psi_tables.specs.Loops.{Descriptor, Stream, descriptors_of, entries_of, streams_of}
+use Rattle.psi_tables.specs.Sections.{SectionValue, Pat, Pmt, right_section}
+
+-- the PID that entries of a PAT list for a service, the first of them
+abbrev pub pid_listed : ℕ → List ℕ → Option ℕ
+pid_listed service entries =
+    option_map (λ entry. entry.pid) (find (λ entry. entry.number == service) (entries_of entries))
+
+-- a descriptor of subtitles (EN 300 468, 6.2.41), whatever its length
+abbrev pub is_subtitling : Descriptor → Bool
+is_subtitling descriptor = descriptor.tag == 0x59
+
+-- a stream of subtitles: private data in PES packets (stream type 06) with a descriptor of subtitles
+abbrev pub is_subtitles : Stream → Bool
+is_subtitles stream = stream.kind == 6 && list_any is_subtitling (descriptors_of stream.descriptors)
+
+-- the PID of the first stream of subtitles
+abbrev pub subtitle_pid : List ℕ → Option ℕ
+subtitle_pid streams = option_map (λ stream. stream.pid) (find is_subtitles (streams_of streams))
+
+-- what a section names: the PID of a service's PMT, and the PID of its subtitles
+abbrev pub pmt_named : ℕ → SectionValue → Option ℕ
+pmt_named service (Pat stream entries) = pid_listed service entries
+pmt_named service (Pmt number streams) = None
+
+abbrev pub pid_named : ℕ → SectionValue → Option ℕ
+pid_named service (Pat stream entries) = None
+pid_named service (Pmt number streams) = if number == service then subtitle_pid streams else None
+
+abbrev pub named_by : (SectionValue → Option ℕ) → Option SectionValue → Option ℕ
+named_by named None = None
+named_by named (Some section) = named section
+
+-- what the bytes of a section name, where no test refuses it
+abbrev pub pmt_in : ℕ → List ℕ → Option ℕ
+pmt_in service section = named_by (pmt_named service) (right_section section)
+
+abbrev pub pid_in : ℕ → List ℕ → Option ℕ
+pid_in service section = named_by (pid_named service) (right_section section)
