@@ -6,6 +6,7 @@ use Rattle.buffer_model.specs.Meters as meters
 use Rattle.buffer_model.specs.Meters.{Meter}
 use Rattle.command_text.specs.Putting.{Buffered, PutsOut}
 use Rattle.command_text.proofs.PutLaws.{PutsOut-both}
+use Rattle.decoder_model.specs.declared.pages.Pages.{Pages}
 use Rattle.decoder_model.specs.Arrivals.{Arrival, arrivals_of, packets_taken}
 use Rattle.decoder_model.specs.PacketArrivals.{PacketArrival, packet_arrival}
 use Rattle.decoder_model.specs.Readings.{AreDeliveriesRead, Reading}
@@ -50,17 +51,17 @@ few_in_profile profile sending = subst (λ (p : Profile). (p.coded ≤ 2 ^ 18) �
     by Large = (omega arith, omega arith)
 
 -- nothing was received
-pub none_received : (profile : Profile) (pid page : ℕ) → HasReceived profile pid page false [] []
-none_received profile pid page = subst (λ (sets : List (Delivery (List ℕ))). AreDeliveriesRead (reverse sets) []) (sym (none_yet profile.coded pid page false)) tt
+pub none_received : (profile : Profile) (pid : ℕ) (pages : Pages) → HasReceived profile pid pages false [] []
+none_received profile pid pages = subst (λ (sets : List (Delivery (List ℕ))). AreDeliveriesRead (reverse sets) []) (sym (none_yet profile.coded pid pages false)) tt
 
 pub nothing_checked : (receiving : Receiving) (meter : Meter) → Stands false [] [] receiving → meters.Stands [] meter → meter.pace ≡ pace_of receiving.showing.core.anchor receiving.showing.core.profile → meter.next ≡ 0
     → HasChecked (record { receiving = receiving; meter = meter }) [] []
 nothing_checked receiving meter stands metered pace next = record {
-  made = record { profile = receiving.showing.core.profile; pid = receiving.demux.pid; page = receiving.showing.core.page; origin = receiving.showing.core.anchor };
+  made = record { profile = receiving.showing.core.profile; pid = receiving.demux.pid; pages = receiving.sets.pages; origin = receiving.showing.core.anchor };
   past = [];
   told = [];
   at = record {
-    own = record { profile = refl; pid = refl; page = refl; origin = refl };
+    own = record { profile = refl; pid = refl; pages = refl; origin = refl };
     bytes = All-nil AreBytes;
     given = [];
     stands = stands;
@@ -69,7 +70,7 @@ nothing_checked receiving meter stands metered pace next = record {
     metered = metered;
     whole = refl;
   };
-  received = none_received receiving.showing.core.profile receiving.demux.pid receiving.showing.core.page;
+  received = none_received receiving.showing.core.profile receiving.demux.pid receiving.sets.pages;
   are = refl;
   next = omega (arith, next);
 }
@@ -109,43 +110,43 @@ fed_at made old new meter packets packet past told text bytes same feeds at =
 
 -- what was taken is all that was received
 pub received_at : (made : Purpose) (ended : Bool) (receiving : Receiving) (meter : Meter) (packets : List (List ℕ)) (past : List (Delivery Reading)) (told : List ToldCall) (text : List ℕ)
-    → AllTaken receiving → IsAt made ended receiving meter packets past told text → HasReceived made.profile made.pid made.page ended packets past
+    → AllTaken receiving → IsAt made ended receiving meter packets past told text → HasReceived made.profile made.pid made.pages ended packets past
 received_at made ended receiving meter packets past told text all at =
-    let here : sets_of made.profile.coded made.pid made.page ended packets ≡ at.given =
-    (λ i. sets_of (sym at.own.profile i).coded (sym at.own.pid i) (sym at.own.page i) ended packets) ∙ all packets ended at.given at.stands in
+    let here : sets_of made.profile.coded made.pid made.pages ended packets ≡ at.given =
+    (λ i. sets_of (sym at.own.profile i).coded (sym at.own.pid i) (sym at.own.pages i) ended packets) ∙ all packets ended at.given at.stands in
     subst (λ (sets : List (Delivery (List ℕ))). AreDeliveriesRead (reverse sets) past) (sym here) at.read
 
 -- the calls of a packet come behind those of the packets before it
 told_packet : (made : Purpose) (packets : List (List ℕ)) (packet : List ℕ) (past lost more : List (Delivery Reading)) (told : List ToldCall) (event : Event) (arrival : PacketArrival) (place : ℕ)
-    → packets_taken made.pid packets ≡ packets → packet_fault made.pid packet ≡ None → HasReceived made.profile made.pid made.page false packets past
-    → HasReceived made.profile made.pid made.page false (packets ++ packet ∷ []) (more ++ (lost ++ past)) → AreLost lost
-    → event ≡ event_at made.pid made.profile.coded packets packet → arrival ≡ packet_arrival made.profile.coded made.pid made.page packets packet → length packets ≡ place
-    → told ≡ told_of made.profile made.pid made.page made.origin 0 packets past
-    → told ++ calls_of_packet of_no_set event arrival place (told_with made (lost ++ past) more) ≡ told_of made.profile made.pid made.page made.origin 0 (packets ++ packet ∷ []) (more ++ (lost ++ past))
+    → packets_taken made.pid packets ≡ packets → packet_fault made.pid packet ≡ None → HasReceived made.profile made.pid made.pages false packets past
+    → HasReceived made.profile made.pid made.pages false (packets ++ packet ∷ []) (more ++ (lost ++ past)) → AreLost lost
+    → event ≡ event_at made.pid made.profile.coded packets packet → arrival ≡ packet_arrival made.profile.coded made.pid made.pages packets packet → length packets ≡ place
+    → told ≡ told_of made.profile made.pid made.pages made.origin 0 packets past
+    → told ++ calls_of_packet of_no_set event arrival place (told_with made (lost ++ past) more) ≡ told_of made.profile made.pid made.pages made.origin 0 (packets ++ packet ∷ []) (more ++ (lost ++ past))
 told_packet made packets packet past lost more told event arrival place taken sound before behind are_lost event_is arrival_is count told_is =
     let calls : told_with made (lost ++ past) more ≡ told_with made past (more ++ lost) =
     sym (with_both made past lost more ∙ ap (λ (none : List ToldCall). none ++ told_with made (lost ++ past) more) (losses_tell made.profile made.origin past lost are_lost)) in
-    let own : HasReceived made.profile made.pid made.page false (packets ++ packet ∷ []) ((more ++ lost) ++ past) =
-    subst (λ (all : List (Delivery Reading)). HasReceived made.profile made.pid made.page false (packets ++ packet ∷ []) all) (sym (append_assoc more lost past)) behind in
+    let own : HasReceived made.profile made.pid made.pages false (packets ++ packet ∷ []) ((more ++ lost) ++ past) =
+    subst (λ (all : List (Delivery Reading)). HasReceived made.profile made.pid made.pages false (packets ++ packet ∷ []) all) (sym (append_assoc more lost past)) behind in
     let slot : place ≡ 0 + length packets = omega (arith, count) in
     (λ i. told_is i ++ calls_of_packet of_no_set (event_is i) (arrival_is i) (slot i) (calls i))
-    ∙ sym (packet_tells made.profile made.pid made.page made.origin 0 packets packet past (more ++ lost) taken sound before own)
-    ∙ ap (told_of made.profile made.pid made.page made.origin 0 (packets ++ packet ∷ [])) (append_assoc more lost past)
+    ∙ sym (packet_tells made.profile made.pid made.pages made.origin 0 packets packet past (more ++ lost) taken sound before own)
+    ∙ ap (told_of made.profile made.pid made.pages made.origin 0 (packets ++ packet ∷ [])) (append_assoc more lost past)
 
 module _ (old mid new : Receiving) (was is : Meter) (packet : List ℕ) (event : Event) (arrival : PacketArrival) (place : ℕ) (before now : Received) (old_buffer new_buffer : Buffered)
     (bytes : AreBytes packet) (same : IsSame old mid)
     (sound : packet_fault old.demux.pid packet ≡ None)
     (feeds : (fed : List (List ℕ)) (given : List (Delivery (List ℕ))) → Stands false fed given old → (losses : List (Delivery (List ℕ))) × AreLosses losses × Stands false (fed ++ packet ∷ []) (given ++ losses) mid)
     (events : (fed : List (List ℕ)) (given : List (Delivery (List ℕ))) → Stands false fed given old → event ≡ event_at old.demux.pid old.showing.core.profile.coded fed packet)
-    (arrivals : (fed : List (List ℕ)) (given : List (Delivery (List ℕ))) → Stands false fed given old → mid.arrival ≡ packet_arrival old.showing.core.profile.coded old.demux.pid old.showing.core.page fed packet)
+    (arrivals : (fed : List (List ℕ)) (given : List (Delivery (List ℕ))) → Stands false fed given old → mid.arrival ≡ packet_arrival old.showing.core.profile.coded old.demux.pid old.sets.pages fed packet)
     (arrival_is : arrival ≡ mid.arrival)
     (calls : TakesCalls event arrival place before now mid new was is old_buffer new_buffer)
     (all : AllTaken new)
     (next : is.next ≤ place + 1) where
   told_so : (packets : List (List ℕ)) (text line : List ℕ) (has : HasChecked (record { receiving = old; meter = was }) packets text) (lost more : List (Delivery Reading)) → length packets ≡ place → AreLost lost
-      → HasReceived has.made.profile has.made.pid has.made.page false (packets ++ packet ∷ []) (more ++ (lost ++ has.past))
+      → HasReceived has.made.profile has.made.pid has.made.pages false (packets ++ packet ∷ []) (more ++ (lost ++ has.past))
       → has.told ++ calls_of_packet of_no_set event arrival place (told_with has.made (lost ++ has.past) more)
-      ≡ told_of has.made.profile has.made.pid has.made.page has.made.origin 0 (packets ++ packet ∷ []) (more ++ (lost ++ has.past))
+      ≡ told_of has.made.profile has.made.pid has.made.pages has.made.origin 0 (packets ++ packet ∷ []) (more ++ (lost ++ has.past))
   told_so packets text line has lost more count are_lost behind =
       let own = has.at.own in
       told_packet has.made packets packet has.past lost more has.told event arrival place
@@ -153,7 +154,7 @@ module _ (old mid new : Receiving) (was is : Meter) (packet : List ℕ) (event :
       (ap (λ (pid : ℕ). packet_fault pid packet) (sym own.pid) ∙ sound)
       has.received behind are_lost
       (events packets has.at.given has.at.stands ∙ (λ i. event_at (own.pid i) (own.profile i).coded packets packet))
-      (arrival_is ∙ arrivals packets has.at.given has.at.stands ∙ (λ i. packet_arrival (own.profile i).coded (own.pid i) (own.page i) packets packet))
+      (arrival_is ∙ arrivals packets has.at.given has.at.stands ∙ (λ i. packet_arrival (own.profile i).coded (own.pid i) (own.pages i) packets packet))
       count has.are
 
   checked_so : (packets : List (List ℕ)) (text line : List ℕ) (has : HasChecked (record { receiving = old; meter = was }) packets text) (lost more : List (Delivery Reading)) → length packets ≡ place → AreLost lost
@@ -209,7 +210,7 @@ module _ (old mid new : Receiving) (was is : Meter) (before half now : Received)
 
   told_end : (packets : List (List ℕ)) (text line : List ℕ) (has : HasChecked (record { receiving = old; meter = was }) packets text) (more : List (Delivery Reading))
       → IsAt has.made true new is packets (more ++ has.past) (has.told ++ told_with has.made has.past more) (text ++ line)
-      → IsCheckText has.made.profile has.made.origin has.made.pid has.made.page true packets
+      → IsCheckText has.made.profile has.made.origin has.made.pid has.made.pages true packets
       (text ++ (line ++ end_text (pace_of has.made.origin has.made.profile) (has.told ++ told_with has.made has.past more)))
   told_end packets text line has more at =
       let taken : packets_taken has.made.pid packets ≡ packets = ap (λ (pid : ℕ). packets_taken pid packets) (sym has.at.own.pid) ∙ has.at.stands.taken in
@@ -219,8 +220,8 @@ module _ (old mid new : Receiving) (was is : Meter) (before half now : Received)
           past = more ++ has.past;
           received = received_at has.made true new is packets _ _ _ all at;
           are = ap (λ (calls : List ToldCall). calls ++ told_with has.made has.past more) has.are
-              ∙ sym (end_tells has.made.profile has.made.pid has.made.page has.made.origin 0 packets has.past more taken has.received)
-              ∙ ap (λ (all : List (List ℕ)). told_of has.made.profile has.made.pid has.made.page has.made.origin 0 all (more ++ has.past)) (sym taken);
+              ∙ sym (end_tells has.made.profile has.made.pid has.made.pages has.made.origin 0 packets has.past more taken has.received)
+              ∙ ap (λ (all : List (List ℕ)). told_of has.made.profile has.made.pid has.made.pages has.made.origin 0 all (more ++ has.past)) (sym taken);
         };
         whole = sym (append_assoc text line (end_text (pace_of has.made.origin has.made.profile) (has.told ++ told_with has.made has.past more)))
             ∙ ended_text (pace_of has.made.origin has.made.profile) (has.told ++ told_with has.made has.past more) (text ++ line) at.whole;
@@ -234,7 +235,7 @@ module _ (old mid new : Receiving) (was is : Meter) (before half now : Received)
 
   -- the stream has ended
   pub end_told : (packets : List (List ℕ)) (text : List ℕ) → HasChecked (record { receiving = old; meter = was }) packets text
-      → (more : List ℕ) × IsCheckText old.showing.core.profile old.showing.core.anchor old.demux.pid old.showing.core.page true packets (text ++ more)
+      → (more : List ℕ) × IsCheckText old.showing.core.profile old.showing.core.anchor old.demux.pid old.sets.pages true packets (text ++ more)
       × PutsOut before now old_buffer new_buffer more
   end_told packets text has =
       let taken = sets.goes has.made true packets has.past has.told text (at_end has.made packets has.past has.told text has.at) in
@@ -244,27 +245,27 @@ module _ (old mid new : Receiving) (was is : Meter) (before half now : Received)
         puts_end has.made packets _ _ _ taken.1 taken.3 taken.4,
       )
     where
-      in_receiver : IsMadeFor has.made old → (all : List ℕ) → IsCheckText has.made.profile has.made.origin has.made.pid has.made.page true packets all
-          → IsCheckText old.showing.core.profile old.showing.core.anchor old.demux.pid old.showing.core.page true packets all
+      in_receiver : IsMadeFor has.made old → (all : List ℕ) → IsCheckText has.made.profile has.made.origin has.made.pid has.made.pages true packets all
+          → IsCheckText old.showing.core.profile old.showing.core.anchor old.demux.pid old.sets.pages true packets all
       in_receiver own all is =
-          subst (λ (profile : Profile). IsCheckText profile old.showing.core.anchor old.demux.pid old.showing.core.page true packets all) (sym own.profile)
-          (subst (λ (origin : ℕ). IsCheckText has.made.profile origin old.demux.pid old.showing.core.page true packets all) (sym own.origin)
-          (subst (λ (pid : ℕ). IsCheckText has.made.profile has.made.origin pid old.showing.core.page true packets all) (sym own.pid)
-          (subst (λ (page : ℕ). IsCheckText has.made.profile has.made.origin has.made.pid page true packets all) (sym own.page) is)))
+          subst (λ (profile : Profile). IsCheckText profile old.showing.core.anchor old.demux.pid old.sets.pages true packets all) (sym own.profile)
+          (subst (λ (origin : ℕ). IsCheckText has.made.profile origin old.demux.pid old.sets.pages true packets all) (sym own.origin)
+          (subst (λ (pid : ℕ). IsCheckText has.made.profile has.made.origin pid old.sets.pages true packets all) (sym own.pid)
+          (subst (λ (pages : Pages). IsCheckText has.made.profile has.made.origin has.made.pid pages true packets all) (sym own.pages) is)))
 
 -- what was told of packets, where the stream does not end with them
 pub text_so_far : (checking : Checking) (packets : List (List ℕ)) (text : List ℕ) → HasChecked checking packets text
-    → IsCheckText checking.receiving.showing.core.profile checking.receiving.showing.core.anchor checking.receiving.demux.pid checking.receiving.showing.core.page false packets text
+    → IsCheckText checking.receiving.showing.core.profile checking.receiving.showing.core.anchor checking.receiving.demux.pid checking.receiving.sets.pages false packets text
 text_so_far checking packets text has =
-    subst (λ (profile : Profile). IsCheckText profile checking.receiving.showing.core.anchor checking.receiving.demux.pid checking.receiving.showing.core.page false packets text) (sym has.at.own.profile)
-    (subst (λ (origin : ℕ). IsCheckText has.made.profile origin checking.receiving.demux.pid checking.receiving.showing.core.page false packets text) (sym has.at.own.origin)
-    (subst (λ (pid : ℕ). IsCheckText has.made.profile has.made.origin pid checking.receiving.showing.core.page false packets text) (sym has.at.own.pid)
-    (subst (λ (page : ℕ). IsCheckText has.made.profile has.made.origin has.made.pid page false packets text) (sym has.at.own.page) (record {
+    subst (λ (profile : Profile). IsCheckText profile checking.receiving.showing.core.anchor checking.receiving.demux.pid checking.receiving.sets.pages false packets text) (sym has.at.own.profile)
+    (subst (λ (origin : ℕ). IsCheckText has.made.profile origin checking.receiving.demux.pid checking.receiving.sets.pages false packets text) (sym has.at.own.origin)
+    (subst (λ (pid : ℕ). IsCheckText has.made.profile has.made.origin pid checking.receiving.sets.pages false packets text) (sym has.at.own.pid)
+    (subst (λ (pages : Pages). IsCheckText has.made.profile has.made.origin has.made.pid pages false packets text) (sym has.at.own.pages) (record {
       told = has.told;
       are = record {
         past = has.past;
         received = has.received;
-        are = has.are ∙ ap (λ (all : List (List ℕ)). told_of has.made.profile has.made.pid has.made.page has.made.origin 0 all has.past)
+        are = has.are ∙ ap (λ (all : List (List ℕ)). told_of has.made.profile has.made.pid has.made.pages has.made.origin 0 all has.past)
             (sym (ap (λ (pid : ℕ). packets_taken pid packets) (sym has.at.own.pid) ∙ has.at.stands.taken));
       };
       whole = has.at.whole;

@@ -35,7 +35,7 @@ pub still_made : (made : Purpose) (old new : Receiving) → IsSame old new → I
 still_made made old new same own = record {
   profile = same.core.profile ∙ own.profile;
   pid = same.pid ∙ own.pid;
-  page = same.core.page ∙ own.page;
+  pages = same.pages ∙ own.pages;
   origin = same.core.anchor ∙ own.origin;
 }
 
@@ -78,8 +78,8 @@ module _ (old new : Receiving) (start fin : Meter) (before now : Received) (was 
   comes : (made : Purpose) (ended : Bool) (packets : List (List ℕ)) (past : List (Delivery Reading)) (told : List ToldCall) (text : List ℕ) (at : IsAt made ended old start packets past told text) → Comes made ended packets at.given past
   comes made ended packets past told text at =
       let next = has_next ended packets at.given at.stands in
-      let all = packets_read old.showing.core.profile old.demux.pid old.showing.core.page ended packets at.bytes in
-      let found = next_read old.showing.core.profile old.demux.pid old.showing.core.page ended packets at.given next.1 next.0 all.0 all.1 next.2.all in
+      let all = packets_read old.showing.core.profile old.demux.pid old.sets.pages ended packets at.bytes in
+      let found = next_read old.showing.core.profile old.demux.pid old.sets.pages ended packets at.given next.1 next.0 all.0 all.1 next.2.all in
       record {
         delivery = next.0;
         one = found.0;

@@ -6,6 +6,7 @@ use Rattle.buffer_model.specs.Calls.{Call, first_breach_of, greatest}
 use Rattle.buffer_model.specs.declared.breach.Breach.{Breach}
 use Rattle.buffer_model.specs.declared.breach.Breach.TheVariants.{Coded, Late}
 use Rattle.command_text.specs.Lines.{line_end, then_number}
+use Rattle.decoder_model.specs.declared.pages.Pages.{Pages}
 use Rattle.decoder_model.specs.declared.set_end.SetEnd.{SetEnd}
 use Rattle.decoder_model.specs.declared.set_end.SetEnd.TheVariants.{Shown, Waiting, Broken, NotLater}
 use Rattle.stream_calls.specs.StreamCalls.{AreCallsOf}
@@ -56,16 +57,17 @@ check_text false pace told = sets_text pace told
 check_text true pace told = sets_text pace told ++ end_text pace told
 
 -- the text of the sets and levels of these packets, the first of them in slot 0 at the origin, in a receiver of a
--- profile for a PID and a page whose lifted times begin at the origin; the stream ends with the packets or not
-pub record IsCheckText (profile : Profile) (origin pid page : ℕ) (ended : Bool) (packets : List (List ℕ))
+-- profile for a PID and these pages whose lifted times begin at the origin; the stream ends with the packets or not
+pub record IsCheckText (profile : Profile) (origin pid : ℕ) (pages : Pages) (ended : Bool) (packets : List (List ℕ))
     (text : List ℕ) : Type 0 where
   pub told : List ToldCall
-  pub are : AreToldCalls profile pid page origin 0 ended packets told
+  pub are : AreToldCalls profile pid pages origin 0 ended packets told
   pub whole : text ≡ check_text ended (pace_of origin profile) told
 
 -- the greatest level of the coded data buffer over these packets, the first of them in slot 0 at the origin, in such a
 -- receiver; more packets may come
-pub record IsPeak (profile : Profile) (pid page origin : ℕ) (packets : List (List ℕ)) (peak : ℕ) : Type 0 where
+pub record IsPeak (profile : Profile) (pid : ℕ) (pages : Pages) (origin : ℕ) (packets : List (List ℕ))
+    (peak : ℕ) : Type 0 where
   pub calls : List Call
-  pub called : AreCallsOf profile pid page origin 0 false packets calls
+  pub called : AreCallsOf profile pid pages origin 0 false packets calls
   pub peak_is : peak ≡ greatest (pace_of origin profile) calls

@@ -5,6 +5,7 @@ use Rattle.buffer_model.specs.Calls.{Call, first_breach_of, greatest}
 use Rattle.buffer_model.specs.Meters as meters
 use Rattle.buffer_model.specs.Meters.{Meter}
 use Rattle.command_text.specs.Putting.{Buffered, PutsOut}
+use Rattle.decoder_model.specs.declared.pages.Pages.{Pages}
 use Rattle.decoder_model.specs.PacketArrivals.{PacketArrival}
 use Rattle.decoder_model.specs.Readings.{AreDeliveriesRead, Reading}
 use Rattle.decoder_model.specs.Received.{HasReceived}
@@ -35,19 +36,19 @@ pub record IsChecking (checking : Checking) : Type 0 where
 
 -- ---- what it has to do with the packets
 
--- what a receiver is made for: a profile, a PID, a page, and the tick at which lifted times begin and the first packet
--- arrives
+-- what a receiver is made for: a profile, a PID, its pages, and the tick at which lifted times begin and the first
+-- packet arrives
 pub record Purpose : Type 0 where
   pub profile : Profile
   pub pid : ℕ
-  pub page : ℕ
+  pub pages : Pages
   pub origin : ℕ
 
 -- the receiver is one for that
 pub record IsMadeFor (made : Purpose) (receiving : Receiving) : Type 0 where
   pub profile : receiving.showing.core.profile ≡ made.profile
   pub pid : receiving.demux.pid ≡ made.pid
-  pub page : receiving.showing.core.page ≡ made.page
+  pub pages : receiving.sets.pages ≡ made.pages
   pub origin : receiving.showing.core.anchor ≡ made.origin
 
 -- the receiver was fed the packets, which are of bytes, and this past was taken from it, the latest first; the meter is
@@ -70,8 +71,8 @@ pub record HasChecked (checking : Checking) (packets : List (List ℕ)) (text : 
   pub past : List (Delivery Reading)
   pub told : List ToldCall
   pub at : IsAt made false checking.receiving checking.meter packets past told text
-  pub received : HasReceived made.profile made.pid made.page false packets past
-  pub are : told ≡ told_of made.profile made.pid made.page made.origin 0 packets past
+  pub received : HasReceived made.profile made.pid made.pages false packets past
+  pub are : told ≡ told_of made.profile made.pid made.pages made.origin 0 packets past
   pub next : checking.meter.next ≤ length packets
 
 -- ---- steps

@@ -7,6 +7,7 @@ use crate::calls::{take_calls, take_ready};
 use crate::lines::{breach_line, peak_line};
 use buffer_model::Levels;
 use command_text::{TextBuffer, put};
+use decoder_model::Pages;
 use packet_source::PacketSource;
 use packet_walk::{Refused, WalkEnd};
 use receiver::Receiver;
@@ -50,26 +51,26 @@ impl Check {
     ghost use Rattle.check_text.specs.CheckText.{IsCheckText, IsPeak};
     ghost use Rattle.check_text.specs.Checking.{HasChecked, IsSameCheck};
 
-    /// A receiver of a profile with a step, for a PID and a page, whose lifted times begin at the
-    /// origin, a tick of 90 kHz. The first packet arrives then. All memory is taken here.
+    /// A receiver of a profile with a step, for a PID and these pages, whose lifted times begin at
+    /// the origin, a tick of 90 kHz. The first packet arrives then. All memory is taken here.
     pub fn make(
         alloc: Global,
         profile: &Profile,
         origin: u64,
         pid: u16,
-        page: u16,
+        pages: Pages,
     ) -> Result<Check, NoMemory>
         requires profile { IsSending profile.now }
         requires origin { origin < 2 ^ 33 }
         ensures pid { IfOk result (λ check. check.receiving.demux.pid ≡ pid) }
-        ensures page { IfOk result (λ check. check.receiving.showing.core.page ≡ page) }
+        ensures pages { IfOk result (λ check. check.receiving.sets.pages ≡ pages) }
         ensures profile { IfOk result (λ check.
             check.receiving.showing.core.profile ≡ profile.now) }
         ensures origin { IfOk result (λ check. check.receiving.showing.core.anchor ≡ origin) }
         ensures nothing { IfOk result (λ check. HasChecked check [] []) }
     {
         Ok(Check {
-            receiver: Receiver::make(alloc, profile, pid, page, origin)?,
+            receiver: Receiver::of_pages(alloc, profile, pid, pages, origin)?,
             levels: Levels::make(alloc, profile, origin)?,
         })
     }
@@ -209,7 +210,7 @@ impl Check {
     pub fn peak(&self) -> u64
         ensures { (packets : List (List ℕ)) (text : List ℕ) → HasChecked self.now packets text
             → IsPeak self.now.receiving.showing.core.profile self.now.receiving.demux.pid
-            self.now.receiving.showing.core.page self.now.receiving.showing.core.anchor packets
+            self.now.receiving.sets.pages self.now.receiving.showing.core.anchor packets
             result }
     {
         self.levels.peak()
@@ -228,7 +229,7 @@ impl Check {
             → (more : List ℕ)
             × IsCheckText self.old.receiving.showing.core.profile
             self.old.receiving.showing.core.anchor self.old.receiving.demux.pid
-            self.old.receiving.showing.core.page true packets (text ++ more)
+            self.old.receiving.sets.pages true packets (text ++ more)
             × PutsOut (K.received out.old) (K.received out.new) buffer.old buffer.new more }
     {
         self.receiver.finish();

@@ -2,6 +2,7 @@ ghost use Rattle.std.specs.Prelude.{◌≤◌, length};
 
 use super::*;
 use command_text::{TextBuffer, flush};
+use decoder_model::Pages;
 use packet_source::{PacketSource, StreamEnd};
 use packet_walk::WalkEnd;
 use std::alloc::Global;
@@ -107,7 +108,7 @@ fn told_of<R: Threads + Sync>(
     let bytes = joined(alloc, packets)?;
     let mut stream = MemSource::make(alloc, bytes, 100_000, Vec::new(alloc));
     let mut out = MemSink::make(alloc, 100_000, Vec::new(alloc));
-    let mut check = Check::make(alloc, &Profile::of(ProfileName::Sd), 0, 256, 1)?;
+    let mut check = Check::make(alloc, &Profile::of(ProfileName::Sd), 0, 256, Pages::only(1))?;
     let mut buffer = TextBuffer::make(alloc)?;
     let mut source = PacketSource::make(alloc)?;
     let end = check.walk(rt, &NoGate, &mut stream, &mut out, &mut buffer, &mut source);

@@ -9,7 +9,7 @@ use Rattle.clap.specs.Walk.{Held, Rule, Text, Walk, all_of, finished, nothing_he
 use Rattle.clap.proofs.OnLiterals.{clap_on_literals}
 use Rattle.clap.proofs.WalkLemmas.{both}
 use Rattle.command_line.specs.OneArgument.{one_argument}
-use Rattle.command_line.specs.PlainWords.{is_plain}
+use Rattle.command_words.specs.PlainWords.{is_plain}
 
 -- the command once it is built
 abbrev shape : Shape

@@ -1,2 +1,1 @@
-pub mod PlainWords
 pub mod OneArgument

@@ -3,7 +3,7 @@ ghost use Rattle.std.specs.List.{list_all};
 ghost use Rattle.clap.specs.Lexer.{usize_max};
 ghost use Rattle.clap.specs.Simple.{app_of};
 ghost use Rattle.clap.specs.Values.{kind_of};
-ghost use Rattle.command_line.specs.PlainWords.{is_plain as is_plain_word};
+ghost use Rattle.command_words.specs.PlainWords.{is_plain as is_plain_word};
 ghost use Rattle.command_line.specs.OneArgument.{one_argument, words_in};
 
 use crate::table::COMMANDS;

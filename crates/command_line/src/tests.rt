@@ -1,4 +1,5 @@
 use super::*;
+use command_words::are_plain;
 use std::alloc::Global;
 use std::test::Fail;
 use sub_base::Words;

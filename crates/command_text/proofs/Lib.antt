@@ -1,3 +1,6 @@
+pub mod CloseLaws
 pub mod PictureLaws
 pub mod PutLaws
+pub mod PutOutLaws
 pub mod SentLaws
+pub mod ToolLaws

@@ -10,4 +10,4 @@ mod told;
 pub use line::Line;
 pub use picture_text::{put_clear, put_picture};
 pub use text_buffer::{TextBuffer, flush, put};
-pub use told::tell_tool;
+pub use told::{close_tool, tell_tool};

@@ -5,13 +5,13 @@ use std::alloc::{AllocError, Global};
 use std::marker::Model;
 use sub_base::{Sink, write_whole, zeros};
 
-/// How many bytes of text are written at once, at most.
+/// How many bytes are written at once, at most.
 const ROOM: usize = 65_536;
 
-/// The most bytes of text that are put out at once.
-const LONGEST: usize = 128;
+/// The most bytes that are put out at once: a transport packet has 188, and no line has more.
+const LONGEST: usize = 188;
 
-/// Text that waits to be written. Once its sink has failed, further text is dropped: a command
+/// Text, or packets, that wait to be written. Once its sink has failed, further text is dropped: a command
 /// finishes what it has in hand, and looks for the failure then.
 #[derive(Drop)]
 pub struct TextBuffer {
@@ -52,7 +52,7 @@ impl TextBuffer {
 
     /// Whether there may be no room for more text.
     fn is_full(&self) -> bool
-        ensures { IsTrue result ↔ (65536 < length self.now.waits + 128) }
+        ensures { IsTrue result ↔ (65536 < length self.now.waits + 188) }
     {
         // The longest text has to have room, so that no text is parted.
         self.bytes.len() - self.filled < LONGEST
@@ -91,10 +91,10 @@ impl TextBuffer {
     }
 }
 
-/// Puts out a text of at most 128 bytes: it waits behind the text before it, which is written first
+/// Puts out a text of at most 188 bytes, or a packet: it waits behind the text before it, which is written first
 /// where there is no room.
 pub fn put<K: Sink>(sink: &mut K, buffer: &mut TextBuffer, text: &[u8])
-    requires { length text.now ≤ 128 }
+    requires { length text.now ≤ 188 }
     ensures { PutsOut
         (K.received sink.old)
         (K.received sink.new)

@@ -1,8 +1,10 @@
 ghost use Rattle.std.specs.Prelude.{◌≡◌, ◌≤◌, ◌++◌, length};
+ghost use Rattle.command_text.specs.Closing.{Closes};
 ghost use Rattle.sub_base.specs.ToolOutcome.{tool_text, tool_line as tool_line_of, TellsTool};
 ghost use Rattle.sub_base.specs.Which.{which_name};
 
 use crate::line::Line;
+use crate::text_buffer::{TextBuffer, flush};
 use sub_base::{FaultName, Sink, ToolStatus, Which, write_whole};
 
 /// Writes the line of a tool's status, and answers the status, or what it becomes where the line
@@ -18,6 +20,25 @@ pub fn tell_tool<F: FaultName, N: Sink>(status: ToolStatus<F>, notes: &mut N) ->
             ToolStatus::Done => ToolStatus::WriteFault(Which::Notes),
             other => other,
         },
+    }
+}
+
+/// Writes what waits, and answers the status of a tool's run, or that the output could not be written.
+pub fn close_tool<F: Copy, K: Sink>(
+    out: &mut K,
+    buffer: &mut TextBuffer,
+    run: ToolStatus<F>,
+) -> ToolStatus<F>
+    ensures { Closes
+        (K.received out.old)
+        (K.received out.new)
+        buffer.old run result }
+{
+    flush(out, buffer);
+    if buffer.has_failed() {
+        ToolStatus::WriteFault(Which::Out)
+    } else {
+        run
     }
 }
 

@@ -4,6 +4,7 @@ use Rattle.std.specs.Str.{bytes_eq}
 use Rattle.sub_base.specs.Number.{number_in}
 use Rattle.sub_base.specs.declared.profile.ProfileName.{ProfileName}
 use Rattle.sub_base.specs.declared.profile.ProfileName.TheVariants.{Sd, Hd, Wide, Large}
+use Rattle.command_words.specs.declared.place.InputPlaces.{InputPlaces}
 use Rattle.command_words.specs.declared.ranges.TheConstants.{GREATEST_PAGE, GREATEST_PID, LEAST_PID}
 
 -- the value, if there is one, and what is made of it
@@ -41,3 +42,7 @@ reading_profile word = if bytes_eq word (codes "wide") then Some Wide else sendi
 -- the word names a font, and is not that for no font
 abbrev pub names_font : List ℕ → Bool
 names_font word = not (bytes_eq word (codes "none"))
+
+-- the files of words that are no command
+abbrev pub no_places : InputPlaces
+no_places = record { first = None; second = None; out = None }

@@ -13,7 +13,7 @@ mod receivers;
 // The ticks at the end of a command.
 mod ticks;
 
-pub use place::{has_word, names_font};
+pub use place::{InputPlaces, has_word, names_font, no_files};
 pub use plain::are_plain;
 pub use ranges::{
     GREATEST_PAGE, GREATEST_PID, LATEST_TICK, LEAST_PID, MOST_BANDS, MOST_TICKS, page_in, pid_in,

@@ -25,7 +25,7 @@ pub const MOST_TICKS: usize = 1_000;
 /// The PID that a word is, 32 to 8,190.
 pub fn pid_in(word: &str) -> Option<u16>
     ensures pid { result ≡ pid_of word.now }
-    ensures range { IfSome result (λ pid. pid ≤ 8190) }
+    ensures range { IfSome result (λ pid. (32 ≤ pid) × (pid ≤ 8190)) }
 {
     Some(number_in(word.as_bytes(), LEAST_PID, GREATEST_PID)? as u16)
 }

@@ -7,6 +7,7 @@ pub mod HexLaws
 pub mod PastLaws
 pub mod ReadLaws
 pub mod RowsLaws
+pub mod RunLaws
 pub mod ScriptLaws
 pub mod SettingLaws
 pub mod SoundLaws

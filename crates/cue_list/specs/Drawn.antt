@@ -7,7 +7,7 @@ use Rattle.cue_list.specs.declared.row_values.PictureHead.{PictureHead}
 use Rattle.cue_list.specs.declared.row_kind.RowKind.{RowKind}
 use Rattle.cue_list.specs.declared.row_kind.RowKind.TheVariants as kinds
 use Rattle.cue_list.specs.Cells.{cell_at}
-use Rattle.cue_list.specs.Codes.{codes_of}
+use Rattle.cue_list.specs.PixelRuns.{picture_codes}
 use Rattle.cue_list.specs.RowValues.{head_in}
 use Rattle.cue_list.specs.Rows.{Row}
 use Rattle.cue_list.specs.Setting.{IsTextOf}
@@ -15,7 +15,7 @@ use Rattle.cue_list.specs.Setting.{IsTextOf}
 -- a picture of these sides, whose codes are those of a text
 pub record IsPictureWith (head : PictureHead) (text : List ℕ) (picture : Picture) : Type 0 where
   pub codes : List ℕ
-  pub read : codes_of head.depth text ≡ Some codes
+  pub read : picture_codes head.depth text ≡ Some codes
   pub drawn : picture ≡ picture_of head.width head.height head.depth codes
   pub whole : IsPicture picture
 

@@ -15,12 +15,14 @@ use Rattle.cue_list.specs.declared.fault.ScriptKind.{ScriptKind}
 use Rattle.cue_list.specs.declared.fault.ScriptKind.TheVariants as faults
 use Rattle.cue_list.specs.declared.row_values.PictureHead.{PictureHead}
 use Rattle.cue_list.specs.declared.row_values.PlaceRow.{PlaceRow}
+use Rattle.cue_list.specs.declared.runs.PixelRun.{PixelRun}
 use Rattle.cue_list.specs.declared.row_kind.RowKind.{RowKind}
 use Rattle.cue_list.specs.declared.row_kind.RowKind.TheVariants as kinds
 use Rattle.cue_list.specs.CellFaults.{first_of, fails, value_at, cells_fault, is_text_row}
 use Rattle.cue_list.specs.Cells.{cell_at}
 use Rattle.cue_list.specs.Codes.{hex_value}
 use Rattle.cue_list.specs.Past.{Past, area, is_close, region_with, looking_back}
+use Rattle.cue_list.specs.PixelRuns.{is_in_runs, pixel_count, runs_in}
 use Rattle.cue_list.specs.Records.{Record, cells_of}
 use Rattle.cue_list.specs.RowValues.{region_in, colour_in, head_in, placing_in}
 use Rattle.cue_list.specs.Rows.{Row}
@@ -142,6 +144,23 @@ codes_fault head characters = first_of (
     ∷ fails (list_any (is_large head.depth) characters) faults.CodeRange
     ∷ [])
 
+-- so many pixels are wanted of runs, and codes that the depth has
+abbrev pub sum_fault : Depth → ℕ → Option (List PixelRun) → Option ScriptKind
+sum_fault depth wanted None = Some faults.Number
+sum_fault depth wanted (Some runs) = first_of (
+    fails (not (pixel_count runs == wanted)) faults.Count
+    ∷ fails (list_any (λ run. nat_le (code_count depth) run.code) runs) faults.CodeRange
+    ∷ [])
+
+-- each piece of a text of runs is a run; they have as many pixels as are wanted, of codes that the depth has
+unfoldable pub runs_fault : Depth → ℕ → List ℕ → Option ScriptKind
+runs_fault depth wanted text = sum_fault depth wanted (runs_in depth text)
+
+-- codes in runs, or one by one
+unfoldable pub pixels_fault : PictureHead → List ℕ → Option ScriptKind
+pixels_fault head text =
+    if is_in_runs text then runs_fault head.depth (area head) text else codes_fault head (chars text)
+
 -- a picture's name has 1 to 64 bytes
 abbrev pub is_name : List ℕ → Bool
 is_name name = nat_le 1 (length name) && nat_le (length name) LONGEST_NAME
@@ -149,7 +168,7 @@ is_name name = nat_le 1 (length name) && nat_le (length name) LONGEST_NAME
 unfoldable pub picture_fault : Past → PictureHead → Row → Option ScriptKind
 picture_fault past head cells = first_of (
     fails (not (is_name (cell_at cells 1))) faults.Range
-    ∷ codes_fault head (chars (cell_at cells 5))
+    ∷ pixels_fault head (cell_at cells 5)
     ∷ fails (are_too_many past head) faults.TooMany
     ∷ [])
 

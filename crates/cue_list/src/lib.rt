@@ -22,6 +22,7 @@ mod row_cells;
 mod row_kind;
 mod row_values;
 mod rows;
+mod runs;
 mod texts;
 
 // What is kept of the records so far.
@@ -44,7 +45,7 @@ mod read;
 pub use epoch::{ColourRow, Cue, Epoch, Region};
 pub use fault::{ScriptFault, ScriptKind};
 pub use limits::{
-    CLOSE_TICKS, LATEST_ORIGIN, LONGEST_CUE, LONGEST_NAME, LONGEST_SCRIPT, MOST_CODES,
+    CLOSE_TICKS, LATEST_ORIGIN, LONGEST_CUE, LONGEST_NAME, LONGEST_RUN, LONGEST_SCRIPT, MOST_CODES,
     MOST_COLOURS, MOST_CUES, MOST_DIGITS, MOST_EPOCHS, MOST_HEIGHT, MOST_PICTURES, MOST_REGIONS,
     MOST_WIDTH,
 };

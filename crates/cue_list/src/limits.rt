@@ -30,13 +30,16 @@ pub const MOST_REGIONS: usize = 64;
 pub const MOST_COLOURS: u32 = 8_192;
 
 /// How many pictures with a name a script has at the most.
-pub const MOST_PICTURES: u32 = 1_024;
+pub const MOST_PICTURES: u32 = 4_096;
 
 /// How many places and cues a script has at the most.
 pub const MOST_CUES: u32 = 4_096;
 
 /// How many codes the pictures of a script have at the most, the set texts with them.
 pub const MOST_CODES: u64 = 268_435_456;
+
+/// How many pixels a run of a picture has at the most: those of the largest picture.
+pub const LONGEST_RUN: u32 = 2_073_600;
 
 /// How many bytes the name of a picture has at the most.
 pub const LONGEST_NAME: usize = 64;

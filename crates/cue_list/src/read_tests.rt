@@ -22,7 +22,7 @@ const FONT: &[u8] = b"STARTFONT 2.1\n\
 const HEAD: &str = "origin,0\ndisplay,40,30\nrefresh,5\n";
 
 /// Each script, and its first faulty record with the first test that fails.
-const WRONG: [(&str, &str, u64, ScriptKind); 65] = [
+const WRONG: [(&str, &str, u64, ScriptKind); 81] = [
     ("", "", 1, ScriptKind::Order),
     (HEAD, "", 4, ScriptKind::Order),
     ("", "display,40,30\n", 1, ScriptKind::Order),
@@ -141,6 +141,57 @@ const WRONG: [(&str, &str, u64, ScriptKind); 65] = [
     (EPOCH_HEAD, "picture,a,4,2,1,3g\n", 6, ScriptKind::Number),
     (EPOCH_HEAD, "picture,a,2,3,1,4g0\n", 6, ScriptKind::Number),
     (EPOCH_HEAD, "picture,a,2,2,1,34\n", 6, ScriptKind::CodeRange),
+    (
+        EPOCH_HEAD,
+        "picture,a,4,2,1,0*1 2*2\n",
+        6,
+        ScriptKind::Number,
+    ),
+    (EPOCH_HEAD, "picture,a,4,2,1,02*1\n", 6, ScriptKind::Number),
+    (EPOCH_HEAD, "picture,a,4,2,1,2*\n", 6, ScriptKind::Number),
+    (EPOCH_HEAD, "picture,a,8,2,1,2*1\n", 6, ScriptKind::Number),
+    (EPOCH_HEAD, "picture,a,4,2,1,2*11\n", 6, ScriptKind::Number),
+    (
+        EPOCH_HEAD,
+        "picture,a,4,2,1,1*1  1*2\n",
+        6,
+        ScriptKind::Number,
+    ),
+    (EPOCH_HEAD, "picture,a,4,2,1,2*1 \n", 6, ScriptKind::Number),
+    (EPOCH_HEAD, "picture,a,4,2,1, 2*1\n", 6, ScriptKind::Number),
+    (
+        EPOCH_HEAD,
+        "picture,a,4,4,1,2*1 11\n",
+        6,
+        ScriptKind::Number,
+    ),
+    (EPOCH_HEAD, "picture,a,4,2,1,2*1*\n", 6, ScriptKind::Number),
+    (
+        EPOCH_HEAD,
+        "picture,a,4,2,1,5*1 1*g\n",
+        6,
+        ScriptKind::Number,
+    ),
+    (
+        EPOCH_HEAD,
+        "picture,a,4,1920,1080,2073601*1\n",
+        6,
+        ScriptKind::Number,
+    ),
+    (
+        EPOCH_HEAD,
+        "picture,a,4,2,1,1*1 2*2\n",
+        6,
+        ScriptKind::Count,
+    ),
+    (EPOCH_HEAD, "picture,a,4,2,1,1*1\n", 6, ScriptKind::Count),
+    (EPOCH_HEAD, "picture,a,2,2,1,3*4\n", 6, ScriptKind::Count),
+    (
+        EPOCH_HEAD,
+        "picture,a,2,2,1,1*1 1*4\n",
+        6,
+        ScriptKind::CodeRange,
+    ),
     (
         EPOCH_HEAD,
         "place,90000,180000,1,0,0,solid,a\n",
@@ -416,6 +467,34 @@ fn a_cue_shows_the_last_picture_of_a_name_before_it(rt: HostRuntime) -> Result<(
         panic!(&rt; "three pictures were named");
     };
     assert_eq!(&rt; picture.codes(), [3, 15].as_slice());
+    Ok(())
+}
+
+/// Pictures in runs: depth, sides and runs, and the codes that they spell.
+const RUNS: [(&str, &[u8]); 4] = [
+    ("4,3,2,4*A 1*f 1*0", &[10, 10, 10, 10, 15, 0]),
+    ("8,3,2,2*07 1*fF 3*80", &[7, 7, 255, 128, 128, 128]),
+    ("2,4,1,1*3 3*0", &[3, 0, 0, 0]),
+    ("4,2,1,1*1 1*1", &[1, 1]),
+];
+
+#[test]
+fn runs_spell_codes(rt: HostRuntime) -> Result<(), Fail> {
+    let alloc = rt.alloc();
+    let font = Font::empty(alloc);
+    for (cells, codes) in &RUNS {
+        let mut text = String::from_str(alloc, HEAD)?;
+        text.push_str("picture,a,")?;
+        text.push_str(cells)?;
+        text.push_str("\nepoch,90000\n")?;
+        let Ok(script) = Script::read(alloc, text.as_bytes(), &font) else {
+            panic!(&rt; "the script {text} is right");
+        };
+        let Some(picture) = script.pictures.as_slice().first() else {
+            panic!(&rt; "a picture was named");
+        };
+        assert_eq!(&rt; picture.codes(), *codes);
+    }
     Ok(())
 }
 

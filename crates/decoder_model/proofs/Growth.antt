@@ -7,6 +7,7 @@ use Rattle.std.specs.Option.{option_map, option_or, is_some}
 use Rattle.std.proofs.lemmas.Bool.Decides.{nat_tests}
 use Rattle.std.proofs.lemmas.List.Sums.{sum_by-append}
 use Rattle.stream_syntax.specs.Units.{each_after}
+use Rattle.decoder_model.specs.declared.pages.Pages.{Pages}
 use Rattle.decoder_model.specs.Arrivals.{PesUnit, Arrival, loss, refused_unit, aside, unit, arrivals_at, packets_taken, arrivals_of}
 use Rattle.stream_syntax.specs.DataField.{Frame, segment, broken}
 use Rattle.decoder_model.specs.Frames.{segments_in, bytes_in, is_end, fault_of}
@@ -216,18 +217,18 @@ flat-append [] ys = refl
 flat-append {X} (x ∷ xs) ys = ap {B = List X} (λ rest. x ++ rest) (flat-append xs ys) ∙ sym (append_assoc x (flat_map (λ (x : List X). x) xs) (flat_map (λ (x : List X). x) ys))
 
 -- behind packets that are all taken, more packets, all taken too, only add sets and losses at the end
-pub packets_add : (coded pid page : ℕ) (packets more : List (List ℕ)) → packets_taken pid packets ≡ packets → packets_taken pid (packets ++ more) ≡ packets ++ more
-    → (added : List (Delivery (List ℕ))) × (sets_of coded pid page false (packets ++ more) ≡ sets_of coded pid page false packets ++ added)
+pub packets_add : (coded pid : ℕ) (pages : Pages) (packets more : List (List ℕ)) → packets_taken pid packets ≡ packets → packets_taken pid (packets ++ more) ≡ packets ++ more
+    → (added : List (Delivery (List ℕ))) × (sets_of coded pid pages false (packets ++ more) ≡ sets_of coded pid pages false packets ++ added)
 unfolding sets_of arrivals_of has_ended
-packets_add coded pid page packets more taken all =
-    let each = each_after-append (arrivals_at coded pid page) [] packets more in
-    let front = each_after (arrivals_at coded pid page) [] packets in
-    let behind = each_after (arrivals_at coded pid page) packets more in
+packets_add coded pid pages packets more taken all =
+    let each = each_after-append (arrivals_at coded pid pages) [] packets more in
+    let front = each_after (arrivals_at coded pid pages) [] packets in
+    let behind = each_after (arrivals_at coded pid pages) packets more in
     let grown = arrivals_add coded (flat_map (λ (arrivals : List Arrival). arrivals) front) (flat_map (λ (arrivals : List Arrival). arrivals) behind) in (
       grown.0,
-      ap (λ found. sets_in coded false (runs_of (flat_map (λ (arrivals : List Arrival). arrivals) (each_after (arrivals_at coded pid page) [] found)))) all
+      ap (λ found. sets_in coded false (runs_of (flat_map (λ (arrivals : List Arrival). arrivals) (each_after (arrivals_at coded pid pages) [] found)))) all
           ∙ ap (λ found. sets_in coded false (runs_of (flat_map (λ (arrivals : List Arrival). arrivals) found))) each
           ∙ ap (λ found. sets_in coded false (runs_of found)) (flat-append front behind)
           ∙ grown.1
-          ∙ ap (λ found. sets_in coded false (runs_of (flat_map (λ (arrivals : List Arrival). arrivals) (each_after (arrivals_at coded pid page) [] found))) ++ grown.0) (sym taken),
+          ∙ ap (λ found. sets_in coded false (runs_of (flat_map (λ (arrivals : List Arrival). arrivals) (each_after (arrivals_at coded pid pages) [] found))) ++ grown.0) (sym taken),
     )

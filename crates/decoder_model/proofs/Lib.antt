@@ -12,6 +12,7 @@ pub mod Planes
 pub mod Views
 pub mod SoleCue
 pub mod SoleCueView
+pub mod ServicePages
 pub mod FieldFrames
 pub mod SentSets
 pub mod SentUnits

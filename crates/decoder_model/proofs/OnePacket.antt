@@ -5,6 +5,7 @@ use Rattle.std.specs.Prelude.{find, flat_map}
 use Rattle.std.specs.Bool.{if◌then◌else◌}
 use Rattle.std.specs.List.{AllByRecursion}
 use Rattle.stream_syntax.specs.Units.{each_after, event_at, unit_at, is_loss}
+use Rattle.decoder_model.specs.declared.pages.Pages.{Pages}
 use Rattle.decoder_model.specs.Arrivals.{PesUnit, Arrival, loss, refused_unit, aside, unit, arrival_of_unit, units_at, arrivals_at, packets_taken, arrivals_of}
 use Rattle.stream_syntax.specs.DataField.{Frame}
 use Rattle.sub_base.specs.Lists.{prefixes}
@@ -252,27 +253,27 @@ behind_a_loss some middle all is come = record {
 nothing_comes : (some : List (Delivery (List ℕ))) → ComeWith some some
 nothing_comes some = record { losses = []; sets = []; are = sym (append-nil some); each = tt; few = few_none 2 }
 
-few_arrivals : (coded page place : ℕ) (arrivals : List Arrival) (lossy : Bool) (ended : Option (List ℕ))
-    → ComeWith (handed_by coded arrivals) (handed_by coded (arrivals ++ ((if lossy then loss ∷ [] else []) ++ units_at page place ended)))
-few_arrivals coded page place arrivals false None = subst (λ (all : List Arrival). ComeWith (handed_by coded arrivals) (handed_by coded all)) (sym (append-nil arrivals)) (nothing_comes (handed_by coded arrivals))
-few_arrivals coded page place arrivals false (Some bytes) = one_arrival coded arrivals (arrival_of_unit page place bytes)
-few_arrivals coded page place arrivals true None = one_arrival coded arrivals loss
-few_arrivals coded page place arrivals true (Some bytes) =
-    subst (λ (all : List Arrival). ComeWith (handed_by coded arrivals) (handed_by coded all)) (append_assoc arrivals (loss ∷ []) (arrival_of_unit page place bytes ∷ []))
-    (behind_a_loss (handed_by coded arrivals) (handed_by coded (arrivals ++ loss ∷ [])) (handed_by coded ((arrivals ++ loss ∷ []) ++ arrival_of_unit page place bytes ∷ []))
-    (ap (sets_in coded false) (runs_loss arrivals loss tt) ∙ loss_adds coded (runs_of arrivals)) (one_arrival coded (arrivals ++ loss ∷ []) (arrival_of_unit page place bytes)))
+few_arrivals : (coded : ℕ) (pages : Pages) (place : ℕ) (arrivals : List Arrival) (lossy : Bool) (ended : Option (List ℕ))
+    → ComeWith (handed_by coded arrivals) (handed_by coded (arrivals ++ ((if lossy then loss ∷ [] else []) ++ units_at pages place ended)))
+few_arrivals coded pages place arrivals false None = subst (λ (all : List Arrival). ComeWith (handed_by coded arrivals) (handed_by coded all)) (sym (append-nil arrivals)) (nothing_comes (handed_by coded arrivals))
+few_arrivals coded pages place arrivals false (Some bytes) = one_arrival coded arrivals (arrival_of_unit pages place bytes)
+few_arrivals coded pages place arrivals true None = one_arrival coded arrivals loss
+few_arrivals coded pages place arrivals true (Some bytes) =
+    subst (λ (all : List Arrival). ComeWith (handed_by coded arrivals) (handed_by coded all)) (append_assoc arrivals (loss ∷ []) (arrival_of_unit pages place bytes ∷ []))
+    (behind_a_loss (handed_by coded arrivals) (handed_by coded (arrivals ++ loss ∷ [])) (handed_by coded ((arrivals ++ loss ∷ []) ++ arrival_of_unit pages place bytes ∷ []))
+    (ap (sets_in coded false) (runs_loss arrivals loss tt) ∙ loss_adds coded (runs_of arrivals)) (one_arrival coded (arrivals ++ loss ∷ []) (arrival_of_unit pages place bytes)))
 
 -- behind packets that are all taken comes with one more: losses, and then at most two sets
-pub come_with_a_packet : (coded pid page : ℕ) (packets : List (List ℕ)) (packet : List ℕ) → packets_taken pid packets ≡ packets → packets_taken pid (packets ++ packet ∷ []) ≡ packets ++ packet ∷ []
-    → ComeWith (sets_of coded pid page false packets) (sets_of coded pid page false (packets ++ packet ∷ []))
+pub come_with_a_packet : (coded pid : ℕ) (pages : Pages) (packets : List (List ℕ)) (packet : List ℕ) → packets_taken pid packets ≡ packets → packets_taken pid (packets ++ packet ∷ []) ≡ packets ++ packet ∷ []
+    → ComeWith (sets_of coded pid pages false packets) (sets_of coded pid pages false (packets ++ packet ∷ []))
 unfolding sets_of arrivals_of has_ended
-come_with_a_packet coded pid page packets packet taken all =
-    let arrivals = flat_map (λ (arrivals : List Arrival). arrivals) (each_after (arrivals_at coded pid page) [] packets) in
-    let here = arrivals_at coded pid page packets packet in
-    let split : flat_map (λ (arrivals : List Arrival). arrivals) (each_after (arrivals_at coded pid page) [] (packets ++ packet ∷ [])) ≡ arrivals ++ here =
-    ap (flat_map (λ (arrivals : List Arrival). arrivals)) (each_after-append (arrivals_at coded pid page) [] packets (packet ∷ []))
-    ∙ flat-append (each_after (arrivals_at coded pid page) [] packets) (here ∷ []) ∙ ap (λ last. arrivals ++ last) (append-nil here) in
-    subst (λ (found : List (List ℕ)). ComeWith (handed_by coded (flat_map (λ (arrivals : List Arrival). arrivals) (each_after (arrivals_at coded pid page) [] found))) (handed_by coded (flat_map (λ (arrivals : List Arrival). arrivals) (each_after (arrivals_at coded pid page) [] (packets_taken pid (packets ++ packet ∷ [])))))) (sym taken)
-    (subst (λ (found : List (List ℕ)). ComeWith (handed_by coded arrivals) (handed_by coded (flat_map (λ (arrivals : List Arrival). arrivals) (each_after (arrivals_at coded pid page) [] found)))) (sym all)
+come_with_a_packet coded pid pages packets packet taken all =
+    let arrivals = flat_map (λ (arrivals : List Arrival). arrivals) (each_after (arrivals_at coded pid pages) [] packets) in
+    let here = arrivals_at coded pid pages packets packet in
+    let split : flat_map (λ (arrivals : List Arrival). arrivals) (each_after (arrivals_at coded pid pages) [] (packets ++ packet ∷ [])) ≡ arrivals ++ here =
+    ap (flat_map (λ (arrivals : List Arrival). arrivals)) (each_after-append (arrivals_at coded pid pages) [] packets (packet ∷ []))
+    ∙ flat-append (each_after (arrivals_at coded pid pages) [] packets) (here ∷ []) ∙ ap (λ last. arrivals ++ last) (append-nil here) in
+    subst (λ (found : List (List ℕ)). ComeWith (handed_by coded (flat_map (λ (arrivals : List Arrival). arrivals) (each_after (arrivals_at coded pid pages) [] found))) (handed_by coded (flat_map (λ (arrivals : List Arrival). arrivals) (each_after (arrivals_at coded pid pages) [] (packets_taken pid (packets ++ packet ∷ [])))))) (sym taken)
+    (subst (λ (found : List (List ℕ)). ComeWith (handed_by coded arrivals) (handed_by coded (flat_map (λ (arrivals : List Arrival). arrivals) (each_after (arrivals_at coded pid pages) [] found)))) (sym all)
     (subst (λ (found : List Arrival). ComeWith (handed_by coded arrivals) (handed_by coded found)) (sym split)
-    (few_arrivals coded page (length packets) arrivals (is_loss (event_at pid coded packets packet)) (unit_at pid coded packets packet))))
+    (few_arrivals coded pages (length packets) arrivals (is_loss (event_at pid coded packets packet)) (unit_at pid coded packets packet))))

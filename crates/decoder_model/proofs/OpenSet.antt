@@ -4,6 +4,7 @@ use Rattle.std.specs.Prelude.{◌≡◌, ℕ, true, false, List, [], ◌∷◌, 
 use Rattle.stream_syntax.specs.Units.{last_counter, part_after, parts_of, fate_of, stays_in_hand, hand_after, event_after}
 use Rattle.decoder_model.specs.Arrivals.{arrivals_of}
 use Rattle.stream_syntax.specs.DataField.{frames_of}
+use Rattle.decoder_model.specs.Frames.{only}
 use Rattle.decoder_model.specs.Sets.{whole, has_ended, sets_of}
 
 -- an empty page of time-out 10, at 90000
@@ -15,16 +16,16 @@ open_page : List ℕ
 open_page = 0x0F ∷ 0x10 ∷ 0x00 ∷ 0x01 ∷ 0x00 ∷ 0x02 ∷ 0x0A ∷ 0x08 ∷ []
 
 -- the stream ends behind it
-taken_at_the_end : sets_of 24576 256 1 true (open_packet ∷ []) ≡ whole 90000 25 (open_page ∷ []) ∷ []
+taken_at_the_end : sets_of 24576 256 (only 1) true (open_packet ∷ []) ≡ whole 90000 25 (open_page ∷ []) ∷ []
 unfolding open_packet open_page sets_of has_ended arrivals_of frames_of last_counter part_after parts_of fate_of stays_in_hand hand_after event_after
 taken_at_the_end = refl
 
 -- more may come
-still_open : sets_of 24576 256 1 false (open_packet ∷ []) ≡ []
+still_open : sets_of 24576 256 (only 1) false (open_packet ∷ []) ≡ []
 unfolding open_packet sets_of has_ended arrivals_of frames_of last_counter part_after parts_of fate_of stays_in_hand hand_after event_after
 still_open = refl
 
 -- a packet without the sync byte follows
-not_behind_a_refused_packet : sets_of 24576 256 1 true (open_packet ∷ (0x48 ∷ []) ∷ []) ≡ []
+not_behind_a_refused_packet : sets_of 24576 256 (only 1) true (open_packet ∷ (0x48 ∷ []) ∷ []) ≡ []
 unfolding open_packet sets_of has_ended arrivals_of frames_of last_counter part_after parts_of fate_of stays_in_hand hand_after event_after
 not_behind_a_refused_packet = refl

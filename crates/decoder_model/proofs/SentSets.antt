@@ -12,6 +12,7 @@ use Rattle.stream_syntax.specs.Pes.{pes_of}
 use Rattle.stream_syntax.specs.Tests.{byte_at}
 use Rattle.stream_syntax.specs.Cutting.{units_behind, events_behind}
 use Rattle.stream_syntax.specs.Units.{each_after, unit_at, is_loss}
+use Rattle.decoder_model.specs.declared.pages.Pages.{Pages}
 use Rattle.decoder_model.specs.Arrivals.{PesUnit, Arrival, loss, unit, unit_with, unit_from, arrival_of_unit, units_at, arrivals_at, packets_taken, arrivals_of}
 use Rattle.stream_syntax.specs.DataField.{Frame, segment}
 use Rattle.decoder_model.specs.Frames.{counts_for, segments_in, bytes_in, is_end, fault_of}
@@ -58,51 +59,51 @@ size_of_units units = sum_by (λ (one : SetUnit). one.size) units
 abbrev pub all_segments : TimedSet → List (List ℕ)
 all_segments set = segments_of_units set.units
 
--- a segment of a page that is no end segment
-pub record IsBefore (page : ℕ) (bytes : List ℕ) : Type 0 where
-  pub headed : IsHeaded page bytes
+-- a segment of these pages that is no end segment
+pub record IsBefore (pages : Pages) (bytes : List ℕ) : Type 0 where
+  pub headed : IsHeaded pages bytes
   pub no_end : eqb (byte_at 1 bytes) 0x80 ≡ false
 
--- segments of a page, of which the last is an end segment, and no other one
-pub record DoEnd (page : ℕ) (segments : List (List ℕ)) : Type 0 where
+-- segments of these pages, of which the last is an end segment, and no other one
+pub record DoEnd (pages : Pages) (segments : List (List ℕ)) : Type 0 where
   pub front : List (List ℕ)
   pub end : List ℕ
   pub are : segments ≡ front ++ end ∷ []
-  pub each : AllByRecursion (IsBefore page) front
-  pub end_headed : IsHeaded page end
+  pub each : AllByRecursion (IsBefore pages) front
+  pub end_headed : IsHeaded pages end
   pub is_end : eqb (byte_at 1 end) 0x80 ≡ true
 
 -- the units of a set: the last one ends with the set's end segment, and each before it has segments
-abbrev pub AreSetUnits : ℕ → List SetUnit → Type 0
-AreSetUnits page [] = ⊥
-AreSetUnits page (one ∷ []) = DoEnd page one.segments
-AreSetUnits page (one ∷ next ∷ units) = (1 ≤ length one.segments) × AllByRecursion (IsBefore page) one.segments × AreSetUnits page (next ∷ units)
+abbrev pub AreSetUnits : Pages → List SetUnit → Type 0
+AreSetUnits pages [] = ⊥
+AreSetUnits pages (one ∷ []) = DoEnd pages one.segments
+AreSetUnits pages (one ∷ next ∷ units) = (1 ≤ length one.segments) × AllByRecursion (IsBefore pages) one.segments × AreSetUnits pages (next ∷ units)
 
 -- a set that a coded data buffer of so many bytes can hold
-pub record IsTimedSet (coded page : ℕ) (set : TimedSet) : Type 0 where
-  pub units : AreSetUnits page set.units
+pub record IsTimedSet (coded : ℕ) (pages : Pages) (set : TimedSet) : Type 0 where
+  pub units : AreSetUnits pages set.units
   pub fits : sum_by length (all_segments set) ≤ coded
 
--- the unit is a PES packet of segments of a page
-pub record IsUnitOf (page : ℕ) (bytes : List ℕ) (one : TimedUnit) : Type 0 where
-  pub each : AllByRecursion (IsHeaded page) one.unit.segments
+-- the unit is a PES packet of segments of these pages
+pub record IsUnitOf (pages : Pages) (bytes : List ℕ) (one : TimedUnit) : Type 0 where
+  pub each : AllByRecursion (IsHeaded pages) one.unit.segments
   pub some : 1 ≤ length one.unit.segments
   pub size : length bytes ≡ one.unit.size
   pub packet : pes_of bytes ≡ Ok (one.time, concat one.unit.segments ++ 0xFF ∷ [])
 
 -- these units, one after another, are those of the sets
-pub record AreUnitsOf (coded page : ℕ) (units : List (List ℕ)) (sets : List TimedSet) : Type 0 where
-  pub each : AllZip (IsUnitOf page) units (timed_units sets)
-  pub whole : AllByRecursion (IsTimedSet coded page) sets
+pub record AreUnitsOf (coded : ℕ) (pages : Pages) (units : List (List ℕ)) (sets : List TimedSet) : Type 0 where
+  pub each : AllZip (IsUnitOf pages) units (timed_units sets)
+  pub whole : AllByRecursion (IsTimedSet coded pages) sets
 
 -- ---- a unit
 
--- all of its segments count for the page
-all_count : (page : ℕ) (segments : List (List ℕ)) → AllByRecursion (IsHeaded page) segments → filter (counts_for page) (map segment segments) ≡ map segment segments
-all_count page [] h = refl
-all_count page (bytes ∷ segments) h =
-    ap (λ counts. cond counts (segment bytes ∷ filter (counts_for page) (map segment segments)) (filter (counts_for page) (map segment segments))) h.0.of_page
-    ∙ ap (λ frames. segment bytes ∷ frames) (all_count page segments h.1)
+-- all of its segments count for the pages
+all_count : (pages : Pages) (segments : List (List ℕ)) → AllByRecursion (IsHeaded pages) segments → filter (counts_for pages) (map segment segments) ≡ map segment segments
+all_count pages [] h = refl
+all_count pages (bytes ∷ segments) h =
+    ap (λ counts. cond counts (segment bytes ∷ filter (counts_for pages) (map segment segments)) (filter (counts_for pages) (map segment segments))) h.0.of_pages
+    ∙ ap (λ frames. segment bytes ∷ frames) (all_count pages segments h.1)
 
 -- a unit that ends with the packet of that place
 abbrev pub unit_of : ℕ → ℕ → SetUnit → PesUnit
@@ -114,12 +115,12 @@ some_frames place size time [] some = absurd (omega arith)
 some_frames place size time (bytes ∷ segments) some = refl
 
 -- the unit arrives with its segments
-pub arrives : (page place : ℕ) (bytes : List ℕ) (one : TimedUnit) → IsUnitOf page bytes one → arrival_of_unit page place bytes ≡ unit (unit_of place one.time one.unit)
-arrives page place bytes one h =
+pub arrives : (pages : Pages) (place : ℕ) (bytes : List ℕ) (one : TimedUnit) → IsUnitOf pages bytes one → arrival_of_unit pages place bytes ≡ unit (unit_of place one.time one.unit)
+arrives pages place bytes one h =
     let segments = one.unit.segments in
-    ap (unit_from page place (length bytes)) h.packet
-    ∙ ap (λ frames. unit_with place (length bytes) one.time (filter (counts_for page) frames)) (frames_of_field page segments [] h.each)
-    ∙ ap (unit_with place (length bytes) one.time) (all_count page segments h.each)
+    ap (unit_from pages place (length bytes)) h.packet
+    ∙ ap (λ frames. unit_with place (length bytes) one.time (filter (counts_for pages) frames)) (frames_of_field pages segments [] h.each)
+    ∙ ap (unit_with place (length bytes) one.time) (all_count pages segments h.each)
     ∙ some_frames place (length bytes) one.time segments h.some
     ∙ ap (λ size. unit (record { place = place; size = size; time = one.time; frames = map segment segments })) h.size
 
@@ -256,14 +257,14 @@ no_first_fault : (segments : List (List ℕ)) → first_fault_in (map segment se
 no_first_fault [] = refl
 no_first_fault (bytes ∷ segments) = no_first_fault segments
 
-pub no_end_among : (page : ℕ) (segments : List (List ℕ)) → AllByRecursion (IsBefore page) segments → list_any is_end (map segment segments) ≡ false
-no_end_among page [] h = refl
-no_end_among page (bytes ∷ segments) h = ap (λ end. end || list_any is_end (map segment segments)) h.0.no_end ∙ no_end_among page segments h.1
+pub no_end_among : (pages : Pages) (segments : List (List ℕ)) → AllByRecursion (IsBefore pages) segments → list_any is_end (map segment segments) ≡ false
+no_end_among pages [] h = refl
+no_end_among pages (bytes ∷ segments) h = ap (λ end. end || list_any is_end (map segment segments)) h.0.no_end ∙ no_end_among pages segments h.1
 
-no_end_in : (page : ℕ) (segments : List (List ℕ)) (k : ℕ) → AllByRecursion (IsBefore page) segments → list_any is_end (take k (map segment segments)) ≡ false
-no_end_in page segments zero h = refl
-no_end_in page [] (suc k) h = refl
-no_end_in page (bytes ∷ segments) (suc k) h = ap (λ end. end || list_any is_end (take k (map segment segments))) h.0.no_end ∙ no_end_in page segments k h.1
+no_end_in : (pages : Pages) (segments : List (List ℕ)) (k : ℕ) → AllByRecursion (IsBefore pages) segments → list_any is_end (take k (map segment segments)) ≡ false
+no_end_in pages segments zero h = refl
+no_end_in pages [] (suc k) h = refl
+no_end_in pages (bytes ∷ segments) (suc k) h = ap (λ end. end || list_any is_end (take k (map segment segments))) h.0.no_end ∙ no_end_in pages segments k h.1
 
 end_in : (segments : List (List ℕ)) (end : List ℕ) → eqb (byte_at 1 end) 0x80 ≡ true → list_any is_end (map segment segments ++ segment end ∷ []) ≡ true
 end_in [] end e = ap (λ ends. ends || false) e
@@ -280,10 +281,10 @@ not_ended coded segments e small =
     let room : ltb coded (bytes_in (map segment segments)) ≡ false = rw bytes (grind (arith, nat_tests)) in
     rw (e, no_fault segments, room) refl
 
-pub front_not_ended : (coded page : ℕ) (segments : List (List ℕ)) (k : ℕ) → AllByRecursion (IsBefore page) segments → sum_by length segments ≤ coded → is_ended coded (take k (map segment segments)) ≡ false
-front_not_ended coded page segments k h small =
+pub front_not_ended : (coded : ℕ) (pages : Pages) (segments : List (List ℕ)) (k : ℕ) → AllByRecursion (IsBefore pages) segments → sum_by length segments ≤ coded → is_ended coded (take k (map segment segments)) ≡ false
+front_not_ended coded pages segments k h small =
     ap (is_ended coded) (take-map segment k segments)
-    ∙ not_ended coded (take k segments) (ap (list_any is_end) (sym (take-map segment k segments)) ∙ no_end_in page segments k h) (omega (arith, sum_by-take-le length segments k))
+    ∙ not_ended coded (take k segments) (ap (list_any is_end) (sym (take-map segment k segments)) ∙ no_end_in pages segments k h) (omega (arith, sum_by-take-le length segments k))
 
 pub whole_ended : (coded : ℕ) (segments : List (List ℕ)) (end : List ℕ) → eqb (byte_at 1 end) 0x80 ≡ true → is_ended coded (map segment segments ++ segment end ∷ []) ≡ true
 whole_ended coded segments end e = ap (λ ends. ends || list_any (λ frame. is_some (fault_of frame)) (map segment segments ++ segment end ∷ []) || ltb coded (bytes_in (map segment segments ++ segment end ∷ []))) (end_in segments end e)
@@ -291,27 +292,27 @@ whole_ended coded segments end e = ap (λ ends. ends || list_any (λ frame. is_s
 -- ---- the units of a set
 
 -- of a set, the segments before its end
-pub set_ends : (page : ℕ) (units : List SetUnit) → AreSetUnits page units → DoEnd page (segments_of_units units)
-set_ends page [] h = absurd h
-set_ends page (one ∷ []) h = record { front = h.front; end = h.end; are = append-nil one.segments ∙ h.are; each = h.each; end_headed = h.end_headed; is_end = h.is_end }
-set_ends page (one ∷ next ∷ units) h =
-    let more = set_ends page (next ∷ units) h.2 in
+pub set_ends : (pages : Pages) (units : List SetUnit) → AreSetUnits pages units → DoEnd pages (segments_of_units units)
+set_ends pages [] h = absurd h
+set_ends pages (one ∷ []) h = record { front = h.front; end = h.end; are = append-nil one.segments ∙ h.are; each = h.each; end_headed = h.end_headed; is_end = h.is_end }
+set_ends pages (one ∷ next ∷ units) h =
+    let more = set_ends pages (next ∷ units) h.2 in
     record {
       front = one.segments ++ more.front;
       end = more.end;
       are = ap (λ rest. one.segments ++ rest) more.are ∙ sym (append_assoc one.segments more.front (more.end ∷ []));
-      each = all-append (IsBefore page) one.segments more.front h.1 more.each;
+      each = all-append (IsBefore pages) one.segments more.front h.1 more.each;
       end_headed = more.end_headed;
       is_end = more.is_end;
     }
 
 -- before its last unit no segment ends a set
-pub none_ends : (page : ℕ) (units : List SetUnit) (k : ℕ) → AreSetUnits page units → k < length units → AllByRecursion (IsBefore page) (segments_of_units (take k units))
-none_ends page [] k h inside = absurd h
-none_ends page (one ∷ units) zero h inside = tt
-none_ends page (one ∷ []) (suc k) h inside = absurd (omega arith)
-none_ends page (one ∷ next ∷ units) (suc k) h inside =
-    all-append (IsBefore page) one.segments (segments_of_units (take k (next ∷ units))) h.1 (none_ends page (next ∷ units) k h.2 (omega arith))
+pub none_ends : (pages : Pages) (units : List SetUnit) (k : ℕ) → AreSetUnits pages units → k < length units → AllByRecursion (IsBefore pages) (segments_of_units (take k units))
+none_ends pages [] k h inside = absurd h
+none_ends pages (one ∷ units) zero h inside = tt
+none_ends pages (one ∷ []) (suc k) h inside = absurd (omega arith)
+none_ends pages (one ∷ next ∷ units) (suc k) h inside =
+    all-append (IsBefore pages) one.segments (segments_of_units (take k (next ∷ units))) h.1 (none_ends pages (next ∷ units) k h.2 (omega arith))
 
 pub front_bytes : (units : List SetUnit) (k : ℕ) → sum_by length (segments_of_units (take k units)) ≤ sum_by length (segments_of_units units)
 front_bytes units zero = omega arith
@@ -350,25 +351,25 @@ run_length time (first ∷ found) [] h = absurd h
 run_length time (first ∷ found) (one ∷ units) h = ap suc (run_length time found units h.1)
 
 -- the first ended front of the set is all of it
-set_front : (coded page : ℕ) (set : TimedSet) → IsTimedSet coded page set → find (is_ended coded) (prefixes (map segment (all_segments set))) ≡ Some (map segment (all_segments set))
-set_front coded page set h =
-    let ends = set_ends page set.units h.units in
+set_front : (coded : ℕ) (pages : Pages) (set : TimedSet) → IsTimedSet coded pages set → find (is_ended coded) (prefixes (map segment (all_segments set))) ≡ Some (map segment (all_segments set))
+set_front coded pages set h =
+    let ends = set_ends pages set.units h.units in
     let fits = h.fits in
     let before : sum_by length ends.front ≤ coded = omega (arith, ap (sum_by length) ends.are, sum_by-append length ends.front (ends.end ∷ [])) in
     subst (λ (frames : List Frame). find (is_ended coded) (prefixes frames) ≡ Some frames) (sym (ap (map segment) ends.are ∙ map-append segment ends.front (ends.end ∷ [])))
-    (whole_front (is_ended coded) (map segment ends.front) (segment ends.end) (λ k inside. front_not_ended coded page ends.front (suc k) ends.each before) (whole_ended coded ends.front ends.end ends.is_end))
+    (whole_front (is_ended coded) (map segment ends.front) (segment ends.end) (λ k inside. front_not_ended coded pages ends.front (suc k) ends.each before) (whole_ended coded ends.front ends.end ends.is_end))
 
 -- the set ends with its last unit
-all_to_end : (coded page : ℕ) (set : TimedSet) (found : List PesUnit) → IsTimedSet coded page set → AllZip (IsPlaced set.time) found set.units → units_to_end coded found ≡ found
-all_to_end coded page set found h are = only_whole (λ front. is_ended coded (frames_in front)) found not_yet
+all_to_end : (coded : ℕ) (pages : Pages) (set : TimedSet) (found : List PesUnit) → IsTimedSet coded pages set → AllZip (IsPlaced set.time) found set.units → units_to_end coded found ≡ found
+all_to_end coded pages set found h are = only_whole (λ front. is_ended coded (frames_in front)) found not_yet
   where
     not_yet : (k : ℕ) → suc k < length found → is_ended coded (frames_in (take (suc k) found)) ≡ false
     not_yet k inside =
         let fits = h.fits in
         let front = segments_of_units (take (suc k) set.units) in
-        let none = none_ends page set.units (suc k) h.units (omega (arith, run_length set.time found set.units are)) in
+        let none = none_ends pages set.units (suc k) h.units (omega (arith, run_length set.time found set.units are)) in
         ap (is_ended coded) (run_frames set.time (take (suc k) found) (take (suc k) set.units) (run_front set.time found set.units (suc k) are))
-        ∙ not_ended coded front (no_end_among page front none) (omega (arith, front_bytes set.units (suc k)))
+        ∙ not_ended coded front (no_end_among pages front none) (omega (arith, front_bytes set.units (suc k)))
 
 -- ---- sets
 
@@ -376,16 +377,16 @@ all_to_end coded page set found h are = only_whole (λ front. is_ended coded (fr
 abbrev pub delivered : TimedSet → Delivery (List ℕ)
 delivered set = whole set.time (size_of_units set.units) (all_segments set)
 
-pub handed_whole : (coded page : ℕ) (set : TimedSet) (first : PesUnit) (more : List PesUnit) (followed : Bool) → IsTimedSet coded page set → AllZip (IsPlaced set.time) (first ∷ more) set.units
+pub handed_whole : (coded : ℕ) (pages : Pages) (set : TimedSet) (first : PesUnit) (more : List PesUnit) (followed : Bool) → IsTimedSet coded pages set → AllZip (IsPlaced set.time) (first ∷ more) set.units
     → set_of coded first.time (first ∷ more) followed (find (is_ended coded) (prefixes (frames_in (first ∷ more)))) ≡ delivered set ∷ []
-handed_whole coded page set first more followed h are =
+handed_whole coded pages set first more followed h are =
     let fits = h.fits in
     let segments = all_segments set in
     let bytes_are : bytes_in (map segment segments) ≡ sum_by length segments = ap (sum_by length) (segments_are segments) in
     let room : ltb coded (bytes_in (map segment segments)) ≡ false = rw bytes_are (grind (arith, nat_tests)) in
-    let size : size_in (units_to_end coded (first ∷ more)) ≡ size_of_units set.units = ap size_in (all_to_end coded page set (first ∷ more) h are) ∙ run_size set.time (first ∷ more) set.units are in
+    let size : size_in (units_to_end coded (first ∷ more)) ≡ size_of_units set.units = ap size_in (all_to_end coded pages set (first ∷ more) h are) ∙ run_size set.time (first ∷ more) set.units are in
     ap (λ frames. set_of coded first.time (first ∷ more) followed (find (is_ended coded) (prefixes frames))) (run_frames set.time (first ∷ more) set.units are)
-    ∙ ap (set_of coded first.time (first ∷ more) followed) (set_front coded page set h)
+    ∙ ap (set_of coded first.time (first ∷ more) followed) (set_front coded pages set h)
     ∙ ap (λ time. handed time (size_in (units_to_end coded (first ∷ more))) (map segment segments) (option_or (first_fault_in (map segment segments)) (excess_in coded (map segment segments))) ∷ []) (first_time set.time first more set.units are)
     ∙ ap (λ size. handed set.time size (map segment segments) (option_or (first_fault_in (map segment segments)) (excess_in coded (map segment segments))) ∷ []) size
     ∙ ap (λ fault. handed set.time (size_of_units set.units) (map segment segments) (option_or fault (excess_in coded (map segment segments))) ∷ []) (no_first_fault segments)
@@ -393,11 +394,11 @@ handed_whole coded page set first more followed h are =
     ∙ ap (λ found. whole set.time (size_of_units set.units) found ∷ []) (segments_are segments)
 
 -- the sets of these runs are all of them, whole, in order
-pub all_handed : (coded page : ℕ) (ended : Bool) (stretches : List Stretch) (sets : List TimedSet) → AllByRecursion (IsTimedSet coded page) sets → AreOwnRuns stretches sets → sets_in coded ended stretches ≡ map delivered sets
-all_handed coded page ended stretches sets h (no_run) = refl
-all_handed coded page ended stretches sets h (own_run {first = first} {more = more} {rest = rest} {set = set} {sets = further} are all) =
-    ap (λ front. front ++ sets_in coded ended rest) (handed_whole coded page set first more (is_followed ended rest) h.0 are)
-    ∙ ap (λ others. delivered set ∷ others) (all_handed coded page ended rest further h.1 all)
+pub all_handed : (coded : ℕ) (pages : Pages) (ended : Bool) (stretches : List Stretch) (sets : List TimedSet) → AllByRecursion (IsTimedSet coded pages) sets → AreOwnRuns stretches sets → sets_in coded ended stretches ≡ map delivered sets
+all_handed coded pages ended stretches sets h (no_run) = refl
+all_handed coded pages ended stretches sets h (own_run {first = first} {more = more} {rest = rest} {set = set} {sets = further} are all) =
+    ap (λ front. front ++ sets_in coded ended rest) (handed_whole coded pages set first more (is_followed ended rest) h.0 are)
+    ∙ ap (λ others. delivered set ∷ others) (all_handed coded pages ended rest further h.1 all)
 
 -- ---- packets
 
@@ -408,41 +409,41 @@ pub record ComeWhole (pid size : ℕ) (packets units : List (List ℕ)) : Type 0
   pub units_are : filter_map (λ found. found) (units_behind pid size [] packets) ≡ units
 
 -- what arrives with a packet without a loss that ends a unit or none, and with those behind it
-one_packet : (page place : ℕ) (found : Option (List ℕ)) (units : List (List ℕ)) (arrivals : List Arrival) (all : List TimedUnit)
-    → ((more : List TimedUnit) → AllZip (IsUnitOf page) units more → AllZip IsArrivalOf arrivals more)
-    → AllZip (IsUnitOf page) (cons_option found units) all → AllZip IsArrivalOf (units_at page place found ++ arrivals) all
-one_packet page place None units arrivals all behind are = behind all are
-one_packet page place (Some bytes) units arrivals [] behind are = absurd are
-one_packet page place (Some bytes) units arrivals (one ∷ more) behind are = ((place, arrives page place bytes one are.0), behind more are.1)
+one_packet : (pages : Pages) (place : ℕ) (found : Option (List ℕ)) (units : List (List ℕ)) (arrivals : List Arrival) (all : List TimedUnit)
+    → ((more : List TimedUnit) → AllZip (IsUnitOf pages) units more → AllZip IsArrivalOf arrivals more)
+    → AllZip (IsUnitOf pages) (cons_option found units) all → AllZip IsArrivalOf (units_at pages place found ++ arrivals) all
+one_packet pages place None units arrivals all behind are = behind all are
+one_packet pages place (Some bytes) units arrivals [] behind are = absurd are
+one_packet pages place (Some bytes) units arrivals (one ∷ more) behind are = ((place, arrives pages place bytes one are.0), behind more are.1)
 
 -- what arrives with packets behind others
-pub all_arrive : (pid size page : ℕ) (before packets : List (List ℕ)) → AllByRecursion (λ event. is_loss event ≡ false) (events_behind pid size before packets)
-    → (all : List TimedUnit) → AllZip (IsUnitOf page) (filter_map (λ found. found) (units_behind pid size before packets)) all
-    → AllZip IsArrivalOf (flat_map (λ (arrivals : List Arrival). arrivals) (each_after (arrivals_at size pid page) before packets)) all
-all_arrive pid size page before [] h [] are = tt
-all_arrive pid size page before [] h (one ∷ all) are = absurd are
-all_arrive pid size page before (packet ∷ packets) h all are =
-    subst (λ (lost : Bool). AllZip IsArrivalOf (((if lost then loss ∷ [] else []) ++ units_at page (length before) (unit_at pid size before packet))
-    ++ flat_map (λ (arrivals : List Arrival). arrivals) (each_after (arrivals_at size pid page) (before ++ packet ∷ []) packets)) all) (sym h.0)
-    (one_packet page (length before) (unit_at pid size before packet) (filter_map (λ found. found) (units_behind pid size (before ++ packet ∷ []) packets))
-    (flat_map (λ (arrivals : List Arrival). arrivals) (each_after (arrivals_at size pid page) (before ++ packet ∷ []) packets)) all
-    (λ more each. all_arrive pid size page (before ++ packet ∷ []) packets h.1 more each) are)
+pub all_arrive : (pid size : ℕ) (pages : Pages) (before packets : List (List ℕ)) → AllByRecursion (λ event. is_loss event ≡ false) (events_behind pid size before packets)
+    → (all : List TimedUnit) → AllZip (IsUnitOf pages) (filter_map (λ found. found) (units_behind pid size before packets)) all
+    → AllZip IsArrivalOf (flat_map (λ (arrivals : List Arrival). arrivals) (each_after (arrivals_at size pid pages) before packets)) all
+all_arrive pid size pages before [] h [] are = tt
+all_arrive pid size pages before [] h (one ∷ all) are = absurd are
+all_arrive pid size pages before (packet ∷ packets) h all are =
+    subst (λ (lost : Bool). AllZip IsArrivalOf (((if lost then loss ∷ [] else []) ++ units_at pages (length before) (unit_at pid size before packet))
+    ++ flat_map (λ (arrivals : List Arrival). arrivals) (each_after (arrivals_at size pid pages) (before ++ packet ∷ []) packets)) all) (sym h.0)
+    (one_packet pages (length before) (unit_at pid size before packet) (filter_map (λ found. found) (units_behind pid size (before ++ packet ∷ []) packets))
+    (flat_map (λ (arrivals : List Arrival). arrivals) (each_after (arrivals_at size pid pages) (before ++ packet ∷ []) packets)) all
+    (λ more each. all_arrive pid size pages (before ++ packet ∷ []) packets h.1 more each) are)
 
-pub have_units : (coded page : ℕ) (sets : List TimedSet) → AllByRecursion (IsTimedSet coded page) sets → AllByRecursion (λ (set : TimedSet). 1 ≤ length set.units) sets
-have_units coded page [] h = tt
-have_units coded page (set ∷ sets) h = (some set.units h.0.units, have_units coded page sets h.1)
+pub have_units : (coded : ℕ) (pages : Pages) (sets : List TimedSet) → AllByRecursion (IsTimedSet coded pages) sets → AllByRecursion (λ (set : TimedSet). 1 ≤ length set.units) sets
+have_units coded pages [] h = tt
+have_units coded pages (set ∷ sets) h = (some set.units h.0.units, have_units coded pages sets h.1)
   where
-    some : (units : List SetUnit) → AreSetUnits page units → 1 ≤ length units
+    some : (units : List SetUnit) → AreSetUnits pages units → 1 ≤ length units
     some [] h = absurd h
     some (one ∷ units) h = omega arith
 
 -- the sets of the packets are those of the units
-pub sets_come_whole : (coded pid page : ℕ) (ended : Bool) (packets units : List (List ℕ)) (sets : List TimedSet) → ComeWhole pid coded packets units → AreUnitsOf coded page units sets → HaveDifferentTimes sets
-    → sets_of coded pid page ended packets ≡ map delivered sets
+pub sets_come_whole : (coded pid : ℕ) (pages : Pages) (ended : Bool) (packets units : List (List ℕ)) (sets : List TimedSet) → ComeWhole pid coded packets units → AreUnitsOf coded pages units sets → HaveDifferentTimes sets
+    → sets_of coded pid pages ended packets ≡ map delivered sets
 unfolding sets_of arrivals_of
-sets_come_whole coded pid page ended packets units sets come are apart =
-    let own = subst (λ (found : List (List ℕ)). AllZip (IsUnitOf page) found (timed_units sets)) (sym come.units_are) are.each in
-    let arrivals = flat_map (λ (arrivals : List Arrival). arrivals) (each_after (arrivals_at coded pid page) [] packets) in
-    ap (λ taken. sets_in coded (has_ended ended pid packets) (runs_of (flat_map (λ (arrivals : List Arrival). arrivals) (each_after (arrivals_at coded pid page) [] taken)))) come.taken
-    ∙ all_handed coded page (has_ended ended pid packets) (runs_of arrivals) sets are.whole
-    (own_runs arrivals sets (all_arrive pid coded page [] packets come.no_loss (timed_units sets) own) (have_units coded page sets are.whole) apart)
+sets_come_whole coded pid pages ended packets units sets come are apart =
+    let own = subst (λ (found : List (List ℕ)). AllZip (IsUnitOf pages) found (timed_units sets)) (sym come.units_are) are.each in
+    let arrivals = flat_map (λ (arrivals : List Arrival). arrivals) (each_after (arrivals_at coded pid pages) [] packets) in
+    ap (λ taken. sets_in coded (has_ended ended pid packets) (runs_of (flat_map (λ (arrivals : List Arrival). arrivals) (each_after (arrivals_at coded pid pages) [] taken)))) come.taken
+    ∙ all_handed coded pages (has_ended ended pid packets) (runs_of arrivals) sets are.whole
+    (own_runs arrivals sets (all_arrive pid coded pages [] packets come.no_loss (timed_units sets) own) (have_units coded pages sets are.whole) apart)

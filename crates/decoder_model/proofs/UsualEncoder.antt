@@ -12,6 +12,7 @@ use Rattle.stream_syntax.specs.Units.{last_counter, part_after, parts_of, fate_o
 use Rattle.stream_syntax.specs.declared.page.State.TheVariants.{ModeChange}
 use Rattle.decoder_model.specs.Arrivals.{arrivals_of}
 use Rattle.stream_syntax.specs.DataField.{frames_of}
+use Rattle.decoder_model.specs.Frames.{only}
 use Rattle.decoder_model.specs.Ink.{ink_of}
 use Rattle.decoder_model.specs.Kept.{last_time, epoch_of}
 use Rattle.decoder_model.specs.Pixels.{painted_listings, pixel_of}
@@ -39,7 +40,7 @@ usual_segments =
     ∷ []
 
 -- the set is whole at 90000
-usual_set : sets_of 24576 256 1 true (usual_packet ∷ []) ≡ whole 90000 84 usual_segments ∷ []
+usual_set : sets_of 24576 256 (only 1) true (usual_packet ∷ []) ≡ whole 90000 84 usual_segments ∷ []
 unfolding usual_packet usual_segments sets_of has_ended arrivals_of frames_of last_counter part_after parts_of fate_of stays_in_hand hand_after event_after
 usual_set = refl
 

@@ -8,11 +8,12 @@ use Rattle.stream_syntax.specs.declared.pes.PesFault.{PesFault}
 use Rattle.stream_syntax.specs.declared.pes.PesFault.TheVariants.{NoPrefix, OtherStream, BadHeader, Scrambled, NoPts, BadMarker, OtherField}
 use Rattle.stream_syntax.specs.declared.transport.Event.{Event}
 use Rattle.stream_syntax.specs.DataField.{Frame, frames_of}
+use Rattle.decoder_model.specs.declared.pages.Pages.{Pages}
 use Rattle.decoder_model.specs.Frames.{counts_for}
 use Rattle.sub_base.specs.Lists.{all_of}
 
--- a unit that counts for the sets of a page: the number of the packet that ends it, from 0, how many bytes it has, its
--- presentation time, and its frames that count
+-- a unit that counts for the sets of a service: the number of the packet that ends it, from 0, how many bytes it has,
+-- its presentation time, and its frames that count
 pub record PesUnit : Type 0 where
   pub place : ℕ
   pub size : ℕ
@@ -42,34 +43,34 @@ unit_with place size time [] = aside
 unit_with place size time (frame ∷ frames) =
     unit (record { place = place; size = size; time = time; frames = frame ∷ frames })
 
--- what a unit is for a page, by its presentation time and segments as a PES packet
-abbrev pub unit_from : ℕ → ℕ → ℕ → Result (ℕ × List ℕ) PesFault → Arrival
-unit_from page place size (Ok pes) = unit_with place size pes.0 (filter (counts_for page) (frames_of pes.1))
-unit_from page place size (Err fault) = if is_passed_over fault then aside else refused_unit
+-- what a unit is for these pages, by its presentation time and segments as a PES packet
+abbrev pub unit_from : Pages → ℕ → ℕ → Result (ℕ × List ℕ) PesFault → Arrival
+unit_from pages place size (Ok pes) = unit_with place size pes.0 (filter (counts_for pages) (frames_of pes.1))
+unit_from pages place size (Err fault) = if is_passed_over fault then aside else refused_unit
 
-abbrev pub arrival_of_unit : ℕ → ℕ → List ℕ → Arrival
-arrival_of_unit page place bytes = unit_from page place (length bytes) (pes_of bytes)
+abbrev pub arrival_of_unit : Pages → ℕ → List ℕ → Arrival
+arrival_of_unit pages place bytes = unit_from pages place (length bytes) (pes_of bytes)
 
 -- the loss that the event of a packet means
 abbrev pub losses_at : Event → List Arrival
 losses_at event = if is_loss event then loss ∷ [] else []
 
 -- the unit that the packet of that place ends
-abbrev pub units_at : ℕ → ℕ → Option (List ℕ) → List Arrival
-units_at page place ended = map (arrival_of_unit page place) (option_to_list ended)
+abbrev pub units_at : Pages → ℕ → Option (List ℕ) → List Arrival
+units_at pages place ended = map (arrival_of_unit pages place) (option_to_list ended)
 
 -- what a packet brings, behind those before it: its loss, and then the unit that it ends
-abbrev pub arrivals_at : ℕ → ℕ → ℕ → List (List ℕ) → List ℕ → List Arrival
-arrivals_at size pid page before packet =
-    losses_at (event_at pid size before packet) ++ units_at page (length before) (unit_at pid size before packet)
+abbrev pub arrivals_at : ℕ → ℕ → Pages → List (List ℕ) → List ℕ → List Arrival
+arrivals_at size pid pages before packet =
+    losses_at (event_at pid size before packet) ++ units_at pages (length before) (unit_at pid size before packet)
 
 -- the packets before the first that cannot be taken
 abbrev pub packets_taken : ℕ → List (List ℕ) → List (List ℕ)
 packets_taken pid packets = take_while (λ packet. is_none (packet_fault pid packet)) packets
 
--- what arrives with the packets of a PID for a page, in a demultiplexer of this size
-unfoldable pub arrivals_of : ℕ → ℕ → ℕ → List (List ℕ) → List Arrival
-arrivals_of size pid page packets = all_of (each_after (arrivals_at size pid page) [] (packets_taken pid packets))
+-- what arrives with the packets of a PID for these pages, in a demultiplexer of this size
+unfoldable pub arrivals_of : ℕ → ℕ → Pages → List (List ℕ) → List Arrival
+arrivals_of size pid pages packets = all_of (each_after (arrivals_at size pid pages) [] (packets_taken pid packets))
 
 -- ---- units that are too long
 

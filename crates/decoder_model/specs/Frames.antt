@@ -1,20 +1,33 @@
--- The segments of a page among those of a data field (EN 300 743, clause 7.2).
-use Rattle.std.specs.Prelude.{ℕ, ◌==◌, ◌&&◌, Bool, true, false, List, length, filter_map, sum_by, Option, Some, None}
+-- The segments of a subtitle service's pages among those of a data field (EN 300 743, clauses 5.1 and 7.2).
+use Rattle.std.specs.Prelude.{ℕ, ◌==◌, ◌&&◌, ◌||◌, [], ◌∷◌, Bool, true, false, List, length, filter_map, sum_by, Option, Some, None}
 use Rattle.std.specs.List.{list_any}
 use Rattle.stream_syntax.specs.Tests.{byte_at, word_at}
 use Rattle.stream_syntax.specs.declared.segment_fault.SegmentFault.{SegmentFault}
 use Rattle.stream_syntax.specs.DataField.{Frame, segment, broken}
-use Rattle.stream_syntax.specs.declared.wire.TheConstants.{END_OF_DISPLAY_SET}
+use Rattle.stream_syntax.specs.declared.wire.TheConstants.{CLUT_DEFINITION, END_OF_DISPLAY_SET, OBJECT_DATA}
 use Rattle.stream_syntax.specs.Segments.{set_kinds}
+use Rattle.decoder_model.specs.declared.pages.Pages.{Pages}
 
--- a segment of one of these types with this page id
-abbrev pub is_of_page : ℕ → List ℕ → Bool
-is_of_page page bytes = (word_at 2 bytes == page) && list_any (λ kind. byte_at 1 bytes == kind) set_kinds
+-- a segment of one of these types with that page id
+abbrev pub is_of_page : List ℕ → ℕ → List ℕ → Bool
+is_of_page kinds page bytes = (word_at 2 bytes == page) && list_any (λ kind. byte_at 1 bytes == kind) kinds
 
--- what counts for the sets of a page: its segments, and faults, whatever page stands beside them
-abbrev pub counts_for : ℕ → Frame → Bool
-counts_for page (segment bytes) = is_of_page page bytes
-counts_for page (broken fault) = true
+-- the types of segments that count on an ancillary page: CLUT definitions and object data
+abbrev pub shared_kinds : List ℕ
+shared_kinds = CLUT_DEFINITION ∷ OBJECT_DATA ∷ []
+
+-- a segment of a display set on the composition page, or a CLUT definition or object data on the ancillary page
+abbrev pub is_of_pages : Pages → List ℕ → Bool
+is_of_pages pages bytes = is_of_page set_kinds pages.composition bytes || is_of_page shared_kinds pages.ancillary bytes
+
+-- the pages of a service without an ancillary page
+abbrev pub only : ℕ → Pages
+only page = record { composition = page; ancillary = page }
+
+-- what counts for the sets of these pages: their segments, and faults, whatever page stands beside them
+abbrev pub counts_for : Pages → Frame → Bool
+counts_for pages (segment bytes) = is_of_pages pages bytes
+counts_for pages (broken fault) = true
 
 -- the bytes of the segments among frames, in order
 abbrev pub segment_in : Frame → Option (List ℕ)

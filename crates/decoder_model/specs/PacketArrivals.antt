@@ -4,6 +4,7 @@ use Rattle.std.specs.List.{list_any}
 use Rattle.stream_syntax.specs.Units.{UnitPart, Begins, Adds, Breaks, event_at, unit_at, hand_after, part_of}
 use Rattle.stream_syntax.specs.declared.transport.Event.{Event}
 use Rattle.stream_syntax.specs.declared.transport.Event.TheVariants as event
+use Rattle.decoder_model.specs.declared.pages.Pages.{Pages}
 use Rattle.decoder_model.specs.Arrivals.{PesUnit, Arrival, loss, refused_unit, aside, unit, arrival_of_unit, losses_at, arrivals_of, ends_too_long}
 use Rattle.decoder_model.specs.Sets.{is_ended, frames_in}
 
@@ -58,23 +59,23 @@ pub record PacketArrival : Type 0 where
   pub dropped : Bool
 
 -- the run in hand as the packet's unit comes: none where the packet means a loss
-abbrev pub run_before : ℕ → ℕ → ℕ → List (List ℕ) → List ℕ → List PesUnit
-run_before coded pid page before packet =
-    last_run (losses_at (event_at pid coded before packet) ++ reverse (arrivals_of coded pid page before))
+abbrev pub run_before : ℕ → ℕ → Pages → List (List ℕ) → List ℕ → List PesUnit
+run_before coded pid pages before packet =
+    last_run (losses_at (event_at pid coded before packet) ++ reverse (arrivals_of coded pid pages before))
 
 -- the unit that the packet ends
-abbrev pub unit_ended : ℕ → ℕ → ℕ → List (List ℕ) → List ℕ → Option Arrival
-unit_ended coded pid page before packet =
-    option_map (arrival_of_unit page (length before)) (unit_at pid coded before packet)
+abbrev pub unit_ended : ℕ → ℕ → Pages → List (List ℕ) → List ℕ → Option Arrival
+unit_ended coded pid pages before packet =
+    option_map (arrival_of_unit pages (length before)) (unit_at pid coded before packet)
 
 -- what a packet brings to a receiver with so many bytes of coded data, behind packets that were all taken
-abbrev pub packet_arrival : ℕ → ℕ → ℕ → List (List ℕ) → List ℕ → PacketArrival
-packet_arrival coded pid page before packet = record {
+abbrev pub packet_arrival : ℕ → ℕ → Pages → List (List ℕ) → List ℕ → PacketArrival
+packet_arrival coded pid pages before packet = record {
   bytes = bytes_of_part (hand_after pid coded before) (part_of pid before packet);
-  before = makes_ready coded (run_before coded pid page before packet) (unit_ended coded pid page before packet);
+  before = makes_ready coded (run_before coded pid pages before packet) (unit_ended coded pid pages before packet);
   dropped =
       ends_too_long coded pid before packet
-      || is_dropped coded (run_before coded pid page before packet) (unit_ended coded pid page before packet);
+      || is_dropped coded (run_before coded pid pages before packet) (unit_ended coded pid pages before packet);
 }
 
 -- the packet breaks off a unit in hand, so that its bytes are dropped before the packet's arrive

@@ -3,16 +3,17 @@ use Rattle.std.specs.Prelude.{◌≡◌, ℕ, Bool, List, [], ◌∷◌, ◌++�
 use Rattle.sub_base.specs.declared.profile.Profile.{Profile}
 use Rattle.stream_syntax.specs.SegmentTests.{frame_tests, segment_size}
 use Rattle.stream_syntax.specs.Tests.{first_fault}
+use Rattle.decoder_model.specs.declared.pages.Pages.{Pages}
 use Rattle.decoder_model.specs.Readings.{Reading, IsReading, AreDeliveriesRead}
 use Rattle.decoder_model.specs.Sets.{Delivery, sets_of}
 
 -- ---- of packets
 
--- a receiver of a profile, for a PID and a page, has received these packets as these sets and losses, the latest first;
--- the stream ends with the packets or not
-abbrev pub HasReceived : Profile → ℕ → ℕ → Bool → List (List ℕ) → List (Delivery Reading) → Type 0
-HasReceived profile pid page ended packets past =
-    AreDeliveriesRead (reverse (sets_of profile.coded pid page ended packets)) past
+-- a receiver of a profile, for a PID and these pages, has received these packets as these sets and losses, the latest
+-- first; the stream ends with the packets or not
+abbrev pub HasReceived : Profile → ℕ → Pages → Bool → List (List ℕ) → List (Delivery Reading) → Type 0
+HasReceived profile pid pages ended packets past =
+    AreDeliveriesRead (reverse (sets_of profile.coded pid pages ended packets)) past
 
 -- ---- of the bytes of a set
 

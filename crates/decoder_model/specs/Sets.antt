@@ -4,6 +4,7 @@ use Rattle.std.specs.Prelude.{ℕ, ◌==◌, ◌||◌, ◌&&◌, Bool, true, fal
 use Rattle.std.specs.List.{list_any, list_all}
 use Rattle.std.specs.Option.{is_none, is_some, option_or}
 use Rattle.stream_syntax.specs.TransportPackets.{packet_fault}
+use Rattle.decoder_model.specs.declared.pages.Pages.{Pages}
 use Rattle.decoder_model.specs.Arrivals.{PesUnit, Arrival, loss, refused_unit, aside, unit, arrivals_of}
 use Rattle.stream_syntax.specs.DataField.{Frame}
 use Rattle.decoder_model.specs.Frames.{segments_in, bytes_in, is_end, fault_of}
@@ -100,6 +101,6 @@ has_ended ended pid packets = ended && list_all (λ packet. is_none (packet_faul
 
 -- the sets and losses in packets, for a receiver with so many bytes of coded data; the stream ends with these packets
 -- or not
-unfoldable pub sets_of : ℕ → ℕ → ℕ → Bool → List (List ℕ) → List (Delivery (List ℕ))
-sets_of coded pid page ended packets =
-    sets_in coded (has_ended ended pid packets) (runs_of (arrivals_of coded pid page packets))
+unfoldable pub sets_of : ℕ → ℕ → Pages → Bool → List (List ℕ) → List (Delivery (List ℕ))
+sets_of coded pid pages ended packets =
+    sets_in coded (has_ended ended pid packets) (runs_of (arrivals_of coded pid pages packets))

@@ -9,6 +9,7 @@ use Rattle.sub_base.specs.declared.profile.Profile.{Profile}
 use Rattle.stream_syntax.specs.Segments.{Page, Region, Display}
 use Rattle.stream_syntax.specs.declared.display.Window.{Window}
 use Rattle.stream_syntax.specs.declared.page.PageEntry.{PageEntry}
+use Rattle.decoder_model.specs.declared.pages.Pages.{Pages}
 use Rattle.decoder_model.specs.Contents.{page_in_set}
 use Rattle.decoder_model.specs.Faults.{contents_in, display_in_force}
 use Rattle.decoder_model.specs.Ink.{ink_of}
@@ -168,10 +169,10 @@ view_at profile anchor tick (delivery ∷ past) =
 
 -- ---- the view of a stream
 
--- what is shown of packets at a tick, in a receiver of a profile for a PID and a page, with that anchor: the view after
--- all of their sets and losses. The stream ends with these packets or not
-pub record IsShown (profile : Profile) (pid page anchor : ℕ) (ended : Bool) (packets : List (List ℕ)) (tick : ℕ)
-    (shown : View) : Type 0 where
+-- what is shown of packets at a tick, in a receiver of a profile for a PID and these pages, with that anchor: the
+-- view after all of their sets and losses. The stream ends with these packets or not
+pub record IsShown (profile : Profile) (pid : ℕ) (pages : Pages) (anchor : ℕ) (ended : Bool)
+    (packets : List (List ℕ)) (tick : ℕ) (shown : View) : Type 0 where
   pub past : List (Delivery Reading)
-  pub received : HasReceived profile pid page ended packets past
+  pub received : HasReceived profile pid pages ended packets past
   pub is_view : shown ≡ view_at profile anchor tick past

@@ -5,6 +5,7 @@ use Rattle.std.specs.List.{AllByRecursion, list_all, prefix_len, take_while}
 use Rattle.std.specs.Option.{is_none}
 use Rattle.stream_syntax.specs.TransportPackets.{packet_fault}
 use Rattle.stream_syntax.specs.Units.{each_after}
+use Rattle.decoder_model.specs.declared.pages.Pages.{Pages}
 use Rattle.decoder_model.specs.Arrivals.{Arrival, arrivals_at, packets_taken, arrivals_of}
 use Rattle.decoder_model.specs.Sets.{has_ended, sets_of, sets_in, runs_of}
 use Rattle.decoder_model.proofs.Growth.{flat-append}
@@ -33,12 +34,12 @@ taken_more pid packets packet taken sound =
     all_pass (is_sound pid) (packets ++ packet ∷ [])
     (all-append (λ packet. is_sound pid packet ≡ true) packets (packet ∷ []) (passes_all (is_sound pid) packets taken) (ap (λ fault. is_none fault) sound, tt))
 
-pub arrivals_grow : (size pid page : ℕ) (packets : List (List ℕ)) (packet : List ℕ) → packets_taken pid packets ≡ packets → packet_fault pid packet ≡ None
-    → arrivals_of size pid page (packets ++ packet ∷ []) ≡ arrivals_of size pid page packets ++ arrivals_at size pid page packets packet
+pub arrivals_grow : (size pid : ℕ) (pages : Pages) (packets : List (List ℕ)) (packet : List ℕ) → packets_taken pid packets ≡ packets → packet_fault pid packet ≡ None
+    → arrivals_of size pid pages (packets ++ packet ∷ []) ≡ arrivals_of size pid pages packets ++ arrivals_at size pid pages packets packet
 unfolding arrivals_of
-arrivals_grow size pid page packets packet taken sound =
-    let each = arrivals_at size pid page in
-    let here = arrivals_at size pid page packets packet in
+arrivals_grow size pid pages packets packet taken sound =
+    let each = arrivals_at size pid pages in
+    let here = arrivals_at size pid pages packets packet in
     let all : List (List ℕ) → List Arrival = λ found. flat_map (λ (arrivals : List Arrival). arrivals) (each_after each [] found) in
     ap all (taken_more pid packets packet taken sound)
     ∙ ap (flat_map (λ (arrivals : List Arrival). arrivals)) (each_after-append each [] packets (packet ∷ []))
@@ -47,15 +48,15 @@ arrivals_grow size pid page packets packet taken sound =
     ∙ ap (λ found. all found ++ here) (sym taken)
 
 -- no packet, no arrival
-pub none_arrived : (size pid page : ℕ) → arrivals_of size pid page [] ≡ []
+pub none_arrived : (size pid : ℕ) (pages : Pages) → arrivals_of size pid pages [] ≡ []
 unfolding arrivals_of
-none_arrived size pid page = refl
+none_arrived size pid pages = refl
 
 -- ---- sets of packets
 
-pub sets_of_packets : (coded pid page : ℕ) (ended : Bool) (packets : List (List ℕ)) → sets_of coded pid page ended packets ≡ sets_in coded (has_ended ended pid packets) (runs_of (arrivals_of coded pid page packets))
+pub sets_of_packets : (coded pid : ℕ) (pages : Pages) (ended : Bool) (packets : List (List ℕ)) → sets_of coded pid pages ended packets ≡ sets_in coded (has_ended ended pid packets) (runs_of (arrivals_of coded pid pages packets))
 unfolding sets_of
-sets_of_packets coded pid page ended packets = refl
+sets_of_packets coded pid pages ended packets = refl
 
 sound_all : {X : Type 0} (test : X → Bool) (xs : List X) → AllByRecursion (λ x. test x ≡ true) xs → list_all test xs ≡ true
 sound_all test [] h = refl

@@ -56,7 +56,7 @@ pub record IsMet (coded : ℕ) (units joined : List PesUnit) (one : PesUnit) (mi
   pub parted : AreReady (parted_by coded units one) (ready_in mid.parted mid.parted_bytes)
 
 taken : (old mid new : Gathered) (arrivals : List Arrival) (given : Deliveries) (one : PesUnit) (joined : List PesUnit) (total : ℕ) (field : List ℕ) → Stands arrivals false given old → ready_sets old ≡ []
-    → IsMet old.coded (last_run (reverse arrivals)) joined one mid total → one.frames ≡ counted_in mid.page field → TakesUp mid new one.time total field → Stands (arrivals ++ unit one ∷ []) false given new
+    → IsMet old.coded (last_run (reverse arrivals)) joined one mid total → one.frames ≡ counted_in mid.pages field → TakesUp mid new one.time total field → Stands (arrivals ++ unit one ∷ []) false given new
 taken old mid new arrivals given one joined total field h none met frames takes =
     let coded = old.coded in
     let units = last_run (reverse arrivals) in
@@ -64,7 +64,7 @@ taken old mid new arrivals given one joined total field h none met frames takes 
     let times : HaveTime one.time joined = subst (HaveTime one.time) met.joined_is (have_time one.time units) in
     let fills : Fills coded (frames_in joined) one.frames new.bytes takes.filled =
     subst (λ (more : List Frame). Fills coded (frames_in joined) more new.bytes takes.filled) (sym frames)
-    (subst (λ (most : ℕ). Fills most (frames_in joined) (counted_in mid.page field) new.bytes takes.filled) met.same_coded
+    (subst (λ (most : ℕ). Fills most (frames_in joined) (counted_in mid.pages field) new.bytes takes.filled) met.same_coded
     (takes.fills (frames_in joined) (subst (λ (most : ℕ). AreOpen most (frames_in joined) mid.bytes) (sym met.same_coded) met.so_far))) in
     let is_taken = unit_taken coded joined one total new.bytes takes.filled times met.so_far.no_end met.total_is fills in
     let added = added_by coded units one in
@@ -94,15 +94,15 @@ no_units_yet coded = record { no_end = no_frames coded; bytes_are = record { joi
 abbrev pub started : Gathered → Gathered
 started old = record old { hand = hand.Empty; bytes = [] }
 
-pub begins_right : (old new : Gathered) (time size place : ℕ) (field : List ℕ) (met : Meeting) → ready_sets old ≡ [] → has_some (counted_in old.page field) ≡ true → met ≡ meeting_of time old.hand → met ≡ meeting.Begins
+pub begins_right : (old new : Gathered) (time size place : ℕ) (field : List ℕ) (met : Meeting) → ready_sets old ≡ [] → has_some (counted_in old.pages field) ≡ true → met ≡ meeting_of time old.hand → met ≡ meeting.Begins
     → TakesUp (started old) new time size field → (arrivals : List Arrival) (given : Deliveries) → Stands arrivals false given old
-    → IsRight old new arrivals given (unit_with place size time (counted_in old.page field)) end.Taken
+    → IsRight old new arrivals given (unit_with place size time (counted_in old.pages field)) end.Taken
 begins_right old new time size place field met none some meets is takes arrivals given h =
-    let one = unit_of place size time (counted_in old.page field) in
+    let one = unit_of place size time (counted_in old.pages field) in
     let units = last_run (reverse arrivals) in
     let found = subst (Finds old.coded units time old.bytes) is (finds_by old.coded units time old.hand old.bytes met meets h.in_hand) in
     let makes = makes-none old.coded units one found.1 in
-    subst (λ (arrival : Arrival). IsRight old new arrivals given arrival end.Taken) (sym (counts_as place size time (counted_in old.page field) some))
+    subst (λ (arrival : Arrival). IsRight old new arrivals given arrival end.Taken) (sym (counts_as place size time (counted_in old.pages field) some))
     (record {
       stands = taken old (started old) new arrivals given one [] size field h none
           (record {
@@ -116,16 +116,16 @@ begins_right old new time size place field met none some meets is takes arrivals
       right_end = record { passed_over = refl; dropped = not_dropped old.coded units [] one found.0 (no_frames old.coded); before = sym makes };
     })
 
-pub joins_right : (old new : Gathered) (time size place before : ℕ) (field : List ℕ) (met : Meeting) → ready_sets old ≡ [] → has_some (counted_in old.page field) ≡ true → met ≡ meeting_of time old.hand → met ≡ meeting.Joins before
+pub joins_right : (old new : Gathered) (time size place before : ℕ) (field : List ℕ) (met : Meeting) → ready_sets old ≡ [] → has_some (counted_in old.pages field) ≡ true → met ≡ meeting_of time old.hand → met ≡ meeting.Joins before
     → TakesUp old new time (before + size) field → (arrivals : List Arrival) (given : Deliveries) → Stands arrivals false given old
-    → IsRight old new arrivals given (unit_with place size time (counted_in old.page field)) end.Taken
+    → IsRight old new arrivals given (unit_with place size time (counted_in old.pages field)) end.Taken
 joins_right old new time size place before field met none some meets is takes arrivals given h =
-    let one = unit_of place size time (counted_in old.page field) in
+    let one = unit_of place size time (counted_in old.pages field) in
     let units = last_run (reverse arrivals) in
     let found = subst (Finds old.coded units time old.bytes) is (finds_by old.coded units time old.hand old.bytes met meets h.in_hand) in
     let makes = makes-same old.coded units one (some_has_time time units found.of_time) in
     let all = all_of_time time time units found.of_time.all (eq-eqb time time refl) in
-    subst (λ (arrival : Arrival). IsRight old new arrivals given arrival end.Taken) (sym (counts_as place size time (counted_in old.page field) some))
+    subst (λ (arrival : Arrival). IsRight old new arrivals given arrival end.Taken) (sym (counts_as place size time (counted_in old.pages field) some))
     (record {
       stands = taken old old new arrivals given one units (before + size) field h none
           (record {
@@ -143,17 +143,17 @@ joins_right old new time size place before field met none some meets is takes ar
 abbrev pub put_aside : Gathered → Head → Gathered
 put_aside old head = record old { hand = hand.Empty; bytes = old.parted_bytes; parted = Some head; parted_bytes = old.bytes }
 
-pub parts_right : (old new : Gathered) (time size place : ℕ) (head : Head) (field : List ℕ) (met : Meeting) → ready_sets old ≡ [] → has_some (counted_in old.page field) ≡ true → met ≡ meeting_of time old.hand
+pub parts_right : (old new : Gathered) (time size place : ℕ) (head : Head) (field : List ℕ) (met : Meeting) → ready_sets old ≡ [] → has_some (counted_in old.pages field) ≡ true → met ≡ meeting_of time old.hand
     → met ≡ meeting.Parts head → TakesUp (started (put_aside old head)) new time size field → (arrivals : List Arrival) (given : Deliveries) → Stands arrivals false given old
-    → IsRight old new arrivals given (unit_with place size time (counted_in old.page field)) end.Parted
+    → IsRight old new arrivals given (unit_with place size time (counted_in old.pages field)) end.Parted
 parts_right old new time size place head field met none some meets is takes arrivals given h =
-    let one = unit_of place size time (counted_in old.page field) in
+    let one = unit_of place size time (counted_in old.pages field) in
     let units = last_run (reverse arrivals) in
     let found = subst (Finds old.coded units time old.bytes) is (finds_by old.coded units time old.hand old.bytes met meets h.in_hand) in
     let own = found.0 in
     let makes = makes-other old.coded units one (open_hand old.coded units own.of_time.some own.frames.no_end) (none_has_time head.time time units own.of_time.all found.1) in
     let no_units = none_of_time head.time time units own.of_time.all found.1 in
-    subst (λ (arrival : Arrival). IsRight old new arrivals given arrival end.Parted) (sym (counts_as place size time (counted_in old.page field) some))
+    subst (λ (arrival : Arrival). IsRight old new arrivals given arrival end.Parted) (sym (counts_as place size time (counted_in old.pages field) some))
     (record {
       stands = taken old (started (put_aside old head)) new arrivals given one [] size field h none
           (record {
@@ -206,14 +206,14 @@ dropped old arrivals given one h none run meets =
       are_ready = h.are_ready;
     }
 
-pub behind_right : (old : Gathered) (time size place : ℕ) (field : List ℕ) (met : Meeting) → ready_sets old ≡ [] → has_some (counted_in old.page field) ≡ true → met ≡ meeting_of time old.hand → met ≡ meeting.Behind
-    → (arrivals : List Arrival) (given : Deliveries) → Stands arrivals false given old → IsRight old old arrivals given (unit_with place size time (counted_in old.page field)) end.Dropped
+pub behind_right : (old : Gathered) (time size place : ℕ) (field : List ℕ) (met : Meeting) → ready_sets old ≡ [] → has_some (counted_in old.pages field) ≡ true → met ≡ meeting_of time old.hand → met ≡ meeting.Behind
+    → (arrivals : List Arrival) (given : Deliveries) → Stands arrivals false given old → IsRight old old arrivals given (unit_with place size time (counted_in old.pages field)) end.Dropped
 behind_right old time size place field met none some meets is arrivals given h =
-    let one = unit_of place size time (counted_in old.page field) in
+    let one = unit_of place size time (counted_in old.pages field) in
     let units = last_run (reverse arrivals) in
     let found = subst (Finds old.coded units time old.bytes) is (finds_by old.coded units time old.hand old.bytes met meets h.in_hand) in
     let all = all_of_time time time units found.of_time.all (eq-eqb time time refl) in
-    subst (λ (arrival : Arrival). IsRight old old arrivals given arrival end.Dropped) (sym (counts_as place size time (counted_in old.page field) some))
+    subst (λ (arrival : Arrival). IsRight old old arrivals given arrival end.Dropped) (sym (counts_as place size time (counted_in old.pages field) some))
     (record {
       stands = dropped old arrivals given one h none found (sym meets ∙ is);
       right_end = record {
@@ -228,16 +228,16 @@ no_frames_count [] none = refl
 no_frames_count (frame ∷ frames) none = absurd (cc)
 
 -- nothing counts
-pub aside_right : (old : Gathered) (time size place : ℕ) (field : List ℕ) → has_some (counted_in old.page field) ≡ false → (arrivals : List Arrival) (given : Deliveries) → Stands arrivals false given old
-    → IsRight old old arrivals given (unit_with place size time (counted_in old.page field)) end.Aside
+pub aside_right : (old : Gathered) (time size place : ℕ) (field : List ℕ) → has_some (counted_in old.pages field) ≡ false → (arrivals : List Arrival) (given : Deliveries) → Stands arrivals false given old
+    → IsRight old old arrivals given (unit_with place size time (counted_in old.pages field)) end.Aside
 aside_right old time size place field none arrivals given h =
-    subst (λ (frames : List Frame). IsRight old old arrivals given (unit_with place size time frames) end.Aside) (sym (no_frames_count (counted_in old.page field) none))
+    subst (λ (frames : List Frame). IsRight old old arrivals given (unit_with place size time frames) end.Aside) (sym (no_frames_count (counted_in old.pages field) none))
     (record { stands = aside_stands old arrivals given h; right_end = record { passed_over = refl; dropped = refl; before = refl } })
 
 -- ---- what the call finds
 
-pub counts_now : (inside now : Gathered) (field : List ℕ) (found some : Bool) → inside ≡ now → found ≡ has_some (counted_in inside.page field) → found ≡ some → has_some (counted_in now.page field) ≡ some
-counts_now inside now field found some same is found_is = sym (ap (λ (old : Gathered). has_some (counted_in old.page field)) same) ∙ sym is ∙ found_is
+pub counts_now : (inside now : Gathered) (field : List ℕ) (found some : Bool) → inside ≡ now → found ≡ has_some (counted_in inside.pages field) → found ≡ some → has_some (counted_in now.pages field) ≡ some
+counts_now inside now field found some same is found_is = sym (ap (λ (old : Gathered). has_some (counted_in old.pages field)) same) ∙ sym is ∙ found_is
 
 pub meets_now : (inside now : Gathered) (time : ℕ) (met : Meeting) → inside ≡ now → met ≡ meeting_of time inside.hand → met ≡ meeting_of time now.hand
 meets_now inside now time met same is = is ∙ ap (λ (old : Gathered). meeting_of time old.hand) same

@@ -2,6 +2,7 @@
 use Rattle.std.specs.Prelude.{◌≡◌, ℕ, ◌+◌, ◌*◌, ◌^◌, ◌<◌, ◌≤◌, List, [], ◌∷◌, ◌++◌, length, Option, Some, None, Result, Ok, Err}
 use Rattle.std.specs.Option.{ForSome}
 use Rattle.stream_syntax.specs.DataField.{Frame}
+use Rattle.decoder_model.specs.declared.pages.Pages.{Pages}
 use Rattle.decoder_model.specs.declared.set_fault.SetFault.{SetFault}
 use Rattle.display_sets.specs.Counted.{counted_in}
 use Rattle.display_sets.specs.Filling.{AreOpen, Fills}
@@ -12,7 +13,7 @@ use Rattle.display_sets.specs.declared.hand.Head.{Head}
 
 -- a gathering as a plain value
 pub record Gathered : Type 0 where
-  pub page : ℕ
+  pub pages : Pages
   -- how many bytes the segments of a set may have
   pub coded : ℕ
   -- the run in hand, and the bytes of its set's segments
@@ -76,11 +77,11 @@ pub record IsSound (gathered : Gathered) : Type 0 where
 
 -- a unit's segments were put to the set in hand, whose units have that size with it
 pub record TakesUp (old new : Gathered) (time size : ℕ) (field : List ℕ) : Type 0 where
-  pub same_page : new.page ≡ old.page
+  pub same_pages : new.pages ≡ old.pages
   pub same_coded : new.coded ≡ old.coded
   pub same_parted : new.parted ≡ old.parted
   pub same_bytes : new.parted_bytes ≡ old.parted_bytes
   pub filled : Filled
   pub in_hand : new.hand ≡ hand_with time size filled
   pub fills : (front : List Frame) → AreOpen old.coded front old.bytes
-      → Fills old.coded front (counted_in old.page field) new.bytes filled
+      → Fills old.coded front (counted_in old.pages field) new.bytes filled

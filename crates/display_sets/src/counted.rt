@@ -1,11 +1,13 @@
-//! What counts for the sets of a page in a data field, one after another.
+//! What counts for the sets of a service's pages in a data field, one after another.
 
-ghost use Rattle.std.specs.Prelude.{◌≡◌, ◌==◌, ◌&&◌};
+ghost use Rattle.std.specs.Prelude.{◌≡◌, ◌==◌};
 ghost use Rattle.std.specs.List.{list_any};
 ghost use Rattle.stream_syntax.specs.Segments.{set_kinds};
 ghost use Rattle.sub_base.specs.Lists.{has_some};
-ghost use Rattle.display_sets.specs.Counted.{IsNext, counted_in};
+ghost use Rattle.decoder_model.specs.Frames.{shared_kinds};
+ghost use Rattle.display_sets.specs.Counted.{IsNext, counted_in, is_counted as counts_with};
 
+use decoder_model::Pages;
 use segments::frames;
 use stream_syntax::{
     CLUT_DEFINITION, DISPLAY_DEFINITION, END_OF_DISPLAY_SET, OBJECT_DATA, PAGE_COMPOSITION,
@@ -19,10 +21,10 @@ pub(crate) struct Front<'a> {
     pub rest: &'a [u8],
 }
 
-/// The first segment of a page in a data field, or the fault at which the field breaks off before
-/// one.
-pub(crate) fn next_counted(page: u16, field: &[u8]) -> Option<Result<Front<'_>, SegmentFault>>
-    ensures { IsNext page field.now result }
+/// The first segment of these pages in a data field, or the fault at which the field breaks off
+/// before one.
+pub(crate) fn next_counted(pages: Pages, field: &[u8]) -> Option<Result<Front<'_>, SegmentFault>>
+    ensures { IsNext pages field.now result }
 {
     let mut rest = field;
     for head in frames(field) {
@@ -31,7 +33,7 @@ pub(crate) fn next_counted(page: u16, field: &[u8]) -> Option<Result<Front<'_>, 
             Err(fault) => return Some(Err(fault)),
         };
         let (segment, behind) = rest.split_at(frame.whole);
-        if is_of_page(page, frame.page, frame.kind) {
+        if is_counted(pages, frame.page, frame.kind) {
             return Some(Ok(Front {
                 segment,
                 rest: behind,
@@ -42,18 +44,20 @@ pub(crate) fn next_counted(page: u16, field: &[u8]) -> Option<Result<Front<'_>, 
     None
 }
 
-/// Whether something in a data field counts for the sets of a page.
-pub(crate) fn counts(page: u16, field: &[u8]) -> bool
-    ensures { result ≡ has_some (counted_in page field.now) }
+/// Whether something in a data field counts for the sets of these pages.
+pub(crate) fn counts(pages: Pages, field: &[u8]) -> bool
+    ensures { result ≡ has_some (counted_in pages field.now) }
 {
-    next_counted(page, field).is_some()
+    next_counted(pages, field).is_some()
 }
 
-/// Whether a segment with this page id and type belongs to the display sets of the page.
-fn is_of_page(page: u16, id: u16, kind: u8) -> bool
-    ensures { result ≡ ((id == page) && list_any (λ other. kind == other) set_kinds) }
+/// Whether a segment with this page id and of this type counts for the display sets of the pages.
+/// Where both pages are the same, those of the composition page are all.
+fn is_counted(pages: Pages, id: u16, kind: u8) -> bool
+    ensures { result ≡ counts_with pages id kind }
 {
-    id == page && is_set_kind(kind)
+    (id == pages.composition && is_set_kind(kind))
+        || (id == pages.ancillary && is_shared_kind(kind))
 }
 
 /// Whether a segment of this type belongs to a display set.
@@ -69,4 +73,11 @@ fn is_set_kind(kind: u8) -> bool
             | DISPLAY_DEFINITION
             | END_OF_DISPLAY_SET
     )
+}
+
+/// Whether a segment of this type may stand on an ancillary page.
+fn is_shared_kind(kind: u8) -> bool
+    ensures { result ≡ list_any (λ other. kind == other) shared_kinds }
+{
+    matches!(kind, CLUT_DEFINITION | OBJECT_DATA)
 }

@@ -8,7 +8,7 @@ ghost use Rattle.display_sets.specs.Filling.{Adds, AreOpen, Fills, Grows};
 ghost use Rattle.sub_base.specs.Lists.{has_some};
 
 use crate::counted::next_counted;
-use decoder_model::SetFault;
+use decoder_model::{Pages, SetFault};
 use stream_syntax::END_OF_DISPLAY_SET;
 
 /// What more segments make of an open set.
@@ -22,18 +22,18 @@ pub(crate) enum Filled {
 
 /// Puts what counts in a data field behind the bytes of an open set, up to the set's end. Behind a
 /// fault the bytes mean nothing.
-pub(crate) fn fill(page: u16, coded: u32, bytes: &mut Vec<u8>, field: &[u8]) -> Filled
+pub(crate) fn fill(pages: Pages, coded: u32, bytes: &mut Vec<u8>, field: &[u8]) -> Filled
     requires room { coded ≤ vec_capacity bytes.old }
     requires within { length bytes.old.items ≤ coded }
-    requires counted { has_some (counted_in page field.now) ≡ true }
+    requires counted { has_some (counted_in pages field.now) ≡ true }
     ensures room { coded ≤ vec_capacity bytes.new }
     ensures within { length bytes.new.items ≤ coded }
     ensures grows { Grows bytes.old.items bytes.new.items result }
     ensures fills { (front : List Frame) → AreOpen coded front bytes.old.items
-        → Fills coded front (counted_in page field.now) bytes.new.items result }
+        → Fills coded front (counted_in pages field.now) bytes.new.items result }
 {
     let mut rest = field;
-    while let Some(next) = next_counted(page, rest) {
+    while let Some(next) = next_counted(pages, rest) {
         let front = match next {
             Ok(front) => front,
             Err(fault) => return Filled::refused(SetFault::Segment(fault)),

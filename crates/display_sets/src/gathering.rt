@@ -1,4 +1,4 @@
-//! The display sets of a page, gathered from units.
+//! The display sets of a service's pages, gathered from units.
 
 ghost use Rattle.std.specs.Prelude.{◌≡◌};
 ghost use Rattle.sub_base.specs.Lists.{has_some};
@@ -7,16 +7,17 @@ use crate::counted::counts;
 use crate::filling::fill;
 use crate::hand::{Hand, Head, Meeting, UnitEnd};
 use crate::ready::Ready;
+use decoder_model::Pages;
 use std::alloc::Global;
 use std::marker::Model;
 use std::mem;
 use sub_base::NoMemory;
 
-/// Gathers the display sets of a page from the PES packets of a receiver, in memory of a fixed
-/// size: the set in hand and a set that was made ready before it.
+/// Gathers the display sets of a service's pages from the PES packets of a receiver, in memory of a
+/// fixed size: the set in hand and a set that was made ready before it.
 #[derive(Drop)]
 pub struct Gathering {
-    page: u16,
+    pages: Pages,
     coded: u32,
     hand: Hand,
     bytes: Vec<u8>,
@@ -32,7 +33,7 @@ impl Model for Gathering {
     ghost Value = { Gathered };
 
     ghost view = { λ g. record {
-      page = g.page;
+      pages = g.pages;
       coded = g.coded;
       hand = g.hand;
       bytes = g.bytes.items;
@@ -42,7 +43,7 @@ impl Model for Gathering {
 
     ghost invariant = { λ g. IsSound
         (record {
-          page = g.page;
+          pages = g.pages;
           coded = g.coded;
           hand = g.hand;
           bytes = g.bytes.items;
@@ -64,15 +65,15 @@ impl Gathering {
     ghost use Rattle.display_sets.specs.Standing.{IsFirst, IsUnitEnd, Stands};
     ghost use Rattle.display_sets.specs.declared.hand.Hand.TheVariants as hand_is;
 
-    /// A gathering for a page to which nothing came. A set whose segments have more than `coded`
-    /// bytes is refused. All memory is taken here: twice that many bytes.
-    pub fn make(alloc: Global, page: u16, coded: u32) -> Result<Gathering, NoMemory>
-        ensures page { IfOk result (λ gathering. gathering.page ≡ page) }
+    /// A gathering for these pages to which nothing came. A set whose segments have more than
+    /// `coded` bytes is refused. All memory is taken here: twice that many bytes.
+    pub fn make(alloc: Global, pages: Pages, coded: u32) -> Result<Gathering, NoMemory>
+        ensures pages { IfOk result (λ gathering. gathering.pages ≡ pages) }
         ensures coded { IfOk result (λ gathering. gathering.coded ≡ coded) }
         ensures stands { IfOk result (Stands [] false []) }
     {
         Ok(Gathering {
-            page,
+            pages,
             coded,
             hand: Hand::Empty,
             bytes: Vec::with_capacity(alloc, coded as usize)?,
@@ -85,7 +86,7 @@ impl Gathering {
     /// is given up.
     pub fn lose(&mut self)
         requires { ready_sets self.old ≡ [] }
-        ensures page { self.new.page ≡ self.old.page }
+        ensures pages { self.new.pages ≡ self.old.pages }
         ensures coded { self.new.coded ≡ self.old.coded }
 
         // The loss counts as given.
@@ -105,21 +106,21 @@ impl Gathering {
     pub fn take_unit(&mut self, time: u64, size: u32, field: &[u8]) -> UnitEnd
         requires none { ready_sets self.old ≡ [] }
         requires time { time < 2 ^ 33 }
-        ensures page { self.new.page ≡ self.old.page }
+        ensures pages { self.new.pages ≡ self.old.pages }
         ensures coded { self.new.coded ≡ self.old.coded }
 
         // Whichever packet ended the unit.
         ensures stands { (arrivals : List Arrival) (given : List (Delivery (List ℕ)))
             (place : ℕ)
             → Stands arrivals false given self.old
-            → Stands (arrivals ++ unit_with place size time (counted_in self.old.page field.now)
+            → Stands (arrivals ++ unit_with place size time (counted_in self.old.pages field.now)
             ∷ []) false given self.new }
         ensures end { (arrivals : List Arrival) (given : List (Delivery (List ℕ))) (place : ℕ)
             → Stands arrivals false given self.old
             → IsUnitEnd self.old.coded (last_run (reverse arrivals))
-            (unit_with place size time (counted_in self.old.page field.now)) result }
+            (unit_with place size time (counted_in self.old.pages field.now)) result }
     {
-        if !counts(self.page, field) {
+        if !counts(self.pages, field) {
             return UnitEnd::Aside;
         }
         match self.hand.meet(time) {
@@ -143,7 +144,7 @@ impl Gathering {
     /// The stream has ended: a set in hand that has not ended is ready as it stands.
     pub fn finish(&mut self)
         requires { ready_sets self.old ≡ [] }
-        ensures page { self.new.page ≡ self.old.page }
+        ensures pages { self.new.pages ≡ self.old.pages }
         ensures coded { self.new.coded ≡ self.old.coded }
         ensures stands { (arrivals : List Arrival) (given : List (Delivery (List ℕ)))
             → Stands arrivals false given self.old
@@ -177,7 +178,7 @@ impl Gathering {
     /// The first set that is ready was taken; those behind it are left. Where none is ready nothing
     /// changes.
     pub fn give(&mut self)
-        ensures page { self.new.page ≡ self.old.page }
+        ensures pages { self.new.pages ≡ self.old.pages }
         ensures coded { self.new.coded ≡ self.old.coded }
         ensures left { ready_sets self.new ≡ sets_behind (ready_sets self.old) }
         ensures stands { (arrivals : List Arrival) (ended : Bool)
@@ -214,7 +215,7 @@ impl Gathering {
     /// Begins a set with a unit.
     fn begin(&mut self, time: u64, size: u32, field: &[u8])
         requires time { time < 2 ^ 33 }
-        requires counted { has_some (counted_in self.old.page field.now) ≡ true }
+        requires counted { has_some (counted_in self.old.pages field.now) ≡ true }
         ensures { TakesUp (record self.old { hand = hand_is.Empty; bytes = [] }) self.new time size
             field.now }
     {
@@ -227,10 +228,10 @@ impl Gathering {
     fn take_up(&mut self, time: u64, before: u64, size: u32, field: &[u8])
         requires time { time < 2 ^ 33 }
         requires before { before ≤ length self.old.bytes * 4294967296 }
-        requires counted { has_some (counted_in self.old.page field.now) ≡ true }
+        requires counted { has_some (counted_in self.old.pages field.now) ≡ true }
         ensures { TakesUp self.old self.new time (before + size) field.now }
     {
-        let filled = fill(self.page, self.coded, &mut self.bytes, field);
+        let filled = fill(self.pages, self.coded, &mut self.bytes, field);
         self.hand = Hand::with(time, before + u64::from(size), filled);
     }
 }

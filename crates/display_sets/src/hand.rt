@@ -10,7 +10,7 @@ use decoder_model::SetFault;
 /// What became of the unit of a PES packet.
 #[derive(Clone, Copy, Debug, PartialEq, Eq)]
 pub enum UnitEnd {
-    /// It has nothing that counts for the page, and is passed over.
+    /// It has nothing that counts for the pages, and is passed over.
     Aside,
     /// It stands behind the end of the set of its time, and is dropped.
     Dropped,

@@ -2,6 +2,7 @@
 
 ghost use Rattle.std.specs.Prelude.{◌≡◌, ℕ, Bool, List, [], ◌∷◌, ◌++◌, None};
 ghost use Rattle.stream_syntax.specs.TransportPackets.{packet_fault};
+ghost use Rattle.decoder_model.specs.declared.pages.Pages.{Pages};
 ghost use Rattle.decoder_model.specs.Arrivals.{arrivals_at, arrivals_of, packets_taken};
 ghost use Rattle.decoder_model.specs.Readings.{AreReadings, Reading};
 ghost use Rattle.decoder_model.specs.Received.{AreRead};
@@ -17,17 +18,17 @@ pub fn bytes_are_read()
 /// Behind packets that were all taken, a packet without a fault brings its own arrivals and changes
 /// none before them.
 pub fn packet_brings_arrivals()
-    ensures { (size pid page : ℕ) (packets : List (List ℕ)) (packet : List ℕ)
+    ensures { (size pid : ℕ) (pages : Pages) (packets : List (List ℕ)) (packet : List ℕ)
         → packets_taken pid packets ≡ packets → packet_fault pid packet ≡ None
-        → arrivals_of size pid page (packets ++ packet ∷ [])
-        ≡ arrivals_of size pid page packets
-        ++ arrivals_at size pid page packets packet }
+        → arrivals_of size pid pages (packets ++ packet ∷ [])
+        ≡ arrivals_of size pid pages packets
+        ++ arrivals_at size pid pages packets packet }
 {}
 
 /// The sets of packets that were all taken are those of what arrived with them.
 pub fn sets_of_arrivals()
-    ensures { (coded pid page : ℕ) (ended : Bool) (packets : List (List ℕ))
+    ensures { (coded pid : ℕ) (pages : Pages) (ended : Bool) (packets : List (List ℕ))
         → packets_taken pid packets ≡ packets
-        → sets_of coded pid page ended packets
-        ≡ sets_in coded ended (runs_of (arrivals_of coded pid page packets)) }
+        → sets_of coded pid pages ended packets
+        ≡ sets_in coded ended (runs_of (arrivals_of coded pid pages packets)) }
 {}

@@ -2,8 +2,10 @@ ghost use Rattle.std.specs.Prelude.{◌≡◌, [], true};
 ghost use Rattle.display_sets.specs.Gathered.{ready_sets};
 
 use super::*;
+use std::alloc::Global;
 use std::test::Fail;
 use stream_syntax::{SegmentFault, SegmentKind};
+use sub_base::NoMemory;
 
 /// An empty page with the page id 1.
 const PAGE: [u8; 8] = [0x0F, 0x10, 0x00, 0x01, 0x00, 0x02, 0x0A, 0x08];
@@ -43,6 +45,24 @@ const UNSYNCED: [u8; 9] = [0x0F, 0x10, 0x00, 0x01, 0x00, 0x02, 0x0A, 0x08, 0x00]
 
 /// An end of page 2, and a head that is cut.
 const CUT: [u8; 9] = [0x0F, 0x80, 0x00, 0x02, 0x00, 0x00, 0x0F, 0x10, 0x00];
+
+/// Page 1, a CLUT and an object of page 2, the end of page 2, and the end of page 1.
+const TWO_PAGES: [u8; 32] = [
+    0x0F, 0x10, 0x00, 0x01, 0x00, 0x02, 0x0A, 0x08, 0x0F, 0x12, 0x00, 0x02, 0x00, 0x00, 0x0F, 0x13,
+    0x00, 0x02, 0x00, 0x00, 0x0F, 0x80, 0x00, 0x02, 0x00, 0x00, 0x0F, 0x80, 0x00, 0x01, 0x00, 0x00,
+];
+
+/// The same without the end of page 2.
+const SHARED: [u8; 26] = [
+    0x0F, 0x10, 0x00, 0x01, 0x00, 0x02, 0x0A, 0x08, 0x0F, 0x12, 0x00, 0x02, 0x00, 0x00, 0x0F, 0x13,
+    0x00, 0x02, 0x00, 0x00, 0x0F, 0x80, 0x00, 0x01, 0x00, 0x00,
+];
+
+/// What of it is page 2: a CLUT, an object and the end.
+const SECOND: [u8; 18] = [
+    0x0F, 0x12, 0x00, 0x02, 0x00, 0x00, 0x0F, 0x13, 0x00, 0x02, 0x00, 0x00, 0x0F, 0x80, 0x00, 0x02,
+    0x00, 0x00,
+];
 
 /// A unit: its time, its size and its segments; what becomes of it, and the sets that are ready
 /// then.
@@ -148,7 +168,7 @@ fn units_come_to_sets(rt: HostRuntime) -> Result<(), Fail> {
         taken_as(630_000, 33, &UNSYNCED, UnitEnd::Taken, &unsynced),
         taken_as(720_000, 34, &CUT, UnitEnd::Taken, &cut),
     ];
-    let mut gathering = Gathering::make(rt.alloc(), 1, 20)?;
+    let mut gathering = Gathering::make(rt.alloc(), Pages::only(1), 20)?;
     assert_eq!(rt; first_wrong(&mut gathering, &rows), None);
     Ok(())
 }
@@ -156,7 +176,7 @@ fn units_come_to_sets(rt: HostRuntime) -> Result<(), Fail> {
 /// A loss gives up the set in hand, and the end of the stream makes it ready.
 #[test]
 fn ends_of_open_sets(rt: HostRuntime) -> Result<(), Fail> {
-    let mut gathering = Gathering::make(rt.alloc(), 1, 20)?;
+    let mut gathering = Gathering::make(rt.alloc(), Pages::only(1), 20)?;
     assert!(rt; goes(&mut gathering, &taken_as(5, 25, &PAGE, UnitEnd::Taken, &[])));
     gathering.lose();
     let end = [whole(5, 26, &END)];
@@ -164,5 +184,66 @@ fn ends_of_open_sets(rt: HostRuntime) -> Result<(), Fail> {
     assert!(rt; goes(&mut gathering, &taken_as(7, 27, &PAGE, UnitEnd::Taken, &[])));
     gathering.finish();
     assert!(rt; gives(&mut gathering, &[whole(7, 27, &PAGE)]));
+    Ok(())
+}
+
+/// Whether a segment without a body, of this type and with this page id, counts.
+fn counts(alloc: Global, pages: Pages, page: u8, kind: u8) -> Result<bool, NoMemory> {
+    let mut gathering = Gathering::make(alloc, pages, 20)?;
+    let segment = [0x0F, kind, 0x00, page, 0x00, 0x00];
+    Ok(gathering.take_unit(90_000, 25, &segment) == UnitEnd::Taken)
+}
+
+/// Which types of segments with a page id count: page, region, CLUT, object, display, end, and one
+/// that belongs to no set.
+fn counted(alloc: Global, pages: Pages, page: u8) -> Result<[bool; 7], NoMemory> {
+    Ok([
+        counts(alloc, pages, page, 0x10)?,
+        counts(alloc, pages, page, 0x11)?,
+        counts(alloc, pages, page, 0x12)?,
+        counts(alloc, pages, page, 0x13)?,
+        counts(alloc, pages, page, 0x14)?,
+        counts(alloc, pages, page, 0x80)?,
+        counts(alloc, pages, page, 0x16)?,
+    ])
+}
+
+/// Of a composition page all types of a display set count, of an ancillary page CLUTs and objects,
+/// of other pages nothing.
+#[test]
+fn what_counts_of_which_page(rt: HostRuntime) -> Result<(), Fail> {
+    let whole = [true, true, true, true, true, true, false];
+    let shared = [false, false, true, true, false, false, false];
+    let nothing = [false; 7];
+    let two = Pages {
+        composition: 1,
+        ancillary: 2,
+    };
+    assert_eq!(rt; counted(rt.alloc(), two, 1)?, whole);
+    assert_eq!(rt; counted(rt.alloc(), two, 2)?, shared);
+    assert_eq!(rt; counted(rt.alloc(), two, 3)?, nothing);
+    assert_eq!(rt; counted(rt.alloc(), Pages::only(2), 2)?, whole);
+    assert_eq!(rt; counted(rt.alloc(), Pages::only(2), 1)?, nothing);
+    Ok(())
+}
+
+/// The set of one unit with segments of both pages: each segment that counts stands in it once.
+#[test]
+fn segments_of_two_pages(rt: HostRuntime) -> Result<(), Fail> {
+    let two = Pages {
+        composition: 1,
+        ancillary: 2,
+    };
+    let rows = [
+        (two, &SHARED[..]),
+        (Pages::only(1), &SET[..]),
+        (Pages::only(2), &SECOND[..]),
+    ];
+    for (pages, segments) in rows {
+        let mut gathering = Gathering::make(rt.alloc(), pages, 40)?;
+        let set = [whole(90_000, 50, segments)];
+        let row = taken_as(90_000, 50, &TWO_PAGES, UnitEnd::Taken, &set);
+        assert!(rt; goes(&mut gathering, &row));
+    }
     Ok(())
 }

@@ -5,6 +5,7 @@ use Rattle.std.proofs.lemmas.List.{reverse-append, take_all}
 use Rattle.std.proofs.lemmas.List.Elements.{All-nil, All-push}
 use Rattle.command_text.specs.Putting.{Buffered, PutsOut}
 use Rattle.command_text.proofs.PutLaws.{PutsOut-both, PutsOut-nothing}
+use Rattle.decoder_model.specs.declared.pages.Pages.{Pages}
 use Rattle.decoder_model.specs.Kept.{last_time, lifted_time}
 use Rattle.decoder_model.specs.Readings.{AreDeliveriesRead, IsDeliveryRead, Reading}
 use Rattle.decoder_model.specs.Received.{HasReceived}
@@ -46,8 +47,8 @@ module _ (old new : Receiving) (ticks : List ℕ) (told : ℕ) (at : Option ℕ)
   comes : (ended : Bool) (packets : List (List ℕ)) (text : List ℕ) (is : IsTold ended old ticks told packets text) → Comes ended packets is.given is.past
   comes ended packets text is =
       let next = has_next ended packets is.given is.stands in
-      let all = packets_read old.showing.core.profile old.demux.pid old.showing.core.page ended packets is.bytes in
-      let found = next_read old.showing.core.profile old.demux.pid old.showing.core.page ended packets is.given next.1 next.0 all.0 all.1 next.2.all in
+      let all = packets_read old.showing.core.profile old.demux.pid old.sets.pages ended packets is.bytes in
+      let found = next_read old.showing.core.profile old.demux.pid old.sets.pages ended packets is.given next.1 next.0 all.0 all.1 next.2.all in
       record {
         delivery = next.0;
         one = found.0;
@@ -155,8 +156,8 @@ nothing_told receiving ticks stands = record {
 }
 
 -- no packets have sets
-pub no_packets : (coded pid page : ℕ) → sets_of coded pid page false [] ≡ []
-no_packets coded pid page = sets_of_packets coded pid page false [] ∙ ap (λ (arrivals : List Arrival). sets_in coded (has_ended false pid []) (runs_of arrivals)) (none_arrived coded pid page)
+pub no_packets : (coded pid : ℕ) (pages : Pages) → sets_of coded pid pages false [] ≡ []
+no_packets coded pid pages = sets_of_packets coded pid pages false [] ∙ ap (λ (arrivals : List Arrival). sets_in coded (has_ended false pid []) (runs_of arrivals)) (none_arrived coded pid pages)
 
 -- ---- losses
 
@@ -223,7 +224,7 @@ same_text profile anchor ticks told past text (Some last) is within of =
 
 -- the text of the packets, where the stream goes on
 pub dumped_so_far : (dumping : Dumping) (packets : List (List ℕ)) (text : List ℕ) → HasDumped dumping packets text
-    → IsDumpText dumping.receiving.showing.core.profile dumping.receiving.demux.pid dumping.receiving.showing.core.page dumping.ticks false packets text
+    → IsDumpText dumping.receiving.showing.core.profile dumping.receiving.demux.pid dumping.receiving.sets.pages dumping.ticks false packets text
 dumped_so_far dumping packets text has =
     let profile = dumping.receiving.showing.core.profile in
     let anchor = dumping.receiving.showing.core.anchor in
@@ -241,7 +242,7 @@ pub dumped_whole : (before mid now : Received) (old : Dumping) (fed new : Receiv
     → IsSame old.receiving fed → DumpsOn before mid fed new old.ticks old.told next was between → IsSame fed new → AllTaken new → next ≤ length old.ticks
     → PutsBetween new mid now between is old.ticks next (length old.ticks)
     → (packets : List (List ℕ)) (text : List ℕ) → HasDumped old packets text
-    → (more : List ℕ) × IsDumpText old.receiving.showing.core.profile old.receiving.demux.pid old.receiving.showing.core.page old.ticks true packets (text ++ more) × PutsOut before now was is more
+    → (more : List ℕ) × IsDumpText old.receiving.showing.core.profile old.receiving.demux.pid old.receiving.sets.pages old.ticks true packets (text ++ more) × PutsOut before now was is more
 dumped_whole before mid now old fed new next was between is finishes same dumps later all within rest packets text has =
     let ended : IsTold true fed old.ticks old.told packets text = record {
       bytes = has.told.bytes;
@@ -262,15 +263,15 @@ dumped_whole before mid now old fed new next was between is finishes same dumps 
     ap (λ (front : List ℕ). front ++ others) state.of.whole ∙ sym (text_joined profile anchor state.past next (length old.ticks) old.ticks within)
     ∙ ap (shown_text profile anchor state.past) (take_all (length old.ticks) old.ticks (omega arith)) in
     let at_anchor : anchor ≡ anchor_of old.ticks = both.core.anchor ∙ has.anchored in
-    let is_new : IsDumpText profile new.demux.pid new.showing.core.page old.ticks true packets ((text ++ on.0) ++ others) = record {
+    let is_new : IsDumpText profile new.demux.pid new.sets.pages old.ticks true packets ((text ++ on.0) ++ others) = record {
       past = state.past;
       received = subst (λ (all : List (Delivery (List ℕ))). AreDeliveriesRead (reverse all) state.past) (sym (all packets true state.given state.stands)) state.read;
       whole = whole ∙ ap (λ (a : ℕ). shown_text profile a state.past old.ticks) at_anchor;
     } in (
       on.0 ++ others,
-      subst (λ (t : List ℕ). IsDumpText old.receiving.showing.core.profile old.receiving.demux.pid old.receiving.showing.core.page old.ticks true packets t) (append_assoc text on.0 others)
-          (subst (λ (page : ℕ). IsDumpText old.receiving.showing.core.profile old.receiving.demux.pid page old.ticks true packets ((text ++ on.0) ++ others)) both.core.page
-          (subst (λ (pid : ℕ). IsDumpText old.receiving.showing.core.profile pid new.showing.core.page old.ticks true packets ((text ++ on.0) ++ others)) both.pid
-          (subst (λ (p : Profile). IsDumpText p new.demux.pid new.showing.core.page old.ticks true packets ((text ++ on.0) ++ others)) both.core.profile is_new))),
+      subst (λ (t : List ℕ). IsDumpText old.receiving.showing.core.profile old.receiving.demux.pid old.receiving.sets.pages old.ticks true packets t) (append_assoc text on.0 others)
+          (subst (λ (pages : Pages). IsDumpText old.receiving.showing.core.profile old.receiving.demux.pid pages old.ticks true packets ((text ++ on.0) ++ others)) both.pages
+          (subst (λ (pid : ℕ). IsDumpText old.receiving.showing.core.profile pid new.sets.pages old.ticks true packets ((text ++ on.0) ++ others)) both.pid
+          (subst (λ (p : Profile). IsDumpText p new.demux.pid new.sets.pages old.ticks true packets ((text ++ on.0) ++ others)) both.core.profile is_new))),
       PutsOut-both before mid now was between is on.0 others on.2 (rest true packets state.given state.past state.stands state.read state.of.later),
     )

@@ -2,6 +2,7 @@
 use Rattle.std.specs.Prelude.{◌≡◌, ℕ, ◌-◌, nat_lt, Bool, true, false, List, [], ◌∷◌, filter, Option, Some, None}
 use Rattle.std.specs.List.{flat_map}
 use Rattle.command_text.specs.PictureText.{clear_line, picture_text}
+use Rattle.decoder_model.specs.declared.pages.Pages.{Pages}
 use Rattle.decoder_model.specs.Kept.{last_time}
 use Rattle.decoder_model.specs.Readings.{Reading}
 use Rattle.decoder_model.specs.Received.{HasReceived}
@@ -34,11 +35,11 @@ abbrev pub anchor_of : List ℕ → ℕ
 anchor_of [] = 0
 anchor_of (tick ∷ ticks) = tick - HALF_ROUND
 
--- the text of the pictures that are shown at these ticks, in a receiver of a profile for a PID and a page: the stream
--- ends with these packets, or the text is of the ticks that the packets settle
-pub record IsDumpText (profile : Profile) (pid page : ℕ) (ticks : List ℕ) (ended : Bool)
+-- the text of the pictures that are shown at these ticks, in a receiver of a profile for a PID and these pages: the
+-- stream ends with these packets, or the text is of the ticks that the packets settle
+pub record IsDumpText (profile : Profile) (pid : ℕ) (pages : Pages) (ticks : List ℕ) (ended : Bool)
     (packets : List (List ℕ)) (text : List ℕ) : Type 0 where
   pub past : List (Delivery Reading)
-  pub received : HasReceived profile pid page ended packets past
+  pub received : HasReceived profile pid pages ended packets past
   pub whole : text
       ≡ shown_text profile (anchor_of ticks) past (told_ticks ended (last_time (anchor_of ticks) past) ticks)

@@ -132,7 +132,7 @@ pub record HasDumped (dumping : Dumping) (packets : List (List ℕ)) (text : Lis
   pub within : dumping.told ≤ length dumping.ticks
   pub told : IsTold false dumping.receiving dumping.ticks dumping.told packets text
   pub all : sets_of dumping.receiving.showing.core.profile.coded dumping.receiving.demux.pid
-      dumping.receiving.showing.core.page false packets ≡ told.given
+      dumping.receiving.sets.pages false packets ≡ told.given
 
 -- the same receiver and the same ticks
 pub record IsSameDump (old new : Dumping) : Type 0 where

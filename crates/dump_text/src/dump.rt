@@ -10,6 +10,7 @@ ghost use Rattle.dump_text.specs.Dumping.{DumpsOn, Settles};
 
 use crate::pictures::{put_before, put_rest};
 use command_text::TextBuffer;
+use decoder_model::Pages;
 use packet_source::PacketSource;
 use packet_walk::{Refused, WalkEnd};
 use receiver::Receiver;
@@ -65,15 +66,15 @@ impl<'a> Dump<'a> {
     ghost use Rattle.dump_text.specs.DumpText.{IsDumpText};
     ghost use Rattle.dump_text.specs.Dumping.{AreAsked, HasDumped, IsSameDump};
 
-    /// A receiver of a profile for a PID and a page, which draws in so many bands, 1 to 64. Its
-    /// lifted times begin at the first of the ticks, which rise, less 2^32. All memory is taken
+    /// A receiver of a profile for a PID and these pages, which draws in so many bands, 1 to 64.
+    /// Its lifted times begin at the first of the ticks, which rise, less 2^32. All memory is taken
     /// here.
     pub fn make(
         alloc: Global,
         bands: u32,
         profile: &Profile,
         pid: u16,
-        page: u16,
+        pages: Pages,
         ticks: &'a [u64],
     ) -> Result<Dump<'a>, NoMemory>
         requires asked { AreAsked bands ticks.now }
@@ -81,7 +82,7 @@ impl<'a> Dump<'a> {
         requires nodes { profile.now.nodes < 2 ^ 31 }
         requires anchor { anchor_of ticks.now < 2 ^ 34 }
         ensures pid { IfOk result (λ dump. dump.receiving.demux.pid ≡ pid) }
-        ensures page { IfOk result (λ dump. dump.receiving.showing.core.page ≡ page) }
+        ensures pages { IfOk result (λ dump. dump.receiving.sets.pages ≡ pages) }
         ensures profile { IfOk result
             (λ dump. dump.receiving.showing.core.profile ≡ profile.now) }
         ensures ticks { IfOk result (λ dump. dump.ticks ≡ ticks.now) }
@@ -89,7 +90,7 @@ impl<'a> Dump<'a> {
     {
         Ok(Dump {
             bands,
-            receiver: Receiver::make(alloc, profile, pid, page, anchor(ticks))?,
+            receiver: Receiver::of_pages(alloc, profile, pid, pages, anchor(ticks))?,
             ticks,
             told: 0,
         })
@@ -230,7 +231,7 @@ impl<'a> Dump<'a> {
         ensures { (packets : List (List ℕ)) (text : List ℕ) → HasDumped self.old packets text
             → (more : List ℕ)
             × IsDumpText self.old.receiving.showing.core.profile self.old.receiving.demux.pid
-            self.old.receiving.showing.core.page self.old.ticks true packets (text ++ more)
+            self.old.receiving.sets.pages self.old.ticks true packets (text ++ more)
             × PutsOut (K.received out.old) (K.received out.new) buffer.old buffer.new more }
     {
         self.receiver.finish();

@@ -2,55 +2,34 @@
 //! the code of its status.
 #![tactic(auto)]
 
-mod output;
+mod reasons;
+
+ghost use Rattle.std.specs.Prelude.{◌≡◌, ◌⊎◌};
+ghost use Rattle.dvbsub_cmd.specs.Outcome.{untold};
+ghost use Rattle.dvbsub_cmd.specs.StatusText.{code_of};
+ghost use Rattle.dvbsub.specs.Ends.{is_told_of_stream, kind_of_words, unkept};
 
 use command_line::{COMMANDS, command_table};
-use dvbsub_cmd::{Status, inputs, tell, top};
-use output::Output;
-use std::fs::File;
+use dvbsub_cmd::{Status, Which, inputs, tell, top};
+use program_files::{
+    Output, OutputKind, WordsFault, is_kept, numbers_of, opened, output_name, word_at, words_of,
+};
+use reasons::explain;
+use std::io;
 use std::process::ExitCode;
 use std::thread::Threads;
-use std::{env, io};
 use sub_base::{FileSink, FileSource, NoGate, NoMemory, Words};
-
-/// Why the words of the command line were not read.
-#[derive(Drop)]
-enum WordsFault {
-    Memory,
-    NotText,
-}
-
-impl From<NoMemory> for WordsFault {
-    fn from(_error: NoMemory) -> WordsFault {
-        WordsFault::Memory
-    }
-}
-
-impl From<io::Error> for WordsFault {
-    fn from(error: io::Error) -> WordsFault {
-        match error.kind() {
-            io::ErrorKind::OutOfMemory => WordsFault::Memory,
-            _ => WordsFault::NotText,
-        }
-    }
-}
 
 fn main(rt: HostRuntime) -> ExitCode {
     let code = match words_of(&rt) {
         Ok(words) => carry_out(&rt, &rt, &words),
-        Err(WordsFault::Memory) => told(&rt, Status::Memory),
-        Err(WordsFault::NotText) => told(&rt, Status::Usage),
+        Err(WordsFault::Memory) => told(&rt, Status::Memory, false),
+        Err(WordsFault::NotText) => {
+            let _ = eprintln!(&rt; "a word of the command line is no text in UTF-8");
+            told(&rt, Status::Usage, false)
+        }
     };
     ExitCode::from(code)
-}
-
-/// The words of the command line, without the program's name.
-fn words_of(rt: &HostRuntime) -> Result<Words, WordsFault> {
-    let mut words = Words::make(rt.alloc());
-    for word in env::args(rt)?.skip(1) {
-        words.push(word.as_str())?;
-    }
-    Ok(words)
 }
 
 /// Carries out the command that the words are, and answers the code of its status.
@@ -62,67 +41,82 @@ fn carry_out<T: Threads + Sync>(rt: &HostRuntime, threads: &T, words: &Words) ->
     let first_name = word_at(words, places.first);
     let second_name = word_at(words, places.second);
     let out_name = word_at(words, places.out);
-    let mut output = Output::new(rt, output_name(out_name, first_name, second_name));
-    let mut out = FileSink::make(Some(&mut output));
+    let first = opened(rt, first_name);
+    let second = opened(rt, second_name);
+    let kind = kind_of(words, first.is_some());
+    let mut output = Output::whole(
+        rt,
+        output_name(out_name, first_name, second_name),
+        numbers_of(&first),
+        numbers_of(&second),
+    );
     let status = top(
         threads,
         rt.alloc(),
         words,
-        &mut FileSource::make(opened(rt, first_name)),
-        &mut FileSource::make(opened(rt, second_name)),
-        &mut out,
+        &mut FileSource::make(first),
+        &mut FileSource::make(second),
+        &mut FileSink::make(Some(&mut output)),
         &mut FileSink::make(Some(io::sink())),
         &NoGate,
     );
-    told(rt, finished(&mut output, status))
+    let status = ended(&mut output, kind, status);
+    explain(rt, words, status, output.is_refused());
+    told(rt, status, output.is_standard_output())
 }
 
-/// The name of the output's file. There is none where an input has it, so that no input is
-/// overwritten.
-fn output_name<'a>(
-    name: Option<&'a str>,
-    first: Option<&str>,
-    second: Option<&str>,
-) -> Option<&'a str> {
-    if name == first || name == second {
-        None
-    } else {
-        name
+/// What the output of a command has to say where the command does not come to its end: what it
+/// tells of a stream, where there is one.
+fn kind_of(words: &Words, has_stream: bool) -> OutputKind
+    ensures { result ≡ kind_of_words words.now has_stream }
+{
+    match word_at(words, Some(0)) {
+        Some(word) if has_stream && tells_of_stream(word) => OutputKind::Told,
+        _ => OutputKind::Whole,
     }
 }
 
-/// The status once the file of the output is there, where the command was done.
-fn finished(output: &mut Output<'_>, status: Status) -> Status {
-    match status {
-        Status::Done { .. } if output.finish().is_err() => status.unfinished(),
-        _ => status,
+fn tells_of_stream(word: &str) -> bool
+    ensures { result ≡ is_told_of_stream word.now }
+{
+    word == "list" || word == "dump" || word == "check"
+}
+
+/// The status once the output has taken the place of what was there, or has been given up.
+fn ended(output: &mut Output<'_>, kind: OutputKind, status: Status) -> Status
+    ensures { (result ≡ status) ⊎ (result ≡ unkept) }
+{
+    if !is_kept(kind, status.code(), output.has_written()) {
+        output.abandon();
+        return status;
+    }
+    match output.finish() {
+        Ok(()) => status,
+        Err(_) => Status::WriteFault(Which::Out),
     }
 }
 
-/// Writes the line of a status to standard output, and the table of commands to standard error
-/// where the command line was wrong. Answers the code.
-fn told(rt: &HostRuntime, status: Status) -> u8 {
+/// Writes the line of a status to standard output, or to standard error where standard output has
+/// the command's own, and the table of commands to standard error where the command line was wrong.
+/// Answers the code.
+fn told(rt: &HostRuntime, status: Status, is_taken: bool) -> u8
+    ensures { (result ≡ code_of status) ⊎ (result ≡ code_of (untold status)) }
+{
     if let Status::Usage = status {
-        let _ = match command_table(rt.alloc()) {
-            Ok(table) => eprint!(rt; "{table}"),
-            Err(NoMemory) => eprintln!(rt; "{COMMANDS}"),
-        };
+        write_table(rt);
     }
-    tell(status, &mut FileSink::make(Some(io::writer(rt)))).code()
-}
-
-fn word_at(words: &Words, place: Option<usize>) -> Option<&str> {
-    let place = place?;
-    if place < words.count() {
-        Some(words.word(place))
+    if is_taken {
+        tell(status, &mut FileSink::make(Some(rt.stderr()))).code()
     } else {
-        None
+        tell(status, &mut FileSink::make(Some(io::writer(rt)))).code()
     }
 }
 
-/// The file of that name, where it can be opened.
-fn opened(rt: &HostRuntime, name: Option<&str>) -> Option<File> {
-    File::open(rt, name?).ok()
+fn write_table(rt: &HostRuntime) {
+    let _ = match command_table(rt.alloc()) {
+        Ok(table) => eprint!(rt; "{table}"),
+        Err(NoMemory) => eprintln!(rt; "{COMMANDS}"),
+    };
 }
 
 #[cfg(test)]

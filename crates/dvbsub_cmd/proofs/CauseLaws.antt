@@ -4,7 +4,8 @@ use Rattle.cue_list.specs.declared.script.Script.{Script}
 use Rattle.sub_base.specs.Counts.{HasRisen}
 use Rattle.sub_base.specs.declared.profile.ProfileName.{ProfileName}
 use Rattle.dvbsub_cmd.specs.Checks.{checks}
-use Rattle.dvbsub_cmd.specs.Command.{asked_ticks, command_of}
+use Rattle.command_words.specs.Ticks.{asked_ticks}
+use Rattle.dvbsub_cmd.specs.Command.{command_of}
 use Rattle.dvbsub_cmd.specs.CompileOutcome.{IsCompileCause, IsCompilable}
 use Rattle.dvbsub_cmd.specs.Completeness.{IsComplete, IsReadable, IsUntroubled}
 use Rattle.dvbsub_cmd.specs.Dumps.{dumps}
@@ -14,13 +15,13 @@ use Rattle.dvbsub_cmd.specs.Listing.{lists}
 use Rattle.dvbsub_cmd.specs.Outcome.{HasCause, IsCausedBy, Tells}
 use Rattle.dvbsub_cmd.specs.ReadScript.{HasRightScript, IsInputCause}
 use Rattle.sub_base.specs.Endpoints.{Supplied, Received}
-use Rattle.dvbsub_cmd.specs.Seen.{Seen}
+use Rattle.sub_base.specs.Seen.{Seen}
 use Rattle.dvbsub_cmd.specs.StreamOutcome.{IsStreamCause, Telling}
 use Rattle.dvbsub_cmd.specs.declared.command.Command.{Command}
 use Rattle.dvbsub_cmd.specs.declared.command.Command.TheVariants as command
 use Rattle.dvbsub_cmd.specs.declared.status.Status.{Status}
 use Rattle.dvbsub_cmd.specs.declared.status.Status.TheVariants as status
-use Rattle.dvbsub_cmd.specs.declared.status.Which.TheVariants as which
+use Rattle.sub_base.specs.declared.status.Which.TheVariants as which
 
 -- done whole, or memory is wanting
 abbrev pub IsWhole : Status → Type 0

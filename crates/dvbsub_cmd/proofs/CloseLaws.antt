@@ -18,7 +18,7 @@ use Rattle.command_text.specs.Putting.{Sent}
 use Rattle.dvbsub_cmd.specs.Private.Closing.{Closes, ClosesEnd, HasEnded}
 use Rattle.dvbsub_cmd.specs.declared.status.Status.{Status}
 use Rattle.dvbsub_cmd.specs.declared.status.Status.TheVariants as status
-use Rattle.dvbsub_cmd.specs.declared.status.Which.TheVariants as which
+use Rattle.sub_base.specs.declared.status.Which.TheVariants as which
 
 -- what was written of a text that is put out is a front of it
 sent_front : (start now : Option (List ℕ)) (waits text : List ℕ) → Sent start now waits text → AppendsPrefix start now text

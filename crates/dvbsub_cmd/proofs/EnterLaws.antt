@@ -5,6 +5,7 @@ use Rattle.std.specs.List.{AllByRecursion}
 use Rattle.std.specs.List.Sorted.{IsStrictlyIncreasing}
 use Rattle.std.proofs.lemmas.List.Elements.{All-from_recursion}
 use Rattle.cue_list.specs.declared.script.Script.{Script}
+use Rattle.decoder_model.specs.Frames.{only}
 use Rattle.decoder_model.specs.Streams.{SentSet, entry_set}
 use Rattle.page_epoch.specs.declared.planned_set.PlannedSet.{PlannedSet}
 use Rattle.shown_stream.proofs.EnteredTimes.{drop_found, drop_rises}
@@ -40,8 +41,8 @@ module _ (times : List ℕ) (sets : List PlannedSet) (times_are : times ≡ pts_
 -- ---- pictures
 
 shown_late : (name : ProfileName) (script : Script) (packets : List (List ℕ)) (entry : SentSet) (ticks : List ℕ)
-    → ((tick : ℕ) → ShowsFrom (profile_of name) generated_pid generated_page 0 packets (Some entry) tick (authored_view script tick)) → AllByRecursion (λ tick. entry.time ≤ tick) ticks
-    → AllByRecursion (λ tick. Shows (profile_of name) generated_pid generated_page 0 packets tick (authored_view script tick)) ticks
+    → ((tick : ℕ) → ShowsFrom (profile_of name) generated_pid (only generated_page) 0 packets (Some entry) tick (authored_view script tick)) → AllByRecursion (λ tick. entry.time ≤ tick) ticks
+    → AllByRecursion (λ tick. Shows (profile_of name) generated_pid (only generated_page) 0 packets tick (authored_view script tick)) ticks
 shown_late name script packets entry [] shows late = tt
 shown_late name script packets entry (tick ∷ ticks) shows late =
     let is = shows tick in
@@ -52,9 +53,9 @@ module _ (name : ProfileName) (made : Generated) (packets : List (List ℕ)) (ti
   pub entry_shown : AreShown name made.script (drop missed packets) (drop number times)
   entry_shown =
       let sent : SentSet = sent_set made.sent.schedule number entry.0 in
-      All-from_recursion (λ tick. Shows (profile_of name) generated_pid generated_page 0 (drop missed packets) tick (authored_view made.script tick)) (drop number times)
+      All-from_recursion (λ tick. Shows (profile_of name) generated_pid (only generated_page) 0 (drop missed packets) tick (authored_view made.script tick)) (drop number times)
       (shown_late name made.script (drop missed packets) sent (drop number times)
-      (λ tick. subst (λ (one : Option SentSet). ShowsFrom (profile_of name) generated_pid generated_page 0 (drop missed packets) one tick (authored_view made.script tick)) entry.2 (of.shown missed tick))
+      (λ tick. subst (λ (one : Option SentSet). ShowsFrom (profile_of name) generated_pid (only generated_page) 0 (drop missed packets) one tick (authored_view made.script tick)) entry.2 (of.shown missed tick))
       (later_times times made.sent.plan.sets of.times_are number entry.0 entry.1 of.told))
 
   -- the first of these is the time of the entry set

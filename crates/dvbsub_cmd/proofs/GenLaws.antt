@@ -9,6 +9,7 @@ use Rattle.buffer_model.specs.Calls.{Call}
 use Rattle.check_text.specs.CheckText.{IsPeak}
 use Rattle.cue_list.specs.Sound.{IsTick}
 use Rattle.cue_list.specs.declared.script.Script.{Script}
+use Rattle.decoder_model.specs.Frames.{only}
 use Rattle.decoder_model.specs.Arrivals.{packets_taken}
 use Rattle.decoder_model.specs.Readings.{Reading}
 use Rattle.decoder_model.specs.Sets.{Delivery, sets_of}
@@ -75,12 +76,12 @@ early_times origin times all zero_is k d inside = let early = (All-from_recursio
 
 -- the calls of packets by what was received of them
 abbrev calls_by : Profile → ℕ → ℕ → ℕ → List (List ℕ) → List (Delivery Reading) → List Call
-calls_by profile pid page anchor packets past = reverse (calls_from itself profile.coded pid page 0 [] (packets_taken pid packets) (set_calls profile anchor (reverse past)))
+calls_by profile pid page anchor packets past = reverse (calls_from itself profile.coded pid (only page) 0 [] (packets_taken pid packets) (set_calls profile anchor (reverse past)))
 
 -- packets have one list of calls
-one_calls : (profile : Profile) (pid page anchor : ℕ) (packets : List (List ℕ)) (calls other : List Call) → AreCallsOf profile pid page anchor 0 false packets calls → AreCallsOf profile pid page anchor 0 false packets other → calls ≡ other
+one_calls : (profile : Profile) (pid page anchor : ℕ) (packets : List (List ℕ)) (calls other : List Call) → AreCallsOf profile pid (only page) anchor 0 false packets calls → AreCallsOf profile pid (only page) anchor 0 false packets other → calls ≡ other
 one_calls profile pid page anchor packets calls other is too =
-    is.are ∙ ap (calls_by profile pid page anchor packets) (same_past (reverse (sets_of profile.coded pid page false packets)) is.past too.past is.received too.received) ∙ sym too.are
+    is.are ∙ ap (calls_by profile pid page anchor packets) (same_past (reverse (sets_of profile.coded pid (only page) false packets)) is.past too.past is.received too.received) ∙ sym too.are
 
 -- ---- the packets
 
@@ -97,7 +98,7 @@ module _ (name : ProfileName) (script : Script) (bytes : List ℕ) (is_for : IsG
   suits : (missed : ℕ) → IsAnchorOf (times_from missed (sent_sets compiled.table compiled.sets)) 0
   suits missed = from_zero name script compiled.table compiled.sets missed compiled.planned.plan zero_is
 
-  shows : (missed tick : ℕ) → ShowsFrom (profile_of name) generated_pid generated_page 0 (entered_at missed packets_sent) (entry_set missed (sent_sets compiled.table compiled.sets)) tick (authored_view script tick)
+  shows : (missed tick : ℕ) → ShowsFrom (profile_of name) generated_pid (only generated_page) 0 (entered_at missed packets_sent) (entry_set missed (sent_sets compiled.table compiled.sets)) tick (authored_view script tick)
   shows missed tick = (compiled_entered name generated_pid generated_page script bytes free (sends name is_for) compiled missed).shown 0 (suits missed) tick
 
   -- the packets in memory are these
@@ -113,15 +114,15 @@ module _ (name : ProfileName) (script : Script) (bytes : List ℕ) (is_for : IsG
   count_few = packets_few name generated_pid generated_page script bytes (sends name is_for) compiled
 
   -- the calls of the packets are those of the stream that ends with them
-  ended_calls : (peak : ℕ) (is : IsPeak (profile_of name) generated_pid generated_page 0 packets_sent peak) → AreCallsOf (profile_of name) generated_pid generated_page 0 0 true packets_sent is.calls
+  ended_calls : (peak : ℕ) (is : IsPeak (profile_of name) generated_pid (only generated_page) 0 packets_sent peak) → AreCallsOf (profile_of name) generated_pid (only generated_page) 0 0 true packets_sent is.calls
   ended_calls peak is =
       let stays = compiled_stays name generated_pid generated_page script bytes free compiled known 0 0 (suits 0) in
       let view = (shows 0 0).is_shown in
       let calls : List Call = calls_by (profile_of name) generated_pid generated_page 0 packets_sent view.past in
-      let ended : AreCallsOf (profile_of name) generated_pid generated_page 0 0 true packets_sent calls = record { past = view.past; received = view.received; are = refl } in
-      let so_far : AreCallsOf (profile_of name) generated_pid generated_page 0 0 false packets_sent calls =
-      subst (λ (packets : List (List ℕ)). AreCallsOf (profile_of name) generated_pid generated_page 0 0 false packets calls) (take_all (length packets_sent) packets_sent (omega arith)) (stays.ended calls ended) in
-      subst (AreCallsOf (profile_of name) generated_pid generated_page 0 0 true packets_sent) (one_calls (profile_of name) generated_pid generated_page 0 packets_sent calls is.calls so_far is.called) ended
+      let ended : AreCallsOf (profile_of name) generated_pid (only generated_page) 0 0 true packets_sent calls = record { past = view.past; received = view.received; are = refl } in
+      let so_far : AreCallsOf (profile_of name) generated_pid (only generated_page) 0 0 false packets_sent calls =
+      subst (λ (packets : List (List ℕ)). AreCallsOf (profile_of name) generated_pid (only generated_page) 0 0 false packets calls) (take_all (length packets_sent) packets_sent (omega arith)) (stays.ended calls ended) in
+      subst (AreCallsOf (profile_of name) generated_pid (only generated_page) 0 0 true packets_sent) (one_calls (profile_of name) generated_pid generated_page 0 packets_sent calls is.calls so_far is.called) ended
 
 -- ---- what is in memory
 
@@ -144,9 +145,9 @@ are_of name made number is_for is packets times are times_are =
         early = subst (All (λ tick. tick ≤ 4294967296)) (sym times_is) (early_times made.script.origin (pts_of compiled.sets) (times_in_span made.script (profile_of name) compiled.sets compiled.planned.plan) zero_is);
       };
       shown = λ missed tick.
-          subst (λ (sets : List PlannedSet). ShowsFrom (profile_of name) generated_pid generated_page 0 (entered_at missed packets) (entry_set missed (sent_sets made.sent.schedule sets)) tick (authored_view made.script tick)) is.sets
-          (subst (λ (table : Timetable). ShowsFrom (profile_of name) generated_pid generated_page 0 (entered_at missed packets) (entry_set missed (sent_sets table compiled.sets)) tick (authored_view made.script tick)) is.table
-          (subst (λ (all : List (List ℕ)). ShowsFrom (profile_of name) generated_pid generated_page 0 (entered_at missed all) (entry_set missed (sent_sets compiled.table compiled.sets)) tick (authored_view made.script tick)) (sym same)
+          subst (λ (sets : List PlannedSet). ShowsFrom (profile_of name) generated_pid (only generated_page) 0 (entered_at missed packets) (entry_set missed (sent_sets made.sent.schedule sets)) tick (authored_view made.script tick)) is.sets
+          (subst (λ (table : Timetable). ShowsFrom (profile_of name) generated_pid (only generated_page) 0 (entered_at missed packets) (entry_set missed (sent_sets table compiled.sets)) tick (authored_view made.script tick)) is.table
+          (subst (λ (all : List (List ℕ)). ShowsFrom (profile_of name) generated_pid (only generated_page) 0 (entered_at missed all) (entry_set missed (sent_sets compiled.table compiled.sets)) tick (authored_view made.script tick)) (sym same)
           (shows name made.script made.stream.written is_for zero_is compiled missed tick)));
     }
 
@@ -164,7 +165,7 @@ gen_text_of name made number is_for is packets are told is_told =
     let all = packets_sent name made.script made.stream.written is_for zero_is compiled in
     let same = are_sent name made.script made.stream.written is_for zero_is compiled packets are in
     let its = known name made.script made.stream.written is_for zero_is compiled in
-    let own : IsPeak (profile_of name) generated_pid generated_page 0 all told.peak = subst (λ (p : List (List ℕ)). IsPeak (profile_of name) generated_pid generated_page 0 p told.peak) same is_told.peak_is in
+    let own : IsPeak (profile_of name) generated_pid (only generated_page) 0 all told.peak = subst (λ (p : List (List ℕ)). IsPeak (profile_of name) generated_pid (only generated_page) 0 p told.peak) same is_told.peak_is in
     let entry : (missed : ℕ) → entry_behind made missed ≡ entry_of compiled.table compiled.sets missed = λ missed i. entry_of (sym is.table i) (sym is.sets i) missed in
     let sets_is : told.sets ≡ length compiled.sets = is_told.sets_are ∙ ap length (sym is.sets) in
     let packets_is : told.packets ≡ length all = is_told.packets_are ∙ ap length same in

@@ -14,7 +14,7 @@ use Rattle.dvbsub_cmd.specs.Headline.{ShowsScript, OnDone, IsShownBy}
 use Rattle.dvbsub_cmd.specs.Outcome.{Tells, untold}
 use Rattle.dvbsub_cmd.specs.ReadScript.{ReadsScript}
 use Rattle.sub_base.specs.Endpoints.{Received}
-use Rattle.dvbsub_cmd.specs.Seen.{Seen}
+use Rattle.sub_base.specs.Seen.{Seen}
 use Rattle.dvbsub_cmd.specs.declared.command.Command.{Command}
 use Rattle.dvbsub_cmd.specs.declared.command.Command.TheVariants as command
 use Rattle.dvbsub_cmd.specs.declared.status.Status.{Status}

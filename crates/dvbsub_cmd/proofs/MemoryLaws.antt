@@ -4,7 +4,7 @@ use Rattle.std.specs.Io.KnownBytes.{Keeps}
 use Rattle.dvbsub_cmd.specs.Command.{command_of}
 use Rattle.dvbsub_cmd.specs.Headline.{IsShownBy}
 use Rattle.dvbsub_cmd.specs.Outcome.{IsCaused, IsCausedBy, IsSecondKept}
-use Rattle.dvbsub_cmd.specs.Seen.{Seen}
+use Rattle.sub_base.specs.Seen.{Seen}
 use Rattle.dvbsub_cmd.specs.declared.command.Command.{Command}
 use Rattle.dvbsub_cmd.specs.declared.command.Command.TheVariants as command
 use Rattle.dvbsub_cmd.specs.declared.status.Status.TheVariants as status

@@ -4,6 +4,7 @@ use Rattle.std.specs.List.{AllByRecursion, flat_map, range_with_len}
 use Rattle.std.proofs.lemmas.List.Elements.{recursion_from_All}
 use Rattle.command_text.specs.PictureText.{clear_line, is_clear, is_same_colour, plane_row, row_line, sides_line}
 use Rattle.cue_list.specs.declared.script.Script.{Script}
+use Rattle.decoder_model.specs.Frames.{only}
 use Rattle.decoder_model.specs.Readings.{Reading}
 use Rattle.decoder_model.specs.Received.{HasReceived}
 use Rattle.decoder_model.specs.Sets.{Delivery, sets_of}
@@ -41,13 +42,13 @@ same_text tick shown wanted (inr both) = clear_text tick shown both.0 ∙ sym (c
 
 -- ---- all pictures
 
-module _ (name : ProfileName) (script : Script) (packets : List (List ℕ)) (past : List (Delivery Reading)) (received : HasReceived (profile_of name) generated_pid generated_page true packets past) where
+module _ (name : ProfileName) (script : Script) (packets : List (List ℕ)) (past : List (Delivery Reading)) (received : HasReceived (profile_of name) generated_pid (only generated_page) true packets past) where
   abbrev IsSo : ℕ → Type 0
-  IsSo tick = Shows (profile_of name) generated_pid generated_page 0 packets tick (authored_view script tick)
+  IsSo tick = Shows (profile_of name) generated_pid (only generated_page) 0 packets tick (authored_view script tick)
 
   one_picture : (tick : ℕ) → IsSo tick → view_text tick (view_at (profile_of name) 0 tick past) ≡ authored_text script tick
   one_picture tick is =
-      let own = same_past (reverse (sets_of (profile_of name).coded generated_pid generated_page true packets)) past is.is_shown.past received is.is_shown.received in
+      let own = same_past (reverse (sets_of (profile_of name).coded generated_pid (only generated_page) true packets)) past is.is_shown.past received is.is_shown.received in
       ap (λ (all : List (Delivery Reading)). view_text tick (view_at (profile_of name) 0 tick all)) own
       ∙ ap (view_text tick) (sym is.is_shown.is_view) ∙ same_text tick is.shown (authored_view script tick) is.agrees
 
@@ -62,8 +63,8 @@ from_zero (tick ∷ ticks) told = omega (arith, told.early 0 0 (omega arith))
 
 -- what a receiver shows has the texts of what is authored
 pub shown_as_authored : (name : ProfileName) (script : Script) (packets : List (List ℕ)) (ticks text : List ℕ) → AreTold ticks → AreShown name script packets ticks
-    → IsDumpText (profile_of name) generated_pid generated_page ticks true packets text → text ≡ expect_text script ticks
+    → IsDumpText (profile_of name) generated_pid (only generated_page) ticks true packets text → text ≡ expect_text script ticks
 shown_as_authored name script packets ticks text told shown dumped =
     dumped.whole
     ∙ ap (λ (anchor : ℕ). flat_map (λ tick. view_text tick (view_at (profile_of name) anchor tick dumped.past)) ticks) (from_zero ticks told)
-    ∙ all_pictures name script packets dumped.past dumped.received ticks (recursion_from_All (λ tick. Shows (profile_of name) generated_pid generated_page 0 packets tick (authored_view script tick)) ticks shown)
+    ∙ all_pictures name script packets dumped.past dumped.received ticks (recursion_from_All (λ tick. Shows (profile_of name) generated_pid (only generated_page) 0 packets tick (authored_view script tick)) ticks shown)

@@ -4,13 +4,15 @@ use Rattle.check_text.specs.CheckText.{IsCheckText}
 use Rattle.check_text.specs.Checking.{Checking}
 use Rattle.sub_base.specs.Profile.{profile_of}
 use Rattle.sub_base.specs.declared.profile.ProfileName.{ProfileName}
+use Rattle.decoder_model.specs.Frames.{only}
 
 -- the sets and levels in a receiver of the profile for the PID and the page, whose first packet arrives at the origin
 abbrev pub checks : ProfileName → ℕ → ℕ → ℕ → Bool → List (List ℕ) → List ℕ → Type 0
-checks profile origin pid page ended packets text = IsCheckText (profile_of profile) origin pid page ended packets text
+checks profile origin pid page ended packets text =
+    IsCheckText (profile_of profile) origin pid (only page) ended packets text
 
 -- what a receiver at work tells of packets
 abbrev pub check_tells : Checking → Bool → List (List ℕ) → List ℕ → Type 0
 check_tells checking ended packets text =
     IsCheckText checking.receiving.showing.core.profile checking.receiving.showing.core.anchor
-    checking.receiving.demux.pid checking.receiving.showing.core.page ended packets text
+    checking.receiving.demux.pid checking.receiving.sets.pages ended packets text

@@ -1,91 +1,37 @@
 -- The commands of the program.
-use Rattle.std.specs.Prelude.{◌≡◌, ℕ, ◌==◌, not, Bool, true, false, ◌&&◌, nat_lt, nat_le, if◌then◌else◌, List, [], ◌∷◌, length, drop, map, unwrap_or, slice_index_or, Option, Some, None, ◌+◌, ◌<◌, ◌≤◌, codes}
+use Rattle.std.specs.Prelude.{◌≡◌, ℕ, ◌==◌, Bool, true, false, ◌&&◌, if◌then◌else◌, List, length, drop, Option, Some, None, ◌<◌, ◌≤◌, codes}
 use Rattle.std.specs.List.{list_all}
 use Rattle.std.specs.Option.{option_or}
 use Rattle.std.specs.Str.{bytes_eq}
-use Rattle.cue_list.specs.Cells.{◌>>=◌}
-use Rattle.command_line.specs.PlainWords.{is_plain}
+use Rattle.command_words.specs.PlainWords.{is_plain}
+use Rattle.command_words.specs.Ticks.{are_rising, has_ticks}
+use Rattle.command_words.specs.Words.{◌>>=◌, has_word, names_font, no_places, page_of, pid_of, reading_profile, sending_profile, word_at}
+use Rattle.command_words.specs.declared.ranges.TheConstants.{MOST_BANDS}
 use Rattle.sub_base.specs.Number.{number_in}
 use Rattle.sub_base.specs.declared.profile.ProfileName.{ProfileName}
 use Rattle.sub_base.specs.declared.profile.ProfileName.TheVariants.{Sd, Hd, Wide, Large}
 use Rattle.shown_stream.specs.Compiled.{IsCompiledFor}
 use Rattle.dvbsub_cmd.specs.GenText.{IsGeneratedFor}
-use Rattle.dvbsub_cmd.specs.declared.command.TheConstants.{GREATEST_PAGE, GREATEST_PID, LATEST_TICK, LEAST_PID, MOST_BANDS, MOST_GENERATED}
+use Rattle.dvbsub_cmd.specs.declared.command.TheConstants.{MOST_GENERATED}
 use Rattle.dvbsub_cmd.specs.declared.command.Command.{Command}
 use Rattle.dvbsub_cmd.specs.declared.command.Command.TheVariants as command
-use Rattle.dvbsub_cmd.specs.declared.command.InputPlaces.{InputPlaces}
+use Rattle.command_words.specs.declared.place.InputPlaces.{InputPlaces}
 use Rattle.stream_syntax.specs.declared.wire.TheConstants.{TIME_ROUND, NULL_PID}
 use Rattle.cue_list.specs.declared.limits.TheConstants.{LATEST_ORIGIN}
-
--- the word at that place
-abbrev pub word_at : List (List ℕ) → ℕ → List ℕ
-word_at words place = slice_index_or words place []
-
--- the word at that place is that text
-abbrev pub has_word : List (List ℕ) → ℕ → List ℕ → Bool
-has_word words place text = bytes_eq (word_at words place) text
-
--- the profile of that name, of those for which scripts are compiled
-abbrev pub sending_profile : List ℕ → Option ProfileName
-sending_profile word =
-    if bytes_eq word (codes "sd") then Some Sd
-    else if bytes_eq word (codes "hd") then Some Hd
-    else if bytes_eq word (codes "large") then Some Large
-    else None
-
--- the profile of that name
-abbrev pub reading_profile : List ℕ → Option ProfileName
-reading_profile word = if bytes_eq word (codes "wide") then Some Wide else sending_profile word
-
--- the word names a font, and is not that for no font
-abbrev pub names_font : List ℕ → Bool
-names_font word = not (bytes_eq word (codes "none"))
 
 -- `compile PROFILE PID PAGE SCRIPT FONT OUT`
 abbrev pub compile_of : List (List ℕ) → Option Command
 compile_of words = if (length words == 7) && has_word words 0 (codes "compile") then (do
   profile ← sending_profile (word_at words 1)
-  pid ← number_in LEAST_PID GREATEST_PID (word_at words 2)
-  page ← number_in 1 GREATEST_PAGE (word_at words 3)
+  pid ← pid_of (word_at words 2)
+  page ← page_of (word_at words 3)
   Some (command.Compile profile pid page (names_font (word_at words 5)))) else None
 
 -- `list PID STREAM OUT`
 abbrev pub list_of : List (List ℕ) → Option Command
 list_of words = if (length words == 4) && has_word words 0 (codes "list") then (do
-  pid ← number_in LEAST_PID GREATEST_PID (word_at words 1)
+  pid ← pid_of (word_at words 1)
   Some (command.List pid)) else None
-
--- a tick on the command line
-abbrev pub tick_of : List ℕ → Option ℕ
-tick_of word = number_in 0 LATEST_TICK word
-
--- a tick lies above the one before it, where there is one
-abbrev pub is_above : Option ℕ → ℕ → Bool
-is_above None tick = true
-is_above (Some before) tick = nat_lt before tick
-
--- the word is that tick, and the others rise from it
-abbrev pub rises_from : Option ℕ → Option ℕ → (Option ℕ → Bool) → Bool
-rises_from before None others = false
-rises_from before (Some tick) others = is_above before tick && others (Some tick)
-
--- each of the words is a tick, and lies above the one before it
-abbrev pub are_rising : Option ℕ → List (List ℕ) → Bool
-are_rising before [] = true
-are_rising before (word ∷ words) = rises_from before (tick_of word) (λ tick. are_rising tick words)
-
--- the tick that a word is, where it is one
-abbrev pub tick_or_zero : List ℕ → ℕ
-tick_or_zero word = unwrap_or (tick_of word) 0
-
--- the ticks that are asked for: those that the words from a place on are
-abbrev pub asked_ticks : ℕ → List (List ℕ) → List ℕ
-asked_ticks place words = map tick_or_zero (drop place words)
-
--- so many words come before 1 to 1,000 rising ticks
-abbrev pub has_ticks : ℕ → List (List ℕ) → Bool
-has_ticks place words =
-    nat_lt place (length words) && nat_le (length words) (place + 1000) && are_rising None (drop place words)
 
 -- `expect SCRIPT FONT OUT TICK...`, with 1 to 1,000 rising ticks
 abbrev pub is_expect : List (List ℕ) → Bool
@@ -98,8 +44,8 @@ expect_of words = if is_expect words then Some (command.Expect (names_font (word
 abbrev pub dump_of : List (List ℕ) → Option Command
 dump_of words = if has_ticks 7 words && has_word words 0 (codes "dump") then (do
   profile ← reading_profile (word_at words 1)
-  pid ← number_in LEAST_PID GREATEST_PID (word_at words 2)
-  page ← number_in 1 GREATEST_PAGE (word_at words 3)
+  pid ← pid_of (word_at words 2)
+  page ← page_of (word_at words 3)
   bands ← number_in 1 MOST_BANDS (word_at words 4)
   Some (command.Dump profile pid page bands)) else None
 
@@ -108,8 +54,8 @@ abbrev pub check_of : List (List ℕ) → Option Command
 check_of words = if (length words == 7) && has_word words 0 (codes "check") then (do
   profile ← sending_profile (word_at words 1)
   origin ← number_in 0 LATEST_ORIGIN (word_at words 2)
-  pid ← number_in LEAST_PID GREATEST_PID (word_at words 3)
-  page ← number_in 1 GREATEST_PAGE (word_at words 4)
+  pid ← pid_of (word_at words 3)
+  page ← page_of (word_at words 4)
   Some (command.Check profile origin pid page)) else None
 
 -- the profile of that name, of those for which scripts are generated
@@ -141,7 +87,7 @@ font_place false place = None
 
 -- where the names of a command's files stand among the words
 abbrev pub places_of : Option Command → InputPlaces
-places_of None = record { first = None; second = None; out = None }
+places_of None = no_places
 places_of (Some (command.Compile profile pid page has_font)) =
     record { first = Some 4; second = font_place has_font 5; out = Some 6 }
 places_of (Some (command.List pid)) = record { first = Some 2; second = None; out = Some 3 }

@@ -11,11 +11,11 @@ use Rattle.shown_stream.specs.Compiled.{IsCompiledTo}
 use Rattle.dvbsub_cmd.specs.CompileRefused.{IsPlanRefused, IsScheduleRefused}
 use Rattle.dvbsub_cmd.specs.ReadScript.{ReadsScript, IsInputCause, HasRightScript}
 use Rattle.sub_base.specs.Endpoints.{WroteNothing}
-use Rattle.dvbsub_cmd.specs.Seen.{Seen}
+use Rattle.sub_base.specs.Seen.{Seen}
 use Rattle.dvbsub_cmd.specs.declared.status.Status.{Status}
 use Rattle.dvbsub_cmd.specs.declared.status.Status.TheVariants as status
-use Rattle.dvbsub_cmd.specs.declared.status.Which.{Which}
-use Rattle.dvbsub_cmd.specs.declared.status.Which.TheVariants as which
+use Rattle.sub_base.specs.declared.status.Which.{Which}
+use Rattle.sub_base.specs.declared.status.Which.TheVariants as which
 
 -- the script that was read, and the packets that it is compiled to
 pub record Compiles (profile : ProfileName) (pid page : ℕ) (has_font : Bool) (before now : Seen)

@@ -6,7 +6,7 @@ use Rattle.dvbsub_cmd.specs.CompileOutcome.{IsCompilable}
 use Rattle.dvbsub_cmd.specs.ExpectOutcome.{IsExpectable}
 use Rattle.dvbsub_cmd.specs.StreamOutcome.{IsRightStream}
 use Rattle.sub_base.specs.Endpoints.{Supplied, Received}
-use Rattle.dvbsub_cmd.specs.Seen.{Seen}
+use Rattle.sub_base.specs.Seen.{Seen}
 use Rattle.dvbsub_cmd.specs.declared.command.Command.{Command}
 use Rattle.dvbsub_cmd.specs.declared.command.Command.TheVariants as command
 use Rattle.dvbsub_cmd.specs.declared.status.Status.{Status}

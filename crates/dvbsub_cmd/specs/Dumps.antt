@@ -4,13 +4,15 @@ use Rattle.dump_text.specs.DumpText.{IsDumpText}
 use Rattle.dump_text.specs.Dumping.{Dumping}
 use Rattle.sub_base.specs.Profile.{profile_of}
 use Rattle.sub_base.specs.declared.profile.ProfileName.{ProfileName}
+use Rattle.decoder_model.specs.Frames.{only}
 
 -- the texts of the pictures that are shown at these ticks, in a receiver of the profile for the PID and the page
 abbrev pub dumps : ProfileName → ℕ → ℕ → List ℕ → Bool → List (List ℕ) → List ℕ → Type 0
-dumps profile pid page ticks ended packets text = IsDumpText (profile_of profile) pid page ticks ended packets text
+dumps profile pid page ticks ended packets text =
+    IsDumpText (profile_of profile) pid (only page) ticks ended packets text
 
 -- what a receiver at work tells of packets
 abbrev pub dump_tells : Dumping → Bool → List (List ℕ) → List ℕ → Type 0
 dump_tells dumping ended packets text =
-    IsDumpText dumping.receiving.showing.core.profile dumping.receiving.demux.pid dumping.receiving.showing.core.page
+    IsDumpText dumping.receiving.showing.core.profile dumping.receiving.demux.pid dumping.receiving.sets.pages
     dumping.ticks ended packets text

@@ -9,11 +9,11 @@ use Rattle.sub_base.specs.Endpoints.{AppendsPrefix}
 use Rattle.command_text.specs.PictureText.{picture_text}
 use Rattle.dvbsub_cmd.specs.ReadScript.{ReadsScript, IsInputCause, HasRightScript}
 use Rattle.sub_base.specs.Endpoints.{WroteNothing}
-use Rattle.dvbsub_cmd.specs.Seen.{Seen}
+use Rattle.sub_base.specs.Seen.{Seen}
 use Rattle.dvbsub_cmd.specs.declared.status.Status.{Status}
 use Rattle.dvbsub_cmd.specs.declared.status.Status.TheVariants as status
-use Rattle.dvbsub_cmd.specs.declared.status.Which.{Which}
-use Rattle.dvbsub_cmd.specs.declared.status.Which.TheVariants as which
+use Rattle.sub_base.specs.declared.status.Which.{Which}
+use Rattle.sub_base.specs.declared.status.Which.TheVariants as which
 
 -- the text of the authored picture of a script at a tick
 abbrev pub authored_text : Script → ℕ → List ℕ

@@ -7,8 +7,8 @@ use Rattle.sub_base.specs.declared.profile.ProfileName.{ProfileName}
 use Rattle.dvbsub_cmd.specs.GenText.{IsGenText}
 use Rattle.dvbsub_cmd.specs.declared.status.Status.{Status}
 use Rattle.dvbsub_cmd.specs.declared.status.Status.TheVariants as status
-use Rattle.dvbsub_cmd.specs.declared.status.Which.{Which}
-use Rattle.dvbsub_cmd.specs.declared.status.Which.TheVariants as which
+use Rattle.sub_base.specs.declared.status.Which.{Which}
+use Rattle.sub_base.specs.declared.status.Which.TheVariants as which
 
 -- the output could not be written: it received a front of the text, and its count of faults rose
 abbrev pub IsCutOff : ℕ → ProfileName → Received → Received → Which → Type 0

@@ -4,6 +4,7 @@ use Rattle.std.specs.List.{concat}
 use Rattle.buffer_model.specs.Calls.{Call, greatest}
 use Rattle.command_text.specs.Lines.{line_end, then_number}
 use Rattle.cue_list.specs.declared.script.Script.{Script}
+use Rattle.decoder_model.specs.Frames.{only}
 use Rattle.decoder_model.specs.Streams.{SentSet, entry_set}
 use Rattle.generated_script.specs.Generated.{IsGenerated}
 use Rattle.shown_stream.specs.Compiled.{IsCompiledTo}
@@ -58,7 +59,7 @@ pub record IsGenText (number : ℕ) (profile : ProfileName) (text : List ℕ) : 
   pub whole : All (λ packet. length packet ≡ 188) packets
   pub compiled : IsCompiledTo profile generated_pid generated_page script (concat packets)
   pub calls : List Call
-  pub called : AreCallsOf (profile_of profile) generated_pid generated_page 0 0 true packets calls
+  pub called : AreCallsOf (profile_of profile) generated_pid (only generated_page) 0 0 true packets calls
   pub text_is : text
       ≡ gen_lines (length compiled.sets) (length packets) (greatest (pace_of 0 (profile_of profile)) calls)
       (λ missed. entry_time (entry_set missed (sent_sets compiled.table compiled.sets)))

@@ -4,6 +4,7 @@ use Rattle.std.specs.List.{concat}
 use Rattle.std.specs.Io.KnownBytes.{Appends}
 use Rattle.cue_list.specs.declared.script.Script.{Script}
 use Rattle.shown_stream.specs.Compiled.{IsCompiledTo}
+use Rattle.decoder_model.specs.Frames.{only}
 use Rattle.decoder_model.specs.Streams.{Sending, IsCutTo}
 use Rattle.shown_stream.specs.Entered.{IsEnteredRightly, IsCutRightly}
 use Rattle.shown_stream.specs.SentSets.{sent_sets, times_from}
@@ -11,7 +12,7 @@ use Rattle.shown_stream.specs.Shows.{IsAnchorOf}
 use Rattle.shown_stream.specs.StaysWithin.{StaysWithin, IsAsScheduled}
 use Rattle.sub_base.specs.declared.profile.ProfileName.{ProfileName}
 use Rattle.dvbsub_cmd.specs.ReadScript.{ReadsScript}
-use Rattle.dvbsub_cmd.specs.Seen.{Seen}
+use Rattle.sub_base.specs.Seen.{Seen}
 use Rattle.dvbsub_cmd.specs.declared.command.Command.{Command}
 use Rattle.dvbsub_cmd.specs.declared.command.Command.TheVariants as command
 use Rattle.dvbsub_cmd.specs.declared.status.Status.{Status}
@@ -31,13 +32,14 @@ pub record ShowsScript (profile : ProfileName) (pid page : ℕ) (has_font : Bool
   pub whole : All (λ packet. length packet ≡ 188) packets
   pub compiled : IsCompiledTo profile pid page script (concat packets)
   pub written : Appends before.out.written now.out.written (concat packets)
-  pub entered : (missed : ℕ) → IsEnteredRightly profile pid page script compiled.sets compiled.table packets missed
+  pub entered : (missed : ℕ)
+      → IsEnteredRightly profile pid (only page) script compiled.sets compiled.table packets missed
   pub cut : (sendings : List Sending) (received : List (List ℕ)) → IsCutTo pid packets sendings received
-      → IsCutRightly profile pid page script compiled.sets compiled.table sendings received
+      → IsCutRightly profile pid (only page) script compiled.sets compiled.table sendings received
   pub stays : (missed anchor : ℕ) → IsAnchorOf (times_from missed (sent_sets compiled.table compiled.sets)) anchor
-      → StaysWithin profile pid page script compiled.sets compiled.table packets missed anchor
+      → StaysWithin profile pid (only page) script compiled.sets compiled.table packets missed anchor
   pub scheduled : (anchor : ℕ) → IsAnchorOf (times_from 0 (sent_sets compiled.table compiled.sets)) anchor
-      → IsAsScheduled profile pid page script compiled.sets compiled.loads compiled.table packets anchor
+      → IsAsScheduled profile pid (only page) script compiled.sets compiled.loads compiled.table packets anchor
 
 -- where a command was done, this holds
 abbrev pub OnDone : Status → Type 0 → Type 0

@@ -9,7 +9,6 @@ pub mod ListLines
 pub mod ListText
 pub mod Listing
 pub mod Outcome
-pub mod Seen
 pub mod StatusText
 pub mod StreamOutcome
 pub mod ReadScript

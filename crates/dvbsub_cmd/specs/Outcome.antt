@@ -3,7 +3,8 @@ use Rattle.std.specs.Prelude.{◌≡◌, ℕ, List, Option, Some, None, false, �
 use Rattle.std.specs.Io.KnownBytes.{Appends}
 use Rattle.sub_base.specs.Counts.{HasRisen}
 use Rattle.sub_base.specs.Endpoints.{AppendsPrefix}
-use Rattle.dvbsub_cmd.specs.Command.{command_of, asked_ticks}
+use Rattle.command_words.specs.Ticks.{asked_ticks}
+use Rattle.dvbsub_cmd.specs.Command.{command_of}
 use Rattle.dvbsub_cmd.specs.CompileOutcome.{IsCompileCause}
 use Rattle.dvbsub_cmd.specs.Checks.{checks}
 use Rattle.dvbsub_cmd.specs.Dumps.{dumps}
@@ -11,14 +12,14 @@ use Rattle.dvbsub_cmd.specs.ExpectOutcome.{IsExpectCause}
 use Rattle.dvbsub_cmd.specs.GenOutcome.{IsGenCause}
 use Rattle.dvbsub_cmd.specs.Listing.{lists}
 use Rattle.sub_base.specs.Endpoints.{Received, WroteNothing}
-use Rattle.dvbsub_cmd.specs.Seen.{Seen}
+use Rattle.sub_base.specs.Seen.{Seen}
 use Rattle.dvbsub_cmd.specs.StatusText.{status_line}
 use Rattle.dvbsub_cmd.specs.StreamOutcome.{IsStreamCause}
 use Rattle.dvbsub_cmd.specs.declared.command.Command.{Command}
 use Rattle.dvbsub_cmd.specs.declared.command.Command.TheVariants as command
 use Rattle.dvbsub_cmd.specs.declared.status.Status.{Status}
 use Rattle.dvbsub_cmd.specs.declared.status.Status.TheVariants as status
-use Rattle.dvbsub_cmd.specs.declared.status.Which.TheVariants as which
+use Rattle.sub_base.specs.declared.status.Which.TheVariants as which
 
 -- the cause of a status by the command, and what the output has received then: a wrong command line ends with the
 -- usage, and nothing else does; it calls no source, and nor does `gen`
@@ -56,11 +57,6 @@ IsSecondKept (Some (command.Gen number profile)) before now = now ≡ before
 abbrev pub untold : Status → Status
 untold (status.Done cut) = status.WriteFault which.Notes
 untold other = other
-
--- the answer where the file of the output could not be made: what was done whole is a write fault of the output
-abbrev pub unfinished : Status → Status
-unfinished (status.Done cut) = status.WriteFault which.Out
-unfinished other = other
 
 -- the notes have received the line of the run's status; or a prefix of it, and their count of faults rose
 abbrev pub Tells : Received → Received → Status → Status → Type 0

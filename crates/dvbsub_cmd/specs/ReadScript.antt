@@ -13,7 +13,7 @@ use Rattle.sub_base.specs.Counts.{HasRisen, HasRisenPast}
 use Rattle.sub_base.specs.Endpoints.{Supplied, WasRead}
 use Rattle.dvbsub_cmd.specs.declared.status.Status.{Status}
 use Rattle.dvbsub_cmd.specs.declared.status.Status.TheVariants as status
-use Rattle.dvbsub_cmd.specs.declared.status.Which.TheVariants as which
+use Rattle.sub_base.specs.declared.status.Which.TheVariants as which
 
 -- the most bytes of a script, and of a font
 abbrev pub text_limit : ℕ

@@ -16,15 +16,7 @@ use Rattle.command_text.specs.Lines.{then_number}
 use Rattle.dvbsub_cmd.specs.KindNames.{font_kind_name, packet_fault_name}
 use Rattle.dvbsub_cmd.specs.declared.status.Status.{Status}
 use Rattle.dvbsub_cmd.specs.declared.status.Status.TheVariants as status
-use Rattle.dvbsub_cmd.specs.declared.status.Which.{Which}
-use Rattle.dvbsub_cmd.specs.declared.status.Which.TheVariants as which
-
--- the name of a source or sink
-abbrev pub which_name : Which → List ℕ
-which_name which.First = codes "first"
-which_name which.Second = codes "second"
-which_name which.Out = codes "out"
-which_name which.Notes = codes "notes"
+use Rattle.sub_base.specs.Which.{which_name}
 
 -- the character's number, of a glyph that is missing
 abbrev pub glyph_number : ScriptKind → List ℕ

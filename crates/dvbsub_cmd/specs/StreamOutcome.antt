@@ -12,7 +12,7 @@ use Rattle.sub_base.specs.Counts.{HasRisen, HasRisenPast, counted}
 use Rattle.sub_base.specs.Endpoints.{AppendsPrefix, Received, Supplied, WroteNothing}
 use Rattle.dvbsub_cmd.specs.declared.status.Status.{Status}
 use Rattle.dvbsub_cmd.specs.declared.status.Status.TheVariants as status
-use Rattle.dvbsub_cmd.specs.declared.status.Which.TheVariants as which
+use Rattle.sub_base.specs.declared.status.Which.TheVariants as which
 
 -- what a command tells: whether the stream ends with the packets, the packets, and the text
 abbrev pub Telling : Type 1

@@ -10,6 +10,7 @@ use crate::closing::{close, is_whole};
 use crate::status::Status;
 use check_text::Check;
 use command_text::TextBuffer;
+use decoder_model::Pages;
 use packet_source::PacketSource;
 use packet_walk::WalkEnd;
 use std::alloc::Global;
@@ -39,7 +40,7 @@ pub fn check<R: Threads + Sync, A: Source, K: Sink, G: BandGate + Sync>(
         result }
 {
     let profile = Profile::of(profile);
-    let Ok(mut check) = Check::make(alloc, &profile, origin, pid, page) else {
+    let Ok(mut check) = Check::make(alloc, &profile, origin, pid, Pages::only(page)) else {
         return Status::Memory;
     };
     let Ok(mut buffer) = TextBuffer::make(alloc) else {

@@ -2,11 +2,11 @@ ghost use Rattle.std.specs.Prelude.{◌≡◌};
 ghost use Rattle.dvbsub_cmd.specs.Private.Closing.{Closes, ClosesEnd, is_whole_end};
 ghost use Rattle.packet_walk.specs.declared.walk.WalkEnd.TheVariants.{Stream};
 
-use crate::status::{Status, Which};
+use crate::status::Status;
 use command_text::{TextBuffer, flush};
 use packet_source::StreamEnd;
 use packet_walk::{Refused, WalkEnd};
-use sub_base::Sink;
+use sub_base::{Sink, Which};
 
 /// Writes the text that waits, and answers how the command ended, by how its walk over the stream
 /// did.

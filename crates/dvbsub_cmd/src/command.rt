@@ -1,29 +1,13 @@
-ghost use Rattle.std.specs.Prelude.{◌≡◌, ◌<◌, ◌≤◌, length, drop, IfSome, None, true};
+ghost use Rattle.std.specs.Prelude.{◌≡◌, IfSome};
 ghost use Rattle.std.specs.Option.{option_or};
-ghost use Rattle.dvbsub_cmd.specs.Command.{command_of as command_of_words, check_of as check_of_words, compile_of as compile_of_words, dump_of as dump_of_words, expect_of as expect_of_words, font_place as font_place_of, gen_of as gen_of_words, generating_profile as small_profile_of_word, has_ticks as has_ticks_at, has_word as has_word_at, is_above as is_tick_above, list_of as list_of_words, named_command, names_font as is_font_named, places_of, reading_profile as any_profile_of_word, sending_profile as profile_of_word, are_rising as are_ticks_rising, IsInRange};
+ghost use Rattle.dvbsub_cmd.specs.Command.{command_of as command_of_words, check_of as check_of_words, compile_of as compile_of_words, dump_of as dump_of_words, expect_of as expect_of_words, font_place as font_place_of, gen_of as gen_of_words, generating_profile as small_profile_of_word, list_of as list_of_words, named_command, places_of, IsInRange};
 
-use command_line::are_plain;
+use command_words::{
+    InputPlaces, MOST_BANDS, are_plain, has_ticks, has_word, names_font, no_files, page_in, pid_in,
+    reading_profile, sending_profile,
+};
 use cue_list::LATEST_ORIGIN;
 use sub_base::{ProfileName, Words, number_in};
-
-/// The least PID that a command takes: those below are of tables (ISO/IEC 13818-1, table 2-3; EN
-/// 300 468, table 1).
-pub const LEAST_PID: u64 = 32;
-
-/// The greatest PID that a command takes: the next one is that of null packets.
-pub const GREATEST_PID: u64 = 8_190;
-
-/// The greatest page id.
-pub const GREATEST_PAGE: u64 = 65_535;
-
-/// The latest tick that is asked for: twice round the 33 bits of a presentation time.
-pub const LATEST_TICK: u64 = 17_179_869_183;
-
-/// The most bands that a picture is drawn in.
-pub const MOST_BANDS: u64 = 64;
-
-/// The most ticks that are asked for.
-const MOST_TICKS: usize = 1_000;
 
 /// The most cues of a script that is generated.
 pub const MOST_GENERATED: u64 = 500;
@@ -90,28 +74,13 @@ pub enum Command {
     },
 }
 
-/// Where the names of a command's files stand among the words, counted from 0.
-#[derive(Clone, Copy, Debug, PartialEq, Eq)]
-pub struct InputPlaces {
-    /// The script or the stream.
-    pub first: Option<usize>,
-    /// The font.
-    pub second: Option<usize>,
-    /// The output.
-    pub out: Option<usize>,
-}
-
 /// Where the names of the files stand that the command of these words reads and writes: nowhere
 /// where the words are no command, and no second one where a command names no font.
 pub fn inputs(words: &Words) -> InputPlaces
     ensures { result ≡ places_of (command_of_words words.now) }
 {
     match command_of(words) {
-        None => InputPlaces {
-            first: None,
-            second: None,
-            out: None,
-        },
+        None => no_files(),
         Some(Command::Compile { has_font, .. }) => InputPlaces {
             first: Some(4),
             second: font_place(has_font, 5),
@@ -180,8 +149,8 @@ fn compile_of(words: &Words) -> Option<Command>
         return None;
     }
     let profile = sending_profile(words.word(1))?;
-    let pid = number_in(words.word(2).as_bytes(), LEAST_PID, GREATEST_PID)? as u16;
-    let page = number_in(words.word(3).as_bytes(), 1, GREATEST_PAGE)? as u16;
+    let pid = pid_in(words.word(2))?;
+    let page = page_in(words.word(3))?;
     Some(Command::Compile {
         profile,
         pid,
@@ -244,41 +213,8 @@ fn list_of(words: &Words) -> Option<Command>
     if words.count() != 4 || !has_word(words, 0, "list") {
         return None;
     }
-    let pid = number_in(words.word(1).as_bytes(), LEAST_PID, GREATEST_PID)? as u16;
+    let pid = pid_in(words.word(1))?;
     Some(Command::List { pid })
-}
-
-/// The profile of that name, of those for which scripts are compiled.
-fn sending_profile(word: &str) -> Option<ProfileName>
-    ensures { result ≡ profile_of_word word.now }
-{
-    if word == "sd" {
-        Some(ProfileName::Sd)
-    } else if word == "hd" {
-        Some(ProfileName::Hd)
-    } else if word == "large" {
-        Some(ProfileName::Large)
-    } else {
-        None
-    }
-}
-
-/// The profile of that name.
-fn reading_profile(word: &str) -> Option<ProfileName>
-    ensures { result ≡ any_profile_of_word word.now }
-{
-    if word == "wide" {
-        Some(ProfileName::Wide)
-    } else {
-        sending_profile(word)
-    }
-}
-
-/// Whether the word names a font, and is not that for no font.
-fn names_font(word: &str) -> bool
-    ensures { result ≡ is_font_named word.now }
-{
-    word != "none"
 }
 
 /// The command `dump PROFILE PID PAGE BANDS STREAM OUT TICK...`.
@@ -290,8 +226,8 @@ fn dump_of(words: &Words) -> Option<Command>
         return None;
     }
     let profile = reading_profile(words.word(1))?;
-    let pid = number_in(words.word(2).as_bytes(), LEAST_PID, GREATEST_PID)? as u16;
-    let page = number_in(words.word(3).as_bytes(), 1, GREATEST_PAGE)? as u16;
+    let pid = pid_in(words.word(2))?;
+    let page = page_in(words.word(3))?;
     let bands = number_in(words.word(4).as_bytes(), 1, MOST_BANDS)? as u32;
     Some(Command::Dump {
         profile,
@@ -311,8 +247,8 @@ fn check_of(words: &Words) -> Option<Command>
     }
     let profile = sending_profile(words.word(1))?;
     let origin = number_in(words.word(2).as_bytes(), 0, LATEST_ORIGIN)?;
-    let pid = number_in(words.word(3).as_bytes(), LEAST_PID, GREATEST_PID)? as u16;
-    let page = number_in(words.word(4).as_bytes(), 1, GREATEST_PAGE)? as u16;
+    let pid = pid_in(words.word(3))?;
+    let page = page_in(words.word(4))?;
     Some(Command::Check {
         profile,
         origin,
@@ -358,48 +294,4 @@ fn generating_profile(word: &str) -> Option<ProfileName>
     } else {
         None
     }
-}
-
-/// Whether so many words come before 1 to 1,000 ticks that rise.
-fn has_ticks(words: &Words, place: usize) -> bool
-    requires { place ≤ 7 }
-    ensures is { result ≡ has_ticks_at place words.now }
-    ensures some { result ≡ true → place < length words.now }
-    ensures rising { result ≡ true → are_ticks_rising None (drop place words.now) ≡ true }
-{
-    words.count() > place && words.count() <= place + MOST_TICKS && are_rising(words, place)
-}
-
-/// Whether the words from a place on are ticks that rise.
-fn are_rising(words: &Words, place: usize) -> bool
-    requires { place ≤ length words.now }
-    ensures { result ≡ are_ticks_rising None (drop place words.now) }
-{
-    let mut before = None;
-    for place in place..words.count() {
-        let Some(tick) = number_in(words.word(place).as_bytes(), 0, LATEST_TICK) else {
-            return false;
-        };
-        if !is_above(before, tick) {
-            return false;
-        }
-        before = Some(tick);
-    }
-    true
-}
-
-fn is_above(before: Option<u64>, tick: u64) -> bool
-    ensures { result ≡ is_tick_above before tick }
-{
-    match before {
-        None => true,
-        Some(before) => before < tick,
-    }
-}
-
-fn has_word(words: &Words, place: usize, text: &str) -> bool
-    requires { place < length words.now }
-    ensures { result ≡ has_word_at words.now place text.now }
-{
-    words.word(place) == text
 }

@@ -1,4 +1,5 @@
 ghost use Rattle.std.specs.Prelude.{◌≡◌, true, IfOk};
+ghost use Rattle.decoder_model.specs.Frames.{only};
 ghost use Rattle.check_text.specs.CheckText.{IsPeak};
 ghost use Rattle.dump_text.specs.DumpText.{IsDumpText};
 ghost use Rattle.shown_stream.specs.Compiled.{IsCompiledFor};
@@ -12,6 +13,7 @@ use crate::generated::{PAGE, PID};
 use check_text::Check;
 use command_text::{TextBuffer, flush};
 use cue_list::Script;
+use decoder_model::Pages;
 use dump_text::Dump;
 use std::alloc::Global;
 use std::thread::Threads;
@@ -56,11 +58,11 @@ fn shown_texts<R: Threads + Sync, G: BandGate + Sync>(
 ) -> Result<MemSink, NoMemory>
     requires packets { AreTakable packets.now }
     requires ticks { AreTold ticks.now }
-    ensures { IfOk result (λ texts. IsDumpText (profile_of profile) generated_pid generated_page
-        ticks.now true packets.now texts.written) }
+    ensures { IfOk result (λ texts. IsDumpText (profile_of profile) generated_pid
+        (only generated_page) ticks.now true packets.now texts.written) }
 {
     let profile = Profile::of(profile);
-    let mut dump = Dump::make(alloc, 1, &profile, PID, PAGE, ticks)?;
+    let mut dump = Dump::make(alloc, 1, &profile, PID, Pages::only(PAGE), ticks)?;
     let mut buffer = TextBuffer::make(alloc)?;
     let mut texts = MemSink::make(alloc, usize::MAX, Vec::new(alloc));
     // A receiver takes all of them.
@@ -101,10 +103,11 @@ pub fn peak_of<R: Threads + Sync, G: BandGate + Sync>(
 ) -> Result<u64, NoMemory>
     requires profile { IsCompiledFor profile }
     requires packets { AreTakable packets.now }
-    ensures { IfOk result (IsPeak (profile_of profile) generated_pid generated_page 0 packets.now) }
+    ensures { IfOk result
+        (IsPeak (profile_of profile) generated_pid (only generated_page) 0 packets.now) }
 {
     let profile = Profile::of(profile);
-    let mut check = Check::make(alloc, &profile, 0, PID, PAGE)?;
+    let mut check = Check::make(alloc, &profile, 0, PID, Pages::only(PAGE))?;
     let mut buffer = TextBuffer::make(alloc)?;
     // The lines of the sets, which nobody asks for.
     let mut lines = MemSink::make(alloc, usize::MAX, Vec::new(alloc));

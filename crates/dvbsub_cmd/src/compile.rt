@@ -4,12 +4,12 @@ ghost use Rattle.dvbsub_cmd.specs.CompileRefused.{IsRowAt};
 ghost use Rattle.dvbsub_cmd.specs.CompileOutcome.{IsCompileCause};
 ghost use Rattle.dvbsub_cmd.specs.Headline.{OnDone, ShowsScript};
 ghost use Rattle.dvbsub_cmd.specs.Private.Sending.{Sends, IsRefusal, IsAmong, IsScheduleRefusal, plan_refusal};
-ghost use Rattle.dvbsub_cmd.specs.Seen.{seen};
+ghost use Rattle.sub_base.specs.Seen.{seen};
 ghost use Rattle.stream_syntax.specs.declared.wire.TheConstants.{NULL_PID};
 
 use crate::loads::loads_of;
 use crate::read_script::read_script;
-use crate::status::{Status, Which};
+use crate::status::Status;
 use crate::units::{pieces_of, units_of};
 use cue_list::Script;
 use page_epoch::{Plan, PlanFault, PlannedSet};
@@ -17,7 +17,7 @@ use schedule::{Schedule, ScheduleFault};
 use set_coder::KeptBlocks;
 use slot_stream::{StreamFault, write_stream};
 use std::alloc::Global;
-use sub_base::{NoMemory, Profile, ProfileName, Sink, Source};
+use sub_base::{NoMemory, Profile, ProfileName, Sink, Source, Which};
 
 /// Compiles a script to packets. Nothing is written before every refusal of it is found.
 pub fn compile<A: Source, B: Source, K: Sink>(

@@ -138,6 +138,8 @@ fn ends_with(stream: &[u8], number: usize, unit: &[u8], time: [u8; 5]) -> bool {
 
 pub(crate) const COMPILE: &str = "compile sd 256 1 script.csv none out.ts";
 
+/// The second epoch has the units of the first, but for their times and the versions of their
+/// pages, which are 2 and 3: the highest four bits of the byte behind the time-out.
 #[test]
 fn epochs_follow_each_other(rt: HostRuntime) -> Result<(), Fail> {
     let done = run(&rt, rt.alloc(), COMPILE, TWO_EPOCHS, "")?;
@@ -146,8 +148,11 @@ fn epochs_follow_each_other(rt: HostRuntime) -> Result<(), Fail> {
     assert_eq!(rt; stream.len(), 4 * 188);
     assert!(rt; ends_with(stream, 0, &FIRST_UNIT, [0x21, 0x00, 0x05, 0xBF, 0x21]));
     assert!(rt; ends_with(stream, 1, &SECOND_UNIT, [0x21, 0x00, 0x0B, 0x7E, 0x41]));
-    assert!(rt; ends_with(stream, 2, &FIRST_UNIT, [0x21, 0x00, 0x11, 0x3D, 0x61]));
-    assert!(rt; ends_with(stream, 3, &SECOND_UNIT, [0x21, 0x00, 0x15, 0xFC, 0x81]));
+    let (mut third, mut fourth) = (FIRST_UNIT, SECOND_UNIT);
+    third[34] = 0x2B;
+    fourth[23] = 0x33;
+    assert!(rt; ends_with(stream, 2, &third, [0x21, 0x00, 0x11, 0x3D, 0x61]));
+    assert!(rt; ends_with(stream, 3, &fourth, [0x21, 0x00, 0x15, 0xFC, 0x81]));
     Ok(())
 }
 

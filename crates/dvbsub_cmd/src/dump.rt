@@ -1,15 +1,16 @@
 ghost use Rattle.std.specs.Prelude.{◌≡◌, ◌≤◌, None, drop, true};
 ghost use Rattle.dump_text.specs.Dumping.{HasDumped};
 ghost use Rattle.dvbsub_cmd.specs.Private.Closing.{Finishes};
-ghost use Rattle.dvbsub_cmd.specs.Command.{are_rising as are_ticks_rising, asked_ticks};
+ghost use Rattle.command_words.specs.Ticks.{are_rising as are_ticks_rising, asked_ticks};
 ghost use Rattle.dvbsub_cmd.specs.Dumps.{dump_tells, dumps};
 ghost use Rattle.dvbsub_cmd.specs.StreamOutcome.{IsStreamCause};
 
 use crate::closing::{close, is_whole};
 use crate::command::WORDS_OF_DUMP;
 use crate::status::Status;
-use crate::ticks::ticks_of;
 use command_text::TextBuffer;
+use command_words::ticks_of;
+use decoder_model::Pages;
 use dump_text::Dump;
 use packet_source::PacketSource;
 use packet_walk::WalkEnd;
@@ -46,7 +47,7 @@ pub fn dump<R: Threads + Sync, A: Source, K: Sink, G: BandGate + Sync>(
     };
     let profile = Profile::of(profile);
     let ticks = ticks.as_slice();
-    let Ok(mut dump) = Dump::make(alloc, bands, &profile, pid, page, ticks) else {
+    let Ok(mut dump) = Dump::make(alloc, bands, &profile, pid, Pages::only(page), ticks) else {
         return Status::Memory;
     };
     let Ok(mut buffer) = TextBuffer::make(alloc) else {

@@ -1,17 +1,17 @@
 ghost use Rattle.std.specs.Prelude.{◌≡◌, ◌*◌, false, length, vec_len, IfOk};
-ghost use Rattle.dvbsub_cmd.specs.Command.{asked_ticks};
+ghost use Rattle.command_words.specs.Ticks.{asked_ticks};
 ghost use Rattle.dvbsub_cmd.specs.ExpectOutcome.{IsExpectCause, authored_text, expect_text};
 ghost use Rattle.command_text.specs.Putting.{PutsOut};
-ghost use Rattle.dvbsub_cmd.specs.Seen.{seen};
+ghost use Rattle.sub_base.specs.Seen.{seen};
 
 use crate::command::WORDS_OF_EXPECT;
 use crate::read_script::read_script;
-use crate::status::{Status, Which};
-use crate::ticks::ticks_of;
+use crate::status::Status;
 use command_text::{TextBuffer, flush, put_picture};
+use command_words::ticks_of;
 use cue_list::{Script, picture_at};
 use std::alloc::{AllocError, Global};
-use sub_base::{CLEAR, Colour, Sink, Source, Words};
+use sub_base::{CLEAR, Colour, Sink, Source, Which, Words};
 
 /// Writes the authored pictures of a script at the ticks that are asked for.
 pub fn expect<A: Source, B: Source, K: Sink>(

@@ -11,12 +11,12 @@ use crate::compare::{peak_of, shows_authored};
 use crate::entries::entry_of;
 use crate::gen_lines::{entry_line, number_line};
 use crate::generated::{Generated, compiled};
-use crate::status::{Status, Which};
+use crate::status::Status;
 use command_text::{TextBuffer, flush, put};
 use page_epoch::PlannedSet;
 use std::alloc::{AllocError, Global};
 use std::thread::Threads;
-use sub_base::{BandGate, NoMemory, ProfileName, Sink};
+use sub_base::{BandGate, NoMemory, ProfileName, Sink, Which};
 
 /// What is told of a generated stream.
 #[derive(Clone, Copy)]

@@ -7,7 +7,6 @@ mod command;
 mod kind_names;
 mod read_command;
 mod status;
-mod ticks;
 
 // `compile`: a script, its loads, and the PES packets of its sets.
 mod compile;
@@ -41,8 +40,10 @@ mod list_units;
 // All commands.
 mod top_call;
 
-pub use command::{Command, InputPlaces, inputs};
-pub use status::{Status, Which};
+pub use command::{Command, inputs};
+pub use command_words::InputPlaces;
+pub use status::Status;
+pub use sub_base::Which;
 pub use top_call::{tell, top};
 
 #[cfg(test)]

@@ -2,7 +2,8 @@ ghost use Rattle.std.specs.Prelude.{◌≡◌, IfErr, IfOk, IfSome, is_some, tru
 ghost use Rattle.dvbsub_cmd.specs.Command.{command_of as command_of_words, IsInRange};
 
 use crate::command::{Command, named};
-use command_line::{are_plain, positional_words};
+use command_line::positional_words;
+use command_words::are_plain;
 use std::alloc::Global;
 use sub_base::{NoMemory, Words};
 

@@ -2,11 +2,11 @@ ghost use Rattle.std.specs.Prelude.{◌≡◌, false, IfOk, IfErr};
 ghost use Rattle.dvbsub_cmd.specs.ReadScript.{HasFont, ReadsScript, IsInputCause};
 ghost use Rattle.sub_base.specs.Endpoints.{Supplied};
 
-use crate::status::{Status, Which};
+use crate::status::Status;
 use bitmap_font::{Font, FontFault};
 use cue_list::{Script, ScriptFault};
 use std::alloc::Global;
-use sub_base::{ReadAllFault, Source, read_all};
+use sub_base::{ReadAllFault, Source, Which, read_all};
 
 /// The most bytes of a script, and of a font.
 const TEXT_LIMIT: u64 = 67_108_864;

@@ -1,7 +1,7 @@
 ghost use Rattle.std.specs.Prelude.{◌≡◌, ◌≤◌, ◌+◌, ◌++◌, length};
-ghost use Rattle.dvbsub_cmd.specs.Outcome.{unfinished as unfinished_of};
 ghost use Rattle.command_text.specs.Lines.{then_number};
-ghost use Rattle.dvbsub_cmd.specs.StatusText.{which_name as which_name_of, kind_text, done_text as done_text_of, font_text as font_text_of, plan_text as plan_text_of, schedule_text as schedule_text_of, script_text as script_text_of, stream_text as stream_text_of, status_text, status_line as line_of_status, code_of};
+ghost use Rattle.sub_base.specs.Which.{which_name};
+ghost use Rattle.dvbsub_cmd.specs.StatusText.{kind_text, done_text as done_text_of, font_text as font_text_of, plan_text as plan_text_of, schedule_text as schedule_text_of, script_text as script_text_of, stream_text as stream_text_of, status_text, status_line as line_of_status, code_of};
 
 use crate::kind_names::{font_kind_name, packet_fault_name};
 use bitmap_font::FontFault;
@@ -10,19 +10,7 @@ use cue_list::{ScriptFault, ScriptKind};
 use page_epoch::PlanFault;
 use schedule::ScheduleFault;
 use stream_syntax::PacketFault;
-
-/// One of the sources and sinks of a command.
-#[derive(Clone, Copy, Debug, PartialEq, Eq)]
-pub enum Which {
-    /// The first source: the script, or the stream.
-    First,
-    /// The second source: the font.
-    Second,
-    /// The output.
-    Out,
-    /// Where the line of the status goes.
-    Notes,
-}
+use sub_base::Which;
 
 /// How a command ended.
 #[derive(Clone, Copy, Debug, PartialEq, Eq)]
@@ -53,19 +41,6 @@ pub enum Status {
 }
 
 impl Status {
-    /// What becomes of the status where the file of the output could not be made: what was done
-    /// whole is a write fault.
-    pub fn unfinished(self) -> Status
-        ensures { result ≡ unfinished_of self }
-    {
-        match self {
-            Status::Done { .. } => Status::WriteFault(Which::Out),
-            // A command that failed says why it did, and not that its output could not be made as
-            // well.
-            other => other,
-        }
-    }
-
     /// The code with which the program ends.
     pub fn code(&self) -> u8
         ensures { result ≡ code_of self.now }
@@ -128,24 +103,12 @@ fn done_text(cut: u64) -> Line
 
 fn named_text(text: &str, which: Which) -> Line
     requires { length text.now ≤ 60 }
-    ensures text { result ≡ text.now ++ which_name_of which }
+    ensures text { result ≡ text.now ++ which_name which }
     ensures short { length result ≤ 100 }
 {
     let mut line = Line::of(text);
-    line.push_text(which_name(which));
+    line.push_text(which.name());
     line
-}
-
-fn which_name(which: Which) -> &'static str
-    ensures name { result.now ≡ which_name_of which }
-    ensures short { length result.now ≤ 6 }
-{
-    match which {
-        Which::First => "first",
-        Which::Second => "second",
-        Which::Out => "out",
-        Which::Notes => "notes",
-    }
 }
 
 fn font_text(fault: FontFault) -> Line

@@ -2,7 +2,7 @@ ghost use Rattle.std.specs.Prelude.{◌≡◌, IfSome};
 ghost use Rattle.dvbsub_cmd.specs.Command.{command_of as command_of_words, IsInRange};
 ghost use Rattle.dvbsub_cmd.specs.Completeness.{IsComplete};
 ghost use Rattle.dvbsub_cmd.specs.Headline.{IsShownBy};
-ghost use Rattle.dvbsub_cmd.specs.Seen.{seen};
+ghost use Rattle.sub_base.specs.Seen.{seen};
 ghost use Rattle.dvbsub_cmd.specs.Outcome.{HasCause, IsCaused, IsSecondKept, Tells};
 
 use crate::check::check;
@@ -13,10 +13,10 @@ use crate::expect::expect;
 use crate::gen_text::write_gen_text;
 use crate::list::list;
 use crate::read_command::read_command;
-use crate::status::{Status, Which, status_line};
+use crate::status::{Status, status_line};
 use std::alloc::Global;
 use std::thread::Threads;
-use sub_base::{BandGate, NoMemory, Sink, Source, Words, write_whole};
+use sub_base::{BandGate, NoMemory, Sink, Source, Which, Words, write_whole};
 
 /// Carries out the command that the words are: reads its sources, writes its output to `out`, and
 /// tells how it ended, by its answer and by one line to `notes`.

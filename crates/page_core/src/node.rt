@@ -23,21 +23,22 @@ pub(crate) struct RegionNode {
     pub slot: Slot,
 }
 
-/// A listing of a region, and the version with which its object was painted last.
+/// A listing of a region, and the version (object_version_number) with which its object was painted
+/// last.
 #[derive(Clone, Copy)]
 pub(crate) struct ListingNode {
     pub listing: Listing,
     pub painted: Option<u8>,
 }
 
-/// A CLUT and its version.
+/// A CLUT (CLUT_id) and its version (CLUT_version_number).
 #[derive(Clone, Copy)]
 pub(crate) struct ClutNode {
     pub clut: u8,
     pub version: u8,
 }
 
-/// An entry of the table of a depth of a CLUT.
+/// An entry (CLUT_entry_id) of the table of a depth of a CLUT.
 #[derive(Clone, Copy)]
 pub(crate) struct TablePlace {
     pub clut: u8,

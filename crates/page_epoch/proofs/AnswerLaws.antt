@@ -89,13 +89,13 @@ same_instants epochs refresh one other first second =
 
 -- ---- what a set has of the script alone
 
-some_same : {A : Type 0} (x y : A) (found : Option A) → found ≡ Some x → found ≡ Some y → x ≡ y
+pub some_same : {A : Type 0} (x y : A) (found : Option A) → found ≡ Some x → found ≡ Some y → x ≡ y
 some_same x y found first second = let same : Some x ≡ Some y = sym first ∙ second in cc
 
 apart_or_same : (a b : ℕ) → (a < b) ⊎ ((b < a) ⊎ (a ≡ b))
 apart_or_same a b = grind arith
 
-one_place : (epochs : List Epoch) (tick p q : ℕ) (e f : Epoch) → IsEpochAt epochs tick p e → IsEpochAt epochs tick q f → p ≡ q
+pub one_place : (epochs : List Epoch) (tick p q : ℕ) (e f : Epoch) → IsEpochAt epochs tick p e → IsEpochAt epochs tick q f → p ≡ q
 one_place epochs tick p q e f first second =
     elim (apart_or_same p q) [
       | inl less ↦ absurd (omega (arith, first.last q f less second.found, second.started))

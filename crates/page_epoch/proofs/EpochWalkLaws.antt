@@ -18,16 +18,12 @@ use Rattle.page_epoch.specs.declared.region_state.RegionState.{RegionState}
 use Rattle.page_epoch.specs.declared.clut_changes.ClutChanges.{ClutChanges}
 use Rattle.page_epoch.specs.declared.layout.Layout.{Layout}
 use Rattle.page_epoch.specs.declared.layout.PageRegion.{PageRegion}
-use Rattle.page_epoch.specs.declared.instants.Instant.{Instant}
 use Rattle.page_epoch.specs.Live.{live_places, places_below, no_region}
-use Rattle.page_epoch.specs.Instants.{is_named}
 use Rattle.page_epoch.specs.SentRegions.{sent_region, drawn_count, AreSentRegions, AreShown, AreOrdered}
 use Rattle.page_epoch.specs.SentCluts.{sent_clut, sent_cluts, named_cluts, clut_count}
-use Rattle.page_epoch.specs.States.{page_version}
 use Rattle.page_epoch.specs.Private.Layouts.{IsLayout, ArePageRegions, region_at, page_region_at, state_at, shown_of}
-use Rattle.page_epoch.specs.EpochStates.{first_region_state, region_state, region_states, changed_versions, IsSmallRegionState, IsSmallVersion, sent_of, is_first}
-use Rattle.page_epoch.specs.EpochWalks.{IsTimely, page_after}
-use Rattle.page_epoch.proofs.ListLaws.{version_step, sum_mapped, flat_map_mapped, length_kept_places, map_map, map_kept, places_back, places_within}
+use Rattle.page_epoch.specs.EpochStates.{first_region_state, region_state, region_states, changed_versions, IsSmallRegionState, IsSmallVersion, sent_of}
+use Rattle.page_epoch.proofs.ListLaws.{sum_mapped, flat_map_mapped, length_kept_places, map_map, map_kept, places_back, places_within}
 use Rattle.sub_base.specs.Lists.{has_some}
 
 -- ---- what stays
@@ -157,22 +153,6 @@ cluts_on f colours colours' cluts cluts' versions versions' seen tick whole whol
     let both : changed_versions colours' seen cluts' ≡ changed_versions colours seen cluts = ap (λ x. changed_versions x seen cluts') a ∙ ap (λ x. changed_versions colours seen x) b in
     on (e ∙ is ∙ sym both)
     ∙ ap f (ap (λ (x : Bool). sent_of colours' x (tick ∷ seen) cluts') w ∙ ap (λ x. sent_of x whole (tick ∷ seen) cluts') a ∙ ap (λ x. sent_of colours whole (tick ∷ seen) x) b ∙ sent_named colours whole (tick ∷ seen) cluts lay)
-
-counted_by : (later first named counts : Bool) (n : ℕ) → later ≡ not first → counts ≡ named → (cond (later && counts) 1 0 + n) % 16 ≡ page_after first named (n % 16)
-counted_by later first named counts n l c =
-    ap (λ (b : Bool). (cond (b && counts) 1 0 + n) % 16) l ∙ ap (λ (b : Bool). (cond (not first && b) 1 0 + n) % 16) c ∙ version_step (not first && named) n
-
-starts_late : (start tick : ℕ) (first : Bool) → (first ≡ true → tick ≡ start) → (first ≡ false → start < tick) → nat_lt start tick ≡ not first
-starts_late start tick true same later = let e = same refl in grind (arith, nat_tests)
-starts_late start tick false same later = let h = later refl in grind (arith, nat_tests)
-
-pub page_on : (epochs : List Epoch) (start : ℕ) (seen : List ℕ) (instant : Instant) (first : Bool) (old new : ℕ) → IsTimely epochs start seen instant → first ≡ is_first seen → old ≡ page_version epochs start seen →
-    new ≡ page_after first instant.named old → new ≡ page_version epochs start (instant.tick ∷ seen)
-page_on epochs start seen instant first old new timely f o n =
-    let counts = λ (tick : ℕ). cond (nat_lt start tick && is_named epochs tick) 1 0 in
-    n ∙ ap (λ (x : ℕ). page_after first instant.named x) o ∙ ap (λ (b : Bool). page_after b instant.named (page_version epochs start seen)) f
-    ∙ sym (ap (λ (x : ℕ). x % 16) (sum_by-cons counts instant.tick seen)
-    ∙ counted_by (nat_lt start instant.tick) (is_first seen) instant.named (is_named epochs instant.tick) (sum_by counts seen) (starts_late start instant.tick (is_first seen) timely.at_start timely.later) (sym timely.named))
 
 -- ---- the nodes
 

@@ -5,6 +5,7 @@ pub mod CountLaws
 pub mod WalkLaws
 pub mod InstantLaws
 pub mod ListLaws
+pub mod PageVersions
 pub mod LiveLaws
 pub mod EventLaws
 pub mod PlanLaws

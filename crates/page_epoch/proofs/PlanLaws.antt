@@ -18,9 +18,10 @@ use Rattle.page_epoch.specs.declared.planned_set.PlannedSet.{PlannedSet}
 use Rattle.page_epoch.specs.declared.instants.Instant.{Instant}
 use Rattle.page_epoch.specs.declared.epoch_state.EpochWalk.{EpochWalk}
 use Rattle.page_epoch.specs.declared.epoch_state.EpochStep.{EpochStep}
+use Rattle.page_epoch.specs.declared.epoch_state.SetHead.{SetHead}
 use Rattle.page_epoch.specs.Instants.{named_ticks, is_named, IsInstant}
 use Rattle.page_epoch.specs.Rows.{events_of, IsLeastRow}
-use Rattle.page_epoch.specs.States.{last_entry, is_due, state_of, seen_of, page_version}
+use Rattle.page_epoch.specs.States.{last_entry, is_due, state_of, seen_of}
 use Rattle.page_epoch.specs.Needs.{pixel_need, node_need}
 use Rattle.page_epoch.specs.Private.RecordedInstants.{instant_ticks, IsRecordedInstant, IsFirstNamed, AreRecordedInstants}
 use Rattle.page_epoch.specs.EpochStates.{is_first, IsAfter}
@@ -29,8 +30,9 @@ use Rattle.page_epoch.specs.Plan.{IsEpochAt, IsRowBefore, IsCarried, IsNext, Nee
 use Rattle.page_epoch.specs.declared.fault.PlanFault.{PlanFault}
 use Rattle.page_epoch.specs.declared.fault.PlanFault.TheVariants.{Memory, DisplayTooLarge, PixelFull, CompositionFull}
 use Rattle.page_epoch.specs.Refusals.{IsFirstUnheld, IsNeedFault, IsSetCause}
-use Rattle.page_epoch.specs.EpochWalks.{IsSmallEpoch, IsPlain, IsEpochWalk, IsEpochState, IsSafe, IsTimely, IsSetOf, IsAdvanced, Enters, Stays, GoesOn}
+use Rattle.page_epoch.specs.EpochWalks.{IsSmallEpoch, IsPlain, IsEpochWalk, IsEpochState, IsSafe, IsTimely, IsSetOf, IsAdvanced, Enters, Stays, GoesOn, version_behind}
 use Rattle.page_epoch.proofs.InstantLaws.{in_order}
+use Rattle.page_epoch.proofs.PageVersions.{version_is}
 use Rattle.stream_syntax.specs.Segments.{is_entry_state}
 
 -- ---- starts and instants
@@ -117,7 +119,7 @@ pub record IsReady (epochs : List Epoch) (refresh : ℕ) (instants : List Instan
   pub seen : List ℕ
   pub stands : IsEpochWalk epochs seen walk
   pub seen_is : seen ≡ take_while (nat_le stands.epoch.start) (map (λ (set : PlannedSet). set.pts) (reverse sets))
-  pub timely : IsTimely epochs stands.epoch.start seen instant
+  pub timely : IsTimely stands.epoch.start seen instant.tick
   pub at : IsEpochAt epochs instant.tick walk.place stands.epoch
   pub whole_is : is_first seen ≡ false → (set : PlannedSet) × (last_entry (reverse sets) ≡ Some set) × (set.pts ≡ whole)
 
@@ -171,9 +173,9 @@ latest_tick sets d h =
 some_set : (sets : List PlannedSet) → length (map (λ (set : PlannedSet). set.pts) (reverse sets)) ≡ length sets
 some_set sets = length-map (reverse sets) (λ (set : PlannedSet). set.pts) ∙ length-reverse sets
 
-started_by : (epochs : List Epoch) (start : ℕ) (seen : List ℕ) (instant : Instant) (b : Bool) → is_first seen ≡ b → IsTimely epochs start seen instant → start ≤ instant.tick
-started_by epochs start seen instant true h timely = let e = timely.at_start h in omega arith
-started_by epochs start seen instant false h timely = let e = timely.later h in omega arith
+started_by : (start : ℕ) (seen : List ℕ) (tick : ℕ) (b : Bool) → is_first seen ≡ b → IsTimely start seen tick → start ≤ tick
+started_by start seen tick true h timely = let e = timely.at_start h in omega arith
+started_by start seen tick false h timely = let e = timely.later h in omega arith
 
 later_by : (epochs : List Epoch) (tick place later : ℕ) (other : Epoch) → AllPairs (λ (a b : Epoch). a.start < b.start) epochs → ((next : Epoch) → slice_get epochs (place + 1) ≡ Some next → tick < next.start) →
     (later ≡ place + 1) ⊎ (place + 1 < later) → slice_get epochs later ≡ Some other → tick < other.start
@@ -218,13 +220,11 @@ ready_stays : (epochs : List Epoch) (refresh : ℕ) (profile : Profile) (instant
     HavePlanned epochs refresh profile instants count sets old whole → count < length instants → instant ≡ get_or instants count instant → Stays epochs instant.tick old new → IsReady epochs refresh instants count sets instant new whole
 ready_stays epochs refresh profile instants count sets instant old new whole plain steps have h r stays =
     let epoch = have.stands.epoch in
-    let step = subst (IsRecordedInstant epochs) (sym r) (steps.each count instant h) in
     let long = length-map instants (λ (x : Instant). x.tick) in
     let here : get_or (instant_ticks instants) count 0 ≡ instant.tick = get_or-map (λ (x : Instant). x.tick) instants count instant 0 h ∙ ap (λ (x : Instant). x.tick) (sym r) in
     let is_instant = subst (λ (t : ℕ). IsInstant epochs refresh t) here (steps.ticks.each count 0 (omega arith)) in
     let sized = have.count_is in
-    let timely : IsTimely epochs epoch.start have.seen instant = record {
-      named = step.named;
+    let timely : IsTimely epoch.start have.seen instant.tick = record {
       at_start = λ first.
           let none = have.none first in
           let start = first_from (instant_ticks instants) count epoch.start steps.ticks.rise (omega arith) (steps.ticks.all epoch.start (inl (start_named epochs old.place epoch have.stands.found))) (λ k below. absurd (let zero_count = none.0 in omega arith)) in
@@ -245,7 +245,7 @@ ready_stays epochs refresh profile instants count sets instant old new whole pla
       timely = timely;
       at = record {
         found = have.stands.found;
-        started = started_by epochs epoch.start have.seen instant (is_first have.seen) refl timely;
+        started = started_by epoch.start have.seen instant.tick (is_first have.seen) refl timely;
         last = λ later other beyond found. later_by epochs instant.tick old.place later other plain.rise stays.later (grind arith) found;
       };
       whole_is = have.whole_is;
@@ -256,7 +256,6 @@ ready_enters : (epochs : List Epoch) (refresh : ℕ) (profile : Profile) (instan
     HavePlanned epochs refresh profile instants count sets old whole → count < length instants → instant ≡ get_or instants count instant → Enters epochs instant.tick old new → IsReady epochs refresh instants count sets instant new whole
 ready_enters epochs refresh profile instants count sets instant old new whole plain steps have h r enters =
     let epoch = enters.stands.epoch in
-    let step = subst (IsRecordedInstant epochs) (sym r) (steps.each count instant h) in
     let long = length-map instants (λ (x : Instant). x.tick) in
     let here : get_or (instant_ticks instants) count 0 ≡ instant.tick = get_or-map (λ (x : Instant). x.tick) instants count instant 0 h ∙ ap (λ (x : Instant). x.tick) (sym r) in
     let found : slice_get epochs (old.place + 1) ≡ Some epoch = ap (λ (k : ℕ). slice_get epochs k) (sym enters.place) ∙ enters.stands.found in
@@ -272,7 +271,7 @@ ready_enters epochs refresh profile instants count sets instant old new whole pl
       stands = enters.stands;
       seen_is = none_late epoch.start (map (λ (set : PlannedSet). set.pts) (reverse sets))
           (λ some. let all = some_set sets in let last = latest_tick sets d (omega arith) in let less = below (length sets - 1) d (omega arith) in omega arith);
-      timely = record { named = step.named; at_start = λ first. same; later = λ first. cc; after = tt };
+      timely = record { at_start = λ first. same; later = λ first. cc; after = tt };
       at = record {
         found = enters.stands.found;
         started = started;
@@ -296,12 +295,25 @@ ready_on epochs refresh profile instants count sets instant old new whole plain 
 
 -- ---- the set of the instant
 
+-- the head of the set of an instant, behind these sets
+abbrev head_at : List PlannedSet → Instant → EpochWalk → State → SetHead
+head_at sets instant walk state = record {
+  instant = instant;
+  state = state;
+  page_version = version_behind (reverse sets) instant.named;
+  place = walk.place;
+}
+
+pub set_behind : (sets : List PlannedSet) (instant : Instant) (walk : EpochWalk) (state : State) (version : ℕ) (set : PlannedSet) → version ≡ version_behind (reverse sets) instant.named →
+    IsSetOf (record { instant = instant; state = state; page_version = version; place = walk.place }) set → IsSetOf (head_at sets instant walk state) set
+set_behind sets instant walk state version set e is = subst (λ (v : ℕ). IsSetOf (record { instant = instant; state = state; page_version = v; place = walk.place }) set) e is
+
 -- the set of an instant was made
 pub record IsMade (epochs : List Epoch) (refresh : ℕ) (instants : List Instant) (count : ℕ) (sets : List PlannedSet) (instant : Instant) (walk : EpochWalk) (whole : ℕ) (state : State) (step : EpochStep) : Type 0 where
   pub ready : IsReady epochs refresh instants count sets instant walk whole
   pub state_by : state ≡ state_of walk.current.first instant.named (nat_le (whole + refresh) instant.tick)
-  pub set_of : IsSetOf instant state walk.place step.set
-  pub advanced : IsAdvanced epochs ready.stands.epoch walk.layout ready.seen instant.tick state step
+  pub set_of : IsSetOf (head_at sets instant walk state) step.set
+  pub advanced : IsAdvanced ready.stands.epoch walk.layout ready.seen instant.tick state step
   pub safe : IsSafe walk.layout step.current
 
 row_before : (past : List PlannedSet) (row : ℕ) (d : PlannedSet) → 0 < length past → row ≡ (get_or past 0 d).row → IsRowBefore past row
@@ -363,7 +375,7 @@ next_made epochs refresh profile instants count sets instant old walk whole stat
           (ap (λ (t : ℕ). epoch.start == t) (sym time) ∙ starts_at epoch.start instant.tick (is_first ready.seen) ready.timely.at_start ready.timely.later)
           (λ first. due_same refresh instant.tick whole (reverse sets) (ready.whole_is first) ∙ ap (λ (t : ℕ). is_due refresh t (last_entry (reverse sets))) time)
           ∙ ap (λ (b : Bool). state_of (epoch.start == set.pts) b (is_due refresh set.pts (last_entry (reverse sets)))) named;
-      version = made.advanced.version ∙ ap (λ (xs : List ℕ). page_version epochs epoch.start xs) full;
+      version = made.set_of.page_version ∙ version_is epochs refresh sets (reverse sets) set.pts instant.named refl have.each named;
       carried = subst (λ (x : State). IsCarried epoch (is_entry_state x) (seen_of epoch.start (reverse sets) set.pts) set) (sym made.set_of.state_is) (subst (λ (xs : List ℕ). IsCarried epoch (is_entry_state state) xs set) full made.advanced.carried);
     }
 
@@ -522,8 +534,8 @@ pub layout_at : {epochs : List Epoch} {refresh : ℕ} {instants : List Instant} 
 layout_at {epochs} {refresh} {instants} {count} {sets} {instant} {walk} {whole} ready epoch is = subst (λ (x : Epoch). IsLayout x walk.layout) (sym (same_epoch ready epoch is)) ready.stands.layout
 
 pub made_from : {epochs : List Epoch} {refresh : ℕ} {instants : List Instant} {count : ℕ} {sets : List PlannedSet} {instant : Instant} {walk : EpochWalk} {whole : ℕ} (ready : IsReady epochs refresh instants count sets instant walk whole) (epoch : Epoch) (state : State) (step : EpochStep) →
-    epoch ≡ get_or epochs walk.place epoch → state ≡ state_of walk.current.first instant.named (nat_le (whole + refresh) instant.tick) → IsSetOf instant state walk.place step.set →
-    ((epochs : List Epoch) (seen : List ℕ) → IsEpochState epochs epoch walk.layout seen walk.current → IsTimely epochs epoch.start seen instant → IsAdvanced epochs epoch walk.layout seen instant.tick state step) →
+    epoch ≡ get_or epochs walk.place epoch → state ≡ state_of walk.current.first instant.named (nat_le (whole + refresh) instant.tick) → IsSetOf (head_at sets instant walk state) step.set →
+    ((seen : List ℕ) → IsEpochState epoch walk.layout seen walk.current → IsTimely epoch.start seen instant.tick → IsAdvanced epoch walk.layout seen instant.tick state step) →
     IsSafe walk.layout step.current → IsMade epochs refresh instants count sets instant walk whole state step
 made_from {epochs} {refresh} {instants} {count} {sets} {instant} {walk} {whole} ready epoch state step is by set_of advances safe =
     let same = same_epoch ready epoch is in
@@ -531,8 +543,8 @@ made_from {epochs} {refresh} {instants} {count} {sets} {instant} {walk} {whole} 
       ready = ready;
       state_by = by;
       set_of = set_of;
-      advanced = subst (λ (x : Epoch). IsAdvanced epochs x walk.layout ready.seen instant.tick state step) same
-          (advances epochs ready.seen (subst (λ (x : Epoch). IsEpochState epochs x walk.layout ready.seen walk.current) (sym same) ready.stands.current) (subst (λ (x : Epoch). IsTimely epochs x.start ready.seen instant) (sym same) ready.timely));
+      advanced = subst (λ (x : Epoch). IsAdvanced x walk.layout ready.seen instant.tick state step) same
+          (advances ready.seen (subst (λ (x : Epoch). IsEpochState x walk.layout ready.seen walk.current) (sym same) ready.stands.current) (subst (λ (x : Epoch). IsTimely x.start ready.seen instant.tick) (sym same) ready.timely));
       safe = safe;
     }
 

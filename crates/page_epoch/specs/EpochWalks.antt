@@ -9,10 +9,10 @@ use Rattle.page_epoch.specs.declared.layout.Layout.{Layout}
 use Rattle.page_epoch.specs.declared.epoch_state.EpochState.{EpochState}
 use Rattle.page_epoch.specs.declared.epoch_state.EpochWalk.{EpochWalk}
 use Rattle.page_epoch.specs.declared.epoch_state.EpochStep.{EpochStep}
+use Rattle.page_epoch.specs.declared.epoch_state.SetHead.{SetHead}
 use Rattle.page_epoch.specs.declared.instants.Instant.{Instant}
 use Rattle.std.specs.List.{AllPairs}
-use Rattle.page_epoch.specs.Instants.{is_named, named_ticks}
-use Rattle.page_epoch.specs.States.{page_version}
+use Rattle.page_epoch.specs.Instants.{named_ticks}
 use Rattle.page_epoch.specs.EpochStates.{region_states, changed_versions, is_first, IsAfter, IsSmallRegionState, IsSmallVersion}
 use Rattle.page_epoch.specs.Private.Layouts.{IsLayout}
 use Rattle.page_epoch.specs.Needs.{node_need}
@@ -27,11 +27,9 @@ pub record IsSmallEpoch (epoch : Epoch) : Type 0 where
   pub cues : length epoch.cues ≤ MOST_CUES
 
 -- what is kept is that of these instants
-pub record IsEpochState (epochs : List Epoch) (epoch : Epoch) (layout : Layout) (seen : List ℕ)
-    (current : EpochState) : Type 0 where
+pub record IsEpochState (epoch : Epoch) (layout : Layout) (seen : List ℕ) (current : EpochState) : Type 0 where
   pub regions : current.regions ≡ region_states epoch.cues seen layout.by_id
   pub versions : current.versions ≡ changed_versions epoch.colours seen layout.cluts
-  pub page : current.page_version ≡ page_version epochs epoch.start seen
   pub first : current.first ≡ is_first seen
 
 -- its numbers are small
@@ -40,33 +38,33 @@ pub record IsSafe (layout : Layout) (current : EpochState) : Type 0 where
   pub small_regions : All IsSmallRegionState current.regions
   pub versions : length current.versions ≡ length layout.cluts
   pub small_versions : All IsSmallVersion current.versions
-  pub page : current.page_version < 16
 
--- an instant follows these in its epoch
-pub record IsTimely (epochs : List Epoch) (start : ℕ) (seen : List ℕ) (instant : Instant) : Type 0 where
-  pub named : instant.named ≡ is_named epochs instant.tick
-  pub at_start : is_first seen ≡ true → instant.tick ≡ start
-  pub later : is_first seen ≡ false → start < instant.tick
-  pub after : IsAfter seen instant.tick
+-- a tick follows these instants in an epoch that starts then
+pub record IsTimely (start : ℕ) (seen : List ℕ) (tick : ℕ) : Type 0 where
+  pub at_start : is_first seen ≡ true → tick ≡ start
+  pub later : is_first seen ≡ false → start < tick
+  pub after : IsAfter seen tick
 
--- the version of the page one instant on
-abbrev pub page_after : Bool → Bool → ℕ → ℕ
-page_after first named version = if not first && named then (version + 1) % 16 else version
+-- a set with that head
+pub record IsSetOf (head : SetHead) (set : PlannedSet) : Type 0 where
+  pub pts : set.pts ≡ head.instant.tick
+  pub state_is : set.state ≡ head.state
+  pub row : set.row ≡ head.instant.row
+  pub epoch : set.epoch ≡ head.place
+  pub page_version : set.page_version ≡ head.page_version
 
--- a set of an instant
-pub record IsSetOf (instant : Instant) (state : State) (place : ℕ) (set : PlannedSet) : Type 0 where
-  pub pts : set.pts ≡ instant.tick
-  pub state_is : set.state ≡ state
-  pub row : set.row ≡ instant.row
-  pub epoch : set.epoch ≡ place
+-- the version of the page, from the sets before and whether a record names the instant: 0 for the first set of all;
+-- from then on it is that of the set before, and rises by one modulo 16 where a record does
+abbrev pub version_behind : List PlannedSet → Bool → ℕ
+version_behind [] named = 0
+version_behind (before ∷ earlier) named =
+    if named then (before.page_version + 1) % 16 else before.page_version
 
 -- the epoch one instant on, with the set of that instant and its nodes
-pub record IsAdvanced (epochs : List Epoch) (epoch : Epoch) (layout : Layout) (seen : List ℕ) (tick : ℕ)
-    (state : State)
+pub record IsAdvanced (epoch : Epoch) (layout : Layout) (seen : List ℕ) (tick : ℕ) (state : State)
     (step : EpochStep) : Type 0 where
-  pub current : IsEpochState epochs epoch layout (tick ∷ seen) step.current
+  pub current : IsEpochState epoch layout (tick ∷ seen) step.current
   pub carried : IsCarried epoch (is_entry_state state) (tick ∷ seen) step.set
-  pub version : step.set.page_version ≡ page_version epochs epoch.start (tick ∷ seen)
   pub nodes : step.nodes ≡ node_need epoch (tick ∷ seen) (length step.set.shown)
 
 -- the walk stands in an epoch
@@ -74,7 +72,7 @@ pub record IsEpochWalk (epochs : List Epoch) (seen : List ℕ) (walk : EpochWalk
   pub epoch : Epoch
   pub found : slice_get epochs walk.place ≡ Some epoch
   pub layout : IsLayout epoch walk.layout
-  pub current : IsEpochState epochs epoch walk.layout seen walk.current
+  pub current : IsEpochState epoch walk.layout seen walk.current
   pub safe : IsSafe walk.layout walk.current
 
 -- the regions of an epoch have different numbers, each a byte

@@ -8,7 +8,7 @@ use Rattle.cue_list.specs.declared.script.Script.{Script}
 use Rattle.page_epoch.specs.declared.planned_set.PlannedSet.{PlannedSet}
 use Rattle.page_epoch.specs.Instants.{is_named, AreInstants}
 use Rattle.page_epoch.specs.Rows.{events_of, IsLeastRow}
-use Rattle.page_epoch.specs.States.{last_entry, is_due, state_of, seen_of, page_version}
+use Rattle.page_epoch.specs.States.{last_entry, is_due, state_of, seen_of, instants_of, page_version}
 use Rattle.page_epoch.specs.SentRegions.{AreSentRegions, AreShown}
 use Rattle.page_epoch.specs.SentCluts.{sent_cluts}
 use Rattle.page_epoch.specs.SentRegions.{listed_cues}
@@ -47,7 +47,7 @@ pub record IsNext (epochs : List Epoch) (refresh : ℕ) (past : List PlannedSet)
   pub row : IsRow epochs past set.pts set.row
   pub state : set.state
       ≡ state_of (epoch.start == set.pts) (is_named epochs set.pts) (is_due refresh set.pts (last_entry past))
-  pub version : set.page_version ≡ page_version epochs epoch.start (seen_of epoch.start past set.pts)
+  pub version : set.page_version ≡ page_version epochs (instants_of past set.pts)
   pub carried : IsCarried epoch (is_entry_state set.state) (seen_of epoch.start past set.pts) set
 
 -- what a set needs of a receiver: the bytes of its epoch's pixels, and its nodes

@@ -1,5 +1,5 @@
 -- How a set stands to the sets before it, which are given the latest first.
-use Rattle.std.specs.Prelude.{ℕ, ◌+◌, ◌%◌, nat_le, nat_lt, Bool, false, not, ◌&&◌, ◌||◌, if◌then◌else◌, List, ◌∷◌, map, Option, Some, None, find, count_by, take_while}
+use Rattle.std.specs.Prelude.{ℕ, ◌+◌, ◌%◌, nat_le, Bool, false, not, ◌&&◌, ◌||◌, if◌then◌else◌, List, ◌∷◌, map, drop, reverse, Option, Some, None, find, count_by, take_while}
 use Rattle.stream_syntax.specs.declared.page.State.{State}
 use Rattle.stream_syntax.specs.declared.page.State.TheVariants.{Normal, Acquisition, ModeChange}
 use Rattle.cue_list.specs.declared.epoch.Epoch.{Epoch}
@@ -25,6 +25,10 @@ state_of starts named due = if starts then ModeChange else if not named || due t
 abbrev pub seen_of : ℕ → List PlannedSet → ℕ → List ℕ
 seen_of start past tick = tick ∷ take_while (nat_le start) (map (λ set. set.pts) past)
 
--- the version of the page: how many of these instants are later than the epoch's start and no refreshes, modulo 16
-abbrev pub page_version : List Epoch → ℕ → List ℕ → ℕ
-page_version epochs start seen = count_by (λ tick. nat_lt start tick && is_named epochs tick) seen % 16
+-- the ticks of this set and of those before it in the script, the latest first
+abbrev pub instants_of : List PlannedSet → ℕ → List ℕ
+instants_of past tick = tick ∷ map (λ set. set.pts) past
+
+-- the version of the page: how many of these instants of the script, but its first, are no refreshes, modulo 16
+abbrev pub page_version : List Epoch → List ℕ → ℕ
+page_version epochs instants = count_by (is_named epochs) (drop 1 (reverse instants)) % 16

@@ -4,7 +4,7 @@ ghost use Rattle.cue_list.specs.declared.limits.TheConstants.{MOST_EPOCHS};
 ghost use Rattle.stream_syntax.specs.Segments.{is_entry_state as is_entry_state_of};
 ghost use Rattle.page_epoch.specs.EpochStates.{first_region_state};
 ghost use Rattle.page_epoch.specs.Private.Layouts.{IsLayout};
-ghost use Rattle.page_epoch.specs.EpochWalks.{IsSmallEpoch, IsEpochState, IsSafe, IsTimely, IsSetOf, IsAdvanced, IsEpochWalk, GoesOn, page_after};
+ghost use Rattle.page_epoch.specs.EpochWalks.{IsSmallEpoch, IsEpochState, IsSafe, IsTimely, IsSetOf, IsAdvanced, IsEpochWalk, GoesOn};
 
 use crate::clut_changes::ClutChanges;
 use crate::clut_step::step_cluts;
@@ -24,8 +24,6 @@ pub struct EpochState {
     pub regions: Items<RegionState>,
     /// The versions of the CLUTs that changed so far.
     pub versions: Items<Option<u8>>,
-    /// The version of the page, 0 to 15.
-    pub page_version: u8,
     /// True until the epoch's first instant.
     pub first: bool,
 }
@@ -40,6 +38,19 @@ pub struct EpochWalk {
     pub layout: Layout,
     /// What changes in it.
     pub current: EpochState,
+}
+
+/// What a set is, whatever it carries of its epoch.
+#[derive(Clone, Copy, Debug)]
+pub struct SetHead {
+    /// Its instant.
+    pub instant: Instant,
+    /// Its page state.
+    pub state: State,
+    /// The version of its page, 0 to 15.
+    pub page_version: u8,
+    /// The index of its epoch in the script.
+    pub place: u32,
 }
 
 /// An epoch one instant on, the set of that instant, and the nodes that the set needs.
@@ -93,31 +104,15 @@ fn first_versions(alloc: Global, cluts: &[ClutChanges]) -> Result<Items<Option<u
     Ok(Items::new(alloc, versions))
 }
 
-/// The version of the page one instant on.
-fn next_page_version(version: u8, first: bool, named: bool) -> u8
-    requires { version < 16 }
-    ensures value { result ≡ page_after first named version }
-    ensures small { result < 16 }
-{
-    // A refresh shows the same page once more, in the same version.
-    if !first && named {
-        (version + 1) % 16
-    } else {
-        version
-    }
-}
-
 impl EpochState {
     /// An epoch before its first instant.
     pub fn begin(alloc: Global, layout: &Layout) -> Result<EpochState, AllocError>
-        ensures current { (epochs : List EpochValue) → (epoch : EpochValue)
-            → IfOk result (IsEpochState epochs epoch layout.now []) }
+        ensures current { (epoch : EpochValue) → IfOk result (IsEpochState epoch layout.now []) }
         ensures safe { IfOk result (IsSafe layout.now) }
     {
         Ok(EpochState {
             regions: first_region_states(alloc, layout.by_id.as_slice())?,
             versions: first_versions(alloc, layout.cluts.as_slice())?,
-            page_version: 0,
             first: true,
         })
     }
@@ -128,22 +123,20 @@ impl EpochState {
         alloc: Global,
         epoch: &Epoch,
         layout: &Layout,
-        place: u32,
-        instant: Instant,
-        state: State,
+        head: SetHead,
     ) -> Result<EpochStep, AllocError>
         requires few { IsSmallEpoch epoch.now }
         requires layout { IsLayout epoch.now layout.now }
         requires safe { IsSafe layout.now self.now }
         ensures safe { IfOk result (λ step. IsSafe layout.now step.current) }
-        ensures set { IfOk result (λ step. IsSetOf instant state place step.set) }
-        ensures advanced { (epochs : List EpochValue) → (seen : List ℕ)
-            → IsEpochState epochs epoch.now layout.now seen self.now
-            → IsTimely epochs epoch.now.start seen instant
-            → IfOk result (IsAdvanced epochs epoch.now layout.now seen instant.tick state) }
+        ensures set { IfOk result (λ step. IsSetOf head step.set) }
+        ensures advanced { (seen : List ℕ)
+            → IsEpochState epoch.now layout.now seen self.now
+            → IsTimely epoch.now.start seen head.instant.tick
+            → IfOk result (IsAdvanced epoch.now layout.now seen head.instant.tick head.state) }
     {
-        let whole = is_entry_state(state);
-        let tick = instant.tick;
+        let whole = is_entry_state(head.state);
+        let tick = head.instant.tick;
         let cues = epoch.cues.as_slice();
         let regions = step_regions(
             alloc,
@@ -164,7 +157,6 @@ impl EpochState {
         )?;
         let shown = shown(alloc, layout.by_y.as_slice(), regions.states.as_slice())?;
         let listed = listed(alloc, regions.sent.as_slice())?;
-        let page_version = next_page_version(self.page_version, self.first, instant.named);
         // What a receiver holds behind this set: regions, page entries, listings, and CLUTs with
         // the entries that are set.
         let nodes = epoch.regions.len() as u64
@@ -175,15 +167,14 @@ impl EpochState {
             current: EpochState {
                 regions: regions.states,
                 versions: cluts.versions,
-                page_version,
                 first: false,
             },
             set: PlannedSet {
                 pts: tick,
-                state,
-                row: instant.row,
-                epoch: place,
-                page_version,
+                state: head.state,
+                row: head.instant.row,
+                epoch: head.place,
+                page_version: head.page_version,
                 shown,
                 regions: regions.sent,
                 cluts: cluts.sent,

@@ -1,11 +1,11 @@
-ghost use Rattle.std.specs.Prelude.{◌≡◌, ◌≢◌, ◌≤◌, List, All, IfOk, IfErr, IsOkUnless, OnOk};
+ghost use Rattle.std.specs.Prelude.{◌≡◌, ◌≢◌, ◌<◌, ◌≤◌, List, reverse, All, IfOk, IfErr, IsOkUnless, OnOk};
 ghost use Rattle.page_epoch.specs.States.{state_of as state_by};
 ghost use Rattle.page_epoch.specs.Plan.{ArePlanned, IsPlan};
 ghost use Rattle.page_epoch.specs.Refusals.{IsCause, IsNeedFault, IsRefusal, IsSetCause};
 ghost use Rattle.page_epoch.specs.Sendable.{IsSendable};
-ghost use Rattle.page_epoch.specs.EpochWalks.{IsPlain};
+ghost use Rattle.page_epoch.specs.EpochWalks.{IsPlain, version_behind};
 
-use crate::epoch_state::{EpochWalk, is_entry_state};
+use crate::epoch_state::{EpochWalk, SetHead, is_entry_state};
 use crate::fault::PlanFault;
 use crate::instants::instants_of;
 use crate::planned_set::PlannedSet;
@@ -70,6 +70,20 @@ fn state_of(starts: bool, named: bool, due: bool) -> State
     }
 }
 
+/// The version of the page of a set behind these. It goes on over the start of an epoch, since
+/// receivers pass over a page that has the version of the one before.
+fn next_page_version(before: &[PlannedSet], named: bool) -> u8
+    requires { All (λ set. set.page_version < 16) before.now }
+    ensures { result ≡ version_behind (reverse before.now) named }
+{
+    match before.last() {
+        None => 0,
+        Some(set) if named => (set.page_version + 1) % 16,
+        // A refresh shows the same page once more, in the same version.
+        Some(set) => set.page_version,
+    }
+}
+
 /// Tests what a set needs: the bytes of its epoch's pixels first, then its nodes.
 fn check_needs(profile: &Profile, pixels: u64, nodes: u64, row: u64) -> Result<(), PlanFault>
     ensures held { OnOk result ((pixels ≤ profile.now.pixels) × (nodes ≤ profile.now.nodes)) }
@@ -106,9 +120,13 @@ fn plan_sets(
         // is the entry point.
         let due = last_entry + refresh <= instant.tick;
         let state = state_of(walk.current.first, instant.named, due);
-        let step = walk
-            .current
-            .advance(alloc, epoch, &walk.layout, walk.place, *instant, state)?;
+        let head = SetHead {
+            instant: *instant,
+            state,
+            page_version: next_page_version(sets.as_slice(), instant.named),
+            place: walk.place,
+        };
+        let step = walk.current.advance(alloc, epoch, &walk.layout, head)?;
         check_needs(profile, walk.layout.pixels, step.nodes, instant.row)?;
         if is_entry_state(state) {
             last_entry = instant.tick;

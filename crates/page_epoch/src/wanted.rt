@@ -249,7 +249,8 @@ region,0,0,0,8,8,4,0
 place,270000,360000,0,0,0,solid,a
 ";
 
-/// A new epoch begins anew: versions, cues and colours are its own.
+/// A new epoch begins anew: the versions of its regions and CLUTs, its cues and its colours are its
+/// own. The version of the page goes on.
 pub const TWO_EPOCHS_SETS: [Wanted; 4] = [
     Wanted {
         pts: 90_000,
@@ -275,7 +276,7 @@ pub const TWO_EPOCHS_SETS: [Wanted; 4] = [
         pts: 270_000,
         state: State::ModeChange,
         row: 9,
-        page_version: 0,
+        page_version: 2,
         shown: &[0],
         regions: &[(0, 0, true, &[0])],
         cluts: &[],
@@ -285,7 +286,7 @@ pub const TWO_EPOCHS_SETS: [Wanted; 4] = [
         pts: 360_000,
         state: State::Normal,
         row: 12,
-        page_version: 1,
+        page_version: 3,
         shown: &[],
         regions: &[],
         cluts: &[],

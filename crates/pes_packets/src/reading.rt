@@ -11,9 +11,10 @@ use stream_syntax::{DATA_IDENTIFIER, PRIVATE_STREAM_1, PesFault, SUBTITLE_STREAM
 /// its data field behind data identifier and subtitle stream id.
 #[derive(Clone, Copy, Debug, PartialEq, Eq)]
 pub struct Pes<'a> {
-    /// The presentation time, below 2^33.
+    /// The presentation time, below 2^33 (PTS).
     pub pts: u64,
-    /// The bytes in which segments stand one after another.
+    /// The bytes in which segments stand one after another (the subtitling_segments of the
+    /// PES_data_field, with its end marker).
     pub segments: &'a [u8],
 }
 

@@ -4,6 +4,7 @@ use Rattle.std.specs.List.{AllByRecursion}
 use Rattle.std.proofs.lemmas.List.{reverse-append}
 use Rattle.std.proofs.lemmas.List.Elements.{recursion_from_All}
 use Rattle.sub_base.specs.declared.profile.Profile.{Profile}
+use Rattle.decoder_model.specs.declared.pages.Pages.{Pages}
 use Rattle.decoder_model.specs.Readings.{Reading, AreReadings, IsDeliveryRead, AreDeliveriesRead}
 use Rattle.decoder_model.specs.Received.{HasReceived}
 use Rattle.decoder_model.proofs.SentSets.{all-append}
@@ -42,10 +43,10 @@ all_reversed P (x ∷ xs) h =
     subst (AllByRecursion P) (sym (reverse-append (x ∷ []) xs))
     (all-append P (reverse xs) (x ∷ []) (all_reversed P xs h.1) (h.0, tt))
 
-pub packets_read : (profile : Profile) (pid page : ℕ) (ended : Bool) (packets : List (List ℕ))
+pub packets_read : (profile : Profile) (pid : ℕ) (pages : Pages) (ended : Bool) (packets : List (List ℕ))
     → All (λ (packet : List ℕ). All (λ (byte : ℕ). byte < 256) packet) packets
-    → (past : List (Delivery Reading)) × HasReceived profile pid page ended packets past
-packets_read profile pid page ended packets h =
-    deliveries_read (reverse (sets_of profile.coded pid page ended packets))
-    (all_reversed HasWhole (sets_of profile.coded pid page ended packets)
-    (received_whole profile.coded pid page ended packets (recursion_from_All OfBytes packets h)))
+    → (past : List (Delivery Reading)) × HasReceived profile pid pages ended packets past
+packets_read profile pid pages ended packets h =
+    deliveries_read (reverse (sets_of profile.coded pid pages ended packets))
+    (all_reversed HasWhole (sets_of profile.coded pid pages ended packets)
+    (received_whole profile.coded pid pages ended packets (recursion_from_All OfBytes packets h)))

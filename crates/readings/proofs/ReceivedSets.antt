@@ -12,6 +12,7 @@ use Rattle.stream_syntax.specs.Tests.{byte_at, word_at, first_fault}
 use Rattle.stream_syntax.specs.TransportPackets.{packet_fault}
 use Rattle.stream_syntax.specs.Units.{each_after, event_at, unit_at, is_loss}
 use Rattle.stream_syntax.specs.declared.pes.PesFault.{PesFault}
+use Rattle.decoder_model.specs.declared.pages.Pages.{Pages}
 use Rattle.decoder_model.specs.Arrivals.{PesUnit, Arrival, loss, refused_unit, aside, unit, is_passed_over, unit_with, unit_from, arrival_of_unit, losses_at, units_at, arrivals_at, packets_taken, arrivals_of}
 use Rattle.decoder_model.specs.Frames.{counts_for, segments_in}
 use Rattle.decoder_model.specs.Received.{IsFramed}
@@ -79,12 +80,12 @@ frames_whole {bytes} (one_more rest ends is behind are) h =
     subst (AllByRecursion IsFrame) (sym are)
     (front_whole bytes h is, frames_whole behind (bytes_behind (segment_size bytes) bytes h))
 
-counting : (page : ℕ) (frames : List Frame) → AllByRecursion IsFrame frames
-    → AllByRecursion IsFrame (filter (counts_for page) frames)
-counting page [] h = tt
-counting page (frame ∷ frames) h =
-    either_way (AllByRecursion IsFrame) (counts_for page frame) (frame ∷ filter (counts_for page) frames)
-    (filter (counts_for page) frames) (h.0, counting page frames h.1) (counting page frames h.1)
+counting : (pages : Pages) (frames : List Frame) → AllByRecursion IsFrame frames
+    → AllByRecursion IsFrame (filter (counts_for pages) frames)
+counting pages [] h = tt
+counting pages (frame ∷ frames) h =
+    either_way (AllByRecursion IsFrame) (counts_for pages frame) (frame ∷ filter (counts_for pages) frames)
+    (filter (counts_for pages) frames) (h.0, counting pages frames h.1) (counting pages frames h.1)
 
 -- ---- arrivals
 
@@ -102,37 +103,37 @@ unit_of_frames : (place size time : ℕ) (frames : List Frame) → AllByRecursio
 unit_of_frames place size time [] h = tt
 unit_of_frames place size time (frame ∷ frames) h = h
 
-unit_of_pes : (page place size : ℕ) (fault : Option PesFault) (found : ℕ × List ℕ) → OfBytes found.1
-    → IsArrival (unit_from page place size (pes.unless_fault fault found))
-unit_of_pes page place size None found h =
-    unit_of_frames place size found.0 (filter (counts_for page) (frames_of found.1))
-    (counting page (frames_of found.1) (frames_whole (frames_are found.1) h))
-unit_of_pes page place size (Some fault) found h = either_way IsArrival (is_passed_over fault) aside refused_unit tt tt
+unit_of_pes : (pages : Pages) (place size : ℕ) (fault : Option PesFault) (found : ℕ × List ℕ) → OfBytes found.1
+    → IsArrival (unit_from pages place size (pes.unless_fault fault found))
+unit_of_pes pages place size None found h =
+    unit_of_frames place size found.0 (filter (counts_for pages) (frames_of found.1))
+    (counting pages (frames_of found.1) (frames_whole (frames_are found.1) h))
+unit_of_pes pages place size (Some fault) found h = either_way IsArrival (is_passed_over fault) aside refused_unit tt tt
 
-unit_arrives : (page place : ℕ) (bytes : List ℕ) → OfBytes bytes → IsArrival (arrival_of_unit page place bytes)
-unit_arrives page place bytes h =
-    unit_of_pes page place (length bytes) (pes.pes_fault bytes) (pes.pts_in bytes, pes.segments_in bytes)
+unit_arrives : (pages : Pages) (place : ℕ) (bytes : List ℕ) → OfBytes bytes → IsArrival (arrival_of_unit pages place bytes)
+unit_arrives pages place bytes h =
+    unit_of_pes pages place (length bytes) (pes.pes_fault bytes) (pes.pts_in bytes, pes.segments_in bytes)
     (bytes_behind _ bytes h)
 
-ended_arrives : (page place : ℕ) (ended : Option (List ℕ)) → OfSome OfBytes ended
-    → AllByRecursion IsArrival (units_at page place ended)
-ended_arrives page place None h = tt
-ended_arrives page place (Some bytes) h = (unit_arrives page place bytes h, tt)
+ended_arrives : (pages : Pages) (place : ℕ) (ended : Option (List ℕ)) → OfSome OfBytes ended
+    → AllByRecursion IsArrival (units_at pages place ended)
+ended_arrives pages place None h = tt
+ended_arrives pages place (Some bytes) h = (unit_arrives pages place bytes h, tt)
 
-packet_arrives : (size pid page : ℕ) (before : List (List ℕ)) (packet : List ℕ) → AllByRecursion OfBytes before
-    → OfBytes packet → AllByRecursion IsArrival (arrivals_at size pid page before packet)
-packet_arrives size pid page before packet earlier h =
+packet_arrives : (size pid : ℕ) (pages : Pages) (before : List (List ℕ)) (packet : List ℕ) → AllByRecursion OfBytes before
+    → OfBytes packet → AllByRecursion IsArrival (arrivals_at size pid pages before packet)
+packet_arrives size pid pages before packet earlier h =
     all-append IsArrival (losses_at (event_at pid size before packet))
-    (units_at page (length before) (unit_at pid size before packet))
+    (units_at pages (length before) (unit_at pid size before packet))
     (either_way (AllByRecursion IsArrival) (is_loss (event_at pid size before packet)) (loss ∷ []) [] (tt, tt) tt)
-    (ended_arrives page (length before) (unit_at pid size before packet) (unit_bytes pid size before packet earlier h))
+    (ended_arrives pages (length before) (unit_at pid size before packet) (unit_bytes pid size before packet earlier h))
 
-all_arrive : (size pid page : ℕ) (packets : List (List ℕ)) → AllByRecursion OfBytes packets
-    → AllByRecursion IsArrival (arrivals_of size pid page packets)
+all_arrive : (size pid : ℕ) (pages : Pages) (packets : List (List ℕ)) → AllByRecursion OfBytes packets
+    → AllByRecursion IsArrival (arrivals_of size pid pages packets)
 unfolding arrivals_of
-all_arrive size pid page packets h =
-    all_flat IsArrival (each_after (arrivals_at size pid page) [] (packets_taken pid packets))
-    (each_all (AllByRecursion IsArrival) (arrivals_at size pid page) (packet_arrives size pid page) []
+all_arrive size pid pages packets h =
+    all_flat IsArrival (each_after (arrivals_at size pid pages) [] (packets_taken pid packets))
+    (each_all (AllByRecursion IsArrival) (arrivals_at size pid pages) (packet_arrives size pid pages) []
     (packets_taken pid packets) tt
     (all_ahead OfBytes (prefix_len (λ packet. is_none (packet_fault pid packet)) packets) packets h))
 
@@ -206,9 +207,9 @@ sets_whole coded ended (run first more ∷ rest) h =
     (sets_whole coded ended rest h.1)
 
 -- each segment of the sets in packets of bytes
-pub received_whole : (coded pid page : ℕ) (ended : Bool) (packets : List (List ℕ)) → AllByRecursion OfBytes packets
-    → AllByRecursion HasWhole (sets_of coded pid page ended packets)
+pub received_whole : (coded pid : ℕ) (pages : Pages) (ended : Bool) (packets : List (List ℕ)) → AllByRecursion OfBytes packets
+    → AllByRecursion HasWhole (sets_of coded pid pages ended packets)
 unfolding sets_of
-received_whole coded pid page ended packets h =
-    sets_whole coded (has_ended ended pid packets) (runs_of (arrivals_of coded pid page packets))
-    (runs_whole (arrivals_of coded pid page packets) (all_arrive coded pid page packets h))
+received_whole coded pid pages ended packets h =
+    sets_whole coded (has_ended ended pid packets) (runs_of (arrivals_of coded pid pages packets))
+    (runs_whole (arrivals_of coded pid pages packets) (all_arrive coded pid pages packets h))

@@ -1,6 +1,7 @@
 //! Laws on the readings of segments and of packets, over all bytes.
 
 ghost use Rattle.std.specs.Prelude.{◌≡◌, ◌<◌, ℕ, All, Bool, List};
+ghost use Rattle.decoder_model.specs.declared.pages.Pages.{Pages};
 ghost use Rattle.decoder_model.specs.Readings.{AreDeliveriesRead, IsReading, Reading};
 ghost use Rattle.decoder_model.specs.Received.{HasReceived, IsFramed};
 ghost use Rattle.decoder_model.specs.Sets.{Delivery};
@@ -20,17 +21,18 @@ pub fn one_reading()
     ensures sets { (deliveries : List (Delivery (List ℕ))) (one other : List (Delivery Reading))
         → AreDeliveriesRead deliveries one → AreDeliveriesRead deliveries other
         → one ≡ other }
-    ensures packets { (profile : Profile) (pid page : ℕ) (ended : Bool)
+    ensures packets { (profile : Profile) (pid : ℕ) (pages : Pages) (ended : Bool)
         (packets : List (List ℕ))
         (one other : List (Delivery Reading))
-        → HasReceived profile pid page ended packets one
-        → HasReceived profile pid page ended packets other → one ≡ other }
+        → HasReceived profile pid pages ended packets one
+        → HasReceived profile pid pages ended packets other → one ≡ other }
 {}
 
 /// Packets of bytes are received, whatever stands in them: as some sets and losses, each segment
 /// read.
 pub fn packets_are_read()
-    ensures { (profile : Profile) (pid page : ℕ) (ended : Bool) (packets : List (List ℕ))
+    ensures { (profile : Profile) (pid : ℕ) (pages : Pages) (ended : Bool)
+        (packets : List (List ℕ))
         → All (λ packet. All (λ byte. byte < 256) packet) packets
-        → (past : List (Delivery Reading)) × HasReceived profile pid page ended packets past }
+        → (past : List (Delivery Reading)) × HasReceived profile pid pages ended packets past }
 {}

@@ -8,6 +8,7 @@ use Rattle.stream_syntax.specs.Pes.{pes_of}
 use Rattle.stream_syntax.specs.Units.{is_loss}
 use Rattle.stream_syntax.specs.declared.transport.Event.{Event}
 use Rattle.stream_syntax.specs.declared.pes.PesFault.{PesFault}
+use Rattle.decoder_model.specs.declared.pages.Pages.{Pages}
 use Rattle.decoder_model.specs.Arrivals.{Arrival, loss, losses_at, units_at, aside, refused_unit, unit_with, unit_from, arrival_of_unit, is_passed_over}
 use Rattle.decoder_model.specs.PacketArrivals.{last_run}
 use Rattle.decoder_model.specs.Readings.{Reading, AreDeliveriesRead, IsDeliveryRead}
@@ -26,15 +27,15 @@ use Rattle.receiver.specs.Showing.{Showing}
 -- ---- a unit by its bytes
 
 -- one that was read as a PES packet of subtitles
-pub read_unit : (page place : ℕ) (bytes : List ℕ) (pts : ℕ) (segments : List ℕ) → pes_of bytes ≡ Ok (pts, segments) → arrival_of_unit page place bytes ≡ unit_with place (length bytes) pts (counted_in page segments)
-read_unit page place bytes pts segments is = ap (unit_from page place (length bytes)) is
+pub read_unit : (pages : Pages) (place : ℕ) (bytes : List ℕ) (pts : ℕ) (segments : List ℕ) → pes_of bytes ≡ Ok (pts, segments) → arrival_of_unit pages place bytes ≡ unit_with place (length bytes) pts (counted_in pages segments)
+read_unit pages place bytes pts segments is = ap (unit_from pages place (length bytes)) is
 
 -- one that is passed over, and one that is a loss
-pub other_unit : (page place : ℕ) (bytes : List ℕ) (fault : PesFault) → pes_of bytes ≡ Err fault → is_passed_over fault ≡ true → arrival_of_unit page place bytes ≡ aside
-other_unit page place bytes fault is other = ap (unit_from page place (length bytes)) is ∙ ap (λ b. cond b aside refused_unit) other
+pub other_unit : (pages : Pages) (place : ℕ) (bytes : List ℕ) (fault : PesFault) → pes_of bytes ≡ Err fault → is_passed_over fault ≡ true → arrival_of_unit pages place bytes ≡ aside
+other_unit pages place bytes fault is other = ap (unit_from pages place (length bytes)) is ∙ ap (λ b. cond b aside refused_unit) other
 
-pub lost_unit : (page place : ℕ) (bytes : List ℕ) (fault : PesFault) → pes_of bytes ≡ Err fault → is_passed_over fault ≡ false → arrival_of_unit page place bytes ≡ refused_unit
-lost_unit page place bytes fault is other = ap (unit_from page place (length bytes)) is ∙ ap (λ b. cond b aside refused_unit) other
+pub lost_unit : (pages : Pages) (place : ℕ) (bytes : List ℕ) (fault : PesFault) → pes_of bytes ≡ Err fault → is_passed_over fault ≡ false → arrival_of_unit pages place bytes ≡ refused_unit
+lost_unit pages place bytes fault is other = ap (unit_from pages place (length bytes)) is ∙ ap (λ b. cond b aside refused_unit) other
 
 -- ---- what it adds
 
@@ -133,22 +134,22 @@ packet_gathers arrivals event units given losses gathered showing are gathers = 
 )
 
 -- the same, by what is known of the packet
-pub fed_gathers : (arrivals : List Arrival) (event told : Event) (page own place : ℕ) (unit ended : Option (List ℕ)) (given : List (Delivery (List ℕ))) (gathered : Gathered) (showing : Showing)
-    → event ≡ told → page ≡ own → unit ≡ ended
-    → (losses : List (Delivery (List ℕ))) × AreLosses losses × Gathers ((arrivals ++ losses_at event) ++ units_at page place unit) false ((given ++ lost_with event) ++ losses) gathered showing
+pub fed_gathers : (arrivals : List Arrival) (event told : Event) (pages own : Pages) (place : ℕ) (unit ended : Option (List ℕ)) (given : List (Delivery (List ℕ))) (gathered : Gathered) (showing : Showing)
+    → event ≡ told → pages ≡ own → unit ≡ ended
+    → (losses : List (Delivery (List ℕ))) × AreLosses losses × Gathers ((arrivals ++ losses_at event) ++ units_at pages place unit) false ((given ++ lost_with event) ++ losses) gathered showing
     → (all : List (Delivery (List ℕ))) × AreLosses all × Gathers (arrivals ++ (losses_at told ++ units_at own place ended)) false (given ++ all) gathered showing
-fed_gathers arrivals event told page own place unit ended given gathered showing event_is page_is unit_is (losses, are, gathers) =
-    subst (λ (e : Event). Is e own ended) event_is (subst (λ (p : ℕ). Is event p ended) page_is (subst (λ (u : Option (List ℕ)). Is event page u) unit_is
-    (packet_gathers arrivals event (units_at page place unit) given losses gathered showing are gathers)))
+fed_gathers arrivals event told pages own place unit ended given gathered showing event_is pages_is unit_is (losses, are, gathers) =
+    subst (λ (e : Event). Is e own ended) event_is (subst (λ (p : Pages). Is event p ended) pages_is (subst (λ (u : Option (List ℕ)). Is event pages u) unit_is
+    (packet_gathers arrivals event (units_at pages place unit) given losses gathered showing are gathers)))
   where
-    Is : Event → ℕ → Option (List ℕ) → Type 0
+    Is : Event → Pages → Option (List ℕ) → Type 0
     Is e p u = (all : List (Delivery (List ℕ))) × AreLosses all × Gathers (arrivals ++ (losses_at e ++ units_at p place u)) false (given ++ all) gathered showing
 
-pub fed_end : (coded most page own place : ℕ) (arrivals : List Arrival) (event told : Event) (unit ended : Option (List ℕ)) (answer : Option UnitEnd) → coded ≡ most → page ≡ own → event ≡ told → unit ≡ ended
-    → IsEndOf coded page place (last_run (reverse (arrivals ++ losses_at event))) unit answer → IsEndOf most own place (last_run (losses_at told ++ reverse arrivals)) ended answer
-fed_end coded most page own place arrivals event told unit ended answer coded_is page_is event_is unit_is end =
+pub fed_end : (coded most : ℕ) (pages own : Pages) (place : ℕ) (arrivals : List Arrival) (event told : Event) (unit ended : Option (List ℕ)) (answer : Option UnitEnd) → coded ≡ most → pages ≡ own → event ≡ told → unit ≡ ended
+    → IsEndOf coded pages place (last_run (reverse (arrivals ++ losses_at event))) unit answer → IsEndOf most own place (last_run (losses_at told ++ reverse arrivals)) ended answer
+fed_end coded most pages own place arrivals event told unit ended answer coded_is pages_is event_is unit_is end =
     subst (λ (n : ℕ). IsEndOf n own place (last_run (losses_at told ++ reverse arrivals)) ended answer) coded_is
-    (subst (λ (p : ℕ). IsEndOf coded p place (last_run (losses_at told ++ reverse arrivals)) ended answer) page_is
-    (subst (λ (e : Event). IsEndOf coded page place (last_run (losses_at e ++ reverse arrivals)) ended answer) event_is
-    (subst (λ (u : Option (List ℕ)). IsEndOf coded page place (last_run (losses_at event ++ reverse arrivals)) u answer) unit_is
-    (subst (λ (units : List Arrival). IsEndOf coded page place (last_run units) unit answer) (turned_losses arrivals event) end))))
+    (subst (λ (p : Pages). IsEndOf coded p place (last_run (losses_at told ++ reverse arrivals)) ended answer) pages_is
+    (subst (λ (e : Event). IsEndOf coded pages place (last_run (losses_at e ++ reverse arrivals)) ended answer) event_is
+    (subst (λ (u : Option (List ℕ)). IsEndOf coded pages place (last_run (losses_at event ++ reverse arrivals)) u answer) unit_is
+    (subst (λ (units : List Arrival). IsEndOf coded pages place (last_run units) unit answer) (turned_losses arrivals event) end))))

@@ -1,6 +1,7 @@
 -- Sets that are taken are read one by one, the receiver stays the same, and before the first packet none is ready.
 use Rattle.std.proofs.Common.{◌≡◌, ◌∙◌, ℕ, Bool, false, List, [], ◌∷◌, ◌++◌, reverse, append_assoc, refl, sym, ap, subst}
 use Rattle.std.proofs.lemmas.List.{reverse-append}
+use Rattle.decoder_model.specs.declared.pages.Pages.{Pages}
 use Rattle.decoder_model.specs.Arrivals.{Arrival, arrivals_of}
 use Rattle.decoder_model.specs.Readings.{AreDeliveriesRead, IsDeliveryRead, Reading}
 use Rattle.decoder_model.specs.Received.{HasReceived}
@@ -34,12 +35,12 @@ first_read delivery behind [] are = absurd are
 first_read delivery behind (one ∷ past) are = (one, are.0)
 
 -- what comes next in packets of bytes is read
-pub next_read : (profile : Profile) (pid page : ℕ) (ended : Bool) (packets : List (List ℕ))
+pub next_read : (profile : Profile) (pid : ℕ) (pages : Pages) (ended : Bool) (packets : List (List ℕ))
     (given rest : List (Delivery (List ℕ))) (delivery : Delivery (List ℕ)) (past : List (Delivery Reading))
-    → HasReceived profile pid page ended packets past
-    → sets_of profile.coded pid page ended packets ≡ given ++ delivery ∷ rest
+    → HasReceived profile pid pages ended packets past
+    → sets_of profile.coded pid pages ended packets ≡ given ++ delivery ∷ rest
     → (one : Delivery Reading) × IsDeliveryRead delivery one
-next_read profile pid page ended packets given rest delivery past received all =
+next_read profile pid pages ended packets given rest delivery past received all =
     let turned : reverse (given ++ delivery ∷ rest) ≡ reverse rest ++ delivery ∷ reverse given =
     ap reverse (sym (append_assoc given (delivery ∷ []) rest)) ∙ reverse-append (given ++ delivery ∷ []) rest
     ∙ ap (λ (front : List (Delivery (List ℕ))). reverse rest ++ front) (reverse-append given (delivery ∷ [])) in
@@ -59,11 +60,12 @@ read_more given delivery past one are read =
 -- ---- the same receiver
 
 pub same_itself : (receiving : Receiving) → IsSame receiving receiving
-same_itself receiving = record { pid = refl; core = record { profile = refl; page = refl; anchor = refl } }
+same_itself receiving = record { pid = refl; pages = refl; core = record { profile = refl; page = refl; anchor = refl } }
 
 pub same_both : (a b c : Receiving) → IsSame a b → IsSame b c → IsSame a c
 same_both a b c one other = record {
   pid = other.pid ∙ one.pid;
+  pages = other.pages ∙ one.pages;
   core = record { profile = other.core.profile ∙ one.core.profile; page = other.core.page ∙ one.core.page; anchor = other.core.anchor ∙ one.core.anchor };
 }
 
@@ -77,9 +79,9 @@ no_sets (set ∷ sets) are = absurd are
 pub none_at_first : (receiving : Receiving) → Stands false [] [] receiving → ready_sets receiving.sets ≡ []
 none_at_first receiving stands =
     let coded = receiving.showing.core.profile.coded in
-    let none : sets_in receiving.sets.coded false (runs_of (arrivals_of coded receiving.demux.pid receiving.showing.core.page [])) ≡ [] =
+    let none : sets_in receiving.sets.coded false (runs_of (arrivals_of coded receiving.demux.pid receiving.sets.pages [])) ≡ [] =
     ap (λ (arrivals : List Arrival). sets_in receiving.sets.coded false (runs_of arrivals))
-    (none_arrived coded receiving.demux.pid receiving.showing.core.page) in
+    (none_arrived coded receiving.demux.pid receiving.sets.pages) in
     no_sets (ready_sets receiving.sets)
     (subst (λ (waiting : List (Delivery (List ℕ))). AreReady waiting (ready_sets receiving.sets))
     (sym stands.gathers.sets.sets ∙ none) stands.gathers.sets.are_ready)

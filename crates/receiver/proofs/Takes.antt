@@ -5,6 +5,7 @@ use Rattle.std.proofs.lemmas.List.{length-append}
 use Rattle.sub_base.specs.declared.profile.Profile.{Profile}
 use Rattle.ts_packets.specs.Demuxing as packets
 use Rattle.ts_packets.specs.Demuxing.{Demuxing}
+use Rattle.decoder_model.specs.declared.pages.Pages.{Pages}
 use Rattle.decoder_model.specs.Arrivals.{Arrival, arrivals_of, packets_taken}
 use Rattle.decoder_model.specs.Kept.{last_time, lifted_behind, lifted_time, time_of}
 use Rattle.decoder_model.specs.Readings.{AreDeliveriesRead, IsDeliveryRead, Reading}
@@ -13,8 +14,7 @@ use Rattle.display_sets.specs.Gathered.{Gathered, ReadySet, first_ready, ready_s
 use Rattle.display_sets.specs.Standing as sets
 use Rattle.display_sets.specs.Standing.{IsFirst, IsReady}
 use Rattle.display_sets.proofs.PacketLaws.{ended_packets, sets_of_packets}
-use Rattle.page_core.specs.Memory.{IsSameReceiver}
-use Rattle.receiver.specs.Receiving.{Gathers, IsNext, IsReceiver, Receiving, Stands, set_time}
+use Rattle.receiver.specs.Receiving.{Gathers, IsNext, IsReceiver, IsSame, Receiving, Stands, set_time}
 use Rattle.receiver.specs.Showing as pictures
 use Rattle.receiver.proofs.Feeds.{arrived_at}
 use Rattle.receiver.proofs.Gatherings.{more_shows}
@@ -22,11 +22,11 @@ use Rattle.receiver.proofs.Gatherings.{more_shows}
 -- the sets of the packets are those that were gathered
 pub sets_gathered : (ended : Bool) (fed : List (List ℕ)) (given : List (Delivery (List ℕ))) (receiving : Receiving) → IsReceiver receiving
     → Stands ended fed given receiving
-    → sets_of receiving.showing.core.profile.coded receiving.demux.pid receiving.showing.core.page ended fed
+    → sets_of receiving.showing.core.profile.coded receiving.demux.pid receiving.sets.pages ended fed
     ≡ sets_in receiving.sets.coded ended (runs_of (arrived_at receiving fed))
 sets_gathered ended fed given receiving is stands =
     let coded = receiving.showing.core.profile.coded in
-    sets_of_packets coded receiving.demux.pid receiving.showing.core.page ended fed
+    sets_of_packets coded receiving.demux.pid receiving.sets.pages ended fed
     ∙ ap (λ (all : Bool). sets_in coded all (runs_of (arrived_at receiving fed))) (ended_packets ended receiving.demux.pid fed stands.taken)
     ∙ ap (λ (n : ℕ). sets_in n ended (runs_of (arrived_at receiving fed))) (sym is.coded)
 
@@ -83,7 +83,7 @@ next_ready all given delivery rest set is (other, more, split, ready) =
 
 -- it was taken
 pub taken_stands : (ended : Bool) (fed : List (List ℕ)) (given : List (Delivery (List ℕ))) (delivery : Delivery (List ℕ)) (rest : List (Delivery (List ℕ))) (old new : Receiving) → IsNext ended fed given delivery rest old
-    → new.demux ≡ old.demux → IsSameReceiver old.showing.core new.showing.core → sets.Stands (arrived_at old fed) ended (given ++ delivery ∷ []) new.sets
+    → new.demux ≡ old.demux → IsSame old new → sets.Stands (arrived_at old fed) ended (given ++ delivery ∷ []) new.sets
     → ((past : List (Delivery Reading)) (one : Delivery Reading) → IsDeliveryRead delivery one → pictures.Stands past old.showing → pictures.Stands (one ∷ past) new.showing)
     → Stands ended fed (given ++ delivery ∷ []) new
 taken_stands ended fed given delivery rest old new next demux same gathered step = record {
@@ -97,9 +97,9 @@ taken_stands ended fed given delivery rest old new next demux same gathered step
   where
     arrived : arrived_at old fed ≡ arrived_at new fed
     arrived =
-        ap (λ (profile : Profile). arrivals_of profile.coded old.demux.pid old.showing.core.page fed) (sym same.profile)
-        ∙ ap (λ (d : Demuxing). arrivals_of new.showing.core.profile.coded d.pid old.showing.core.page fed) (sym demux)
-        ∙ ap (λ (n : ℕ). arrivals_of new.showing.core.profile.coded new.demux.pid n fed) (sym same.page)
+        ap (λ (profile : Profile). arrivals_of profile.coded old.demux.pid old.sets.pages fed) (sym same.core.profile)
+        ∙ ap (λ (d : Demuxing). arrivals_of new.showing.core.profile.coded d.pid old.sets.pages fed) (sym demux)
+        ∙ ap (λ (pages : Pages). arrivals_of new.showing.core.profile.coded new.demux.pid pages fed) (sym same.pages)
 
 -- the lifted time of the set that is ready
 pub ready_lifted : (anchor : ℕ) (past : List (Delivery Reading)) (gathered : Gathered) (set : ReadySet) (lifted : Option ℕ) → Some set ≡ first_ready (ready_sets gathered) → lifted ≡ lifted_time anchor past (whole set.time 0 [])

@@ -23,7 +23,7 @@ none_waiting (delivery ∷ waiting) (set ∷ sets) are none = absurd (cc)
 
 -- where nothing is ready, the sets of the packets are those that were taken
 pub all_taken : (ended : Bool) (fed : List (List ℕ)) (given : List (Delivery (List ℕ))) (receiving : Receiving) → IsReceiver receiving → Stands ended fed given receiving → ready_sets receiving.sets ≡ []
-    → sets_of receiving.showing.core.profile.coded receiving.demux.pid receiving.showing.core.page ended fed ≡ given
+    → sets_of receiving.showing.core.profile.coded receiving.demux.pid receiving.sets.pages ended fed ≡ given
 all_taken ended fed given receiving is stands none =
     let sets = stands.gathers.sets in
     sets_gathered ended fed given receiving is stands ∙ sets.sets ∙ ap (λ (waiting : List (Delivery (List ℕ))). given ++ waiting) (none_waiting sets.waiting (ready_sets receiving.sets) sets.are_ready none) ∙ append-nil given

@@ -39,7 +39,7 @@ pub record IsLoadOf (coded : ℕ) (load : SetLoad) : Type 0 where
 pub record IsReceiver (receiving : Receiving) : Type 0 where
   pub size : receiving.demux.size ≡ receiving.showing.core.profile.coded
   pub coded : receiving.sets.coded ≡ receiving.showing.core.profile.coded
-  pub page : receiving.sets.page ≡ receiving.showing.core.page
+  pub page : receiving.sets.pages.composition ≡ receiving.showing.core.page
   pub short : receiving.arrival.bytes ≤ PAYLOAD_LENGTH
   pub load : IsLoadOf receiving.showing.core.profile.coded receiving.load
 
@@ -60,7 +60,7 @@ pub record Stands (ended : Bool) (fed : List (List ℕ)) (given : List (Delivery
   pub taken : packets_taken receiving.demux.pid fed ≡ fed
   pub demux : packets.Stands receiving.demux fed
   pub gathers : Gathers
-      (arrivals_of receiving.showing.core.profile.coded receiving.demux.pid receiving.showing.core.page fed)
+      (arrivals_of receiving.showing.core.profile.coded receiving.demux.pid receiving.sets.pages fed)
       ended given receiving.sets receiving.showing
 
 -- nothing but losses
@@ -71,9 +71,10 @@ AreLosses deliveries = AllByRecursion (λ delivery. delivery ≡ lost) deliverie
 abbrev pub lost_with : Event → List (Delivery (List ℕ))
 lost_with event = if is_loss event then lost ∷ [] else []
 
--- the same receiver: its PID, profile, page and anchor
+-- the same receiver: its PID, pages, profile and anchor
 pub record IsSame (old new : Receiving) : Type 0 where
   pub pid : new.demux.pid ≡ old.demux.pid
+  pub pages : new.sets.pages ≡ old.sets.pages
   pub core : IsSameReceiver old.showing.core new.showing.core
 
 -- the time of a set that is ready, as read
@@ -86,5 +87,5 @@ pub record IsNext (ended : Bool) (fed : List (List ℕ)) (given : List (Delivery
     (next : Delivery (List ℕ))
     (rest : List (Delivery (List ℕ))) (receiving : Receiving) : Type 0 where
   pub stands : Stands ended fed given receiving
-  pub all : sets_of receiving.showing.core.profile.coded receiving.demux.pid receiving.showing.core.page ended fed
+  pub all : sets_of receiving.showing.core.profile.coded receiving.demux.pid receiving.sets.pages ended fed
       ≡ given ++ next ∷ rest

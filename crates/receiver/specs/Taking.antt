@@ -18,4 +18,4 @@ HasNext receiving = (ended : Bool) (packets : List (List ℕ)) (given : List (De
 abbrev pub AllTaken : Receiving → Type 0
 AllTaken receiving = (fed : List (List ℕ)) (ended : Bool) (given : List (Delivery (List ℕ)))
     → Stands ended fed given receiving
-    → sets_of receiving.showing.core.profile.coded receiving.demux.pid receiving.showing.core.page ended fed ≡ given
+    → sets_of receiving.showing.core.profile.coded receiving.demux.pid receiving.sets.pages ended fed ≡ given

@@ -48,15 +48,15 @@ pub(crate) fn feed(
         → packets.Stands demux.old before → Gathers arrivals false given sets.old screen.old
         → (losses : List (Delivery (List ℕ))) × AreLosses losses
         × Gathers
-        (arrivals ++ arrivals_at demux.old.size demux.old.pid sets.old.page before packet.now)
+        (arrivals ++ arrivals_at demux.old.size demux.old.pid sets.old.pages before packet.now)
         false (given ++ losses) sets.new screen.new) }
     ensures end { IfOk result
         (λ outcome. (before : List (List ℕ)) (arrivals : List Arrival)
         (given : List (Delivery (List ℕ)))
         → packets.Stands demux.old before → Gathers arrivals false given sets.old screen.old
-        → IsEndBehind sets.old.coded demux.old.size demux.old.pid sets.old.page before packet.now
+        → IsEndBehind sets.old.coded demux.old.size demux.old.pid sets.old.pages before packet.now
         arrivals outcome.end) }
-    ensures page { sets.new.page ≡ sets.old.page }
+    ensures pages { sets.new.pages ≡ sets.old.pages }
     ensures coded { sets.new.coded ≡ sets.old.coded }
     ensures same { IsSameReceiver screen.old.core screen.new.core }
 {

@@ -7,6 +7,7 @@ use crate::feeding::feed;
 use crate::screen::Screen;
 use crate::taking::take;
 use crate::view::View;
+use decoder_model::Pages;
 use display_sets::Gathering;
 use page_core::{Core, SetEnd};
 use std::alloc::Global;
@@ -16,7 +17,8 @@ use stream_syntax::{Event, PacketFault};
 use sub_base::{BandGate, NoMemory, Profile, SetLoad};
 use ts_packets::Demux;
 
-/// A receiver of the subtitles of one page, out of the transport packets of one PID. Sets that are
+/// A receiver of the subtitles of one service, out of the transport packets of one PID: of its
+/// composition page and, where it has one, of its ancillary page. Sets that are
 /// whole are ready until they are taken; each is drawn as it is taken, and two pictures are kept:
 /// that of the last set, and that of the set before it.
 #[derive(Drop)]
@@ -62,6 +64,7 @@ impl Receiver {
     ghost use Rattle.stream_syntax.specs.TransportPackets.{packet_fault};
     ghost use Rattle.stream_syntax.specs.Units.{event_at};
     ghost use Rattle.stream_syntax.specs.declared.wire.TheConstants.{PAYLOAD_LENGTH};
+    ghost use Rattle.decoder_model.specs.Frames.{only};
     ghost use Rattle.decoder_model.specs.Kept.{last_time, lifted_behind, lifted_time, time_of};
     ghost use Rattle.decoder_model.specs.Painting.{set_load};
     ghost use Rattle.decoder_model.specs.Verdict.{verdict_of};
@@ -76,8 +79,8 @@ impl Receiver {
     ghost use Rattle.receiver.specs.Receiving.{AreLosses, IsNext, IsSame, Stands, set_time};
     ghost use Rattle.receiver.specs.Showing.{time_before_last};
 
-    /// A receiver of a profile that was fed nothing. Lifted times begin at the anchor. All memory
-    /// is taken here.
+    /// A receiver of a profile, for a service without an ancillary page, that was fed nothing.
+    /// Lifted times begin at the anchor. All memory is taken here.
     pub fn make(
         alloc: Global,
         profile: &Profile,
@@ -91,14 +94,39 @@ impl Receiver {
         ensures stands { IfOk result (Stands false [] []) }
         ensures pid { IfOk result (λ receiver. receiver.demux.pid ≡ pid) }
         ensures profile { IfOk result (λ receiver. receiver.showing.core.profile ≡ profile.now) }
+        ensures pages { IfOk result (λ receiver. receiver.sets.pages ≡ only page) }
         ensures page { IfOk result (λ receiver. receiver.showing.core.page ≡ page) }
+        ensures anchor { IfOk result (λ receiver. receiver.showing.core.anchor ≡ anchor) }
+    {
+        Receiver::of_pages(alloc, profile, pid, Pages::only(page), anchor)
+    }
+
+    /// The same for a service with a composition page and an ancillary page: the CLUT definitions
+    /// and the object data of the ancillary page go to the page memory as those of the composition
+    /// page do.
+    pub fn of_pages(
+        alloc: Global,
+        profile: &Profile,
+        pid: u16,
+        pages: Pages,
+        anchor: u64,
+    ) -> Result<Receiver, NoMemory>
+        requires coded { profile.now.coded < 2 ^ 32 }
+        requires nodes { profile.now.nodes < 2 ^ 31 }
+        requires anchor { anchor < 2 ^ 34 }
+        ensures stands { IfOk result (Stands false [] []) }
+        ensures pid { IfOk result (λ receiver. receiver.demux.pid ≡ pid) }
+        ensures profile { IfOk result (λ receiver. receiver.showing.core.profile ≡ profile.now) }
+        ensures pages { IfOk result (λ receiver. receiver.sets.pages ≡ pages) }
+        ensures page { IfOk result
+            (λ receiver. receiver.showing.core.page ≡ pages.composition) }
         ensures anchor { IfOk result (λ receiver. receiver.showing.core.anchor ≡ anchor) }
     {
         Ok(Receiver {
             coded: profile.coded,
             demux: Demux::make(alloc, pid, profile.coded)?,
-            sets: Gathering::make(alloc, page, profile.coded as u32)?,
-            screen: Screen::make(alloc, profile, page, anchor)?,
+            sets: Gathering::make(alloc, pages, profile.coded as u32)?,
+            screen: Screen::make(alloc, profile, pages.composition, anchor)?,
             arrival: Arrival {
                 bytes: 0,
                 before: false,
@@ -132,7 +160,7 @@ impl Receiver {
         ensures arrival { OnOk result ((fed : List (List ℕ)) (given : List (Delivery (List ℕ)))
             → Stands false fed given self.old
             → self.new.arrival ≡ packet_arrival self.old.showing.core.profile.coded
-            self.old.demux.pid self.old.showing.core.page fed packet.now) }
+            self.old.demux.pid self.old.sets.pages fed packet.now) }
         ensures load { self.new.load ≡ self.old.load }
         ensures same { IsSame self.old self.new }
     {
@@ -161,7 +189,7 @@ impl Receiver {
             → (fed : List (List ℕ)) (ended : Bool) (given : List (Delivery (List ℕ)))
             → Stands ended fed given self.now
             → sets_of self.now.showing.core.profile.coded self.now.demux.pid
-            self.now.showing.core.page ended fed ≡ given }
+            self.now.sets.pages ended fed ≡ given }
         ensures next { IfSome result (λ time.
             (fed : List (List ℕ)) (ended : Bool) (given : List (Delivery (List ℕ)))
             → Stands ended fed given self.now
@@ -270,7 +298,7 @@ impl Receiver {
         ensures shown { (fed : List (List ℕ)) (ended : Bool) (given : List (Delivery (List ℕ)))
             (shown : Shows)
             → Stands ended fed given self.now → ready_sets self.now.sets ≡ []
-            → IsShown self.now.showing.core.profile self.now.demux.pid self.now.showing.core.page
+            → IsShown self.now.showing.core.profile self.now.demux.pid self.now.sets.pages
             self.now.showing.core.anchor ended fed tick shown
             → view_lent result ≡ shown }
         ensures ahead { (fed : List (List ℕ)) (ended : Bool)
@@ -281,7 +309,7 @@ impl Receiver {
             → AreDeliveriesRead (reverse given) past → IsDeliveryRead next one
             → lifted_time self.now.showing.core.anchor past one ≡ Some lifted)
             → tick < lifted
-            → IsShown self.now.showing.core.profile self.now.demux.pid self.now.showing.core.page
+            → IsShown self.now.showing.core.profile self.now.demux.pid self.now.sets.pages
             self.now.showing.core.anchor ended fed tick shown
             → view_lent result ≡ shown }
         ensures whole { IsWholeView result }

@@ -1,6 +1,7 @@
 ghost use Rattle.std.specs.Prelude.{◌≤◌, length};
 
 use super::*;
+use decoder_model::Pages;
 use page_core::SetEnd;
 use std::alloc::Global;
 use std::test::Fail;
@@ -34,12 +35,29 @@ pub(crate) const FILLED: [u8; 47] = [
     0x0F, 0x80, 0x00, 0x01, 0x00, 0x00,
 ];
 
+/// The same display, and on page 2 a CLUT in which the code is white.
+#[rattlefmt::skip]
+const SHARED: [u8; 61] = [
+    0x0F, 0x14, 0x00, 0x01, 0x00, 0x05, 0x07, 0x00, 0x03, 0x00, 0x01,
+    0x0F, 0x10, 0x00, 0x01, 0x00, 0x08, 0x0C, 0x0B, 0x00, 0xFF, 0x00, 0x00, 0x00, 0x00,
+    0x0F, 0x11, 0x00, 0x01, 0x00, 0x0A, 0x00, 0x0F, 0x00, 0x04, 0x00, 0x02, 0x6F, 0x00, 0x01, 0x03,
+    0x0F, 0x12, 0x00, 0x02, 0x00, 0x08, 0x00, 0x1F, 0x01, 0x3F, 0xEB, 0x80, 0x80, 0x00,
+    0x0F, 0x80, 0x00, 0x01, 0x00, 0x00,
+];
+
 /// The default colour of that code.
 const RED: Colour = Colour {
     y: 81,
     cr: 240,
     cb: 90,
     t: 192,
+};
+
+const WHITE: Colour = Colour {
+    y: 235,
+    cr: 128,
+    cb: 128,
+    t: 0,
 };
 
 /// The bytes of a PES packet before its segments, of which there are so many bytes.
@@ -390,6 +408,26 @@ fn unit_of_another_page_does_not_count(rt: HostRuntime) -> Result<(), Fail> {
     assert_eq!(rt; trial.receiver.ready(), None);
     assert_eq!(rt; trial.send(90_000, &END), FOLLOWED);
     assert_eq!(rt; trial.receiver.ready(), Some(90_000));
+    Ok(())
+}
+
+/// A CLUT of the ancillary page is as one of the page; a receiver of the page alone has its default
+/// colours.
+#[test]
+fn clut_of_the_ancillary_page(rt: HostRuntime) -> Result<(), Fail> {
+    let sd = Profile::of(ProfileName::Sd);
+    let pages = Pages {
+        composition: 1,
+        ancillary: 2,
+    };
+    let mut both = Trial::of(Receiver::of_pages(rt.alloc(), &sd, 256, pages, 0)?);
+    assert_eq!(rt; both.send(90_000, &SHARED), FOLLOWED);
+    assert_eq!(rt; both.take(&rt), Some(SetEnd::Shown));
+    assert_eq!(rt; both.seen_at(90_000), Seen::Picture(Some(WHITE)));
+    let mut alone = Trial::new(rt.alloc())?;
+    assert_eq!(rt; alone.send(90_000, &SHARED), FOLLOWED);
+    assert_eq!(rt; alone.take(&rt), Some(SetEnd::Shown));
+    assert_eq!(rt; alone.seen_at(90_000), Seen::Picture(Some(RED)));
     Ok(())
 }
 

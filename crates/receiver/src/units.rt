@@ -37,7 +37,7 @@ pub(crate) fn lose_where(lost: bool, sets: &mut Gathering, screen: &mut Screen)
         → Gathers (arrivals ++ losses_at event) false (given ++ lost_with event) sets.new
         screen.new }
     ensures none { ready_sets sets.new ≡ [] }
-    ensures page { sets.new.page ≡ sets.old.page }
+    ensures pages { sets.new.pages ≡ sets.old.pages }
     ensures coded { sets.new.coded ≡ sets.old.coded }
     ensures same { IsSameReceiver screen.old.core screen.new.core }
 {
@@ -58,13 +58,13 @@ pub(crate) fn take_ended(
     ensures gathers { (arrivals : List Arrival) (given : List (Delivery (List ℕ))) (place : ℕ)
         → Gathers arrivals false given sets.old screen.old
         → (losses : List (Delivery (List ℕ))) × AreLosses losses
-        × Gathers (arrivals ++ units_at sets.old.page place (option_copied unit.entry)) false
+        × Gathers (arrivals ++ units_at sets.old.pages place (option_copied unit.entry)) false
         (given ++ losses) sets.new screen.new }
     ensures end { (arrivals : List Arrival) (given : List (Delivery (List ℕ))) (place : ℕ)
         → Gathers arrivals false given sets.old screen.old
-        → IsEndOf sets.old.coded sets.old.page place (last_run (reverse arrivals))
+        → IsEndOf sets.old.coded sets.old.pages place (last_run (reverse arrivals))
         (option_copied unit.entry) result }
-    ensures page { sets.new.page ≡ sets.old.page }
+    ensures pages { sets.new.pages ≡ sets.old.pages }
     ensures coded { sets.new.coded ≡ sets.old.coded }
     ensures same { IsSameReceiver screen.old.core screen.new.core }
 {
@@ -81,13 +81,13 @@ fn take_unit(unit: &[u8], sets: &mut Gathering, screen: &mut Screen) -> UnitEnd
     ensures gathers { (arrivals : List Arrival) (given : List (Delivery (List ℕ))) (place : ℕ)
         → Gathers arrivals false given sets.old screen.old
         → (losses : List (Delivery (List ℕ))) × AreLosses losses
-        × Gathers (arrivals ++ arrival_of_unit sets.old.page place unit.now ∷ []) false
+        × Gathers (arrivals ++ arrival_of_unit sets.old.pages place unit.now ∷ []) false
         (given ++ losses) sets.new screen.new }
     ensures end { (arrivals : List Arrival) (given : List (Delivery (List ℕ))) (place : ℕ)
         → Gathers arrivals false given sets.old screen.old
         → IsUnitEnd sets.old.coded (last_run (reverse arrivals))
-        (arrival_of_unit sets.old.page place unit.now) result }
-    ensures page { sets.new.page ≡ sets.old.page }
+        (arrival_of_unit sets.old.pages place unit.now) result }
+    ensures pages { sets.new.pages ≡ sets.old.pages }
     ensures coded { sets.new.coded ≡ sets.old.coded }
     ensures same { IsSameReceiver screen.old.core screen.new.core }
 {

@@ -17,11 +17,11 @@ const SHORT: usize = 4;
 /// Entries of a CLUT (EN 300 743, CLUT definition segment).
 #[derive(Clone, Copy, Debug, PartialEq, Eq)]
 pub struct ClutSeg<'a> {
-    /// The id of the CLUT.
+    /// The id of the CLUT (CLUT_id).
     pub clut: u8,
-    /// The version, 0 to 15.
+    /// The version, 0 to 15 (CLUT_version_number).
     pub version: u8,
-    /// The entries, as bytes.
+    /// The entries, as bytes, in the full range or in the short one (full_range_flag).
     pub entries: &'a [u8],
 }
 
@@ -122,7 +122,7 @@ fn first_entry(entries: &[u8]) -> ClutEntry
     }
 }
 
-/// The colour of an entry in the full range.
+/// The colour of an entry in the full range: Y_value, Cr_value, Cb_value, T_value of 8 bits each.
 fn full_colour(entry: &[u8]) -> Colour
     requires { 6 ≤ length entry.now }
     ensures { result ≡ full_colour entry.now }

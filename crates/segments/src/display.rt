@@ -17,13 +17,14 @@ const WITH_WINDOW: usize = 13;
 /// display definition segment).
 #[derive(Clone, Copy, Debug, PartialEq, Eq)]
 pub struct DisplaySeg {
-    /// The version, 0 to 15.
+    /// The version, 0 to 15 (dds_version_number).
     pub version: u8,
-    /// The columns of the display, 1 to 65,536.
+    /// The columns of the display, 1 to 65,536 (display_width, which is one less).
     pub width: u32,
-    /// The rows of the display, 1 to 65,536.
+    /// The rows of the display, 1 to 65,536 (display_height, which is one less).
     pub height: u32,
-    /// The part in which regions are placed; all of the display where none is sent.
+    /// The part in which regions are placed (display_window_flag and the positions behind it); all
+    /// of the display where none is sent.
     pub window: Option<Window>,
 }
 

@@ -16,11 +16,11 @@ pub(crate) const HEAD: usize = 6;
 /// A segment as its head frames it (EN 300 743, clause 7.2).
 #[derive(Clone, Copy, Debug, PartialEq, Eq)]
 pub struct Frame<'a> {
-    /// The segment type.
+    /// The segment type (segment_type).
     pub kind: u8,
-    /// The page id.
+    /// The page id (page_id).
     pub page: u16,
-    /// The bytes after the head.
+    /// The bytes after the head, as many as segment_length says.
     pub body: &'a [u8],
     /// The bytes of the whole segment, its head included.
     pub whole: usize,

@@ -20,15 +20,17 @@ const METHOD: u32 = 8;
 /// fields.
 #[derive(Clone, Copy, Debug, PartialEq, Eq)]
 pub struct ObjectSeg<'a> {
-    /// The id of the object.
+    /// The id of the object (object_id).
     pub object: u16,
-    /// The version, 0 to 15.
+    /// The version, 0 to 15 (object_version_number).
     pub version: u8,
-    /// Whether pixels of code 1 leave the region as it is.
+    /// Whether pixels of code 1 leave the region as it is (non_modifying_colour_flag).
     pub see_through: bool,
-    /// The pixel data block of the rows 0, 2, 4 and so on.
+    /// The pixel data block of the rows 0, 2, 4 and so on (top field; its length in bytes is
+    /// top_field_data_block_length).
     pub top: &'a [u8],
-    /// The pixel data block of the rows between these; empty where it equals the top one.
+    /// The pixel data block of the rows between these (bottom field; its length in bytes is
+    /// bottom_field_data_block_length); empty where it equals the top one.
     pub bottom: &'a [u8],
 }
 

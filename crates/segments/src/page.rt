@@ -12,13 +12,13 @@ const ENTRY: usize = 6;
 /// A page: the regions that it lists, and its page state (EN 300 743, page composition segment).
 #[derive(Clone, Copy, Debug, PartialEq, Eq)]
 pub struct PageSeg<'a> {
-    /// The seconds after which the page is no longer shown.
+    /// The seconds after which the page is no longer shown (page_time_out).
     pub time_out: u8,
-    /// The version, 0 to 15.
+    /// The version, 0 to 15 (page_version_number). No reader here looks at it.
     pub version: u8,
-    /// The page state.
+    /// Whether a receiver can begin at the set (page_state).
     pub state: State,
-    /// The entries, as bytes.
+    /// The entries, as bytes: region_id, region_horizontal_address, region_vertical_address.
     pub entries: &'a [u8],
 }
 

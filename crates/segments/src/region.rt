@@ -19,27 +19,28 @@ const LISTING: usize = 6;
 /// composition segment).
 #[derive(Clone, Copy, Debug, PartialEq, Eq)]
 pub struct RegionSeg<'a> {
-    /// The id of the region.
+    /// The id of the region (region_id).
     pub region: u8,
-    /// The version, 0 to 15.
+    /// The version, 0 to 15 (region_version_number).
     pub version: u8,
-    /// Whether the region is filled before its objects are painted.
+    /// Whether the region is filled before its objects are painted (region_fill_flag).
     pub fill: bool,
-    /// The pixels of a row, at least 1.
+    /// The pixels of a row, at least 1 (region_width).
     pub width: u16,
-    /// The rows, at least 1.
+    /// The rows, at least 1 (region_height).
     pub height: u16,
-    /// The bits of its pixel codes.
+    /// The bits of its pixel codes (region_depth).
     pub depth: Depth,
-    /// The id of its CLUT.
+    /// The id of its CLUT (CLUT_id).
     pub clut: u8,
-    /// The code that fills a region of eight bits.
+    /// The code that fills a region of eight bits (region_8-bit_pixel_code).
     pub code8: u8,
-    /// The code that fills a region of four bits.
+    /// The code that fills a region of four bits (region_4-bit_pixel-code).
     pub code4: u8,
-    /// The code that fills a region of two bits.
+    /// The code that fills a region of two bits (region_2-bit_pixel-code).
     pub code2: u8,
-    /// The listings, as bytes.
+    /// The listings, as bytes: object_id, object_type, object_provider_flag, and the object's
+    /// horizontal and vertical position.
     pub listings: &'a [u8],
 }
 

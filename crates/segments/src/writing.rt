@@ -36,11 +36,11 @@ const RESERVED: u8 = 0xFF;
 pub enum SegmentOut<'a> {
     /// A page composition.
     Page {
-        /// The seconds after which the page is no longer shown.
+        /// The seconds after which the page is no longer shown (page_time_out).
         time_out: u8,
-        /// The version, 0 to 15.
+        /// The version, 0 to 15 (page_version_number).
         version: u8,
-        /// The page state.
+        /// Whether a receiver can begin at the set (page_state).
         state: State,
         /// The regions that the page lists; a later one lies over those before it.
         entries: &'a [PageEntry],
@@ -54,9 +54,9 @@ pub enum SegmentOut<'a> {
     },
     /// A CLUT definition.
     Clut {
-        /// The id of the CLUT.
+        /// The id of the CLUT (CLUT_id).
         clut: u8,
-        /// The version, 0 to 15.
+        /// The version, 0 to 15 (CLUT_version_number).
         version: u8,
         /// The entries that are set; others keep their colours.
         entries: &'a [ClutEntry],
@@ -65,8 +65,11 @@ pub enum SegmentOut<'a> {
     Object(ObjectSeg<'a>),
     /// The sides of the display in pixels, without a window.
     Display {
+        /// The version, 0 to 15 (dds_version_number).
         version: u8,
+        /// The columns of the display (display_width, which is one less).
         width: u32,
+        /// The rows of the display (display_height, which is one less).
         height: u32,
     },
     /// The end of a display set.

@@ -11,6 +11,7 @@ use Rattle.stream_syntax.specs.Units.{is_payload, last_counter, Succession, Agai
 use Rattle.stream_syntax.specs.declared.transport.Event.TheVariants as event
 use Rattle.ts_packets.specs.Demuxing.{next_hand}
 use Rattle.ts_packets.proofs.UnitLemmas.{hand_push, counter_push}
+use Rattle.decoder_model.specs.declared.pages.Pages.{Pages}
 use Rattle.decoder_model.specs.Arrivals.{Arrival, losses_at, units_at, arrivals_at, packets_taken, arrivals_of}
 use Rattle.decoder_model.specs.Sets.{has_ended, sets_of, sets_in, runs_of}
 use Rattle.sent_twice.specs.Doubled.{doubled}
@@ -24,16 +25,16 @@ pub record Alike (pid size : ℕ) (one other : List (List ℕ)) : Type 0 where
   pub hand : hand_after pid size one ≡ hand_after pid size other
 
 -- behind lists that are alike a packet brings the same, but for places
-same_arrivals : (size pid page : ℕ) (one other : List (List ℕ)) (packet : List ℕ) → Alike pid size one other
-    → map unplaced (arrivals_at size pid page one packet) ≡ map unplaced (arrivals_at size pid page other packet)
-same_arrivals size pid page one other packet alike =
+pub same_arrivals : (size pid : ℕ) (pages : Pages) (one other : List (List ℕ)) (packet : List ℕ) → Alike pid size one other
+    → map unplaced (arrivals_at size pid pages one packet) ≡ map unplaced (arrivals_at size pid pages other packet)
+same_arrivals size pid pages one other packet alike =
     (λ i. map unplaced (losses_at (event_after pid size (alike.counter i) (alike.hand i) packet)
-    ++ units_at page (length one) (unit_after size (alike.hand i) (part_after pid (alike.counter i) packet))))
-    ∙ arrivals_unplaced page (length one) (length other) (event_at pid size other packet)
+    ++ units_at pages (length one) (unit_after size (alike.hand i) (part_after pid (alike.counter i) packet))))
+    ∙ arrivals_unplaced pages (length one) (length other) (event_at pid size other packet)
     (unit_at pid size other packet)
 
 -- and leaves them alike
-pushed : (size pid : ℕ) (one other : List (List ℕ)) (packet : List ℕ) → Alike pid size one other
+pub pushed : (size pid : ℕ) (one other : List (List ℕ)) (packet : List ℕ) → Alike pid size one other
     → Alike pid size (one ++ packet ∷ []) (other ++ packet ∷ [])
 pushed size pid one other packet alike = record {
   counter =
@@ -97,12 +98,12 @@ has_no_part pid before packet payload last =
     ap (λ counter. part_after pid counter packet) last ∙ copy_part pid packet payload
 
 -- and brings nothing
-pub brings_nothing : (size pid page : ℕ) (before : List (List ℕ)) (packet : List ℕ) → is_payload pid packet ≡ true
-    → last_counter pid before ≡ Some (counter_of packet) → arrivals_at size pid page before packet ≡ []
-brings_nothing size pid page before packet payload last =
-    ap (λ event. losses_at event ++ units_at page (length before) (unit_at pid size before packet))
+pub brings_nothing : (size pid : ℕ) (pages : Pages) (before : List (List ℕ)) (packet : List ℕ) → is_payload pid packet ≡ true
+    → last_counter pid before ≡ Some (counter_of packet) → arrivals_at size pid pages before packet ≡ []
+brings_nothing size pid pages before packet payload last =
+    ap (λ event. losses_at event ++ units_at pages (length before) (unit_at pid size before packet))
     (is_double size pid before packet payload last)
-    ∙ ap (λ part. units_at page (length before) (unit_after size (hand_after pid size before) part))
+    ∙ ap (λ part. units_at pages (length before) (unit_after size (hand_after pid size before) part))
     (has_no_part pid before packet payload last)
 
 -- the counter behind a payload packet is its own
@@ -128,45 +129,45 @@ copied size pid one other packet payload alike =
 -- ---- all packets
 
 -- what packets bring behind others
-abbrev arrived : ℕ → ℕ → ℕ → List (List ℕ) → List (List ℕ) → List Arrival
-arrived size pid page before packets =
-    flat_map (λ (arrivals : List Arrival). arrivals) (each_after (arrivals_at size pid page) before packets)
+abbrev pub arrived : ℕ → ℕ → Pages → List (List ℕ) → List (List ℕ) → List Arrival
+arrived size pid pages before packets =
+    flat_map (λ (arrivals : List Arrival). arrivals) (each_after (arrivals_at size pid pages) before packets)
 
 -- behind lists that are alike, doubled packets bring what they bring once, but for places
-arrived_doubled : (size pid page : ℕ) (one other packets : List (List ℕ)) → Alike pid size one other
-    → map unplaced (arrived size pid page one (doubled pid packets))
-    ≡ map unplaced (arrived size pid page other packets)
-arrived_doubled size pid page one other [] alike = refl
-arrived_doubled size pid page one other (packet ∷ packets) alike =
-    by (is_payload pid packet) refl (λ past. λ past'. arrived_doubled size pid page past past' packets)
-    ∙ sym (map-append unplaced (arrivals_at size pid page other packet)
-    (arrived size pid page (other ++ packet ∷ []) packets))
+arrived_doubled : (size pid : ℕ) (pages : Pages) (one other packets : List (List ℕ)) → Alike pid size one other
+    → map unplaced (arrived size pid pages one (doubled pid packets))
+    ≡ map unplaced (arrived size pid pages other packets)
+arrived_doubled size pid pages one other [] alike = refl
+arrived_doubled size pid pages one other (packet ∷ packets) alike =
+    by (is_payload pid packet) refl (λ past. λ past'. arrived_doubled size pid pages past past' packets)
+    ∙ sym (map-append unplaced (arrivals_at size pid pages other packet)
+    (arrived size pid pages (other ++ packet ∷ []) packets))
   where
     by : (b : Bool) → is_payload pid packet ≡ b
         → ((past past' : List (List ℕ)) → Alike pid size past past'
-        → map unplaced (arrived size pid page past (doubled pid packets))
-        ≡ map unplaced (arrived size pid page past' packets))
-        → map unplaced (arrived size pid page one (cond b (packet ∷ packet ∷ []) (packet ∷ []) ++ doubled pid packets))
-        ≡ map unplaced (arrivals_at size pid page other packet)
-        ++ map unplaced (arrived size pid page (other ++ packet ∷ []) packets)
+        → map unplaced (arrived size pid pages past (doubled pid packets))
+        ≡ map unplaced (arrived size pid pages past' packets))
+        → map unplaced (arrived size pid pages one (cond b (packet ∷ packet ∷ []) (packet ∷ []) ++ doubled pid packets))
+        ≡ map unplaced (arrivals_at size pid pages other packet)
+        ++ map unplaced (arrived size pid pages (other ++ packet ∷ []) packets)
     by false is behind =
-        map-append unplaced (arrivals_at size pid page one packet)
-        (arrived size pid page (one ++ packet ∷ []) (doubled pid packets))
-        ∙ (λ i. same_arrivals size pid page one other packet alike i
+        map-append unplaced (arrivals_at size pid pages one packet)
+        (arrived size pid pages (one ++ packet ∷ []) (doubled pid packets))
+        ∙ (λ i. same_arrivals size pid pages one other packet alike i
         ++ behind (one ++ packet ∷ []) (other ++ packet ∷ []) (pushed size pid one other packet alike) i)
     by true is behind =
-        ap (λ copy. map unplaced (arrivals_at size pid page one packet
-        ++ (copy ++ arrived size pid page ((one ++ packet ∷ []) ++ packet ∷ []) (doubled pid packets))))
-        (brings_nothing size pid page (one ++ packet ∷ []) packet is (own_counter pid one packet is))
-        ∙ map-append unplaced (arrivals_at size pid page one packet)
-        (arrived size pid page ((one ++ packet ∷ []) ++ packet ∷ []) (doubled pid packets))
-        ∙ (λ i. same_arrivals size pid page one other packet alike i
+        ap (λ copy. map unplaced (arrivals_at size pid pages one packet
+        ++ (copy ++ arrived size pid pages ((one ++ packet ∷ []) ++ packet ∷ []) (doubled pid packets))))
+        (brings_nothing size pid pages (one ++ packet ∷ []) packet is (own_counter pid one packet is))
+        ∙ map-append unplaced (arrivals_at size pid pages one packet)
+        (arrived size pid pages ((one ++ packet ∷ []) ++ packet ∷ []) (doubled pid packets))
+        ∙ (λ i. same_arrivals size pid pages one other packet alike i
         ++ behind ((one ++ packet ∷ []) ++ packet ∷ []) (other ++ packet ∷ [])
         (copied size pid one other packet is alike) i)
 
 -- ---- what is taken
 
-abbrev is_sound : ℕ → List ℕ → Bool
+abbrev pub is_sound : ℕ → List ℕ → Bool
 is_sound pid packet = is_none (packet_fault pid packet)
 
 -- of doubled packets those are taken that are taken of them once
@@ -223,15 +224,15 @@ sound_doubled pid (packet ∷ packets) =
 
 -- ---- sets
 
-pub sets_doubled : (coded pid page : ℕ) (ended : Bool) (packets : List (List ℕ))
-    → sets_of coded pid page ended (doubled pid packets) ≡ sets_of coded pid page ended packets
+pub sets_doubled : (coded pid : ℕ) (pages : Pages) (ended : Bool) (packets : List (List ℕ))
+    → sets_of coded pid pages ended (doubled pid packets) ≡ sets_of coded pid pages ended packets
 unfolding sets_of arrivals_of has_ended
-sets_doubled coded pid page ended packets =
+sets_doubled coded pid pages ended packets =
     let taken = packets_taken pid packets in
     ap (λ sound. sets_in coded (ended && sound)
-    (runs_of (arrived coded pid page [] (packets_taken pid (doubled pid packets))))) (sound_doubled pid packets)
-    ∙ ap (λ found. sets_in coded (has_ended ended pid packets) (runs_of (arrived coded pid page [] found)))
+    (runs_of (arrived coded pid pages [] (packets_taken pid (doubled pid packets))))) (sound_doubled pid packets)
+    ∙ ap (λ found. sets_in coded (has_ended ended pid packets) (runs_of (arrived coded pid pages [] found)))
     (taken_doubled pid packets)
-    ∙ same_sets coded (has_ended ended pid packets) (arrived coded pid page [] (doubled pid taken))
-    (arrived coded pid page [] taken)
-    (arrived_doubled coded pid page [] [] taken (record { counter = refl; hand = refl }))
+    ∙ same_sets coded (has_ended ended pid packets) (arrived coded pid pages [] (doubled pid taken))
+    (arrived coded pid pages [] taken)
+    (arrived_doubled coded pid pages [] [] taken (record { counter = refl; hand = refl }))

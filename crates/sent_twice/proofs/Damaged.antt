@@ -5,6 +5,7 @@ use Rattle.stream_syntax.specs.TransportPackets.{pid_of, has_error_flag, has_pay
 use Rattle.stream_syntax.specs.Units.{is_payload, last_counter, succession, Breaks, payload_part, part_after, hand_after, unit_after, unit_at, payload_event, event_after, event_at}
 use Rattle.stream_syntax.specs.declared.transport.Event.TheVariants as event
 use Rattle.ts_packets.proofs.UnitLemmas.{counter_push}
+use Rattle.decoder_model.specs.declared.pages.Pages.{Pages}
 use Rattle.decoder_model.specs.Arrivals.{loss, losses_at, units_at, arrivals_at, packets_taken, arrivals_of}
 use Rattle.display_sets.proofs.PacketLaws.{arrivals_grow}
 use Rattle.sent_twice.proofs.Copies.{own_counter, is_double, brings_nothing}
@@ -35,20 +36,20 @@ flagged_part pid last packet own flag =
     (cond (not (has_payload packet)) None
     (payload_part (succession last (counter_of packet)) (has_start_flag packet) (payload_of packet)))) flag
 
-pub flagged_arrivals : (size pid page : ℕ) (before : List (List ℕ)) (packet : List ℕ) → pid_of packet ≡ pid
-    → has_error_flag packet ≡ true → arrivals_at size pid page before packet ≡ loss ∷ []
-flagged_arrivals size pid page before packet own flag =
-    ap (λ event. losses_at event ++ units_at page (length before) (unit_at pid size before packet))
+pub flagged_arrivals : (size pid : ℕ) (pages : Pages) (before : List (List ℕ)) (packet : List ℕ) → pid_of packet ≡ pid
+    → has_error_flag packet ≡ true → arrivals_at size pid pages before packet ≡ loss ∷ []
+flagged_arrivals size pid pages before packet own flag =
+    ap (λ event. losses_at event ++ units_at pages (length before) (unit_at pid size before packet))
     (flagged_event pid size (last_counter pid before) (hand_after pid size before) packet own flag)
-    ∙ ap (λ part. loss ∷ units_at page (length before) (unit_after size (hand_after pid size before) part))
+    ∙ ap (λ part. loss ∷ units_at pages (length before) (unit_after size (hand_after pid size before) part))
     (flagged_part pid (last_counter pid before) packet own flag)
 
-pub flagged_more : (size pid page : ℕ) (before : List (List ℕ)) (packet : List ℕ) → packets_taken pid before ≡ before
+pub flagged_more : (size pid : ℕ) (pages : Pages) (before : List (List ℕ)) (packet : List ℕ) → packets_taken pid before ≡ before
     → packet_fault pid packet ≡ None → pid_of packet ≡ pid → has_error_flag packet ≡ true
-    → arrivals_of size pid page (before ++ packet ∷ []) ≡ arrivals_of size pid page before ++ loss ∷ []
-flagged_more size pid page before packet taken sound own flag =
-    arrivals_grow size pid page before packet taken sound
-    ∙ ap (λ last. arrivals_of size pid page before ++ last) (flagged_arrivals size pid page before packet own flag)
+    → arrivals_of size pid pages (before ++ packet ∷ []) ≡ arrivals_of size pid pages before ++ loss ∷ []
+flagged_more size pid pages before packet taken sound own flag =
+    arrivals_grow size pid pages before packet taken sound
+    ∙ ap (λ last. arrivals_of size pid pages before ++ last) (flagged_arrivals size pid pages before packet own flag)
 
 -- ---- behind it
 
@@ -76,9 +77,9 @@ double_behind size pid before packet damaged payload flag =
     is_double size pid (before ++ packet ∷ damaged ∷ []) packet payload
     (counter_stands pid before packet damaged payload flag)
 
-pub nothing_behind : (size pid page : ℕ) (before : List (List ℕ)) (packet damaged : List ℕ)
+pub nothing_behind : (size pid : ℕ) (pages : Pages) (before : List (List ℕ)) (packet damaged : List ℕ)
     → is_payload pid packet ≡ true → has_error_flag damaged ≡ true
-    → arrivals_at size pid page (before ++ packet ∷ damaged ∷ []) packet ≡ []
-nothing_behind size pid page before packet damaged payload flag =
-    brings_nothing size pid page (before ++ packet ∷ damaged ∷ []) packet payload
+    → arrivals_at size pid pages (before ++ packet ∷ damaged ∷ []) packet ≡ []
+nothing_behind size pid pages before packet damaged payload flag =
+    brings_nothing size pid pages (before ++ packet ∷ damaged ∷ []) packet payload
     (counter_stands pid before packet damaged payload flag)

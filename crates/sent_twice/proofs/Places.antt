@@ -10,6 +10,7 @@ use Rattle.stream_syntax.specs.Pes.{pes_of}
 use Rattle.stream_syntax.specs.declared.pes.PesFault.{PesFault}
 use Rattle.stream_syntax.specs.declared.transport.Event.{Event}
 use Rattle.sub_base.specs.Lists.{prefixes}
+use Rattle.decoder_model.specs.declared.pages.Pages.{Pages}
 use Rattle.decoder_model.specs.Arrivals.{PesUnit, Arrival, loss, refused_unit, aside, unit, unit_with, unit_from, losses_at, units_at}
 use Rattle.decoder_model.specs.Frames.{segments_in}
 use Rattle.decoder_model.specs.Sets.{Stretch, loss_between, run, runs_of, joined_to, lost, whole, is_ended, frames_in, size_in, units_to_end, set_of, handed, first_fault_in, excess_in, is_followed, sets_in}
@@ -39,23 +40,23 @@ with_frames place other size time [] = refl
 with_frames place other size time (frame ∷ frames) = refl
 
 -- what a unit is does not depend on the packet that ends it, but for its place
-units_unplaced : (page place other : ℕ) (ended : Option (List ℕ)) → map unplaced (units_at page place ended)
-    ≡ map unplaced (units_at page other ended)
-units_unplaced page place other None = refl
-units_unplaced page place other (Some bytes) = ap (λ arrival. arrival ∷ []) (by (pes_of bytes))
+units_unplaced : (pages : Pages) (place other : ℕ) (ended : Option (List ℕ)) → map unplaced (units_at pages place ended)
+    ≡ map unplaced (units_at pages other ended)
+units_unplaced pages place other None = refl
+units_unplaced pages place other (Some bytes) = ap (λ arrival. arrival ∷ []) (by (pes_of bytes))
   where
-    by : (pes : Result (ℕ × List ℕ) PesFault) → unplaced (unit_from page place (length bytes) pes)
-        ≡ unplaced (unit_from page other (length bytes) pes)
+    by : (pes : Result (ℕ × List ℕ) PesFault) → unplaced (unit_from pages place (length bytes) pes)
+        ≡ unplaced (unit_from pages other (length bytes) pes)
     by (Ok pes) = with_frames place other (length bytes) pes.0 _
     by (Err fault) = refl
 
-pub arrivals_unplaced : (page place other : ℕ) (event : Event) (ended : Option (List ℕ))
-    → map unplaced (losses_at event ++ units_at page place ended)
-    ≡ map unplaced (losses_at event ++ units_at page other ended)
-arrivals_unplaced page place other event ended =
-    map-append unplaced (losses_at event) (units_at page place ended)
-    ∙ ap (λ units. map unplaced (losses_at event) ++ units) (units_unplaced page place other ended)
-    ∙ sym (map-append unplaced (losses_at event) (units_at page other ended))
+pub arrivals_unplaced : (pages : Pages) (place other : ℕ) (event : Event) (ended : Option (List ℕ))
+    → map unplaced (losses_at event ++ units_at pages place ended)
+    ≡ map unplaced (losses_at event ++ units_at pages other ended)
+arrivals_unplaced pages place other event ended =
+    map-append unplaced (losses_at event) (units_at pages place ended)
+    ∙ ap (λ units. map unplaced (losses_at event) ++ units) (units_unplaced pages place other ended)
+    ∙ sym (map-append unplaced (losses_at event) (units_at pages other ended))
 
 -- ---- runs
 

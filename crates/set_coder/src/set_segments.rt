@@ -56,7 +56,7 @@ fn append_display(
     write_segment(page, &segment, field)
 }
 
-/// The seconds after which a receiver clears a page that is not sent again.
+/// The seconds after which a receiver clears a page that is not sent again (page_time_out).
 fn time_out(script: &Script) -> u8
     ensures value { result ≡ time_out_of script.now }
     ensures short { result ≤ 122 }

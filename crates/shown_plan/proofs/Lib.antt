@@ -14,6 +14,7 @@ pub mod RegionNext
 pub mod ColourRows
 pub mod SentColours
 pub mod Lists
+pub mod NeighbourPages
 pub mod ClutRows
 pub mod ClutChanges
 pub mod ClutNext

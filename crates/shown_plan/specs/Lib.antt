@@ -1,2 +1,3 @@
 pub mod HoldsScript
+pub mod NeighbourPages
 pub mod WithinNeed

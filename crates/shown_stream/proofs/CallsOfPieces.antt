@@ -9,6 +9,7 @@ use Rattle.buffer_model.specs.Calls.{Call, SetWhole}
 use Rattle.schedule.specs.Packets.{units_of, first_packet, payloads_of}
 use Rattle.stream_syntax.specs.Cutting.{IsUnit}
 use Rattle.stream_syntax.specs.Units.{event_at, hand_after, last_counter}
+use Rattle.decoder_model.specs.declared.pages.Pages.{Pages}
 use Rattle.decoder_model.specs.PacketArrivals.{packet_arrival}
 use Rattle.decoder_model.proofs.SentSets.{SetUnit, TimedSet, timed, IsTimedSet, IsUnitOf, HaveDifferentTimes}
 use Rattle.sent_levels.specs.EnteredCalls.{Entry, from_of, heard_load, entered_calls}
@@ -53,26 +54,26 @@ abbrev pub E : List WriteLoad → List ℕ → (ℕ → ℕ) → Entry → ℕ �
 E loads slots painted entry bound = entered_calls loads slots bound painted entry (length loads)
 
 -- so many calls of sets are left for the packets behind others, and no more
-abbrev pub AreUsedUp : ℕ → ℕ → ℕ → List (List ℕ) → List (List ℕ) → ℕ → Type 0
-AreUsedUp coded pid page before [] n = n ≡ 0
-AreUsedUp coded pid page before (packet ∷ packets) n = (count_with coded pid page before packet ≤ n) × AreUsedUp coded pid page (before ++ packet ∷ []) packets (n - count_with coded pid page before packet)
+abbrev pub AreUsedUp : ℕ → ℕ → Pages → List (List ℕ) → List (List ℕ) → ℕ → Type 0
+AreUsedUp coded pid pages before [] n = n ≡ 0
+AreUsedUp coded pid pages before (packet ∷ packets) n = (count_with coded pid pages before packet ≤ n) × AreUsedUp coded pid pages (before ++ packet ∷ []) packets (n - count_with coded pid pages before packet)
 
 -- the packets from a slot on add to the calls so far those of the slots that they have
-abbrev pub Add : (coded pid page : ℕ) (loads : List WriteLoad) (slots : List ℕ) (painted : ℕ → ℕ) (entry : Entry) (slot : ℕ) (before packets : List (List ℕ)) (left : List (List Call)) (m : ℕ) → Type 0
-Add coded pid page loads slots painted entry slot before packets left m =
-    reverse (calls_from itself coded pid page slot before packets left) ++ E loads slots painted entry slot ≡ E loads slots painted entry (slot + m)
+abbrev pub Add : (coded pid : ℕ) (pages : Pages) (loads : List WriteLoad) (slots : List ℕ) (painted : ℕ → ℕ) (entry : Entry) (slot : ℕ) (before packets : List (List ℕ)) (left : List (List Call)) (m : ℕ) → Type 0
+Add coded pid pages loads slots painted entry slot before packets left m =
+    reverse (calls_from itself coded pid pages slot before packets left) ++ E loads slots painted entry slot ≡ E loads slots painted entry (slot + m)
 
-pub one_more : (coded pid page : ℕ) (loads : List WriteLoad) (slots : List ℕ) (painted : ℕ → ℕ) (entry : Entry) (slot bytes count m : ℕ) (before : List (List ℕ)) (packet : List ℕ) (packets : List (List ℕ)) (left : List (List Call))
-    → IsPlain coded pid page before packet bytes → count_with coded pid page before packet ≡ count
+pub one_more : (coded pid : ℕ) (pages : Pages) (loads : List WriteLoad) (slots : List ℕ) (painted : ℕ → ℕ) (entry : Entry) (slot bytes count m : ℕ) (before : List (List ℕ)) (packet : List ℕ) (packets : List (List ℕ)) (left : List (List Call))
+    → IsPlain coded pid pages before packet bytes → count_with coded pid pages before packet ≡ count
     → reverse (arrived_in itself slot bytes ++ flat_map (λ (calls : List Call). calls) (take count left)) ++ E loads slots painted entry slot ≡ E loads slots painted entry (slot + 1)
-    → Add coded pid page loads slots painted entry (slot + 1) (before ++ packet ∷ []) packets (drop count left) m
-    → Add coded pid page loads slots painted entry slot before (packet ∷ packets) left (suc m)
-one_more coded pid page loads slots painted entry slot bytes count m before packet packets left plain counted here onward =
+    → Add coded pid pages loads slots painted entry (slot + 1) (before ++ packet ∷ []) packets (drop count left) m
+    → Add coded pid pages loads slots painted entry slot before (packet ∷ packets) left (suc m)
+one_more coded pid pages loads slots painted entry slot bytes count m before packet packets left plain counted here onward =
     let own = arrived_in itself slot bytes ++ flat_map (λ (calls : List Call). calls) (take count left) in
-    let behind = calls_from itself coded pid page (slot + 1) (before ++ packet ∷ []) packets (drop count left) in
+    let behind = calls_from itself coded pid pages (slot + 1) (before ++ packet ∷ []) packets (drop count left) in
     let same : slot + 1 + m ≡ slot + suc m = omega arith in
-    ap (λ n. reverse (calls_of_packet itself (event_at pid coded before packet) (packet_arrival coded pid page before packet) slot (flat_map (λ (calls : List Call). calls) (take n left)) ++ calls_from itself coded pid page (slot + 1) (before ++ packet ∷ []) packets (drop n left)) ++ E loads slots painted entry slot) counted
-    ∙ ap (λ calls. reverse (calls ++ behind) ++ E loads slots painted entry slot) (plain_calls coded pid page slot bytes before packet (flat_map (λ (calls : List Call). calls) (take count left)) plain)
+    ap (λ n. reverse (calls_of_packet itself (event_at pid coded before packet) (packet_arrival coded pid pages before packet) slot (flat_map (λ (calls : List Call). calls) (take n left)) ++ calls_from itself coded pid pages (slot + 1) (before ++ packet ∷ []) packets (drop n left)) ++ E loads slots painted entry slot) counted
+    ∙ ap (λ calls. reverse (calls ++ behind) ++ E loads slots painted entry slot) (plain_calls coded pid pages slot bytes before packet (flat_map (λ (calls : List Call). calls) (take count left)) plain)
     ∙ ap (λ calls. calls ++ E loads slots painted entry slot) (reverse-append own behind)
     ∙ append_assoc (reverse behind) (reverse own) (E loads slots painted entry slot)
     ∙ ap (λ past. reverse behind ++ past) here
@@ -82,18 +83,18 @@ one_more coded pid page loads slots painted entry slot bytes count m before pack
 -- ---- what is left to send
 
 -- a set of a schedule and its units
-pub record IsSentSet (coded page : ℕ) (loads : List WriteLoad) (i : ℕ) (group : List (List ℕ)) (set : TimedSet) : Type 0 where
+pub record IsSentSet (coded : ℕ) (pages : Pages) (loads : List WriteLoad) (i : ℕ) (group : List (List ℕ)) (set : TimedSet) : Type 0 where
   pub inside : i < length loads
   pub bytes : payloads_of (units_of loads i) ≡ map bytes_in (all_pieces group)
-  pub units : AllZip (IsUnitOf page) group (map (timed set.time) set.units)
+  pub units : AllZip (IsUnitOf pages) group (map (timed set.time) set.units)
   pub whole : AllByRecursion (IsUnit coded) group
-  pub is : IsTimedSet coded page set
+  pub is : IsTimedSet coded pages set
 
-abbrev pub AreSentSets : ℕ → ℕ → List WriteLoad → ℕ → List (List (List ℕ)) → List TimedSet → Type 0
-AreSentSets coded page loads i [] [] = Unit {0}
-AreSentSets coded page loads i [] (set ∷ later) = ⊥
-AreSentSets coded page loads i (group ∷ groups) [] = ⊥
-AreSentSets coded page loads i (group ∷ groups) (set ∷ later) = IsSentSet coded page loads i group set × AreSentSets coded page loads (suc i) groups later
+abbrev pub AreSentSets : ℕ → Pages → List WriteLoad → ℕ → List (List (List ℕ)) → List TimedSet → Type 0
+AreSentSets coded pages loads i [] [] = Unit {0}
+AreSentSets coded pages loads i [] (set ∷ later) = ⊥
+AreSentSets coded pages loads i (group ∷ groups) [] = ⊥
+AreSentSets coded pages loads i (group ∷ groups) (set ∷ later) = IsSentSet coded pages loads i group set × AreSentSets coded pages loads (suc i) groups later
 
 abbrev pub units_in : List (List (List ℕ)) → List (List ℕ)
 units_in groups = flat_map (λ (group : List (List ℕ)). group) groups
@@ -103,32 +104,32 @@ abbrev pub AreLeft : List WriteLoad → (ℕ → ℕ) → Entry → ℕ → List
 AreLeft loads painted entry i left = (j : ℕ) → j < length left → get_or left j [] ≡ SetWhole (heard_load loads painted entry (i + j)) ∷ []
 
 -- behind these packets, packet k of set i is next: what came, and what is left
-pub record Goes (coded pid page : ℕ) (loads : List WriteLoad) (slots : List ℕ) (entry : Entry) (slot number i k : ℕ) (before : List (List ℕ)) (sets : List TimedSet) (set : TimedSet) (u : ℕ) (groups : List (List (List ℕ))) (later : List TimedSet) : Type 0 where
+pub record Goes (coded pid : ℕ) (pages : Pages) (loads : List WriteLoad) (slots : List ℕ) (entry : Entry) (slot number i k : ℕ) (before : List (List ℕ)) (sets : List TimedSet) (set : TimedSet) (u : ℕ) (groups : List (List (List ℕ))) (later : List TimedSet) : Type 0 where
   pub inside : i < length loads
   pub numbered : number ≡ first_packet loads i + k
   pub begun : entry.set ≤ i
   pub counted : from_of entry i ≤ k
   pub passed : (q : ℕ) → q < number → slice_index slots q < slot
   pub follows : FollowsOn (last_counter pid before) number
-  pub came : HaveCome coded pid page before sets set u
-  pub all : AllByRecursion (IsTimedSet coded page) sets
-  pub is : IsTimedSet coded page set
+  pub came : HaveCome coded pid pages before sets set u
+  pub all : AllByRecursion (IsTimedSet coded pages) sets
+  pub is : IsTimedSet coded pages set
   pub apart : HaveDifferentTimes (sets ++ set ∷ later)
-  pub sent : AreSentSets coded page loads (suc i) groups later
+  pub sent : AreSentSets coded pages loads (suc i) groups later
 
 -- the next piece is one of a unit: the next one of the set
-pub record Piecewise (coded pid page : ℕ) (loads : List WriteLoad) (slots : List ℕ) (entry : Entry) (slot number i : ℕ) (before : List (List ℕ)) (left : List Piece) : Type 0 where
+pub record Piecewise (coded pid : ℕ) (pages : Pages) (loads : List WriteLoad) (slots : List ℕ) (entry : Entry) (slot number i : ℕ) (before : List (List ℕ)) (left : List Piece) : Type 0 where
   pub k : ℕ
   pub sets : List TimedSet
   pub set : TimedSet
   pub u : ℕ
   pub groups : List (List (List ℕ))
   pub later : List TimedSet
-  pub goes : Goes coded pid page loads slots entry slot number i k before sets set u groups later
+  pub goes : Goes coded pid pages loads slots entry slot number i k before sets set u groups later
   pub one : SetUnit
   pub found : slice_get set.units u ≡ Some one
   pub unit : List ℕ
-  pub unit_is : IsUnitOf page unit (timed set.time one)
+  pub unit_is : IsUnitOf pages unit (timed set.time one)
   pub whole : IsUnit coded unit
   pub start : Bool
   pub front : List ℕ
@@ -137,15 +138,15 @@ pub record Piecewise (coded pid page : ℕ) (loads : List WriteLoad) (slots : Li
   pub rest : ArePiecesOf start front (piece ∷ pieces) unit
   pub ready : IsReady start (hand_after pid coded before) front
   pub units : List (List ℕ)
-  pub units_are : AllZip (IsUnitOf page) units (map (timed set.time) (drop (suc u) set.units))
+  pub units_are : AllZip (IsUnitOf pages) units (map (timed set.time) (drop (suc u) set.units))
   pub units_whole : AllByRecursion (IsUnit coded) units
   pub own : drop k (payloads_of (units_of loads i)) ≡ map bytes_in ((piece ∷ pieces) ++ all_pieces units)
   pub left_is : left ≡ (piece ∷ pieces) ++ (all_pieces units ++ all_pieces (units_in groups))
 
 -- packets go on with the pieces of sets, or nothing is left
-pub data Position (coded pid page : ℕ) (loads : List WriteLoad) (slots : List ℕ) (entry : Entry) (slot number i : ℕ) (before : List (List ℕ)) : List Piece → Type 0 where
-  nothing_left : Position coded pid page loads slots entry slot number i before []
-  goes_on : {left : List Piece} → Piecewise coded pid page loads slots entry slot number i before left → Position coded pid page loads slots entry slot number i before left
+pub data Position (coded pid : ℕ) (pages : Pages) (loads : List WriteLoad) (slots : List ℕ) (entry : Entry) (slot number i : ℕ) (before : List (List ℕ)) : List Piece → Type 0 where
+  nothing_left : Position coded pid pages loads slots entry slot number i before []
+  goes_on : {left : List Piece} → Piecewise coded pid pages loads slots entry slot number i before left → Position coded pid pages loads slots entry slot number i before left
 
 -- ---- lists
 
@@ -155,22 +156,22 @@ dropped zero (x ∷ xs) y ys e = let head : x ≡ y = cc in let tail : xs ≡ ys
 dropped (suc k) [] y ys e = absurd (cc)
 dropped (suc k) (x ∷ xs) y ys e = let more = dropped k xs y ys e in (omega (arith, more.0), more.1, more.2)
 
-pub unit_at_front : (page time u : ℕ) (units : List SetUnit) (unit : List ℕ) (rest : List (List ℕ)) → AllZip (IsUnitOf page) (unit ∷ rest) (map (timed time) (drop u units))
-    → (one : SetUnit) × (slice_get units u ≡ Some one) × IsUnitOf page unit (timed time one) × AllZip (IsUnitOf page) rest (map (timed time) (drop (suc u) units))
-unit_at_front page time u [] unit rest are = absurd (subst (λ (found : List SetUnit). AllZip (IsUnitOf page) (unit ∷ rest) (map (timed time) found)) (drop-nil u) are)
-unit_at_front page time zero (one ∷ units) unit rest are = (one, refl, are.0, are.1)
-unit_at_front page time (suc u) (one ∷ units) unit rest are = unit_at_front page time u units unit rest are
+pub unit_at_front : (pages : Pages) (time u : ℕ) (units : List SetUnit) (unit : List ℕ) (rest : List (List ℕ)) → AllZip (IsUnitOf pages) (unit ∷ rest) (map (timed time) (drop u units))
+    → (one : SetUnit) × (slice_get units u ≡ Some one) × IsUnitOf pages unit (timed time one) × AllZip (IsUnitOf pages) rest (map (timed time) (drop (suc u) units))
+unit_at_front pages time u [] unit rest are = absurd (subst (λ (found : List SetUnit). AllZip (IsUnitOf pages) (unit ∷ rest) (map (timed time) found)) (drop-nil u) are)
+unit_at_front pages time zero (one ∷ units) unit rest are = (one, refl, are.0, are.1)
+unit_at_front pages time (suc u) (one ∷ units) unit rest are = unit_at_front pages time u units unit rest are
 
 -- ---- a unit begins
 
 -- the next unit of a set begins with the next packet
-pub begin_unit : (coded pid page : ℕ) (loads : List WriteLoad) (slots : List ℕ) (entry : Entry) (slot number i k : ℕ) (before : List (List ℕ)) (sets : List TimedSet) (set : TimedSet) (u : ℕ) (groups : List (List (List ℕ))) (later : List TimedSet)
-    (unit : List ℕ) (units : List (List ℕ)) → Goes coded pid page loads slots entry slot number i k before sets set u groups later → AllZip (IsUnitOf page) (unit ∷ units) (map (timed set.time) (drop u set.units)) → AllByRecursion (IsUnit coded) (unit ∷ units)
+pub begin_unit : (coded pid : ℕ) (pages : Pages) (loads : List WriteLoad) (slots : List ℕ) (entry : Entry) (slot number i k : ℕ) (before : List (List ℕ)) (sets : List TimedSet) (set : TimedSet) (u : ℕ) (groups : List (List (List ℕ))) (later : List TimedSet)
+    (unit : List ℕ) (units : List (List ℕ)) → Goes coded pid pages loads slots entry slot number i k before sets set u groups later → AllZip (IsUnitOf pages) (unit ∷ units) (map (timed set.time) (drop u set.units)) → AllByRecursion (IsUnit coded) (unit ∷ units)
     → hand_after pid coded before ≡ None → drop k (payloads_of (units_of loads i)) ≡ map bytes_in (all_pieces (unit ∷ units))
-    → Piecewise coded pid page loads slots entry slot number i before (all_pieces (unit ∷ units) ++ all_pieces (units_in groups))
-begin_unit coded pid page loads slots entry slot number i k before sets set u groups later unit units goes are whole hand own =
+    → Piecewise coded pid pages loads slots entry slot number i before (all_pieces (unit ∷ units) ++ all_pieces (units_in groups))
+begin_unit coded pid pages loads slots entry slot number i k before sets set u groups later unit units goes are whole hand own =
     let some = unit_has_bytes coded unit whole.0 in
-    let at = unit_at_front page set.time u set.units unit units are in
+    let at = unit_at_front pages set.time u set.units unit units are in
     let all : all_pieces (unit ∷ units) ≡ (first_piece unit ∷ further_of unit) ++ all_pieces units = ap (λ pieces. pieces ++ all_pieces units) (its_pieces unit some) in
     record {
       k = k;

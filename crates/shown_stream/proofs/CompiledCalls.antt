@@ -13,6 +13,7 @@ use Rattle.buffer_model.specs.Calls.{Call}
 use Rattle.schedule.specs.Slots.{IsLoad}
 use Rattle.stream_syntax.specs.Cutting.{IsUnit}
 use Rattle.stream_syntax.specs.TransportPackets.{packet_fault}
+use Rattle.decoder_model.specs.Frames.{only}
 use Rattle.decoder_model.specs.Sets.{sets_of}
 use Rattle.decoder_model.specs.Streams.{entered_at}
 use Rattle.decoder_model.proofs.SentSets.{TimedSet, timed, timed_units, IsTimedSet, IsUnitOf}
@@ -59,8 +60,8 @@ all_take P (suc n) (x ∷ xs) h = (h.0, all_take P n xs h.1)
 
 -- from a set on, the sets with their PES packets
 sets_from : (coded page : ℕ) (script : Script) (loads : List WriteLoad) (units : List (List (List ℕ))) (i : ℕ) (sets : List PlannedSet) (groups : List (List (List ℕ))) (sent : List TimedSet) → AreSizedAs loads units → AreSentAs script page sets groups sent
-    → AllZip (IsUnitOf page) (all_units groups) (timed_units sent) → AllByRecursion (IsTimedSet coded page) sent → AllByRecursion (IsUnit coded) (all_units groups) → ((j : ℕ) → get_or units (i + j) [] ≡ get_or groups j []) → i + length groups ≡ length loads
-    → AreSentSets coded page loads i groups sent
+    → AllZip (IsUnitOf (only page)) (all_units groups) (timed_units sent) → AllByRecursion (IsTimedSet coded (only page)) sent → AllByRecursion (IsUnit coded) (all_units groups) → ((j : ℕ) → get_or units (i + j) [] ≡ get_or groups j []) → i + length groups ≡ length loads
+    → AreSentSets coded (only page) loads i groups sent
 sets_from coded page script loads units i [] [] [] sized are each timed_sets whole same many = tt
 sets_from coded page script loads units i [] [] (one ∷ sent) sized are each timed_sets whole same many = absurd are
 sets_from coded page script loads units i [] (packets ∷ groups) sent sized are each timed_sets whole same many = absurd are
@@ -69,7 +70,7 @@ sets_from coded page script loads units i (set ∷ sets) (packets ∷ groups) []
 sets_from coded page script loads units i (set ∷ sets) (packets ∷ groups) (one ∷ sent) sized are each timed_sets whole same many =
     let first : i + 0 ≡ i = omega arith in
     let own : get_or units i [] ≡ packets = ap (λ n. get_or units n []) (sym first) ∙ same 0 in
-    let parts = zip_split (IsUnitOf page) packets (all_units groups) (map (timed one.time) one.units) (timed_units sent) (omega (arith, same_many script page set packets one are.0, length-map one.units (timed one.time))) each in
+    let parts = zip_split (IsUnitOf (only page)) packets (all_units groups) (map (timed one.time) one.units) (timed_units sent) (omega (arith, same_many script page set packets one are.0, length-map one.units (timed one.time))) each in
     let wholes = all_split (IsUnit coded) packets (all_units groups) whole in
     let inside : i < length loads = omega arith in (
       record { inside = inside; bytes = set_bytes i loads units inside sized ∙ ap (λ found. map bytes_in (all_pieces found)) own; units = parts.0; whole = wholes.0; is = timed_sets.0 },
@@ -78,7 +79,7 @@ sets_from coded page script loads units i (set ∷ sets) (packets ∷ groups) (o
 
 -- a compiled stream is one of scheduled sets in slots
 pub compiled_stream : (name : ProfileName) (pid page : ℕ) (script : Script) (bytes : List ℕ) (compiled : IsCompiledTo name pid page script bytes) (known : ArePackets name pid page script bytes compiled) → All IsLoad compiled.loads
-    → IsSentStream (profile_of name).coded page compiled.loads compiled.table.slots compiled.units known.sent
+    → IsSentStream (profile_of name).coded (only page) compiled.loads compiled.table.slots compiled.units known.sent
 compiled_stream name pid page script bytes compiled known loads_are =
     let loads = compiled.loads in
     let pace = pace_of script.origin (profile_of name) in
@@ -96,7 +97,7 @@ compiled_stream name pid page script bytes compiled known loads_are =
 -- where a compiled stream is entered
 abbrev pub compiled_entry : (name : ProfileName) (pid page : ℕ) (script : Script) (bytes : List ℕ) (compiled : IsCompiledTo name pid page script bytes) (known : ArePackets name pid page script bytes compiled) → All IsLoad compiled.loads → ℕ → Entry
 compiled_entry name pid page script bytes compiled known loads_are missed =
-    entry_of (profile_of name).coded page compiled.loads compiled.table.slots compiled.units known.sent missed (compiled_stream name pid page script bytes compiled known loads_are)
+    entry_of (profile_of name).coded (only page) compiled.loads compiled.table.slots compiled.units known.sent missed (compiled_stream name pid page script bytes compiled known loads_are)
 
 -- ---- its calls
 
@@ -104,7 +105,7 @@ compiled_entry name pid page script bytes compiled known loads_are missed =
 -- each set is received at its own time, with as much painting as is said of it
 pub compiled_calls : (name : ProfileName) (pid page : ℕ) (script : Script) (bytes : List ℕ) → IsFree pid → (compiled : IsCompiledTo name pid page script bytes) (known : ArePackets name pid page script bytes compiled) (loads_are : All IsLoad compiled.loads)
     → (painted : ℕ → ℕ) (anchor missed m : ℕ) (calls : List Call) → m ≤ length (entered_at missed (packets_in name pid page script bytes compiled))
-    → (given : AreCallsOf (profile_of name) pid page anchor missed false (take m (entered_at missed (packets_in name pid page script bytes compiled))) calls)
+    → (given : AreCallsOf (profile_of name) pid (only page) anchor missed false (take m (entered_at missed (packets_in name pid page script bytes compiled))) calls)
     → AreLeft compiled.loads painted (compiled_entry name pid page script bytes compiled known loads_are missed) (compiled_entry name pid page script bytes compiled known loads_are missed).set (set_calls (profile_of name) anchor (reverse given.past))
     → calls ≡ entered_calls compiled.loads compiled.table.slots (missed + m) painted (compiled_entry name pid page script bytes compiled known loads_are missed) (length compiled.loads)
 compiled_calls name pid page script bytes free compiled known loads_are painted anchor missed m calls within given kept =
@@ -115,9 +116,9 @@ compiled_calls name pid page script bytes free compiled known loads_are painted 
     let units = all_units compiled.units in
     let sound : AllByRecursion (λ packet. packet_fault pid packet ≡ None) packets = all_take (λ packet. packet_fault pid packet ≡ None) m (entered_at missed (packets_in name pid page script bytes compiled))
     (all_drop (λ packet. packet_fault pid packet ≡ None) missed (packets_in name pid page script bytes compiled) (none_refused pid 0 0 (all_pieces units) compiled.table.slots free (pieces_are coded units known.units))) in
-    let many : length left ≡ length (sets_of coded pid page false packets) =
-    each_count (set_call (profile_of name) anchor) [] (reverse given.past) ∙ length-reverse given.past ∙ as_many_received (profile_of name) pid page false packets given.past given.received in
-    let used : AreUsedUp coded pid page [] packets (length left) = used_up coded pid page [] packets (length left) sound (omega (arith, many, ap length (none_yet coded pid page false))) in
+    let many : length left ≡ length (sets_of coded pid (only page) false packets) =
+    each_count (set_call (profile_of name) anchor) [] (reverse given.past) ∙ length-reverse given.past ∙ as_many_received (profile_of name) pid (only page) false packets given.past given.received in
+    let used : AreUsedUp coded pid (only page) [] packets (length left) = used_up coded pid (only page) [] packets (length left) sound (omega (arith, many, ap length (none_yet coded pid (only page) false))) in
     given.are
-    ∙ ap (λ taken. reverse (calls_from itself coded pid page missed [] taken left)) (all_taken pid packets sound)
-    ∙ late_calls coded pid page compiled.loads compiled.table.slots compiled.units known.sent painted missed m left free is kept within used
+    ∙ ap (λ taken. reverse (calls_from itself coded pid (only page) missed [] taken left)) (all_taken pid packets sound)
+    ∙ late_calls coded pid (only page) compiled.loads compiled.table.slots compiled.units known.sent painted missed m left free is kept within used

@@ -14,6 +14,7 @@ use Rattle.buffer_model.specs.Calls.{Call}
 use Rattle.stream_syntax.specs.TransportPackets.{null_packet}
 use Rattle.schedule.specs.Packets.{sum_below, load_of, size_of, packets_of, payload_of, first_packet}
 use Rattle.schedule.specs.Slots.{IsLoad, slot_of}
+use Rattle.decoder_model.specs.Frames.{only}
 use Rattle.decoder_model.specs.Readings.{Reading, AreDeliveriesRead}
 use Rattle.decoder_model.specs.Received.{HasReceived}
 use Rattle.decoder_model.specs.Sets.{Delivery, sets_of}
@@ -60,7 +61,7 @@ pub compiled_left : (name : ProfileName) (pid page : ℕ) (script : Script) (byt
     → (compiled : IsCompiledTo name pid page script bytes) (known : ArePackets name pid page script bytes compiled) (loads_are : All IsLoad compiled.loads)
     → (anchor missed m : ℕ) → IsAnchorOf (times_from missed (sent_sets compiled.table compiled.sets)) anchor
     → (late : IsEnteredLate name pid page script bytes compiled known.sent missed) → (past : List (Delivery Reading))
-    → HasReceived (profile_of name) pid page false (take m (entered_at missed (packets_in name pid page script bytes compiled))) past
+    → HasReceived (profile_of name) pid (only page) false (take m (entered_at missed (packets_in name pid page script bytes compiled))) past
     → AreLeft compiled.loads (heard_painting compiled.loads late.first) (compiled_entry name pid page script bytes compiled known loads_are missed) (compiled_entry name pid page script bytes compiled known loads_are missed).set (set_calls (profile_of name) anchor (reverse past))
 compiled_left name pid page script bytes free compiled known loads_are anchor missed m suits late past received =
     are_left compiled.loads (heard_painting compiled.loads late.first) entry (set_calls (profile_of name) anchor (reverse past)) whole painted
@@ -94,13 +95,13 @@ compiled_left name pid page script bytes free compiled known loads_are anchor mi
         let sent = (compiled_stream name pid page script bytes compiled known loads_are).sent in
         let n = cut_units name pid page script bytes compiled known loads_are missed in
         let place : entry.set + j < length compiled.sets =
-        omega (arith, bounds.2, count_behind (profile_of name).coded page compiled.loads n 0 compiled.units known.sent sent, (count_sets script page compiled.sets compiled.units known.sent known.are.are).0) in
+        omega (arith, bounds.2, count_behind (profile_of name).coded (only page) compiled.loads n 0 compiled.units known.sent sent, (count_sets script page compiled.sets compiled.units known.sent known.are.are).0) in
         record {
           load = found.load;
           is = found.is;
           at = found.at ∙ drop_times entry.set compiled.sets j ∙ planned_times script compiled.sets compiled.loads compiled.planned.asked (entry.set + j) place;
           many = found.many ∙ ap (λ found_sizes. get_or found_sizes j 0) (sym (take-map (λ (one : TimedSet). size_of_units one.units) some.count behind)) ∙ get_or-take some.count (sizes behind) j 0 bounds.1
-              ∙ heard_sizes (profile_of name).coded page compiled.loads n 0 compiled.units known.sent sent j bounds.2;
+              ∙ heard_sizes (profile_of name).coded (only page) compiled.loads n 0 compiled.units known.sent sent j bounds.2;
         }
 
     painted : (j : ℕ) → j < length (set_calls (profile_of name) anchor (reverse past))
@@ -117,15 +118,15 @@ pub compiled_read : (name : ProfileName) (pid page : ℕ) (script : Script) (byt
     → (compiled : IsCompiledTo name pid page script bytes) (known : ArePackets name pid page script bytes compiled) (loads_are : All IsLoad compiled.loads)
     → (anchor missed m : ℕ) → IsAnchorOf (times_from missed (sent_sets compiled.table compiled.sets)) anchor
     → (late : IsEnteredLate name pid page script bytes compiled known.sent missed)
-    → (past : List (Delivery Reading)) × HasReceived (profile_of name) pid page false (take m (entered_at missed (packets_in name pid page script bytes compiled))) past
+    → (past : List (Delivery Reading)) × HasReceived (profile_of name) pid (only page) false (take m (entered_at missed (packets_in name pid page script bytes compiled))) past
 compiled_read name pid page script bytes free compiled known loads_are anchor missed m suits late =
     let coded = (profile_of name).coded in
     let is = compiled_stream name pid page script bytes compiled known loads_are in
     let n = cut_units name pid page script bytes compiled known loads_are missed in
     let all = all_heard name pid page script bytes free compiled known loads_are missed anchor suits late in
-    let up_to = sets_up_to coded pid page missed m (all_units compiled.units) known.sent compiled.table.slots free is.whole known.are.carry known.apart is.pieces is.ahead in (
+    let up_to = sets_up_to coded pid (only page) missed m (all_units compiled.units) known.sent compiled.table.slots free is.whole known.are.carry known.apart is.pieces is.ahead in (
       reverse (take up_to.0 all.received),
-      read_turned (sets_of coded pid page false (take m (entered_at missed (packets_in name pid page script bytes compiled)))) (take up_to.0 all.received)
+      read_turned (sets_of coded pid (only page) false (take m (entered_at missed (packets_in name pid page script bytes compiled)))) (take up_to.0 all.received)
           (subst (λ (found : List (Delivery (List ℕ))). AreDeliveriesRead found (take up_to.0 all.received)) (take-map delivered up_to.0 (sets_behind n known.sent) ∙ sym up_to.1) (read_first up_to.0 (map delivered (sets_behind n known.sent)) all.received all.read)),
     )
 
@@ -133,7 +134,7 @@ compiled_read name pid page script bytes free compiled known loads_are anchor mi
 pub ended_sets : (name : ProfileName) (pid page : ℕ) (script : Script) (bytes : List ℕ) → IsFree pid
     → (compiled : IsCompiledTo name pid page script bytes) (known : ArePackets name pid page script bytes compiled) → All IsLoad compiled.loads
     → (missed : ℕ)
-    → sets_of (profile_of name).coded pid page true (entered_at missed (packets_in name pid page script bytes compiled)) ≡ sets_of (profile_of name).coded pid page false (entered_at missed (packets_in name pid page script bytes compiled))
+    → sets_of (profile_of name).coded pid (only page) true (entered_at missed (packets_in name pid page script bytes compiled)) ≡ sets_of (profile_of name).coded pid (only page) false (entered_at missed (packets_in name pid page script bytes compiled))
 ended_sets name pid page script bytes free compiled known loads_are missed =
     let coded = (profile_of name).coded in
     let is = compiled_stream name pid page script bytes compiled known loads_are in
@@ -141,10 +142,10 @@ ended_sets name pid page script bytes free compiled known loads_are missed =
     let units = all_units compiled.units in
     let n = cut_units name pid page script bytes compiled known loads_are missed in
     let come = entered_late pid coded missed units compiled.table.slots free is.whole is.pieces is.ahead in
-    let are = units_behind coded page n units known.sent known.are.carry in
+    let are = units_behind coded (only page) n units known.sent known.are.carry in
     let apart = apart_behind n known.sent known.apart in
-    sets_come_whole coded pid page true packets (drop n units) (sets_behind n known.sent) come are apart
-    ∙ sym (sets_come_whole coded pid page false packets (drop n units) (sets_behind n known.sent) come are apart)
+    sets_come_whole coded pid (only page) true packets (drop n units) (sets_behind n known.sent) come are apart
+    ∙ sym (sets_come_whole coded pid (only page) false packets (drop n units) (sets_behind n known.sent) come are apart)
 
 -- ---- before any slot
 
@@ -191,7 +192,7 @@ pub heard_calls : (name : ProfileName) (pid page : ℕ) (script : Script) (bytes
     → (compiled : IsCompiledTo name pid page script bytes) (known : ArePackets name pid page script bytes compiled) (loads_are : All IsLoad compiled.loads)
     → (anchor missed slot : ℕ) → IsAnchorOf (times_from missed (sent_sets compiled.table compiled.sets)) anchor
     → (late : IsEnteredLate name pid page script bytes compiled known.sent missed) → (calls : List Call)
-    → AreCallsBefore slot name pid page anchor missed (packets_in name pid page script bytes compiled) calls
+    → AreCallsBefore slot name pid (only page) anchor missed (packets_in name pid page script bytes compiled) calls
     → calls ≡ entered_calls compiled.loads compiled.table.slots slot (heard_painting compiled.loads late.first) (compiled_entry name pid page script bytes compiled known loads_are missed) (length compiled.loads)
 heard_calls name pid page script bytes free compiled known loads_are anchor missed slot suits late calls given =
     compiled_calls name pid page script bytes free compiled known loads_are painted anchor missed m calls (omega arith) some (compiled_left name pid page script bytes free compiled known loads_are anchor missed m suits late some.past some.received) ∙ moved
@@ -211,14 +212,14 @@ heard_calls name pid page script bytes free compiled known loads_are anchor miss
     m : ℕ
     m = min (slot - missed) (length (drop missed packets))
 
-    some : AreCallsOf (profile_of name) pid page anchor missed false (take m (entered_at missed packets)) calls
-    some = subst (λ (found : List (List ℕ)). AreCallsOf (profile_of name) pid page anchor missed false found calls) (before_slot missed slot packets) given
+    some : AreCallsOf (profile_of name) pid (only page) anchor missed false (take m (entered_at missed packets)) calls
+    some = subst (λ (found : List (List ℕ)). AreCallsOf (profile_of name) pid (only page) anchor missed false found calls) (before_slot missed slot packets) given
 
-    is : IsSentStream (profile_of name).coded page loads compiled.table.slots compiled.units known.sent
+    is : IsSentStream (profile_of name).coded (only page) loads compiled.table.slots compiled.units known.sent
     is = compiled_stream name pid page script bytes compiled known loads_are
 
     not_begun : IsNotBegun loads compiled.table.slots entry missed
-    not_begun = entry_not_begun (profile_of name).coded page loads compiled.table.slots compiled.units known.sent missed is
+    not_begun = entry_not_begun (profile_of name).coded (only page) loads compiled.table.slots compiled.units known.sent missed is
 
     inside : (i k : ℕ) → i < length loads → k < packets_of loads i → slot_of loads compiled.table.slots i k < length packets
     inside i k within part = packet_inside name pid page script bytes compiled known loads_are i k within part

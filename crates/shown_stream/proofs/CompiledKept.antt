@@ -10,6 +10,7 @@ use Rattle.sub_base.specs.declared.profile.ProfileName.{ProfileName}
 use Rattle.cue_list.specs.declared.script.Script.{Script}
 use Rattle.page_epoch.specs.declared.planned_set.PlannedSet.{PlannedSet}
 use Rattle.schedule.specs.Slots.{IsLoad}
+use Rattle.decoder_model.specs.Frames.{only}
 use Rattle.decoder_model.specs.Kept.{last_time}
 use Rattle.decoder_model.specs.Readings.{Reading, IsDeliveryRead, AreDeliveriesRead}
 use Rattle.decoder_model.specs.Received.{HasReceived}
@@ -75,22 +76,22 @@ cut_units name pid page script bytes compiled known loads_are missed =
 -- up to any packet, by every anchor that suits
 pub compiled_kept : (name : ProfileName) (pid page : ℕ) (script : Script) (bytes : List ℕ) → IsFree pid → (compiled : IsCompiledTo name pid page script bytes) (known : ArePackets name pid page script bytes compiled) (loads_are : All IsLoad compiled.loads)
     → (anchor missed m : ℕ) → IsAnchorOf (times_from missed (sent_sets compiled.table compiled.sets)) anchor → (past : List (Delivery Reading))
-    → HasReceived (profile_of name) pid page false (take m (entered_at missed (packets_in name pid page script bytes compiled))) past
+    → HasReceived (profile_of name) pid (only page) false (take m (entered_at missed (packets_in name pid page script bytes compiled))) past
     → AreWholeUpTo (profile_of name) anchor (drop (compiled_entry name pid page script bytes compiled known loads_are missed).set compiled.sets) (sets_behind (cut_units name pid page script bytes compiled known loads_are missed) known.sent) past
 compiled_kept name pid page script bytes free compiled known loads_are anchor missed m suits past received =
     let coded = (profile_of name).coded in
     let is = compiled_stream name pid page script bytes compiled known loads_are in
     let entry = compiled_entry name pid page script bytes compiled known loads_are missed in
     let n = cut_units name pid page script bytes compiled known loads_are missed in
-    let up_to = sets_up_to coded pid page missed m (all_units compiled.units) known.sent compiled.table.slots free is.whole known.are.carry known.apart is.pieces is.ahead in
+    let up_to = sets_up_to coded pid (only page) missed m (all_units compiled.units) known.sent compiled.table.slots free is.whole known.are.carry known.apart is.pieces is.ahead in
     let sets = take up_to.0 (sets_behind n known.sent) in
     let own = have_units script page compiled.sets compiled.units known.sent known.are.are in
     let whole : entry.set - 0 ≡ entry.set = omega arith in
     let are_timed : AreTimed (drop entry.set compiled.sets) sets = subst (λ (k : ℕ). AreTimed (drop k compiled.sets) sets) whole
     (first_timed up_to.0 (drop (entry.set - 0) compiled.sets) (sets_behind n known.sent) (timed_from n 0 compiled.units compiled.sets known.sent own.0 own.1)) in
-    let turned = read_turned (reverse (sets_of coded pid page false (take m (entered_at missed (packets_in name pid page script bytes compiled))))) past received in
+    let turned = read_turned (reverse (sets_of coded pid (only page) false (take m (entered_at missed (packets_in name pid page script bytes compiled))))) past received in
     let read : AreDeliveriesRead (map delivered sets) (reverse past) = subst (λ (found : List (Delivery (List ℕ))). AreDeliveriesRead found (reverse past))
-    (reverse-reverse (sets_of coded pid page false (take m (entered_at missed (packets_in name pid page script bytes compiled)))) ∙ up_to.1) turned in
+    (reverse-reverse (sets_of coded pid (only page) false (take m (entered_at missed (packets_in name pid page script bytes compiled)))) ∙ up_to.1) turned in
     record {
       count = up_to.0;
       read = read;

@@ -13,6 +13,7 @@ use Rattle.sub_base.specs.declared.load.WriteLoad.{WriteLoad}
 use Rattle.sub_base.specs.declared.profile.ProfileName.{ProfileName}
 use Rattle.stream_syntax.specs.Cutting.{IsUnit}
 use Rattle.stream_syntax.specs.TransportPackets.{adaptation_field, null_packet}
+use Rattle.decoder_model.specs.Frames.{only}
 use Rattle.decoder_model.specs.Sets.{sets_of}
 use Rattle.decoder_model.proofs.SentSets.{all-append, TimedSet, AreUnitsOf, HaveDifferentTimes, delivered, ComeWhole, sets_come_whole}
 use Rattle.decoder_model.proofs.SentUnits.{sent_come_whole}
@@ -142,12 +143,12 @@ pub record ArePackets (name : ProfileName) (pid page : ℕ) (script : Script) (b
   pub whole : All (λ packet. length packet ≡ 188) (packets_in name pid page script bytes compiled)
   pub units : AllByRecursion (IsUnit (profile_of name).coded) (all_units compiled.units)
   pub handed_out : ComeWhole pid (profile_of name).coded (packets_in name pid page script bytes compiled) (all_units compiled.units)
-  pub received : (timed : List TimedSet) → AreUnitsOf (profile_of name).coded page (all_units compiled.units) timed → HaveDifferentTimes timed
-      → sets_of (profile_of name).coded pid page true (packets_in name pid page script bytes compiled) ≡ map delivered timed
+  pub received : (timed : List TimedSet) → AreUnitsOf (profile_of name).coded (only page) (all_units compiled.units) timed → HaveDifferentTimes timed
+      → sets_of (profile_of name).coded pid (only page) true (packets_in name pid page script bytes compiled) ≡ map delivered timed
   pub sent : List TimedSet
   pub are : AreAllPackets (profile_of name).coded script page compiled.sets compiled.units sent
   pub apart : HaveDifferentTimes sent
-  pub sets : sets_of (profile_of name).coded pid page true (packets_in name pid page script bytes compiled) ≡ map delivered sent
+  pub sets : sets_of (profile_of name).coded pid (only page) true (packets_in name pid page script bytes compiled) ≡ map delivered sent
 
 -- joined they are the bytes, each has 188 bytes, and a demultiplexer hands out all units of all sets, each whole. Where their
 -- units are those of sets, these sets are received. So the sets of the plan are, each whole with the segments of all of its units
@@ -174,9 +175,9 @@ are_packets name pid page script bytes free made compiled =
       whole = All-from_recursion (λ packet. length packet ≡ 188) packets (laid_whole pid 0 0 (all_pieces units) slots pieces);
       units = all.units_are;
       handed_out = come;
-      received = λ timed are apart. sets_come_whole coded pid page true packets units timed come are apart;
+      received = λ timed are apart. sets_come_whole coded pid (only page) true packets units timed come are apart;
       sent = sent;
       are = all;
       apart = apart;
-      sets = sets_come_whole coded pid page true packets units sent come all.carry apart;
+      sets = sets_come_whole coded pid (only page) true packets units sent come all.carry apart;
     }

@@ -18,6 +18,7 @@ use Rattle.page_epoch.specs.declared.planned_set.PlannedSet.{PlannedSet}
 use Rattle.page_epoch.specs.declared.planned_set.SentClut.{SentClut}
 use Rattle.page_epoch.specs.declared.planned_set.SentRegion.{SentRegion}
 use Rattle.schedule.specs.Packets.{size_of}
+use Rattle.decoder_model.specs.Frames.{only}
 use Rattle.decoder_model.proofs.SentSets.{all-append, TimedSet, timed, timed_units, size_of_units, all_segments, IsTimedSet, IsUnitOf, AreUnitsOf}
 use Rattle.set_coder.specs.SetSegments.{display_segments, region_segment_of, clut_segment_of, leading_segments, AreObjectsOf, segment_bytes, unit_packet, AreSetSegments, AreSetPackets}
 use Rattle.shown_stream.specs.Compiled.{AreUnits, AreSizedAs, all_units}
@@ -91,8 +92,8 @@ have_segments page (unit ∷ units) h = (h.0.0, have_segments page units h.2)
 -- what is known of the PES packets of a set
 record ArePacketsOf (coded : ℕ) (script : Script) (page : ℕ) (set : PlannedSet) (packets : List (List ℕ)) (sent : TimedSet) : Type 0 where
   is : IsSentAs script page set packets sent
-  whole : IsTimedSet coded page sent
-  each : AllZip (IsUnitOf page) packets (map (timed sent.time) sent.units)
+  whole : IsTimedSet coded (only page) sent
+  each : AllZip (IsUnitOf (only page)) packets (map (timed sent.time) sent.units)
   units : AllByRecursion (IsUnit coded) packets
 
 all_handed_out : (coded page time : ℕ) (units : List (List SegmentValue)) → AllByRecursion (λ packet. length packet ≤ coded) (map (unit_packet page time) units) → AreShort (map (unit_packet page time) units)
@@ -126,7 +127,7 @@ packets_of_set coded script page set packets h room short =
         size = size_with page set.pts h.units ∙ ap (λ all. sum (map length all)) (sym h.are);
       };
       whole = whole_set coded page set.pts h.units ends.inner some joined ends.fit ends.end room_too;
-      each = subst (λ (all : List (List ℕ)). AllZip (IsUnitOf page) all (map (timed (set.pts % TIME_ROUND)) (set_with page set.pts h.units).units)) (sym h.are)
+      each = subst (λ (all : List (List ℕ)). AllZip (IsUnitOf (only page)) all (map (timed (set.pts % TIME_ROUND)) (set_with page set.pts h.units).units)) (sym h.are)
           (packets_are page set.pts h.units some (subst (AreKnown page) (sym joined) (all_known page ends.inner ends.fit ends.end)) short_too);
       units = subst (AllByRecursion (IsUnit coded)) (sym h.are) (all_handed_out coded page set.pts h.units (each_fits coded written room_too) short_too);
     }
@@ -152,7 +153,7 @@ AreSentAs script page (set ∷ sets) (packets ∷ units) (one ∷ sent) = IsSent
 -- what is known of all PES packets
 pub record AreAllPackets (coded : ℕ) (script : Script) (page : ℕ) (sets : List PlannedSet) (units : List (List (List ℕ))) (sent : List TimedSet) : Type 0 where
   pub are : AreSentAs script page sets units sent
-  pub carry : AreUnitsOf coded page (all_units units) sent
+  pub carry : AreUnitsOf coded (only page) (all_units units) sent
   pub units_are : AllByRecursion (IsUnit coded) (all_units units)
 
 both_zip : {A B : Type 0} (R : A → B → Type 0) (xs others : List A) (ys more : List B) → AllZip R xs ys → AllZip R others more → AllZip R (xs ++ others) (ys ++ more)
@@ -173,7 +174,7 @@ all_packets coded script page (set ∷ sets) (packets ∷ units) carried room sh
     record {
       are = (first.is, more.are);
       carry = record {
-        each = both_zip (IsUnitOf page) packets (all_units units) (map (timed one.time) one.units) (timed_units (sent_of script page sets units carried.1)) first.each more.carry.each;
+        each = both_zip (IsUnitOf (only page)) packets (all_units units) (map (timed one.time) one.units) (timed_units (sent_of script page sets units carried.1)) first.each more.carry.each;
         whole = (first.whole, more.carry.whole);
       };
       units_are = all-append (IsUnit coded) packets (all_units units) first.units more.units_are;

@@ -22,6 +22,7 @@ use Rattle.page_epoch.specs.Plan.{IsPlan}
 use Rattle.page_epoch.specs.declared.planned_set.PlannedSet.{PlannedSet}
 use Rattle.stream_syntax.specs.declared.wire.TheConstants.{TIME_ROUND}
 use Rattle.schedule.specs.Slots.{Timetable, slots_of}
+use Rattle.decoder_model.specs.Frames.{only}
 use Rattle.decoder_model.specs.Kept.{last_time, lifted_behind, lifted_time, epoch_of}
 use Rattle.decoder_model.specs.Painting.{painting_by}
 use Rattle.decoder_model.specs.Readings.{Reading, AreReadings, IsDeliveryRead, AreDeliveriesRead}
@@ -205,7 +206,7 @@ all_turned rest sent =
 -- what a receiver has got of a compiled stream that it enters behind so many packets, what is shown of it, and what it holds
 pub record IsReceivedLate (name : ProfileName) (pid page : ℕ) (script : Script) (bytes : List ℕ) (compiled : IsCompiledTo name pid page script bytes) (missed anchor : ℕ) : Type 0 where
   pub past : List (Delivery Reading)
-  pub received : HasReceived (profile_of name) pid page true (entered_at missed (packets_in name pid page script bytes compiled)) past
+  pub received : HasReceived (profile_of name) pid (only page) true (entered_at missed (packets_in name pid page script bytes compiled)) past
   pub shows : (tick : ℕ) → IsShownFrom (entry_set missed (sent_sets compiled.table compiled.sets)) tick (view_at (profile_of name) anchor tick past) (authored_view script tick)
   pub holds : HoldsEach script (profile_of name) anchor compiled.sets past
   pub kept : (number : ℕ) (set : PlannedSet) → slice_get compiled.sets number ≡ Some set → is_from missed (sent_set compiled.table number set) ≡ true → IsKept (profile_of name) anchor (entry_set missed (sent_sets compiled.table compiled.sets)) past set
@@ -243,7 +244,7 @@ comes_in_parts name pid page script bytes compiled known missed anchor suits lat
         loads = compiled.loads
 
         some : HavePackets compiled.units
-        some = have_packets script page sets compiled.units known.sent known.are.are (have_units profile.coded page known.sent known.are.carry.whole)
+        some = have_packets script page sets compiled.units known.sent known.are.are (have_units profile.coded (only page) known.sent known.are.carry.whole)
 
         many : length loads ≡ length sets
         many = as_many loads compiled.units compiled.sized ∙ (count_sets script page sets compiled.units known.sent known.are.are).1
@@ -315,7 +316,7 @@ received_late name pid page script bytes free made compiled missed anchor suits 
 -- nothing before the time of its entry set, and from then on what the script authors
 pub compiled_shown : (name : ProfileName) (pid page : ℕ) (script : Script) (bytes : List ℕ) → IsFree pid → IsCompiledFor name → (compiled : IsCompiledTo name pid page script bytes)
     → (missed anchor tick : ℕ) → IsAnchorOf (times_from missed (sent_sets compiled.table compiled.sets)) anchor
-    → ShowsFrom (profile_of name) pid page anchor (entered_at missed (packets_in name pid page script bytes compiled)) (entry_set missed (sent_sets compiled.table compiled.sets)) tick (authored_view script tick)
+    → ShowsFrom (profile_of name) pid (only page) anchor (entered_at missed (packets_in name pid page script bytes compiled)) (entry_set missed (sent_sets compiled.table compiled.sets)) tick (authored_view script tick)
 compiled_shown name pid page script bytes free made compiled missed anchor tick suits =
     let late = received_late name pid page script bytes free made compiled missed anchor suits in
     record {
@@ -327,27 +328,27 @@ compiled_shown name pid page script bytes free made compiled missed anchor tick 
 -- and its page memory holds the script behind each set that it has got whole and whose epoch is known
 pub compiled_held : (name : ProfileName) (pid page : ℕ) (script : Script) (bytes : List ℕ) → IsFree pid → IsCompiledFor name → (compiled : IsCompiledTo name pid page script bytes)
     → (missed anchor : ℕ) → IsAnchorOf (times_from missed (sent_sets compiled.table compiled.sets)) anchor
-    → (past : List (Delivery Reading)) → HasReceived (profile_of name) pid page true (entered_at missed (packets_in name pid page script bytes compiled)) past
+    → (past : List (Delivery Reading)) → HasReceived (profile_of name) pid (only page) true (entered_at missed (packets_in name pid page script bytes compiled)) past
     → HoldsWhole script (profile_of name) anchor compiled.sets (λ number set. is_from missed (sent_set compiled.table number set) ≡ true) past
 compiled_held name pid page script bytes free made compiled missed anchor suits past received later before delivery placed front back set parts come lifted known is =
     let late = received_late name pid page script bytes free made compiled missed anchor suits in
-    let same = same_past (reverse (sets_of (profile_of name).coded pid page true (entered_at missed (packets_in name pid page script bytes compiled)))) late.past past late.received received in
+    let same = same_past (reverse (sets_of (profile_of name).coded pid (only page) true (entered_at missed (packets_in name pid page script bytes compiled)))) late.past past late.received received in
     late.holds later before delivery (same ∙ placed) front back set parts tt lifted known is
 
 -- and each set of which no packet is missing is kept at its own time, and is not broken
 pub compiled_kept : (name : ProfileName) (pid page : ℕ) (script : Script) (bytes : List ℕ) → IsFree pid → IsCompiledFor name → (compiled : IsCompiledTo name pid page script bytes)
     → (missed anchor : ℕ) → IsAnchorOf (times_from missed (sent_sets compiled.table compiled.sets)) anchor
-    → (past : List (Delivery Reading)) → HasReceived (profile_of name) pid page true (entered_at missed (packets_in name pid page script bytes compiled)) past
+    → (past : List (Delivery Reading)) → HasReceived (profile_of name) pid (only page) true (entered_at missed (packets_in name pid page script bytes compiled)) past
     → (number : ℕ) (set : PlannedSet) → slice_get compiled.sets number ≡ Some set → is_from missed (sent_set compiled.table number set) ≡ true
     → IsKept (profile_of name) anchor (entry_set missed (sent_sets compiled.table compiled.sets)) past set
 compiled_kept name pid page script bytes free made compiled missed anchor suits past received number set found from =
     let late = received_late name pid page script bytes free made compiled missed anchor suits in
-    let same = same_past (reverse (sets_of (profile_of name).coded pid page true (entered_at missed (packets_in name pid page script bytes compiled)))) late.past past late.received received in
+    let same = same_past (reverse (sets_of (profile_of name).coded pid (only page) true (entered_at missed (packets_in name pid page script bytes compiled)))) late.past past late.received received in
     subst (λ (all : List (Delivery Reading)). IsKept (profile_of name) anchor (entry_set missed (sent_sets compiled.table compiled.sets)) all set) same (late.kept number set found from)
 
 -- so every compiled stream is entered rightly, behind any number of its packets
 pub compiled_entered : (name : ProfileName) (pid page : ℕ) (script : Script) (bytes : List ℕ) → IsFree pid → IsCompiledFor name → (compiled : IsCompiledTo name pid page script bytes)
-    → (missed : ℕ) → IsEnteredRightly name pid page script compiled.sets compiled.table (packets_in name pid page script bytes compiled) missed
+    → (missed : ℕ) → IsEnteredRightly name pid (only page) script compiled.sets compiled.table (packets_in name pid page script bytes compiled) missed
 compiled_entered name pid page script bytes free made compiled missed = record {
   shown = λ anchor suits tick. compiled_shown name pid page script bytes free made compiled missed anchor tick suits;
   kept = λ anchor suits past received number set found from. compiled_kept name pid page script bytes free made compiled missed anchor suits past received number set found from;

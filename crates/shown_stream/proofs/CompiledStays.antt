@@ -18,6 +18,7 @@ use Rattle.buffer_model.specs.Calls.{Call, level_at}
 use Rattle.buffer_model.specs.Within.{AreWithin}
 use Rattle.schedule.specs.Packets.{load_of, packets_of}
 use Rattle.schedule.specs.Slots.{IsLoad, slots_of}
+use Rattle.decoder_model.specs.Frames.{only}
 use Rattle.decoder_model.specs.Arrivals.{packets_taken}
 use Rattle.decoder_model.specs.Readings.{AreDeliveriesRead}
 use Rattle.decoder_model.specs.Received.{HasReceived}
@@ -76,7 +77,7 @@ whole_entered name pid page script bytes compiled known loads_are =
     let units = all_units compiled.units in
     let none : cut_units name pid page script bytes compiled known loads_are 0 ≡ 0 = (pieces_left coded (passed (0 + 0) compiled.table.slots) units is.whole).none (none_passed compiled.table.slots) in
     ap (λ n. entry_behind n 0 compiled.units) none
-    ∙ entry_at_first compiled.units (have_packets script page compiled.sets compiled.units known.sent known.are.are (have_units coded page known.sent known.are.carry.whole))
+    ∙ entry_at_first compiled.units (have_packets script page compiled.sets compiled.units known.sent known.are.are (have_units coded (only page) known.sent known.are.carry.whole))
 
 -- and no set is cut
 none_cut : (name : ProfileName) (pid page : ℕ) (script : Script) (bytes : List ℕ) (compiled : IsCompiledTo name pid page script bytes) (known : ArePackets name pid page script bytes compiled)
@@ -93,7 +94,7 @@ none_cut name pid page script bytes compiled known late = elim (cases_lt 0 late.
 whole_calls : (name : ProfileName) (pid page : ℕ) (script : Script) (bytes : List ℕ) → IsFree pid
     → (compiled : IsCompiledTo name pid page script bytes) (known : ArePackets name pid page script bytes compiled) (loads_are : All IsLoad compiled.loads)
     → (anchor slot : ℕ) → IsAnchorOf (times_from 0 (sent_sets compiled.table compiled.sets)) anchor → (calls : List Call)
-    → AreCallsBefore slot name pid page anchor 0 (packets_in name pid page script bytes compiled) calls
+    → AreCallsBefore slot name pid (only page) anchor 0 (packets_in name pid page script bytes compiled) calls
     → calls ≡ entered_calls compiled.loads compiled.table.slots slot (planned_painting compiled.loads) whole_entry (length compiled.loads)
 whole_calls name pid page script bytes free compiled known loads_are anchor slot suits calls given =
     let loads = compiled.loads in
@@ -121,7 +122,7 @@ all_whole name pid page script bytes compiled known loads_are i inside =
 pub compiled_scheduled : (name : ProfileName) (pid page : ℕ) (script : Script) (bytes : List ℕ) → IsFree pid
     → (compiled : IsCompiledTo name pid page script bytes) (known : ArePackets name pid page script bytes compiled) → (anchor : ℕ)
     → IsAnchorOf (times_from 0 (sent_sets compiled.table compiled.sets)) anchor
-    → IsAsScheduled name pid page script compiled.sets compiled.loads compiled.table (packets_in name pid page script bytes compiled) anchor
+    → IsAsScheduled name pid (only page) script compiled.sets compiled.loads compiled.table (packets_in name pid page script bytes compiled) anchor
 compiled_scheduled name pid page script bytes free compiled known anchor suits = record {
   level = λ slot calls given. ap (level_at pace slot 0) (are (slot + 1) calls given ∙ ap (λ bound. entered_calls loads compiled.table.slots bound (planned_painting loads) whole_entry (length loads)) (next_slot slot)) ∙ one_level loads pace compiled.table slot holds;
   times = λ calls given. ap (λ found. map (λ (set : DoneSet). set.time) (done_sets pace found)) (are (length packets) calls given)
@@ -150,7 +151,7 @@ compiled_scheduled name pid page script bytes free compiled known anchor suits =
     holds : Holds loads pace compiled.table
     holds = compiled_holds name pid page script bytes compiled known compiled.each
 
-    are : (slot : ℕ) (calls : List Call) → AreCallsBefore slot name pid page anchor 0 packets calls
+    are : (slot : ℕ) (calls : List Call) → AreCallsBefore slot name pid (only page) anchor 0 packets calls
         → calls ≡ entered_calls loads compiled.table.slots slot (planned_painting loads) whole_entry (length loads)
     are slot calls given = whole_calls name pid page script bytes free compiled known compiled.each anchor slot suits calls given
 
@@ -167,7 +168,7 @@ time_found (first ∷ sets) (suc i) set found = time_found sets i set found
 pub compiled_stays : (name : ProfileName) (pid page : ℕ) (script : Script) (bytes : List ℕ) → IsFree pid
     → (compiled : IsCompiledTo name pid page script bytes) (known : ArePackets name pid page script bytes compiled) → (missed anchor : ℕ)
     → IsAnchorOf (times_from missed (sent_sets compiled.table compiled.sets)) anchor
-    → StaysWithin name pid page script compiled.sets compiled.table (packets_in name pid page script bytes compiled) missed anchor
+    → StaysWithin name pid (only page) script compiled.sets compiled.table (packets_in name pid page script bytes compiled) missed anchor
 compiled_stays name pid page script bytes free compiled known missed anchor suits = record {
   given = given_before;
   within = λ slot calls given. subst (AreWithin pace) (sym (heard slot calls given)) (entered_within loads pace compiled.table slot painted entry (length loads) holds is_entry (omega arith));
@@ -208,22 +209,22 @@ compiled_stays name pid page script bytes free compiled known missed anchor suit
     is_entry : IsEntry loads compiled.table.slots painted entry
     is_entry = compiled_is_entry name pid page script bytes compiled known compiled.each painted missed (λ i inside. heard_most loads late.first i)
 
-    heard : (slot : ℕ) (calls : List Call) → AreCallsBefore slot name pid page anchor missed packets calls
+    heard : (slot : ℕ) (calls : List Call) → AreCallsBefore slot name pid (only page) anchor missed packets calls
         → calls ≡ entered_calls loads compiled.table.slots slot painted entry (length loads)
     heard slot calls given = heard_calls name pid page script bytes free compiled known compiled.each anchor missed slot suits late calls given
 
-    at_slot : (slot : ℕ) (calls : List Call) → AreCallsBefore (slot + 1) name pid page anchor missed packets calls
+    at_slot : (slot : ℕ) (calls : List Call) → AreCallsBefore (slot + 1) name pid (only page) anchor missed packets calls
         → calls ≡ entered_calls loads compiled.table.slots (suc slot) painted entry (length loads)
     at_slot slot calls given = heard (slot + 1) calls given ∙ ap (λ bound. entered_calls loads compiled.table.slots bound painted entry (length loads)) (next_slot slot)
 
-    given_before : (slot : ℕ) → (calls : List Call) × AreCallsBefore slot name pid page anchor missed packets calls
+    given_before : (slot : ℕ) → (calls : List Call) × AreCallsBefore slot name pid (only page) anchor missed packets calls
     given_before slot =
         let some = compiled_read name pid page script bytes free compiled known compiled.each anchor missed (min (slot - missed) (length (drop missed packets))) suits late in (
-          reverse (calls_from itself (profile_of name).coded pid page missed [] (packets_taken pid (drop missed (take slot packets))) (set_calls (profile_of name) anchor (reverse some.0))),
-          record { past = some.0; received = subst (λ (found : List (List ℕ)). HasReceived (profile_of name) pid page false found some.0) (sym (before_slot missed slot packets)) some.1; are = refl },
+          reverse (calls_from itself (profile_of name).coded pid (only page) missed [] (packets_taken pid (drop missed (take slot packets))) (set_calls (profile_of name) anchor (reverse some.0))),
+          record { past = some.0; received = subst (λ (found : List (List ℕ)). HasReceived (profile_of name) pid (only page) false found some.0) (sym (before_slot missed slot packets)) some.1; are = refl },
         )
 
-    is_decoded : (calls : List Call) → AreCallsBefore (length packets) name pid page anchor missed packets calls → (number : ℕ) (set : PlannedSet)
+    is_decoded : (calls : List Call) → AreCallsBefore (length packets) name pid (only page) anchor missed packets calls → (number : ℕ) (set : PlannedSet)
         → slice_get sets number ≡ Some set → is_from missed (sent_set compiled.table number set) ≡ true
         → IsDecodedBy (done_sets pace calls) set.pts
     is_decoded calls given number set found from =
@@ -238,18 +239,18 @@ compiled_stays name pid page script bytes free compiled known missed anchor suit
         (subst (λ (found : List Call). IsDecodedBy (done_sets pace found) (load_of loads number).pts) (sym (heard (length packets) calls given))
         (set_decoded loads pace compiled.table (length packets) painted entry (length loads) number holds is_entry (omega arith) behind inside (all_whole name pid page script bytes compiled known compiled.each number inside)))
 
-    is_ended : (calls : List Call) → AreCallsOf (profile_of name) pid page anchor missed true (entered_at missed packets) calls
-        → AreCallsBefore (length packets) name pid page anchor missed packets calls
+    is_ended : (calls : List Call) → AreCallsOf (profile_of name) pid (only page) anchor missed true (entered_at missed packets) calls
+        → AreCallsBefore (length packets) name pid (only page) anchor missed packets calls
     is_ended calls given =
         let all : take (length packets) packets ≡ packets = take_all (length packets) packets (omega arith) in
-        subst (λ (found : List (List ℕ)). AreCallsOf (profile_of name) pid page anchor missed false (entered_at missed found) calls) (sym all) (record {
+        subst (λ (found : List (List ℕ)). AreCallsOf (profile_of name) pid (only page) anchor missed false (entered_at missed found) calls) (sym all) (record {
           past = given.past;
           received = subst (λ (found : List (Delivery (List ℕ))). AreDeliveriesRead (reverse found) given.past) (ended_sets name pid page script bytes free compiled known compiled.each missed) given.received;
           are = given.are;
         })
 
     not_worse : (slot other : ℕ) (calls whole : List Call) → IsAnchorOf (times_from 0 (sent_sets compiled.table sets)) other
-        → AreCallsBefore (slot + 1) name pid page anchor missed packets calls → AreCallsBefore (slot + 1) name pid page other 0 packets whole
+        → AreCallsBefore (slot + 1) name pid (only page) anchor missed packets calls → AreCallsBefore (slot + 1) name pid (only page) other 0 packets whole
         → (level_at pace slot 0 calls ≤ level_at pace slot 0 whole) × AreDoneNoLater (done_sets pace calls) (done_sets pace whole)
     not_worse slot other calls whole suits_too given all =
         let some_are = at_slot slot calls given in

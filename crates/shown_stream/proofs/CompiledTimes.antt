@@ -23,6 +23,7 @@ use Rattle.shown_stream.proofs.LateCalls.{entry_not_begun}
 use Rattle.shown_stream.proofs.LatePlaces.{count_sets}
 use Rattle.shown_stream.proofs.PlannedTimes.{times_in_span, pts_rise}
 use Rattle.shown_stream.proofs.ShownSets.{AreAheadOf}
+use Rattle.decoder_model.specs.Frames.{only}
 
 -- a packet of the entry's set comes
 entry_comes : (name : ProfileName) (pid page : ℕ) (script : Script) (bytes : List ℕ) (compiled : IsCompiledTo name pid page script bytes) (known : ArePackets name pid page script bytes compiled) (loads_are : All IsLoad compiled.loads) (missed : ℕ)
@@ -31,7 +32,7 @@ entry_comes name pid page script bytes compiled known loads_are missed inside =
     let loads = compiled.loads in
     let is = compiled_stream name pid page script bytes compiled known loads_are in
     let entry = compiled_entry name pid page script bytes compiled known loads_are missed in
-    let begun = entry_not_begun (profile_of name).coded page loads compiled.table.slots compiled.units known.sent missed is inside in
+    let begun = entry_not_begun (profile_of name).coded (only page) loads compiled.table.slots compiled.units known.sent missed is inside in
     let within = begun.0 in
     some_from loads (length loads) (pace_of script.origin (profile_of name)) compiled.table compiled.schedule missed entry.set (first_packet loads entry.set + entry.packet) inside (omega arith) (omega (arith, within, sum_below-suc (packets_of loads) entry.set)) begun.1
 

@@ -22,6 +22,8 @@ use Rattle.shown_stream.proofs.LateCalls.{units_missed, behind_units}
 use Rattle.shown_stream.proofs.ScheduledLevels.{schedule_holds}
 use Rattle.slot_stream.proofs.SentStream.{its_pieces}
 use Rattle.shown_stream.proofs.SetPackets.{bytes_in}
+use Rattle.decoder_model.specs.declared.pages.Pages.{Pages}
+use Rattle.decoder_model.specs.Frames.{only}
 
 -- the schedule of a compiled stream holds
 pub compiled_holds : (name : ProfileName) (pid page : ℕ) (script : Script) (bytes : List ℕ) (compiled : IsCompiledTo name pid page script bytes) (known : ArePackets name pid page script bytes compiled) → All IsLoad compiled.loads
@@ -29,9 +31,9 @@ pub compiled_holds : (name : ProfileName) (pid page : ℕ) (script : Script) (by
 compiled_holds name pid page script bytes compiled known loads_are = schedule_holds compiled.loads (pace_of script.origin (profile_of name)) compiled.table loads_are compiled.schedule compiled.on_time
 
 -- an entry before which a unit begins lies in its set
-within_set : (coded page : ℕ) (loads : List WriteLoad) (entry : Entry) (first : ℕ) (behind : List Piece) → Behind coded page loads entry first behind → entry.set < length loads → entry.packet < packets_of loads entry.set
-within_set coded page loads entry first behind (nothing_behind none) inside = absurd (omega arith)
-within_set coded page loads entry first behind (begins unit) inside =
+within_set : (coded : ℕ) (pages : Pages) (loads : List WriteLoad) (entry : Entry) (first : ℕ) (behind : List Piece) → Behind coded pages loads entry first behind → entry.set < length loads → entry.packet < packets_of loads entry.set
+within_set coded pages loads entry first behind (nothing_behind none) inside = absurd (omega arith)
+within_set coded pages loads entry first behind (begins unit) inside =
     let some = unit_has_bytes coded unit.unit unit.whole.0 in
     let many : length (drop entry.packet (payloads_of (units_of loads entry.set))) ≡ length (map bytes_in (all_pieces (unit.unit ∷ unit.units))) = ap length unit.own in
     let pieces : 1 ≤ length (all_pieces (unit.unit ∷ unit.units)) = omega (arith, length-append (pieces_of unit.unit) (all_pieces unit.units), ap length (its_pieces unit.unit some)) in
@@ -46,9 +48,9 @@ compiled_is_entry name pid page script bytes compiled known loads_are painted mi
     let is = compiled_stream name pid page script bytes compiled known loads_are in
     let n = units_missed coded missed (units_in compiled.units) compiled.table.slots is.whole in
     let first = first_packet loads 0 + length (all_pieces (take n (units_in compiled.units))) in
-    let behind = behind_units coded page loads n 0 first compiled.units known.sent is.sent is.apart (let many = is.many in omega arith) refl in
+    let behind = behind_units coded (only page) loads n 0 first compiled.units known.sent is.sent is.apart (let many = is.many in omega arith) refl in
     record {
       are = is.are;
-      within = within_set coded page loads (compiled_entry name pid page script bytes compiled known loads_are missed) first (all_pieces (drop n (units_in compiled.units))) behind;
+      within = within_set coded (only page) loads (compiled_entry name pid page script bytes compiled known loads_are missed) first (all_pieces (drop n (units_in compiled.units))) behind;
       most = most;
     }

@@ -12,6 +12,7 @@ use Rattle.buffer_model.specs.Calls.{Call}
 use Rattle.schedule.specs.Packets.{units_of, packets_of, first_packet, payloads_of}
 use Rattle.schedule.proofs.SumLaws.{sum_below-suc, sum_below-zero}
 use Rattle.stream_syntax.specs.Cutting.{IsUnit}
+use Rattle.decoder_model.specs.declared.pages.Pages.{Pages}
 use Rattle.decoder_model.proofs.SentSets.{TimedSet, timed, IsUnitOf, HaveDifferentTimes}
 use Rattle.decoder_model.proofs.SentUnits.{no_hand}
 use Rattle.sent_levels.specs.EnteredCalls.{Entry, entered_calls}
@@ -70,11 +71,11 @@ bytes_behind n group payloads are =
     ap (drop (length (all_pieces (take n group)))) parts ∙ ap (λ k. drop k (front ++ rest)) count ∙ drop-append-add front rest 0
 
 -- a unit that is not the first of its set
-begins_inside : (coded page : ℕ) (loads : List WriteLoad) (n i first : ℕ) (group : List (List ℕ)) (groups : List (List (List ℕ))) (set : TimedSet) (later : List TimedSet) → IsSentSet coded page loads i group set → AreSentSets coded page loads (suc i) groups later
+begins_inside : (coded : ℕ) (pages : Pages) (loads : List WriteLoad) (n i first : ℕ) (group : List (List ℕ)) (groups : List (List (List ℕ))) (set : TimedSet) (later : List TimedSet) → IsSentSet coded pages loads i group set → AreSentSets coded pages loads (suc i) groups later
     → HaveDifferentTimes (set ∷ later) → n < length group → first ≡ first_packet loads i + length (all_pieces (take n group)) → (unit : List ℕ) (units : List (List ℕ)) → drop n group ≡ unit ∷ units
-    → Begins coded page loads (record { set = i; packet = length (all_pieces (take n group)) }) first (all_pieces (drop n (units_in (group ∷ groups))))
-begins_inside coded page loads n i first group groups set later sent more apart within numbered unit units rest =
-    let many : length group ≡ length set.units = same_lengths (IsUnitOf page) group (map (timed set.time) set.units) sent.units ∙ length-map set.units (timed set.time) in
+    → Begins coded pages loads (record { set = i; packet = length (all_pieces (take n group)) }) first (all_pieces (drop n (units_in (group ∷ groups))))
+begins_inside coded pages loads n i first group groups set later sent more apart within numbered unit units rest =
+    let many : length group ≡ length set.units = same_lengths (IsUnitOf pages) group (map (timed set.time) set.units) sent.units ∙ length-map set.units (timed set.time) in
     record {
       inside = sent.inside;
       numbered = numbered;
@@ -83,9 +84,9 @@ begins_inside coded page loads n i first group groups set later sent more apart 
       units = units;
       groups = groups;
       later = later;
-      is = rest_is_set coded page n set sent.is (omega arith);
-      units_are = subst (λ (found : List (List ℕ)). AllZip (IsUnitOf page) found (map (timed set.time) (drop n set.units))) rest
-          (subst (AllZip (IsUnitOf page) (drop n group)) (drop-map (timed set.time) n set.units) (zip_behind (IsUnitOf page) n group (map (timed set.time) set.units) sent.units));
+      is = rest_is_set coded pages n set sent.is (omega arith);
+      units_are = subst (λ (found : List (List ℕ)). AllZip (IsUnitOf pages) found (map (timed set.time) (drop n set.units))) rest
+          (subst (AllZip (IsUnitOf pages) (drop n group)) (drop-map (timed set.time) n set.units) (zip_behind (IsUnitOf pages) n group (map (timed set.time) set.units) sent.units));
       whole = subst (AllByRecursion (IsUnit coded)) rest (drop_units coded n group sent.whole);
       own = bytes_behind n group (payloads_of (units_of loads i)) sent.bytes ∙ ap (λ found. map bytes_in (all_pieces found)) rest;
       sent = more;
@@ -94,17 +95,17 @@ begins_inside coded page loads n i first group groups set later sent more apart 
     }
 
 -- behind the pieces of n units there are those of the sets from the entry on
-pub behind_units : (coded page : ℕ) (loads : List WriteLoad) (n i first : ℕ) (groups : List (List (List ℕ))) (sets : List TimedSet) → AreSentSets coded page loads i groups sets → HaveDifferentTimes sets → length loads ≡ i + length groups
-    → first ≡ first_packet loads i + length (all_pieces (take n (units_in groups))) → Behind coded page loads (entry_behind n i groups) first (all_pieces (drop n (units_in groups)))
-behind_units coded page loads n i first [] [] sent apart many numbered = subst (λ (found : List (List ℕ)). Behind coded page loads (entry_behind n i []) first (all_pieces found)) (sym (drop-nil n)) (nothing_behind (omega arith))
-behind_units coded page loads n i first [] (set ∷ later) sent apart many numbered = absurd sent
-behind_units coded page loads n i first (group ∷ groups) [] sent apart many numbered = absurd sent
-behind_units coded page loads n i first (group ∷ groups) (set ∷ later) sent apart many numbered =
-    by (cases_lt n (length group)) (λ split rest_numbered. subst (λ (found : List (List ℕ)). Behind coded page loads (entry_behind (n - length group) (suc i) groups) first (all_pieces found)) (dropped_past split)
-    (behind_units coded page loads (n - length group) (suc i) first groups later sent.1 apart.1 (omega (arith, many)) rest_numbered))
+pub behind_units : (coded : ℕ) (pages : Pages) (loads : List WriteLoad) (n i first : ℕ) (groups : List (List (List ℕ))) (sets : List TimedSet) → AreSentSets coded pages loads i groups sets → HaveDifferentTimes sets → length loads ≡ i + length groups
+    → first ≡ first_packet loads i + length (all_pieces (take n (units_in groups))) → Behind coded pages loads (entry_behind n i groups) first (all_pieces (drop n (units_in groups)))
+behind_units coded pages loads n i first [] [] sent apart many numbered = subst (λ (found : List (List ℕ)). Behind coded pages loads (entry_behind n i []) first (all_pieces found)) (sym (drop-nil n)) (nothing_behind (omega arith))
+behind_units coded pages loads n i first [] (set ∷ later) sent apart many numbered = absurd sent
+behind_units coded pages loads n i first (group ∷ groups) [] sent apart many numbered = absurd sent
+behind_units coded pages loads n i first (group ∷ groups) (set ∷ later) sent apart many numbered =
+    by (cases_lt n (length group)) (λ split rest_numbered. subst (λ (found : List (List ℕ)). Behind coded pages loads (entry_behind (n - length group) (suc i) groups) first (all_pieces found)) (dropped_past split)
+    (behind_units coded pages loads (n - length group) (suc i) first groups later sent.1 apart.1 (omega (arith, many)) rest_numbered))
   where
     Left : Bool → Type 0
-    Left b = Behind coded page loads (cond b (record { set = i; packet = length (all_pieces (take n group)) }) (entry_behind (n - length group) (suc i) groups)) first (all_pieces (drop n (units_in (group ∷ groups))))
+    Left b = Behind coded pages loads (cond b (record { set = i; packet = length (all_pieces (take n group)) }) (entry_behind (n - length group) (suc i) groups)) first (all_pieces (drop n (units_in (group ∷ groups))))
 
     dropped_past : n ≡ length group + (n - length group) → drop (n - length group) (units_in groups) ≡ drop n (units_in (group ∷ groups))
     dropped_past split = sym (ap (λ k. drop k (group ++ units_in groups)) split ∙ drop-append-add group (units_in groups) (n - length group))
@@ -112,10 +113,10 @@ behind_units coded page loads n i first (group ∷ groups) (set ∷ later) sent 
     within_group : n < length group → (rest : List (List ℕ)) → drop n group ≡ rest → Left true
     within_group within [] e = absurd (omega (arith, within, ap length e, length-drop n group))
     within_group within (unit ∷ units) e =
-        begins (begins_inside coded page loads n i first group groups set later sent.0 sent.1 apart within (numbered ∙ ap (λ found. first_packet loads i + length (all_pieces found)) (take_front n group (units_in groups) (omega (arith, within)))) unit units e)
+        begins (begins_inside coded pages loads n i first group groups set later sent.0 sent.1 apart within (numbered ∙ ap (λ found. first_packet loads i + length (all_pieces found)) (take_front n group (units_in groups) (omega (arith, within)))) unit units e)
 
     by : (n < length group) ⊎ (length group ≤ n) → (n ≡ length group + (n - length group) → first ≡ first_packet loads (suc i) + length (all_pieces (take (n - length group) (units_in groups)))
-        → Behind coded page loads (entry_behind (n - length group) (suc i) groups) first (all_pieces (drop n (units_in (group ∷ groups)))))
+        → Behind coded pages loads (entry_behind (n - length group) (suc i) groups) first (all_pieces (drop n (units_in (group ∷ groups)))))
         → Left (ltb n (length group))
     by (inl within) onward = let test : ltb n (length group) ≡ true = grind (arith, nat_tests) in subst Left (sym test) (within_group within (drop n group) refl)
     by (inr past) onward =
@@ -160,10 +161,10 @@ ahead_from place from (slot ∷ slots) ahead = by (cases_lt slot place) (ahead_f
 -- ---- the stream
 
 -- a stream of scheduled sets in slots
-pub record IsSentStream (coded page : ℕ) (loads : List WriteLoad) (slots : List ℕ) (groups : List (List (List ℕ))) (sets : List TimedSet) : Type 0 where
+pub record IsSentStream (coded : ℕ) (pages : Pages) (loads : List WriteLoad) (slots : List ℕ) (groups : List (List (List ℕ))) (sets : List TimedSet) : Type 0 where
   pub are : AreSlots loads slots
   pub ahead : IsAhead 0 slots
-  pub sent : AreSentSets coded page loads 0 groups sets
+  pub sent : AreSentSets coded pages loads 0 groups sets
   pub apart : HaveDifferentTimes sets
   pub many : length loads ≡ length groups
   pub whole : AllByRecursion (IsUnit coded) (units_in groups)
@@ -174,13 +175,13 @@ abbrev pub units_missed : (coded missed : ℕ) (units : List (List ℕ)) (slots 
 units_missed coded missed units slots whole = (pieces_left coded (passed (0 + missed) slots) units whole).cut
 
 -- where the stream is entered
-abbrev pub entry_of : (coded page : ℕ) (loads : List WriteLoad) (slots : List ℕ) (groups : List (List (List ℕ))) (sets : List TimedSet) (missed : ℕ) → IsSentStream coded page loads slots groups sets → Entry
-entry_of coded page loads slots groups sets missed is = entry_behind (units_missed coded missed (units_in groups) slots is.whole) 0 groups
+abbrev pub entry_of : (coded : ℕ) (pages : Pages) (loads : List WriteLoad) (slots : List ℕ) (groups : List (List (List ℕ))) (sets : List TimedSet) (missed : ℕ) → IsSentStream coded pages loads slots groups sets → Entry
+entry_of coded pages loads slots groups sets missed is = entry_behind (units_missed coded missed (units_in groups) slots is.whole) 0 groups
 
 -- the entry's packet stands at the place where the stream is entered or behind it
-not_yet : (coded page : ℕ) (loads : List WriteLoad) (slots : List ℕ) (entry : Entry) (missed number more : ℕ) (behind : List Piece) → AreSlots loads slots → IsAhead 0 slots → number ≡ passed (0 + missed) slots → Behind coded page loads entry (number + more) behind → IsNotBegun loads slots entry missed
-not_yet coded page loads slots entry missed number more behind are ahead is (nothing_behind none) = λ inside. absurd (omega arith)
-not_yet coded page loads slots entry missed number more behind are ahead is (begins first) = λ inside.
+not_yet : (coded : ℕ) (pages : Pages) (loads : List WriteLoad) (slots : List ℕ) (entry : Entry) (missed number more : ℕ) (behind : List Piece) → AreSlots loads slots → IsAhead 0 slots → number ≡ passed (0 + missed) slots → Behind coded pages loads entry (number + more) behind → IsNotBegun loads slots entry missed
+not_yet coded pages loads slots entry missed number more behind are ahead is (nothing_behind none) = λ inside. absurd (omega arith)
+not_yet coded pages loads slots entry missed number more behind are ahead is (begins first) = λ inside.
     let some = unit_has_bytes coded first.unit first.whole.0 in
     let many : length (drop entry.packet (payloads_of (units_of loads entry.set))) ≡ length (map bytes_in (all_pieces (first.unit ∷ first.units))) = ap length first.own in
     let pieces : 1 ≤ length (all_pieces (first.unit ∷ first.units)) = omega (arith, length-append (pieces_of first.unit) (all_pieces first.units), ap length (its_pieces first.unit some)) in
@@ -190,9 +191,9 @@ not_yet coded page loads slots entry missed number more behind are ahead is (beg
     (within, omega arith)
 
 -- the number of the first packet of the first unit that comes whole
-first_number_is : (coded page : ℕ) (loads : List WriteLoad) (slots : List ℕ) (groups : List (List (List ℕ))) (sets : List TimedSet) (missed : ℕ) → (is : IsSentStream coded page loads slots groups sets)
+first_number_is : (coded : ℕ) (pages : Pages) (loads : List WriteLoad) (slots : List ℕ) (groups : List (List (List ℕ))) (sets : List TimedSet) (missed : ℕ) → (is : IsSentStream coded pages loads slots groups sets)
     → passed (0 + missed) slots + length (pieces_left coded (passed (0 + missed) slots) (units_in groups) is.whole).further ≡ first_packet loads 0 + length (all_pieces (take (units_missed coded missed (units_in groups) slots is.whole) (units_in groups)))
-first_number_is coded page loads slots groups sets missed is =
+first_number_is coded pages loads slots groups sets missed is =
     let units = units_in groups in
     let n = passed (0 + missed) slots in
     let left = pieces_left coded n units is.whole in
@@ -212,20 +213,20 @@ first_number_is coded page loads slots groups sets missed is =
     )
 
 -- the stream is entered at its entry or before it
-pub entry_not_begun : (coded page : ℕ) (loads : List WriteLoad) (slots : List ℕ) (groups : List (List (List ℕ))) (sets : List TimedSet) (missed : ℕ) → (is : IsSentStream coded page loads slots groups sets) → IsNotBegun loads slots (entry_of coded page loads slots groups sets missed is) missed
-entry_not_begun coded page loads slots groups sets missed is =
+pub entry_not_begun : (coded : ℕ) (pages : Pages) (loads : List WriteLoad) (slots : List ℕ) (groups : List (List (List ℕ))) (sets : List TimedSet) (missed : ℕ) → (is : IsSentStream coded pages loads slots groups sets) → IsNotBegun loads slots (entry_of coded pages loads slots groups sets missed is) missed
+entry_not_begun coded pages loads slots groups sets missed is =
     let units = units_in groups in
     let n = passed (0 + missed) slots in
     let left = pieces_left coded n units is.whole in
-    not_yet coded page loads slots (entry_of coded page loads slots groups sets missed is) missed n (length left.further) (all_pieces (drop left.cut units)) is.are is.ahead refl
-    (behind_units coded page loads left.cut 0 (n + length left.further) groups sets is.sent is.apart (let many = is.many in omega arith) (first_number_is coded page loads slots groups sets missed is))
+    not_yet coded pages loads slots (entry_of coded pages loads slots groups sets missed is) missed n (length left.further) (all_pieces (drop left.cut units)) is.are is.ahead refl
+    (behind_units coded pages loads left.cut 0 (n + length left.further) groups sets is.sent is.apart (let many = is.many in omega arith) (first_number_is coded pages loads slots groups sets missed is))
 
 -- the calls of its packets, up to any of them, are those of the scheduled sets
-pub late_calls : (coded pid page : ℕ) (loads : List WriteLoad) (slots : List ℕ) (groups : List (List (List ℕ))) (sets : List TimedSet) (painted : ℕ → ℕ) (missed m : ℕ) (calls : List (List Call)) → IsFree pid → (is : IsSentStream coded page loads slots groups sets)
-    → AreLeft loads painted (entry_of coded page loads slots groups sets missed is) (entry_of coded page loads slots groups sets missed is).set calls
-    → m ≤ length (drop missed (laid pid 0 0 (all_pieces (units_in groups)) slots)) → AreUsedUp coded pid page [] (take m (drop missed (laid pid 0 0 (all_pieces (units_in groups)) slots))) (length calls)
-    → reverse (calls_from itself coded pid page missed [] (take m (drop missed (laid pid 0 0 (all_pieces (units_in groups)) slots))) calls) ≡ entered_calls loads slots (missed + m) painted (entry_of coded page loads slots groups sets missed is) (length loads)
-late_calls coded pid page loads slots groups sets painted missed m calls free is is_left many used =
+pub late_calls : (coded pid : ℕ) (pages : Pages) (loads : List WriteLoad) (slots : List ℕ) (groups : List (List (List ℕ))) (sets : List TimedSet) (painted : ℕ → ℕ) (missed m : ℕ) (calls : List (List Call)) → IsFree pid → (is : IsSentStream coded pages loads slots groups sets)
+    → AreLeft loads painted (entry_of coded pages loads slots groups sets missed is) (entry_of coded pages loads slots groups sets missed is).set calls
+    → m ≤ length (drop missed (laid pid 0 0 (all_pieces (units_in groups)) slots)) → AreUsedUp coded pid pages [] (take m (drop missed (laid pid 0 0 (all_pieces (units_in groups)) slots))) (length calls)
+    → reverse (calls_from itself coded pid pages missed [] (take m (drop missed (laid pid 0 0 (all_pieces (units_in groups)) slots))) calls) ≡ entered_calls loads slots (missed + m) painted (entry_of coded pages loads slots groups sets missed is) (length loads)
+late_calls coded pid pages loads slots groups sets painted missed m calls free is is_left many used =
     let units = units_in groups in
     let n = passed (0 + missed) slots in
     let at_place : 0 + missed ≡ missed = omega arith in
@@ -251,18 +252,18 @@ late_calls coded pid page loads slots groups sets painted missed m calls free is
     = drop-laid pid missed 0 0 (all_pieces units) slots is.pieces is.ahead
     ∙ ap (λ place. laid pid place (0 + n) (drop n (all_pieces units)) (drop n slots)) at_place
     ∙ ap (λ number. laid pid missed number (drop n (all_pieces units)) (drop n slots)) at_number ∙ ap (λ pieces. laid pid missed n pieces (drop n slots)) left.are in
-    let behind = behind_units coded page loads left.cut 0 (n + length left.further) groups sets is.sent is.apart (let many = is.many in omega arith) numbered in
-    let early : Early coded pid page loads slots entry missed n [] left.further (all_pieces (drop left.cut units)) = record {
+    let behind = behind_units coded pages loads left.cut 0 (n + length left.further) groups sets is.sent is.apart (let many = is.many in omega arith) numbered in
+    let early : Early coded pid pages loads slots entry missed n [] left.further (all_pieces (drop left.cut units)) = record {
       rest = left.rest;
       hand = no_hand pid coded;
       follows = inl (no_counter pid);
       passed = λ q low. (let before = (passed_is (0 + missed) 0 q slots is.ahead (omega (arith, few, low))).0 low in omega arith);
-      came = none_came coded pid page;
+      came = none_came coded pid pages;
       next = behind;
     } in
-    subst (λ (found : List (List ℕ)). m ≤ length found → AreUsedUp coded pid page [] (take m found) (length calls) → reverse (calls_from itself coded pid page missed [] (take m found) calls) ≡ entered_calls loads slots (missed + m) painted entry (length loads)) (sym packets)
+    subst (λ (found : List (List ℕ)). m ≤ length found → AreUsedUp coded pid pages [] (take m found) (length calls) → reverse (calls_from itself coded pid pages missed [] (take m found) calls) ≡ entered_calls loads slots (missed + m) painted entry (length loads)) (sym packets)
     (λ many used.
-    sym (append-nil (reverse (calls_from itself coded pid page missed [] (take m (laid pid missed n (left.further ++ all_pieces (drop left.cut units)) (drop n slots))) calls)))
-    ∙ ap (λ past. reverse (calls_from itself coded pid page missed [] (take m (laid pid missed n (left.further ++ all_pieces (drop left.cut units)) (drop n slots))) calls) ++ past) (sym (nothing_yet loads slots painted entry missed (length loads) is.are (omega arith) (not_yet coded page loads slots entry missed n (length left.further) (all_pieces (drop left.cut units)) is.are is.ahead refl behind)))
-    ∙ early_walk coded pid page loads slots painted entry m free is.are missed n [] left.further (all_pieces (drop left.cut units)) (drop n slots) calls early (subst (λ (place : ℕ). IsAhead place (drop n slots)) at_place (ahead_from (0 + missed) 0 slots is.ahead)) refl is_left many used)
+    sym (append-nil (reverse (calls_from itself coded pid pages missed [] (take m (laid pid missed n (left.further ++ all_pieces (drop left.cut units)) (drop n slots))) calls)))
+    ∙ ap (λ past. reverse (calls_from itself coded pid pages missed [] (take m (laid pid missed n (left.further ++ all_pieces (drop left.cut units)) (drop n slots))) calls) ++ past) (sym (nothing_yet loads slots painted entry missed (length loads) is.are (omega arith) (not_yet coded pages loads slots entry missed n (length left.further) (all_pieces (drop left.cut units)) is.are is.ahead refl behind)))
+    ∙ early_walk coded pid pages loads slots painted entry m free is.are missed n [] left.further (all_pieces (drop left.cut units)) (drop n slots) calls early (subst (λ (place : ℕ). IsAhead place (drop n slots)) at_place (ahead_from (0 + missed) 0 slots is.ahead)) refl is_left many used)
     many used

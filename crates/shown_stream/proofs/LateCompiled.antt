@@ -15,6 +15,7 @@ use Rattle.page_epoch.specs.Plan.{IsPlan}
 use Rattle.page_epoch.specs.declared.planned_set.PlannedSet.{PlannedSet}
 use Rattle.schedule.specs.Packets.{first_packet}
 use Rattle.schedule.specs.Slots.{Timetable, slots_of}
+use Rattle.decoder_model.specs.Frames.{only}
 use Rattle.decoder_model.specs.Readings.{Reading, IsDeliveryRead}
 use Rattle.decoder_model.specs.Sets.{Delivery, sets_of}
 use Rattle.decoder_model.specs.Streams.{entered_at, SentSet, is_from, entry_set}
@@ -145,7 +146,7 @@ pub record IsEnteredLate (name : ProfileName) (pid page : ℕ) (script : Script)
   pub few : first ≤ length sent
   pub rest : List TimedSet
   pub is_rest : IsRest sent first rest
-  pub come : sets_of (profile_of name).coded pid page true (entered_at missed (packets_in name pid page script bytes compiled)) ≡ map delivered (rest ++ drop first sent)
+  pub come : sets_of (profile_of name).coded pid (only page) true (entered_at missed (packets_in name pid page script bytes compiled)) ≡ map delivered (rest ++ drop first sent)
   pub whole : (i : ℕ) (set : PlannedSet) → i < length compiled.sets
       → (i < first → is_from missed (sent_set compiled.table i set) ≡ false) × (first ≤ i → is_from missed (sent_set compiled.table i set) ≡ true)
   pub cut : AllByRecursion (IsCutSet page script compiled.table compiled.sets missed first) rest
@@ -188,7 +189,7 @@ compiled_late name pid page script bytes free compiled known missed = record {
   few = left.few;
   rest = left.rest;
   is_rest = left.is_rest;
-  come = late_sets coded pid page missed units sent slots free known.units known.are.carry known.apart same ahead ∙ ap (map delivered) left.are;
+  come = late_sets coded pid (only page) missed units sent slots free known.units known.are.carry known.apart same ahead ∙ ap (map delivered) left.are;
   whole = λ i set inside. whole_by i inside;
   cut = cut_by left.first left.rest left.is_rest left.ends (λ i inside. (whole_by i inside).0);
 }
@@ -212,7 +213,7 @@ compiled_late name pid page script bytes free compiled known missed = record {
     same = sym (count_pieces compiled.loads compiled.units compiled.sized) ∙ sym compiled.schedule.packets
 
     some_units : AllByRecursion (λ (one : TimedSet). 1 ≤ length one.units) sent
-    some_units = have_units coded page sent known.are.carry.whole
+    some_units = have_units coded (only page) sent known.are.carry.whole
 
     some_packets : HavePackets compiled.units
     some_packets = have_packets script page compiled.sets compiled.units sent known.are.are some_units

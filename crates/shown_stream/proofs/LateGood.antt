@@ -8,6 +8,7 @@ use Rattle.sub_base.specs.declared.profile.ProfileName.{ProfileName}
 use Rattle.stream_syntax.specs.TransportPackets.{null_packet}
 use Rattle.cue_list.specs.declared.script.Script.{Script}
 use Rattle.schedule.specs.Slots.{IsSchedule}
+use Rattle.decoder_model.specs.Frames.{only}
 use Rattle.decoder_model.specs.Streams.{SentSet, entry_set, IsGoodTick}
 use Rattle.decoder_model.proofs.SentSets.{have_units}
 use Rattle.shown_stream.specs.Compiled.{all_units, IsCompiledTo}
@@ -51,7 +52,7 @@ compiled_in_order name pid page script bytes compiled known =
     let slots = compiled.table.slots in
     let ahead = slots_rise loads (length loads) pace compiled.table compiled.schedule in
     let same : length (all_pieces units) ≡ length slots = sym (count_pieces loads compiled.units compiled.sized) ∙ sym compiled.schedule.packets in
-    let some = have_packets script page compiled.sets compiled.units known.sent known.are.are (have_units coded page known.sent known.are.carry.whole) in
+    let some = have_packets script page compiled.sets compiled.units known.sent known.are.are (have_units coded (only page) known.sent known.are.carry.whole) in
     let many : length loads ≡ length compiled.sets = as_many loads compiled.units compiled.sized ∙ (count_sets script page compiled.sets compiled.units known.sent known.are.are).1 in
     sets_in_order script (profile_of name) loads pace compiled.table compiled.sets (length (packets_in name pid page script bytes compiled)) compiled.planned.plan
     (subst (λ (n : ℕ). IsSchedule loads n pace compiled.table) many compiled.schedule)

@@ -8,6 +8,7 @@ use Rattle.std.proofs.lemmas.Bool.Decides.{nat_tests}
 use Rattle.std.proofs.lemmas.List.{drop-append-le, drop-map, length-map}
 use Rattle.std.proofs.lemmas.List.Sums.{sum_by-append}
 use Rattle.stream_syntax.specs.Cutting.{IsUnit}
+use Rattle.decoder_model.specs.declared.pages.Pages.{Pages}
 use Rattle.decoder_model.specs.Sets.{sets_of}
 use Rattle.decoder_model.proofs.SentSets.{SetUnit, TimedSet, timed, timed_units, segments_of_units, AreSetUnits, IsTimedSet, IsUnitOf, AreUnitsOf, HaveDifferentTimes, delivered, sets_come_whole}
 use Rattle.slot_stream.specs.SlotStream.{all_pieces}
@@ -46,11 +47,11 @@ timed_behind n (set ∷ sets) = by (cases_lt n (length set.units)) (timed_behind
         ∙ rest
         ∙ sym (ap (λ k. drop k (map (timed set.time) set.units ++ timed_units sets)) split ∙ drop-append-add (map (timed set.time) set.units) (timed_units sets) (n - length set.units))
 
-rest_units : (page n : ℕ) (units : List SetUnit) → AreSetUnits page units → n < length units → AreSetUnits page (drop n units)
-rest_units page zero units h inside = h
-rest_units page (suc n) [] h inside = absurd h
-rest_units page (suc n) (one ∷ []) h inside = absurd (omega arith)
-rest_units page (suc n) (one ∷ next ∷ units) h inside = rest_units page n (next ∷ units) h.2 (omega arith)
+rest_units : (pages : Pages) (n : ℕ) (units : List SetUnit) → AreSetUnits pages units → n < length units → AreSetUnits pages (drop n units)
+rest_units pages zero units h inside = h
+rest_units pages (suc n) [] h inside = absurd h
+rest_units pages (suc n) (one ∷ []) h inside = absurd (omega arith)
+rest_units pages (suc n) (one ∷ next ∷ units) h inside = rest_units pages n (next ∷ units) h.2 (omega arith)
 
 rest_bytes : (n : ℕ) (units : List SetUnit) → sum_by length (segments_of_units (drop n units)) ≤ sum_by length (segments_of_units units)
 rest_bytes zero units = omega arith
@@ -58,18 +59,18 @@ rest_bytes (suc n) [] = omega arith
 rest_bytes (suc n) (one ∷ units) = omega (arith, rest_bytes n units, sum_by-append length one.segments (segments_of_units units))
 
 -- what is left of a set is a set
-pub rest_is_set : (coded page n : ℕ) (set : TimedSet) → IsTimedSet coded page set → n < length set.units → IsTimedSet coded page (rest_of_set n set)
-rest_is_set coded page n set h inside = let fits = h.fits in record { units = rest_units page n set.units h.units inside; fits = omega (arith, rest_bytes n set.units) }
+pub rest_is_set : (coded : ℕ) (pages : Pages) (n : ℕ) (set : TimedSet) → IsTimedSet coded pages set → n < length set.units → IsTimedSet coded pages (rest_of_set n set)
+rest_is_set coded pages n set h inside = let fits = h.fits in record { units = rest_units pages n set.units h.units inside; fits = omega (arith, rest_bytes n set.units) }
 
-are_behind : (coded page n : ℕ) (sets : List TimedSet) → AllByRecursion (IsTimedSet coded page) sets → AllByRecursion (IsTimedSet coded page) (sets_behind n sets)
-are_behind coded page n [] h = tt
-are_behind coded page n (set ∷ sets) h = by (cases_lt n (length set.units)) (are_behind coded page (n - length set.units) sets h.1)
+are_behind : (coded : ℕ) (pages : Pages) (n : ℕ) (sets : List TimedSet) → AllByRecursion (IsTimedSet coded pages) sets → AllByRecursion (IsTimedSet coded pages) (sets_behind n sets)
+are_behind coded pages n [] h = tt
+are_behind coded pages n (set ∷ sets) h = by (cases_lt n (length set.units)) (are_behind coded pages (n - length set.units) sets h.1)
   where
     Left : Bool → Type 0
-    Left b = AllByRecursion (IsTimedSet coded page) (cond b (rest_of_set n set ∷ sets) (sets_behind (n - length set.units) sets))
+    Left b = AllByRecursion (IsTimedSet coded pages) (cond b (rest_of_set n set ∷ sets) (sets_behind (n - length set.units) sets))
 
-    by : (n < length set.units) ⊎ (length set.units ≤ n) → AllByRecursion (IsTimedSet coded page) (sets_behind (n - length set.units) sets) → Left (ltb n (length set.units))
-    by (inl within) rest = let test : ltb n (length set.units) ≡ true = grind (arith, nat_tests) in subst Left (sym test) (rest_is_set coded page n set h.0 within, h.1)
+    by : (n < length set.units) ⊎ (length set.units ≤ n) → AllByRecursion (IsTimedSet coded pages) (sets_behind (n - length set.units) sets) → Left (ltb n (length set.units))
+    by (inl within) rest = let test : ltb n (length set.units) ≡ true = grind (arith, nat_tests) in subst Left (sym test) (rest_is_set coded pages n set h.0 within, h.1)
     by (inr past) rest = let test : ltb n (length set.units) ≡ false = grind (arith, nat_tests) in subst Left (sym test) rest
 
 pub apart_behind : (n : ℕ) (sets : List TimedSet) → HaveDifferentTimes sets → HaveDifferentTimes (sets_behind n sets)
@@ -87,10 +88,10 @@ zip_behind R (suc n) [] (y ∷ ys) h = absurd h
 zip_behind R (suc n) (x ∷ xs) [] h = absurd h
 zip_behind R (suc n) (x ∷ xs) (y ∷ ys) h = zip_behind R n xs ys h.1
 
-pub units_behind : (coded page n : ℕ) (units : List (List ℕ)) (sets : List TimedSet) → AreUnitsOf coded page units sets → AreUnitsOf coded page (drop n units) (sets_behind n sets)
-units_behind coded page n units sets are = record {
-  each = subst (AllZip (IsUnitOf page) (drop n units)) (sym (timed_behind n sets)) (zip_behind (IsUnitOf page) n units (timed_units sets) are.each);
-  whole = are_behind coded page n sets are.whole;
+pub units_behind : (coded : ℕ) (pages : Pages) (n : ℕ) (units : List (List ℕ)) (sets : List TimedSet) → AreUnitsOf coded pages units sets → AreUnitsOf coded pages (drop n units) (sets_behind n sets)
+units_behind coded pages n units sets are = record {
+  each = subst (AllZip (IsUnitOf pages) (drop n units)) (sym (timed_behind n sets)) (zip_behind (IsUnitOf pages) n units (timed_units sets) are.each);
+  whole = are_behind coded pages n sets are.whole;
 }
 
 -- ---- the sets that are left
@@ -174,10 +175,10 @@ sets_left (suc n) (set ∷ sets) some = by (cases_lt (suc n) (length set.units))
 -- ---- a stream
 
 -- the sets of a stream in slots, entered behind so many packets, are those of the units that come
-pub late_sets : (coded pid page missed : ℕ) (units : List (List ℕ)) (sets : List TimedSet) (slots : List ℕ) → IsFree pid → (whole : AllByRecursion (IsUnit coded) units) → AreUnitsOf coded page units sets → HaveDifferentTimes sets
+pub late_sets : (coded pid : ℕ) (pages : Pages) (missed : ℕ) (units : List (List ℕ)) (sets : List TimedSet) (slots : List ℕ) → IsFree pid → (whole : AllByRecursion (IsUnit coded) units) → AreUnitsOf coded pages units sets → HaveDifferentTimes sets
     → length (all_pieces units) ≡ length slots → IsAhead 0 slots
-    → sets_of coded pid page true (drop missed (laid pid 0 0 (all_pieces units) slots)) ≡ map delivered (sets_behind (pieces_left coded (passed (0 + missed) slots) units whole).cut sets)
-late_sets coded pid page missed units sets slots free whole are apart same ahead =
+    → sets_of coded pid pages true (drop missed (laid pid 0 0 (all_pieces units) slots)) ≡ map delivered (sets_behind (pieces_left coded (passed (0 + missed) slots) units whole).cut sets)
+late_sets coded pid pages missed units sets slots free whole are apart same ahead =
     let n = (pieces_left coded (passed (0 + missed) slots) units whole).cut in
-    sets_come_whole coded pid page true (drop missed (laid pid 0 0 (all_pieces units) slots)) (drop n units) (sets_behind n sets) (entered_late pid coded missed units slots free whole same ahead)
-    (units_behind coded page n units sets are) (apart_behind n sets apart)
+    sets_come_whole coded pid pages true (drop missed (laid pid 0 0 (all_pieces units) slots)) (drop n units) (sets_behind n sets) (entered_late pid coded missed units slots free whole same ahead)
+    (units_behind coded pages n units sets are) (apart_behind n sets apart)

@@ -12,6 +12,7 @@ use Rattle.stream_syntax.specs.TransportPackets.{packet_fault}
 use Rattle.cue_list.specs.declared.script.Script.{Script}
 use Rattle.page_epoch.specs.declared.planned_set.PlannedSet.{PlannedSet}
 use Rattle.schedule.specs.Slots.{Timetable, slots_of}
+use Rattle.decoder_model.specs.declared.pages.Pages.{Pages}
 use Rattle.decoder_model.specs.Arrivals.{arrivals_of}
 use Rattle.decoder_model.specs.Sets.{has_ended, runs_of, sets_in, sets_of}
 use Rattle.decoder_model.specs.Streams.{Sending, received_of, SentSet, IsReceived, is_received_at}
@@ -166,8 +167,8 @@ none_faulty : (pid : ℕ) (packets : List (List ℕ)) → AllByRecursion (λ pac
 none_faulty pid [] h = refl
 none_faulty pid (packet ∷ packets) h = ap (λ found. is_none found && list_all (λ packet. is_none (packet_fault pid packet)) packets) h.0 ∙ none_faulty pid packets h.1
 
-pub sets_by_flow : (coded pid page : ℕ) (packets : List (List ℕ)) → AllByRecursion (λ packet. packet_fault pid packet ≡ None) packets → sets_of coded pid page true packets ≡ sets_in coded true (runs_of (flow coded pid page [] packets))
+pub sets_by_flow : (coded pid : ℕ) (pages : Pages) (packets : List (List ℕ)) → AllByRecursion (λ packet. packet_fault pid packet ≡ None) packets → sets_of coded pid pages true packets ≡ sets_in coded true (runs_of (flow coded pid pages [] packets))
 unfolding sets_of has_ended arrivals_of
-sets_by_flow coded pid page packets sound =
-    ap (λ taken. sets_in coded (true && list_all (λ packet. is_none (packet_fault pid packet)) packets) (runs_of (flow coded pid page [] taken))) (all_taken pid packets sound)
-    ∙ ap (λ ended. sets_in coded ended (runs_of (flow coded pid page [] packets))) (none_faulty pid packets sound)
+sets_by_flow coded pid pages packets sound =
+    ap (λ taken. sets_in coded (true && list_all (λ packet. is_none (packet_fault pid packet)) packets) (runs_of (flow coded pid pages [] taken))) (all_taken pid packets sound)
+    ∙ ap (λ ended. sets_in coded ended (runs_of (flow coded pid pages [] packets))) (none_faulty pid packets sound)

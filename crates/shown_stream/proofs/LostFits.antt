@@ -11,6 +11,7 @@ use Rattle.stream_syntax.specs.Cutting.{IsUnit}
 use Rattle.cue_list.specs.Sound.{IsTick}
 use Rattle.cue_list.specs.declared.script.Script.{Script}
 use Rattle.page_epoch.specs.declared.planned_set.PlannedSet.{PlannedSet}
+use Rattle.decoder_model.specs.Frames.{only}
 use Rattle.decoder_model.proofs.SentSets.{TimedSet, IsTimedSet, HaveDifferentTimes}
 use Rattle.shown_stream.specs.Compiled.{all_units}
 use Rattle.slot_stream.specs.SlotStream.{pieces_of, all_pieces}
@@ -50,9 +51,9 @@ module _ (script : Script) (profile : Profile) (anchor origin page : ℕ) (sets 
     pub suits : (n : ℕ) (set : PlannedSet) → slice_get left n ≡ Some set → some_of (flags_at units flags n) ≡ true → IsAheadOf anchor None set.pts
 
   pub are_fit : (number : ℕ) (plan left : List PlannedSet) (units : List (List (List ℕ))) (sent : List TimedSet) (flags : List Bool) → origin < TIME_ROUND → length (reverse plan) ≡ number → AreSentAs script page left units sent → AllZip (SetComes script) left sent
-      → AllByRecursion (IsTimedSet profile.coded page) sent → AllByRecursion (λ (one : TimedSet). 1 ≤ length one.units) sent → HaveDifferentTimes sent → AllByRecursion (IsTick origin) (pts_of left) → IsStrictlyIncreasing (pts_of left)
+      → AllByRecursion (IsTimedSet profile.coded (only page)) sent → AllByRecursion (λ (one : TimedSet). 1 ≤ length one.units) sent → HaveDifferentTimes sent → AllByRecursion (IsTick origin) (pts_of left) → IsStrictlyIncreasing (pts_of left)
       → AllByRecursion (IsUnit profile.coded) (all_units units) → length (all_pieces (all_units units)) ≤ length flags → AreTold number left units flags
-      → AreFit script profile anchor origin page sets ComesWhole plan left sent (come_whole profile.coded page (all_units units) flags)
+      → AreFit script profile anchor origin page sets ComesWhole plan left sent (come_whole profile.coded (only page) (all_units units) flags)
   are_fit number plan [] [] [] flags low many are come timed some apart within rise whole long told = tt
   are_fit number plan [] [] (one ∷ sent) flags low many are come timed some apart within rise whole long told = absurd are
   are_fit number plan [] (packets ∷ units) sent flags low many are come timed some apart within rise whole long told = absurd are
@@ -78,19 +79,19 @@ module _ (script : Script) (profile : Profile) (anchor origin page : ℕ) (sets 
           parts [] h = (tt, h)
           parts (x ∷ xs) h = let more = parts xs h.1 in ((h.0, more.0), more.1)
 
-      all : come_whole profile.coded page (packets ++ all_units units) flags ≡ come_whole profile.coded page packets flags ++ come_whole profile.coded page (all_units units) (drop count flags)
+      all : come_whole profile.coded (only page) (packets ++ all_units units) flags ≡ come_whole profile.coded (only page) packets flags ++ come_whole profile.coded (only page) (all_units units) (drop count flags)
       all = whole-append profile.coded page packets (all_units units) flags
 
-      size : length one.units ≡ length (come_whole profile.coded page packets flags)
+      size : length one.units ≡ length (come_whole profile.coded (only page) packets flags)
       size = same_many script page set packets one are.0 ∙ sym (length-whole profile.coded page packets flags)
 
-      dropped : drop (length one.units) (come_whole profile.coded page (packets ++ all_units units) flags) ≡ come_whole profile.coded page (all_units units) (drop count flags)
-      dropped = (λ i. drop (size i) (all i)) ∙ drop-append_seam (come_whole profile.coded page packets flags) (come_whole profile.coded page (all_units units) (drop count flags))
+      dropped : drop (length one.units) (come_whole profile.coded (only page) (packets ++ all_units units) flags) ≡ come_whole profile.coded (only page) (all_units units) (drop count flags)
+      dropped = (λ i. drop (size i) (all i)) ∙ drop-append_seam (come_whole profile.coded (only page) packets flags) (come_whole profile.coded (only page) (all_units units) (drop count flags))
 
-      taken : take (length one.units) (come_whole profile.coded page (packets ++ all_units units) flags) ≡ come_whole profile.coded page packets flags
-      taken = (λ i. take (size i) (all i)) ∙ take-append_seam (come_whole profile.coded page packets flags) (come_whole profile.coded page (all_units units) (drop count flags))
+      taken : take (length one.units) (come_whole profile.coded (only page) (packets ++ all_units units) flags) ≡ come_whole profile.coded (only page) packets flags
+      taken = (λ i. take (size i) (all i)) ∙ take-append_seam (come_whole profile.coded (only page) packets flags) (come_whole profile.coded (only page) (all_units units) (drop count flags))
 
-      fit : IsFit script profile anchor origin page sets ComesWhole plan left set one sent (come_whole profile.coded page (packets ++ all_units units) flags)
+      fit : IsFit script profile anchor origin page sets ComesWhole plan left set one sent (come_whole profile.coded (only page) (packets ++ all_units units) flags)
       fit = record {
         its = record { packets = packets; is = are.0; well = told.well 0 set refl; comes = come.0 };
         timed = timed.0;

@@ -8,6 +8,7 @@ use Rattle.std.proofs.lemmas.List.Elements.{filter-append}
 use Rattle.std.proofs.lemmas.Bool.{eq-eqb}
 use Rattle.stream_syntax.specs.TransportPackets.{null_packet, pid_of, counter_of}
 use Rattle.stream_syntax.specs.Units.{is_payload, last_counter, succession, payload_part, part_after, part_of, hand_after, unit_after, unit_at, payload_event, event_after, event_at, each_after}
+use Rattle.decoder_model.specs.declared.pages.Pages.{Pages}
 use Rattle.decoder_model.specs.Arrivals.{Arrival, loss, losses_at, units_at, arrivals_at}
 use Rattle.decoder_model.specs.Streams.{Sending, received_of, is_received_at}
 use Rattle.decoder_model.proofs.SentUnits.{no_loss_at}
@@ -36,29 +37,29 @@ its_event pid size counter start before piece packet told =
 -- ---- packets
 
 -- what arrives with packets behind others
-abbrev pub flow : ℕ → ℕ → ℕ → List (List ℕ) → List (List ℕ) → List Arrival
-flow size pid page before packets = flat_map (λ (arrivals : List Arrival). arrivals) (each_after (arrivals_at size pid page) before packets)
+abbrev pub flow : ℕ → ℕ → Pages → List (List ℕ) → List (List ℕ) → List Arrival
+flow size pid pages before packets = flat_map (λ (arrivals : List Arrival). arrivals) (each_after (arrivals_at size pid pages) before packets)
 
 -- what arrives with pieces of which some come, behind packets of which the last counter and the unit in hand are these
-pub data Walk (size page : ℕ) : Option ℕ → Option (List ℕ) → ℕ → List Piece → List Bool → List Arrival → Type 0 where
-  no_piece_left : {last : Option ℕ} {hand : Option (List ℕ)} {number : ℕ} → Walk size page last hand number [] [] []
-  passes_by : {last : Option ℕ} {hand : Option (List ℕ)} {number : ℕ} {piece : Piece} {pieces : List Piece} {come : List Bool} {arrivals : List Arrival} → Walk size page last hand (number + 1) pieces come arrivals
-      → Walk size page last hand number (piece ∷ pieces) (false ∷ come) arrivals
+pub data Walk (size : ℕ) (pages : Pages) : Option ℕ → Option (List ℕ) → ℕ → List Piece → List Bool → List Arrival → Type 0 where
+  no_piece_left : {last : Option ℕ} {hand : Option (List ℕ)} {number : ℕ} → Walk size pages last hand number [] [] []
+  passes_by : {last : Option ℕ} {hand : Option (List ℕ)} {number : ℕ} {piece : Piece} {pieces : List Piece} {come : List Bool} {arrivals : List Arrival} → Walk size pages last hand (number + 1) pieces come arrivals
+      → Walk size pages last hand number (piece ∷ pieces) (false ∷ come) arrivals
   comes_in : {last : Option ℕ} {hand : Option (List ℕ)} {number : ℕ} {piece : Piece} {pieces : List Piece} {come : List Bool} {arrivals : List Arrival} (place : ℕ)
-      → Walk size page (Some (number % 16)) (next_hand size hand (payload_part (succession last (number % 16)) piece.starts piece.bytes)) (number + 1) pieces come arrivals
-      → Walk size page last hand number (piece ∷ pieces) (true ∷ come)
-      ((losses_at (payload_event size hand (succession last (number % 16)) piece.starts piece.bytes) ++ units_at page place (unit_after size hand (payload_part (succession last (number % 16)) piece.starts piece.bytes))) ++ arrivals)
+      → Walk size pages (Some (number % 16)) (next_hand size hand (payload_part (succession last (number % 16)) piece.starts piece.bytes)) (number + 1) pieces come arrivals
+      → Walk size pages last hand number (piece ∷ pieces) (true ∷ come)
+      ((losses_at (payload_event size hand (succession last (number % 16)) piece.starts piece.bytes) ++ units_at pages place (unit_after size hand (payload_part (succession last (number % 16)) piece.starts piece.bytes))) ++ arrivals)
 
 -- so it is behind any packets with that counter and that unit in hand
-abbrev Behind : (pid size page number : ℕ) (pieces : List Piece) (come : List Bool) (before packets : List (List ℕ)) → Type 0
-Behind pid size page number pieces come before packets =
-    (behind : List (List ℕ)) → last_counter pid behind ≡ last_counter pid before → hand_after pid size behind ≡ hand_after pid size before → Walk size page (last_counter pid before) (hand_after pid size before) number pieces come (flow size pid page behind packets)
+abbrev Behind : (pid size : ℕ) (pages : Pages) (number : ℕ) (pieces : List Piece) (come : List Bool) (before packets : List (List ℕ)) → Type 0
+Behind pid size pages number pieces come before packets =
+    (behind : List (List ℕ)) → last_counter pid behind ≡ last_counter pid before → hand_after pid size behind ≡ hand_after pid size before → Walk size pages (last_counter pid before) (hand_after pid size before) number pieces come (flow size pid pages behind packets)
 
 -- null packets bring nothing and change nothing
-behind_nulls : (pid size page number : ℕ) (pieces : List Piece) (come : List Bool) (nulls : List Sending) (before packets : List (List ℕ)) → IsFree pid → AllByRecursion (λ (sending : Sending). sending.packet ≡ null_packet) nulls
-    → Behind pid size page number pieces come before packets → Walk size page (last_counter pid before) (hand_after pid size before) number pieces come (flow size pid page before (received_of nulls ++ packets))
-behind_nulls pid size page number pieces come [] before packets free are rest = rest before refl refl
-behind_nulls pid size page number pieces come (sending ∷ nulls) before packets free are rest = by sending.received refl (λ start h. behind_nulls pid size page number pieces come nulls start packets free are.1 h)
+behind_nulls : (pid size : ℕ) (pages : Pages) (number : ℕ) (pieces : List Piece) (come : List Bool) (nulls : List Sending) (before packets : List (List ℕ)) → IsFree pid → AllByRecursion (λ (sending : Sending). sending.packet ≡ null_packet) nulls
+    → Behind pid size pages number pieces come before packets → Walk size pages (last_counter pid before) (hand_after pid size before) number pieces come (flow size pid pages before (received_of nulls ++ packets))
+behind_nulls pid size pages number pieces come [] before packets free are rest = rest before refl refl
+behind_nulls pid size pages number pieces come (sending ∷ nulls) before packets free are rest = by sending.received refl (λ start h. behind_nulls pid size pages number pieces come nulls start packets free are.1 h)
   where
     behind : List (List ℕ)
     behind = before ++ sending.packet ∷ []
@@ -78,48 +79,48 @@ behind_nulls pid size page number pieces come (sending ∷ nulls) before packets
     same_hand : hand_after pid size behind ≡ hand_after pid size before
     same_hand = hand_push pid size before sending.packet ∙ ap (next_hand size (hand_after pid size before)) no_part
 
-    nothing : arrivals_at size pid page before sending.packet ≡ []
+    nothing : arrivals_at size pid pages before sending.packet ≡ []
     nothing =
-        ap (λ lost. (if lost then loss ∷ [] else []) ++ units_at page (length before) (unit_at pid size before sending.packet)) (no_loss_at pid size before sending.packet apart)
-        ∙ ap (λ part. units_at page (length before) (unit_after size (hand_after pid size before) part)) no_part
+        ap (λ lost. (if lost then loss ∷ [] else []) ++ units_at pages (length before) (unit_at pid size before sending.packet)) (no_loss_at pid size before sending.packet apart)
+        ∙ ap (λ part. units_at pages (length before) (unit_after size (hand_after pid size before) part)) no_part
 
     Walked : List Sending → Type 0
-    Walked all = Walk size page (last_counter pid before) (hand_after pid size before) number pieces come (flow size pid page before (received_of all ++ packets))
+    Walked all = Walk size pages (last_counter pid before) (hand_after pid size before) number pieces come (flow size pid pages before (received_of all ++ packets))
 
     by : (received : Bool) → sending.received ≡ received
-        → ((start : List (List ℕ)) → Behind pid size page number pieces come start packets → Walk size page (last_counter pid start) (hand_after pid size start) number pieces come (flow size pid page start (received_of nulls ++ packets)))
+        → ((start : List (List ℕ)) → Behind pid size pages number pieces come start packets → Walk size pages (last_counter pid start) (hand_after pid size start) number pieces come (flow size pid pages start (received_of nulls ++ packets)))
         → Walked (sending ∷ nulls)
-    by false is onward = subst (λ (come_in : Bool). Walk size page (last_counter pid before) (hand_after pid size before) number pieces come (flow size pid page before (map (λ (one : Sending). one.packet) (cond come_in (sending ∷ filter (λ (one : Sending). one.received) nulls) (filter (λ (one : Sending). one.received) nulls)) ++ packets)))
+    by false is onward = subst (λ (come_in : Bool). Walk size pages (last_counter pid before) (hand_after pid size before) number pieces come (flow size pid pages before (map (λ (one : Sending). one.packet) (cond come_in (sending ∷ filter (λ (one : Sending). one.received) nulls) (filter (λ (one : Sending). one.received) nulls)) ++ packets)))
         (sym is) (onward before rest)
     by true is onward =
-        let more : Walk size page (last_counter pid behind) (hand_after pid size behind) number pieces come (flow size pid page behind (received_of nulls ++ packets)) =
+        let more : Walk size pages (last_counter pid behind) (hand_after pid size behind) number pieces come (flow size pid pages behind (received_of nulls ++ packets)) =
         onward behind
-        (λ further counter hand. subst (λ (last : Option ℕ). Walk size page last (hand_after pid size behind) number pieces come (flow size pid page further packets)) (sym same_counter)
-        (subst (λ (kept : Option (List ℕ)). Walk size page (last_counter pid before) kept number pieces come (flow size pid page further packets)) (sym same_hand)
+        (λ further counter hand. subst (λ (last : Option ℕ). Walk size pages last (hand_after pid size behind) number pieces come (flow size pid pages further packets)) (sym same_counter)
+        (subst (λ (kept : Option (List ℕ)). Walk size pages (last_counter pid before) kept number pieces come (flow size pid pages further packets)) (sym same_hand)
         (rest further (counter ∙ same_counter) (hand ∙ same_hand)))) in
-        subst (λ (come_in : Bool). Walk size page (last_counter pid before) (hand_after pid size before) number pieces come (flow size pid page before (map (λ (one : Sending). one.packet) (cond come_in (sending ∷ filter (λ (one : Sending). one.received) nulls) (filter (λ (one : Sending). one.received) nulls)) ++ packets)))
+        subst (λ (come_in : Bool). Walk size pages (last_counter pid before) (hand_after pid size before) number pieces come (flow size pid pages before (map (λ (one : Sending). one.packet) (cond come_in (sending ∷ filter (λ (one : Sending). one.received) nulls) (filter (λ (one : Sending). one.received) nulls)) ++ packets)))
         (sym is)
-        (subst (λ (front : List Arrival). Walk size page (last_counter pid before) (hand_after pid size before) number pieces come (front ++ flow size pid page behind (received_of nulls ++ packets))) (sym nothing)
-        (subst (λ (last : Option ℕ). Walk size page last (hand_after pid size before) number pieces come (flow size pid page behind (received_of nulls ++ packets))) same_counter
-        (subst (λ (kept : Option (List ℕ)). Walk size page (last_counter pid behind) kept number pieces come (flow size pid page behind (received_of nulls ++ packets))) same_hand more)))
+        (subst (λ (front : List Arrival). Walk size pages (last_counter pid before) (hand_after pid size before) number pieces come (front ++ flow size pid pages behind (received_of nulls ++ packets))) (sym nothing)
+        (subst (λ (last : Option ℕ). Walk size pages last (hand_after pid size before) number pieces come (flow size pid pages behind (received_of nulls ++ packets))) same_counter
+        (subst (λ (kept : Option (List ℕ)). Walk size pages (last_counter pid behind) kept number pieces come (flow size pid pages behind (received_of nulls ++ packets))) same_hand more)))
 
 -- a piece's packet brings what its part is, by the counter before it and the unit in hand
-come_in : (pid size page number : ℕ) (piece : Piece) (pieces : List Piece) (come : List Bool) (behind rest : List (List ℕ)) (packet : List ℕ) (last : Option ℕ) (hand : Option (List ℕ)) → SaysWhatWasWritten pid piece.starts (number % 16) piece.bytes packet
+come_in : (pid size : ℕ) (pages : Pages) (number : ℕ) (piece : Piece) (pieces : List Piece) (come : List Bool) (behind rest : List (List ℕ)) (packet : List ℕ) (last : Option ℕ) (hand : Option (List ℕ)) → SaysWhatWasWritten pid piece.starts (number % 16) piece.bytes packet
     → last_counter pid behind ≡ last → hand_after pid size behind ≡ hand
-    → ((start : List (List ℕ)) → Walk size page (last_counter pid start) (hand_after pid size start) (number + 1) pieces come (flow size pid page start rest)) → Walk size page last hand number (piece ∷ pieces) (true ∷ come) (flow size pid page behind (packet ∷ rest))
-come_in pid size page number piece pieces come behind rest packet last hand told counter kept onward =
+    → ((start : List (List ℕ)) → Walk size pages (last_counter pid start) (hand_after pid size start) (number + 1) pieces come (flow size pid pages start rest)) → Walk size pages last hand number (piece ∷ pieces) (true ∷ come) (flow size pid pages behind (packet ∷ rest))
+come_in pid size pages number piece pieces come behind rest packet last hand told counter kept onward =
     let part : part_of pid behind packet ≡ payload_part (succession last (number % 16)) piece.starts piece.bytes =
     its_part pid (number % 16) piece.starts behind piece.bytes packet told ∙ ap (λ before. payload_part (succession before (number % 16)) piece.starts piece.bytes) counter in
     let event : event_at pid size behind packet ≡ payload_event size hand (succession last (number % 16)) piece.starts piece.bytes =
     its_event pid size (number % 16) piece.starts behind piece.bytes packet told ∙ (λ i. payload_event size (kept i) (succession (counter i) (number % 16)) piece.starts piece.bytes) in
-    let front : arrivals_at size pid page behind packet
-    ≡ losses_at (payload_event size hand (succession last (number % 16)) piece.starts piece.bytes) ++ units_at page (length behind) (unit_after size hand (payload_part (succession last (number % 16)) piece.starts piece.bytes)) =
-    (λ i. losses_at (event i) ++ units_at page (length behind) (unit_after size (kept i) (part i))) in
+    let front : arrivals_at size pid pages behind packet
+    ≡ losses_at (payload_event size hand (succession last (number % 16)) piece.starts piece.bytes) ++ units_at pages (length behind) (unit_after size hand (payload_part (succession last (number % 16)) piece.starts piece.bytes)) =
+    (λ i. losses_at (event i) ++ units_at pages (length behind) (unit_after size (kept i) (part i))) in
     let next : hand_after pid size (behind ++ packet ∷ []) ≡ next_hand size hand (payload_part (succession last (number % 16)) piece.starts piece.bytes) = hand_push pid size behind packet ∙ (λ i. next_hand size (kept i) (part i)) in
-    subst (λ (first : List Arrival). Walk size page last hand number (piece ∷ pieces) (true ∷ come) (first ++ flow size pid page (behind ++ packet ∷ []) rest)) (sym front)
-    (comes_in (length behind) (subst (λ (before : Option ℕ). Walk size page before (next_hand size hand (payload_part (succession last (number % 16)) piece.starts piece.bytes)) (number + 1) pieces come (flow size pid page (behind ++ packet ∷ []) rest))
+    subst (λ (first : List Arrival). Walk size pages last hand number (piece ∷ pieces) (true ∷ come) (first ++ flow size pid pages (behind ++ packet ∷ []) rest)) (sym front)
+    (comes_in (length behind) (subst (λ (before : Option ℕ). Walk size pages before (next_hand size hand (payload_part (succession last (number % 16)) piece.starts piece.bytes)) (number + 1) pieces come (flow size pid pages (behind ++ packet ∷ []) rest))
     (counter_here pid (number % 16) piece.starts behind piece.bytes packet told)
-    (subst (λ (now : Option (List ℕ)). Walk size page (last_counter pid (behind ++ packet ∷ [])) now (number + 1) pieces come (flow size pid page (behind ++ packet ∷ []) rest)) next (onward (behind ++ packet ∷ [])))))
+    (subst (λ (now : Option (List ℕ)). Walk size pages (last_counter pid (behind ++ packet ∷ [])) now (number + 1) pieces come (flow size pid pages (behind ++ packet ∷ []) rest)) next (onward (behind ++ packet ∷ [])))))
 
 -- ---- a stream
 
@@ -180,40 +181,40 @@ there_parts from slot slots sendings packet packets parts ahead =
     ∙ ap (λ more. parts.one.received ∷ more) (ap (λ all. there_at all from slots) whole ∙ there_after (parts.nulls ++ parts.one ∷ []) parts.rest from (slot + 1) slots count ahead.1)
 
 -- what arrives of a stream is what its pieces bring
-pub walked : (pid size page from number : ℕ) (pieces : List Piece) (slots : List ℕ) (sendings : List Sending) (before : List (List ℕ)) → IsFree pid → AllByRecursion IsPiece pieces → length pieces ≡ length slots → IsAhead from slots
+pub walked : (pid size : ℕ) (pages : Pages) (from number : ℕ) (pieces : List Piece) (slots : List ℕ) (sendings : List Sending) (before : List (List ℕ)) → IsFree pid → AllByRecursion IsPiece pieces → length pieces ≡ length slots → IsAhead from slots
     → laid pid from number pieces slots ≡ map (λ (sending : Sending). sending.packet) sendings
-    → Walk size page (last_counter pid before) (hand_after pid size before) number pieces (there_at sendings from slots) (flow size pid page before (received_of sendings))
-walked pid size page from number [] [] [] before free are same ahead e = no_piece_left
-walked pid size page from number [] [] (sending ∷ sendings) before free are same ahead e = absurd (omega (arith, ap length e))
-walked pid size page from number [] (slot ∷ slots) sendings before free are same ahead e = absurd (omega arith)
-walked pid size page from number (piece ∷ pieces) [] sendings before free are same ahead e = absurd (omega arith)
-walked pid size page from number (piece ∷ pieces) (slot ∷ slots) sendings before free are same ahead e =
+    → Walk size pages (last_counter pid before) (hand_after pid size before) number pieces (there_at sendings from slots) (flow size pid pages before (received_of sendings))
+walked pid size pages from number [] [] [] before free are same ahead e = no_piece_left
+walked pid size pages from number [] [] (sending ∷ sendings) before free are same ahead e = absurd (omega (arith, ap length e))
+walked pid size pages from number [] (slot ∷ slots) sendings before free are same ahead e = absurd (omega arith)
+walked pid size pages from number (piece ∷ pieces) [] sendings before free are same ahead e = absurd (omega arith)
+walked pid size pages from number (piece ∷ pieces) (slot ∷ slots) sendings before free are same ahead e =
     let parts = parted sendings (slot - from) (packet_of pid number piece) (laid pid (slot + 1) (number + 1) pieces slots) e in
-    by parts (λ start. walked pid size page (slot + 1) (number + 1) pieces slots parts.rest start free are.1 (omega arith) ahead.1 parts.others)
+    by parts (λ start. walked pid size pages (slot + 1) (number + 1) pieces slots parts.rest start free are.1 (omega arith) ahead.1 parts.others)
   where
     Walked : List Bool → List Sending → Type 0
-    Walked come all = Walk size page (last_counter pid before) (hand_after pid size before) number (piece ∷ pieces) come (flow size pid page before (received_of all))
+    Walked come all = Walk size pages (last_counter pid before) (hand_after pid size before) number (piece ∷ pieces) come (flow size pid pages before (received_of all))
 
     by : (parts : IsParted sendings (slot - from) (packet_of pid number piece) (laid pid (slot + 1) (number + 1) pieces slots))
-        → ((start : List (List ℕ)) → Walk size page (last_counter pid start) (hand_after pid size start) (number + 1) pieces (there_at parts.rest (slot + 1) slots) (flow size pid page start (received_of parts.rest)))
+        → ((start : List (List ℕ)) → Walk size pages (last_counter pid start) (hand_after pid size start) (number + 1) pieces (there_at parts.rest (slot + 1) slots) (flow size pid pages start (received_of parts.rest)))
         → Walked (there_at sendings from (slot ∷ slots)) sendings
     by parts onward = subst (λ (come : List Bool). Walked come sendings) (sym flags) (subst (Walked (parts.one.received ∷ there_at parts.rest (slot + 1) slots)) (sym parts.are)
-        (subst (λ (packets : List (List ℕ)). Walk size page (last_counter pid before) (hand_after pid size before) number (piece ∷ pieces) (parts.one.received ∷ there_at parts.rest (slot + 1) slots) (flow size pid page before packets)) (sym (received-append parts.nulls (parts.one ∷ parts.rest)))
-        (behind_nulls pid size page number (piece ∷ pieces) (parts.one.received ∷ there_at parts.rest (slot + 1) slots) parts.nulls before (received_of (parts.one ∷ parts.rest)) free parts.all_null (λ behind counter hand. here parts.one.received refl behind counter hand))))
+        (subst (λ (packets : List (List ℕ)). Walk size pages (last_counter pid before) (hand_after pid size before) number (piece ∷ pieces) (parts.one.received ∷ there_at parts.rest (slot + 1) slots) (flow size pid pages before packets)) (sym (received-append parts.nulls (parts.one ∷ parts.rest)))
+        (behind_nulls pid size pages number (piece ∷ pieces) (parts.one.received ∷ there_at parts.rest (slot + 1) slots) parts.nulls before (received_of (parts.one ∷ parts.rest)) free parts.all_null (λ behind counter hand. here parts.one.received refl behind counter hand))))
       where
         flags : there_at sendings from (slot ∷ slots) ≡ parts.one.received ∷ there_at parts.rest (slot + 1) slots
         flags = there_parts from slot slots sendings (packet_of pid number piece) (laid pid (slot + 1) (number + 1) pieces slots) parts ahead
 
         Here : Bool → List (List ℕ) → Type 0
-        Here come packets = Walk size page (last_counter pid before) (hand_after pid size before) number (piece ∷ pieces) (come ∷ there_at parts.rest (slot + 1) slots) (flow size pid page packets
+        Here come packets = Walk size pages (last_counter pid before) (hand_after pid size before) number (piece ∷ pieces) (come ∷ there_at parts.rest (slot + 1) slots) (flow size pid pages packets
             (map (λ (one : Sending). one.packet) (cond come (parts.one ∷ filter (λ (one : Sending). one.received) parts.rest) (filter (λ (one : Sending). one.received) parts.rest))))
 
         here : (come : Bool) → parts.one.received ≡ come → (behind : List (List ℕ)) → last_counter pid behind ≡ last_counter pid before → hand_after pid size behind ≡ hand_after pid size before → Here parts.one.received behind
         here true is behind counter hand =
             subst (λ (come : Bool). Here come behind) (sym is)
-            (come_in pid size page number piece pieces (there_at parts.rest (slot + 1) slots) behind (received_of parts.rest) parts.one.packet (last_counter pid before) (hand_after pid size before)
+            (come_in pid size pages number piece pieces (there_at parts.rest (slot + 1) slots) behind (received_of parts.rest) parts.one.packet (last_counter pid before) (hand_after pid size before)
             (subst (SaysWhatWasWritten pid piece.starts (number % 16) piece.bytes) (sym parts.is) (says pid number piece free are.0)) counter hand onward)
         here false is behind counter hand =
             subst (λ (come : Bool). Here come behind) (sym is)
-            (passes_by (subst (λ (last : Option ℕ). Walk size page last (hand_after pid size before) (number + 1) pieces (there_at parts.rest (slot + 1) slots) (flow size pid page behind (received_of parts.rest))) counter
-            (subst (λ (kept : Option (List ℕ)). Walk size page (last_counter pid behind) kept (number + 1) pieces (there_at parts.rest (slot + 1) slots) (flow size pid page behind (received_of parts.rest))) hand (onward behind))))
+            (passes_by (subst (λ (last : Option ℕ). Walk size pages last (hand_after pid size before) (number + 1) pieces (there_at parts.rest (slot + 1) slots) (flow size pid pages behind (received_of parts.rest))) counter
+            (subst (λ (kept : Option (List ℕ)). Walk size pages (last_counter pid behind) kept (number + 1) pieces (there_at parts.rest (slot + 1) slots) (flow size pid pages behind (received_of parts.rest))) hand (onward behind))))

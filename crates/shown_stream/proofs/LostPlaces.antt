@@ -6,6 +6,7 @@ use Rattle.stream_syntax.specs.Cutting.{IsUnit}
 use Rattle.slot_stream.specs.SlotStream.{pieces_of, all_pieces, piece_count}
 use Rattle.shown_stream.proofs.CompiledPackets.{length-pieces_of}
 use Rattle.shown_stream.proofs.LostUnits.{come_whole}
+use Rattle.decoder_model.specs.Frames.{only}
 
 abbrev pub all_of : List Bool → Bool
 all_of come = list_all (λ b. b) come
@@ -45,12 +46,12 @@ some_take-add (suc n) k (false ∷ come) a is e = ap (λ m. some_of (take m (fal
 
 module _ (size page : ℕ) where
   -- of units all come whole where all their pieces do
-  pub all_whole : (units : List (List ℕ)) (come : List Bool) → all_of (take (length (all_pieces units)) come) ≡ true → all_of (come_whole size page units come) ≡ true
+  pub all_whole : (units : List (List ℕ)) (come : List Bool) → all_of (take (length (all_pieces units)) come) ≡ true → all_of (come_whole size (only page) units come) ≡ true
   all_whole [] come e = refl
   all_whole (one ∷ units) come e =
       let many : length (pieces_of one ++ all_pieces units) ≡ piece_count one + length (all_pieces units) = length-append (pieces_of one) (all_pieces units) ∙ ap (λ n. n + length (all_pieces units)) (length-pieces_of one) in
       let parts = all_take-add (piece_count one) (length (all_pieces units)) come (subst (λ (n : ℕ). all_of (take n come) ≡ true) many e) in
-      ap (λ b. b && all_of (come_whole size page units (drop (piece_count one) come))) parts.0 ∙ all_whole units (drop (piece_count one) come) parts.1
+      ap (λ b. b && all_of (come_whole size (only page) units (drop (piece_count one) come))) parts.0 ∙ all_whole units (drop (piece_count one) come) parts.1
 
   -- and where one does some piece does
   all_then_some : (come : List Bool) (n : ℕ) → 1 ≤ n → n ≤ length come → all_of (take n come) ≡ true → some_of (take n come) ≡ true
@@ -59,7 +60,7 @@ module _ (size page : ℕ) where
   all_then_some (true ∷ come) (suc n) some within e = refl
   all_then_some (false ∷ come) (suc n) some within e = absurd (let no : false ≡ true = e in cc)
 
-  pub some_whole : (units : List (List ℕ)) (come : List Bool) → AllByRecursion (IsUnit size) units → length (all_pieces units) ≤ length come → some_of (come_whole size page units come) ≡ true → some_of (take (length (all_pieces units)) come) ≡ true
+  pub some_whole : (units : List (List ℕ)) (come : List Bool) → AllByRecursion (IsUnit size) units → length (all_pieces units) ≤ length come → some_of (come_whole size (only page) units come) ≡ true → some_of (take (length (all_pieces units)) come) ≡ true
   some_whole [] come are within e = absurd (let no : false ≡ true = e in cc)
   some_whole (one ∷ units) come are within e =
       let many : length (pieces_of one ++ all_pieces units) ≡ piece_count one + length (all_pieces units) = length-append (pieces_of one) (all_pieces units) ∙ ap (λ n. n + length (all_pieces units)) (length-pieces_of one) in
@@ -68,8 +69,8 @@ module _ (size page : ℕ) where
       (some_take-add (piece_count one) (length (all_pieces units)) come (some_of (take (piece_count one) come)) refl
       (by (all_of (take (piece_count one) come)) refl (some_of (take (piece_count one) come)) refl e (some_whole units (drop (piece_count one) come) are.1 (omega (arith, within, many, length-drop (piece_count one) come)))))
     where
-      by : (a : Bool) → all_of (take (piece_count one) come) ≡ a → (s : Bool) → some_of (take (piece_count one) come) ≡ s → (a || some_of (come_whole size page units (drop (piece_count one) come))) ≡ true
-          → (some_of (come_whole size page units (drop (piece_count one) come)) ≡ true → some_of (take (length (all_pieces units)) (drop (piece_count one) come)) ≡ true) → (s || some_of (take (length (all_pieces units)) (drop (piece_count one) come))) ≡ true
+      by : (a : Bool) → all_of (take (piece_count one) come) ≡ a → (s : Bool) → some_of (take (piece_count one) come) ≡ s → (a || some_of (come_whole size (only page) units (drop (piece_count one) come))) ≡ true
+          → (some_of (come_whole size (only page) units (drop (piece_count one) come)) ≡ true → some_of (take (length (all_pieces units)) (drop (piece_count one) come)) ≡ true) → (s || some_of (take (length (all_pieces units)) (drop (piece_count one) come))) ≡ true
       by true is true some e more = refl
       by true is false some e more =
           absurd (let long = are.0.bounded in let some_too = all_then_some come (piece_count one) (omega arith) (omega (arith, within, length-append (pieces_of one) (all_pieces units), length-pieces_of one)) is in let no : true ≡ false = sym some_too ∙ some in cc)
@@ -78,13 +79,13 @@ module _ (size page : ℕ) where
 
   -- ---- the flags of sets
 
-  pub whole-append : (xs ys : List (List ℕ)) (come : List Bool) → come_whole size page (xs ++ ys) come ≡ come_whole size page xs come ++ come_whole size page ys (drop (length (all_pieces xs)) come)
+  pub whole-append : (xs ys : List (List ℕ)) (come : List Bool) → come_whole size (only page) (xs ++ ys) come ≡ come_whole size (only page) xs come ++ come_whole size (only page) ys (drop (length (all_pieces xs)) come)
   whole-append [] ys come = refl
   whole-append (x ∷ xs) ys come =
       let many : length (pieces_of x ++ all_pieces xs) ≡ piece_count x + length (all_pieces xs) = length-append (pieces_of x) (all_pieces xs) ∙ ap (λ n. n + length (all_pieces xs)) (length-pieces_of x) in
       ap (λ rest. all_of (take (piece_count x) come) ∷ rest)
-      (whole-append xs ys (drop (piece_count x) come) ∙ ap (λ more. come_whole size page xs (drop (piece_count x) come) ++ come_whole size page ys more) (drop-drop (length (all_pieces xs)) (piece_count x) come ∙ ap (λ n. drop n come) (sym many)))
+      (whole-append xs ys (drop (piece_count x) come) ∙ ap (λ more. come_whole size (only page) xs (drop (piece_count x) come) ++ come_whole size (only page) ys more) (drop-drop (length (all_pieces xs)) (piece_count x) come ∙ ap (λ n. drop n come) (sym many)))
 
-  pub length-whole : (units : List (List ℕ)) (come : List Bool) → length (come_whole size page units come) ≡ length units
+  pub length-whole : (units : List (List ℕ)) (come : List Bool) → length (come_whole size (only page) units come) ≡ length units
   length-whole [] come = refl
   length-whole (one ∷ units) come = ap suc (length-whole units (drop (piece_count one) come))

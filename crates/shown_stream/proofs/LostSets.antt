@@ -7,6 +7,7 @@ use Rattle.std.specs.Option.{option_map}
 use Rattle.std.proofs.lemmas.List.{drop-drop, length-map}
 use Rattle.sub_base.specs.Lists.{prefixes}
 use Rattle.stream_syntax.specs.DataField.{Frame, segment}
+use Rattle.decoder_model.specs.declared.pages.Pages.{Pages}
 use Rattle.decoder_model.specs.Arrivals.{PesUnit, Arrival, loss, unit}
 use Rattle.decoder_model.specs.Frames.{segments_in}
 use Rattle.decoder_model.specs.Sets.{Stretch, loss_between, run, runs_of, joined_to, Delivery, lost, whole, is_ended, frames_in, size_in, is_followed, set_of, sets_in}
@@ -110,7 +111,7 @@ none_left (one ∷ units) more (false ∷ come) arrivals (one_missed {next = Joi
 none_left (one ∷ units) more (false ∷ come) arrivals (one_missed {next = Apart} {arrivals = left} zero steps rest) e = none_left units more come left rest e
 none_left (one ∷ units) more (false ∷ come) arrivals (one_missed {next = Apart} (suc count) steps rest) e = absurd (omega (arith, ap length e))
 
-module _ (coded page : ℕ) where
+module _ (coded : ℕ) (pages : Pages) where
   -- what is handed of the sets behind one
   pub record Bound (kind : Kind) (sets : List TimedSet) (come : List Bool) (left : List (Delivery (List ℕ))) : Type 0 where
     pub arrivals : List Arrival
@@ -218,23 +219,23 @@ module _ (coded page : ℕ) where
       ∙ ap (option_map (λ (front : List Frame). frame ∷ front)) (none_found (λ front. test (frame ∷ front)) frames (λ k. h (suc k)))
 
   -- units of a set without its end are handed on where the stream ends behind them, and dropped where a loss follows
-  handed_open : (set : TimedSet) (k p : ℕ) (first : PesUnit) (more : List PesUnit) (followed : Bool) → IsTimedSet coded page set → k + p < length set.units → AllZip (IsPlaced set.time) (first ∷ more) (take p (drop k set.units))
+  handed_open : (set : TimedSet) (k p : ℕ) (first : PesUnit) (more : List PesUnit) (followed : Bool) → IsTimedSet coded pages set → k + p < length set.units → AllZip (IsPlaced set.time) (first ∷ more) (take p (drop k set.units))
       → set_of coded first.time (first ∷ more) followed (find (is_ended coded) (prefixes (frames_in (first ∷ more)))) ≡ (if followed then delivered (part_of_set k p set) ∷ [] else [])
   handed_open set k p first more followed is within placed =
       let inside : k < length set.units = omega (arith, within) in
-      let rest = rest_is_set coded page k set is inside in
+      let rest = rest_is_set coded pages k set is inside in
       let segments = segments_of_units (take p (drop k set.units)) in
       let fits = rest.fits in
-      let before = none_ends page (drop k set.units) p rest.units (omega (arith, within, length-drop k set.units)) in
+      let before = none_ends pages (drop k set.units) p rest.units (omega (arith, within, length-drop k set.units)) in
       let small : sum_by length segments ≤ coded = omega (arith, fits, front_bytes (drop k set.units) p) in
       let frames = run_frames set.time (first ∷ more) (take p (drop k set.units)) placed in
       ap (λ all. set_of coded first.time (first ∷ more) followed (find (is_ended coded) (prefixes all))) frames
-      ∙ ap (set_of coded first.time (first ∷ more) followed) (none_found (is_ended coded) (map segment segments) (λ n. front_not_ended coded page segments (suc n) before small))
+      ∙ ap (set_of coded first.time (first ∷ more) followed) (none_found (is_ended coded) (map segment segments) (λ n. front_not_ended coded pages segments (suc n) before small))
       ∙ ap (λ all. if followed then whole first.time (size_in (first ∷ more)) (segments_in all) ∷ [] else []) frames
       ∙ (λ i. if followed then whole (first_time set.time first more (take p (drop k set.units)) placed i) (run_size set.time (first ∷ more) (take p (drop k set.units)) placed i) (segments_are segments i) ∷ [] else [])
 
   -- what is handed on of a run of units of a set without its end, and of what stands behind it
-  open_out : (kind : Kind) (set : TimedSet) (k p : ℕ) (sets : List TimedSet) (come : List Bool) (first : PesUnit) (more : List PesUnit) (behind : List Stretch) → IsTimedSet coded page set → k + p < length set.units → AllZip (IsPlaced set.time) (first ∷ more) (take p (drop k set.units))
+  open_out : (kind : Kind) (set : TimedSet) (k p : ℕ) (sets : List TimedSet) (come : List Bool) (first : PesUnit) (more : List PesUnit) (behind : List Stretch) → IsTimedSet coded pages set → k + p < length set.units → AllZip (IsPlaced set.time) (first ∷ more) (take p (drop k set.units))
       → ((behind ≡ []) × Arrive Apart (timed_units sets) come []) ⊎ ((rest : List Stretch) × (behind ≡ loss_between ∷ rest)) → MissedOut Apart set sets come (sets_in coded true behind) → MissedOut (missed_from kind) set sets come (sets_in coded true (run first more ∷ behind))
   open_out kind set k p sets come first more behind is within placed (inl none) out =
       stays_open 0 k p none.1 (
@@ -247,7 +248,7 @@ module _ (coded page : ℕ) where
       subst (MissedOut (missed_from kind) set sets come) (sym same) (from_apart kind set sets come (sets_in coded true behind) out)
 
   -- a unit of a set, and those behind it
-  suffix : (set : TimedSet) (k : ℕ) (units : List SetUnit) (sets : List TimedSet) (come : List Bool) → IsTimedSet coded page set → IsApart set.time sets → AllByRecursion (λ (one : TimedSet). 1 ≤ length one.units) sets → 1 ≤ k → units ≡ drop k set.units → Suffix set units sets come
+  suffix : (set : TimedSet) (k : ℕ) (units : List SetUnit) (sets : List TimedSet) (come : List Bool) → IsTimedSet coded pages set → IsApart set.time sets → AllByRecursion (λ (one : TimedSet). 1 ≤ length one.units) sets → 1 ≤ k → units ≡ drop k set.units → Suffix set units sets come
   suffix set k [] sets come is apart some first are = (
     λ arrivals arrive. record { found = []; behind = runs_of arrivals; are = refl; other = next_other set.time sets come arrivals apart some arrive; ends = group_all refl tt (record { arrivals = arrivals; arrive = arrive; are = refl }) },
     λ kind arrivals arrive. goes_by kind 0 [] (sets_in coded true (runs_of arrivals)) (no_step kind) tt (record { arrivals = arrivals; arrive = arrive; are = refl }) refl,
@@ -302,7 +303,7 @@ module _ (coded page : ℕ) where
                   let mine : AllZip (IsPlaced set.time) (unit_of place set.time one ∷ group.found) (drop k set.units) = subst (AllZip (IsPlaced set.time) (unit_of place set.time one ∷ group.found)) are ((place, refl), placed) in
                   goes_by Joined 0 (rest_of_set k set ∷ []) (sets_in coded true group.behind) tt (k, refl, first, inside, refl) bound
                   (ap (sets_in coded true) runs
-                  ∙ ap (λ front. front ++ sets_in coded true group.behind) (handed_whole coded page (rest_of_set k set) (unit_of place set.time one) group.found (is_followed true group.behind) (rest_is_set coded page k set is inside) mine))
+                  ∙ ap (λ front. front ++ sets_in coded true group.behind) (handed_whole coded pages (rest_of_set k set) (unit_of place set.time one) group.found (is_followed true group.behind) (rest_is_set coded pages k set is inside) mine))
               by_ends group (group_part p within all placed led out) =
                   let runs = ap (joined_to (unit_of place set.time one)) group.are ∙ joins place set.time one group.found (take p units) group.behind placed group.other in
                   let mine : AllZip (IsPlaced set.time) (unit_of place set.time one ∷ group.found) (take (suc p) (drop k set.units)) = subst (λ (its : List SetUnit). AllZip (IsPlaced set.time) (unit_of place set.time one ∷ group.found) (take (suc p) its)) are ((place, refl), placed) in
@@ -349,7 +350,7 @@ module _ (coded page : ℕ) where
     set_whole : (left : List (Delivery (List ℕ))) → Bound Joined sets come left → deliveries ≡ losts (count_before kind) ++ delivered set ∷ left → SetOut kind set sets come deliveries true
     set_missed : MissedOut (missed_from kind) set sets come deliveries → SetOut kind set sets come deliveries false
 
-  pub set_out : (kind : Kind) (set : TimedSet) (sets : List TimedSet) (come : List Bool) (left : List (Delivery (List ℕ))) → IsTimedSet coded page set → 1 ≤ length set.units → IsApart set.time sets → AllByRecursion (λ (one : TimedSet). 1 ≤ length one.units) sets
+  pub set_out : (kind : Kind) (set : TimedSet) (sets : List TimedSet) (come : List Bool) (left : List (Delivery (List ℕ))) → IsTimedSet coded pages set → 1 ≤ length set.units → IsApart set.time sets → AllByRecursion (λ (one : TimedSet). 1 ≤ length one.units) sets
       → Bound kind (set ∷ sets) come left → SetOut kind set sets (drop (length set.units) come) left (all_come (length set.units) come)
   set_out kind set sets come left is any apart some bound =
       subst (λ (all : List (Delivery (List ℕ))). SetOut kind set sets (drop (length set.units) come) all (all_come (length set.units) come)) (sym bound.are) (by set.units refl come bound.arrivals any bound.arrive)
@@ -387,7 +388,7 @@ module _ (coded page : ℕ) where
               let mine : AllZip (IsPlaced set.time) (first ∷ group.found) set.units = subst (AllZip (IsPlaced set.time) (first ∷ group.found)) (sym same) ((place, refl), placed) in
               subst (SetOut kind set sets (drop (length units) more) (sets_in coded true (runs_of (lost_before kind ++ unit first ∷ left)))) (sym all)
               (set_whole (sets_in coded true group.behind) bound (lost_first
-              ∙ ap (λ rest. losts (count_before kind) ++ rest) (ap (sets_in coded true) runs ∙ ap (λ front. front ++ sets_in coded true group.behind) (handed_whole coded page set first group.found (is_followed true group.behind) is mine))))
+              ∙ ap (λ rest. losts (count_before kind) ++ rest) (ap (sets_in coded true) runs ∙ ap (λ front. front ++ sets_in coded true group.behind) (handed_whole coded pages set first group.found (is_followed true group.behind) is mine))))
           by_ends group (group_part p within all placed led out) =
               let runs = ap (joined_to first) group.are ∙ joins place set.time one group.found (take p units) group.behind placed group.other in
               let mine : AllZip (IsPlaced set.time) (first ∷ group.found) (take (suc p) (drop 0 set.units)) = subst (λ (its : List SetUnit). AllZip (IsPlaced set.time) (first ∷ group.found) (take (suc p) its)) (sym same) ((place, refl), placed) in

@@ -17,6 +17,7 @@ use Rattle.page_epoch.specs.declared.planned_set.PlannedSet.{PlannedSet}
 use Rattle.schedule.specs.Packets.{packets_of}
 use Rattle.schedule.specs.Slots.{Timetable, start_of, slots_of}
 use Rattle.schedule.proofs.SumLaws.{sum_below-suc}
+use Rattle.decoder_model.specs.Frames.{only}
 use Rattle.decoder_model.specs.Arrivals.{Arrival}
 use Rattle.decoder_model.specs.Readings.{Reading, AreDeliveriesRead}
 use Rattle.decoder_model.specs.Received.{HasReceived}
@@ -58,7 +59,7 @@ use Rattle.stream_syntax.specs.declared.wire.TheConstants.{TIME_ROUND}
 -- what is received of a compiled stream that is shortly cut, what is shown of it, and what is held
 pub record IsReceivedCut (name : ProfileName) (pid page : ℕ) (script : Script) (bytes : List ℕ) (compiled : IsCompiledTo name pid page script bytes) (sendings : List Sending) (received : List (List ℕ)) (anchor tick : ℕ) : Type 0 where
   pub past : List (Delivery Reading)
-  pub has_received : HasReceived (profile_of name) pid page true received past
+  pub has_received : HasReceived (profile_of name) pid (only page) true received past
   pub shows : IsGoodTick (sent_sets compiled.table compiled.sets) sendings tick → Agrees (view_at (profile_of name) anchor tick past) (authored_view script tick)
   pub holds : HoldsWhole script (profile_of name) anchor compiled.sets (λ number set. IsReceived sendings (sent_set compiled.table number set)) past
 
@@ -119,10 +120,10 @@ received_cut name pid page script bytes free made compiled sendings received cut
     flags = there_at sendings 0 slots
 
     come : List Bool
-    come = come_whole coded page units flags
+    come = come_whole coded (only page) units flags
 
     arrivals : List Arrival
-    arrivals = flow coded pid page [] (received_of sendings)
+    arrivals = flow coded pid (only page) [] (received_of sendings)
 
     deliveries : List (Delivery (List ℕ))
     deliveries = sets_in coded true (runs_of arrivals)
@@ -130,21 +131,21 @@ received_cut name pid page script bytes free made compiled sendings received cut
     sound : AllByRecursion (λ packet. packet_fault pid packet ≡ None) (received_of sendings)
     sound = received_sound pid sendings (subst (AllByRecursion (λ packet. packet_fault pid packet ≡ None)) cut.sent (none_refused pid 0 0 pieces slots free are_pieces))
 
-    sets_are : sets_of coded pid page true received ≡ deliveries
-    sets_are = ap (sets_of coded pid page true) cut.rest ∙ sets_by_flow coded pid page (received_of sendings) sound
+    sets_are : sets_of coded pid (only page) true received ≡ deliveries
+    sets_are = ap (sets_of coded pid (only page) true) cut.rest ∙ sets_by_flow coded pid (only page) (received_of sendings) sound
 
-    walking : Walking coded page Fresh 0 pieces flags arrivals
+    walking : Walking coded (only page) Fresh 0 pieces flags arrivals
     walking = record {
       last = last_counter pid [];
       hand = hand_after pid coded [];
       since = None;
       stands = (no_counter pid, no_hand pid coded, refl);
       near = near_from pid 0 0 pieces slots sendings sendings None free are_pieces same ahead cut.sent cut.short ([], refl);
-      walk = walked pid coded page 0 0 pieces slots sendings [] free are_pieces same ahead cut.sent;
+      walk = walked pid coded (only page) 0 0 pieces slots sendings [] free are_pieces same ahead cut.sent;
     }
 
     arrive : Arrive Fresh (timed_units sent) come arrivals
-    arrive = units_arrive coded page Fresh 0 units (timed_units sent) flags arrivals known.units known.are.carry.each walking
+    arrive = units_arrive coded (only page) Fresh 0 units (timed_units sent) flags arrivals known.units known.are.carry.each walking
 
     before : Before script profile anchor script.origin page sets ComesWhole Fresh [] [] [] sets sent come deliveries
     before = record {
@@ -188,7 +189,7 @@ received_cut name pid page script bytes free made compiled sendings received cut
         (let low = low_origin script in
         are_fit script profile anchor script.origin page sets ComesWhole 0 [] sets compiled.units sent flags (omega (arith, low)) refl known.are.are
         (all_come script profile page sets compiled.units sent compiled.planned.plan (λ number set found. planned_well script profile sets number set compiled.planned.plan found) known.are.are)
-        known.are.carry.whole (have_units coded page sent known.are.carry.whole) known.apart (times_in_span script profile sets compiled.planned.plan) (pts_rise script profile sets compiled.planned.plan) known.units
+        known.are.carry.whole (have_units coded (only page) sent known.are.carry.whole) known.apart (times_in_span script profile sets compiled.planned.plan) (pts_rise script profile sets compiled.planned.plan) known.units
         (omega (arith, same, length-there sendings 0 slots)) told)
 
     ends : Ends script profile anchor script.origin page sets ComesWhole deliveries [] (λ final. GoodFrom tick false sets sent come → Agrees (view_at profile anchor tick final) (authored_view script tick))
@@ -197,7 +198,7 @@ received_cut name pid page script bytes free made compiled sendings received cut
 -- at each good tick what is shown agrees with what is authored
 pub cut_shown : (name : ProfileName) (pid page : ℕ) (script : Script) (bytes : List ℕ) → IsFree pid → IsCompiledFor name → (compiled : IsCompiledTo name pid page script bytes)
     → (sendings : List Sending) (received : List (List ℕ)) → IsCutTo pid (packets_in name pid page script bytes compiled) sendings received → (anchor : ℕ) → IsAnchorOf (times_received sendings (sent_sets compiled.table compiled.sets)) anchor → (tick : ℕ)
-    → IsGoodTick (sent_sets compiled.table compiled.sets) sendings tick → Shows (profile_of name) pid page anchor received tick (authored_view script tick)
+    → IsGoodTick (sent_sets compiled.table compiled.sets) sendings tick → Shows (profile_of name) pid (only page) anchor received tick (authored_view script tick)
 cut_shown name pid page script bytes free made compiled sendings received cut anchor suits tick good =
     let got = received_cut name pid page script bytes free made compiled sendings received cut anchor suits tick in
     record {
@@ -209,17 +210,17 @@ cut_shown name pid page script bytes free made compiled sendings received cut an
 -- and behind each set that comes whole and whose epoch is known the page memory holds the script
 pub cut_held : (name : ProfileName) (pid page : ℕ) (script : Script) (bytes : List ℕ) → IsFree pid → IsCompiledFor name → (compiled : IsCompiledTo name pid page script bytes)
     → (sendings : List Sending) (received : List (List ℕ)) → IsCutTo pid (packets_in name pid page script bytes compiled) sendings received → (anchor : ℕ) → IsAnchorOf (times_received sendings (sent_sets compiled.table compiled.sets)) anchor
-    → (past : List (Delivery Reading)) → HasReceived (profile_of name) pid page true received past
+    → (past : List (Delivery Reading)) → HasReceived (profile_of name) pid (only page) true received past
     → HoldsWhole script (profile_of name) anchor compiled.sets (λ number set. IsReceived sendings (sent_set compiled.table number set)) past
 cut_held name pid page script bytes free made compiled sendings received cut anchor suits past has_received =
     let got = received_cut name pid page script bytes free made compiled sendings received cut anchor suits 0 in
-    let same = same_past (reverse (sets_of (profile_of name).coded pid page true received)) got.past past got.has_received has_received in
+    let same = same_past (reverse (sets_of (profile_of name).coded pid (only page) true received)) got.past past got.has_received has_received in
     subst (HoldsWhole script (profile_of name) anchor compiled.sets (λ number set. IsReceived sendings (sent_set compiled.table number set))) same got.holds
 
 -- so every compiled stream is shown rightly, whatever packets of it are lost, between two that come at most 14
 pub compiled_cut : (name : ProfileName) (pid page : ℕ) (script : Script) (bytes : List ℕ) → IsFree pid → IsCompiledFor name → (compiled : IsCompiledTo name pid page script bytes)
     → (sendings : List Sending) (received : List (List ℕ)) → IsCutTo pid (packets_in name pid page script bytes compiled) sendings received
-    → IsCutRightly name pid page script compiled.sets compiled.table sendings received
+    → IsCutRightly name pid (only page) script compiled.sets compiled.table sendings received
 compiled_cut name pid page script bytes free made compiled sendings received cut = record {
   shown = λ anchor suits tick good. cut_shown name pid page script bytes free made compiled sendings received cut anchor suits tick good;
   held = λ anchor suits past has_received. cut_held name pid page script bytes free made compiled sendings received cut anchor suits past has_received;

@@ -8,6 +8,7 @@ use Rattle.stream_syntax.specs.Cutting.{IsUnit}
 use Rattle.stream_syntax.specs.Units.{Succession, Next, Missing, succession, payload_part, Fate, Waits, Whole, fate_of, is_waiting, handed_out, followed, unit_after, payload_event, is_loss}
 use Rattle.ts_packets.specs.Demuxing.{kept, next_hand}
 use Rattle.ts_packets.proofs.AnyCuttingLemmas.{front_waits, unit_is_whole}
+use Rattle.decoder_model.specs.declared.pages.Pages.{Pages}
 use Rattle.decoder_model.specs.Arrivals.{Arrival, loss, unit, arrival_of_unit, losses_at, units_at}
 use Rattle.decoder_model.proofs.SentSets.{TimedUnit, IsUnitOf, unit_of, arrives}
 use Rattle.slot_stream.specs.SlotStream.{Piece, all_pieces, piece_count}
@@ -115,7 +116,7 @@ pub data Arrive : Kind → List TimedUnit → List Bool → List Arrival → Typ
 
 -- ---- pieces of a unit of which one is missing
 
-module _ (size page : ℕ) where
+module _ (size : ℕ) (pages : Pages) where
   -- how the pieces behind some stand, and what comes of them
   pub record Walking (kind : Kind) (number : ℕ) (rest : List Piece) (come : List Bool) (arrivals : List Arrival) : Type 0 where
     pub last : Option ℕ
@@ -123,7 +124,7 @@ module _ (size page : ℕ) where
     pub since : Option ℕ
     pub stands : StandsAt kind last hand number since
     pub near : AreNear since come
-    pub walk : Walk size page last hand number rest come arrivals
+    pub walk : Walk size pages last hand number rest come arrivals
 
   -- behind pieces: so many losses, and what comes of those behind
   pub record WalksOn (kind : Kind) (number : ℕ) (rest : List Piece) (come : List Bool) (arrivals : List Arrival) : Type 0 where
@@ -137,11 +138,11 @@ module _ (size page : ℕ) where
     pub steps : Steps kind count next
     pub stands : StandsAt next last hand number since
     pub near : AreNear since come
-    pub walk : Walk size page last hand number rest come behind
+    pub walk : Walk size pages last hand number rest come behind
 
   -- a piece that does not come
   passed_on : (kind : Kind) (last : Option ℕ) (hand : Option (List ℕ)) (number : ℕ) (since : Option ℕ) (rest : List Piece) (come : List Bool) (arrivals : List Arrival) → StandsAt kind last hand number since → AreNear since (false ∷ come)
-      → Walk size page last hand (number + 1) rest come arrivals → WalksOn (missed_from kind) (number + 1) rest come arrivals
+      → Walk size pages last hand (number + 1) rest come arrivals → WalksOn (missed_from kind) (number + 1) rest come arrivals
   passed_on Fresh last hand number since rest come arrivals stands near walk = record {
     next = Fresh;
     last = last;
@@ -184,14 +185,14 @@ module _ (size page : ℕ) where
 
   -- what a piece that comes brings, and the unit in hand behind it
   abbrev brought : Option (List ℕ) → Succession → Bool → List ℕ → ℕ → List Arrival
-  brought hand order starts bytes place = losses_at (payload_event size hand order starts bytes) ++ units_at page place (unit_after size hand (payload_part order starts bytes))
+  brought hand order starts bytes place = losses_at (payload_event size hand order starts bytes) ++ units_at pages place (unit_after size hand (payload_part order starts bytes))
 
   abbrev in_hand : Option (List ℕ) → Succession → Bool → List ℕ → Option (List ℕ)
   in_hand hand order starts bytes = next_hand size hand (payload_part order starts bytes)
 
   -- a further piece of a unit whose beginning is missing
   added_on : (kind : Kind) (last : Option ℕ) (hand : Option (List ℕ)) (number : ℕ) (since : Option ℕ) (piece : Piece) (rest : List Piece) (come : List Bool) (arrivals : List Arrival) (place : ℕ) → piece.starts ≡ false → StandsAt kind last hand number since
-      → AreNear since (true ∷ come) → Walk size page (Some (number % 16)) (in_hand hand (succession last (number % 16)) piece.starts piece.bytes) (number + 1) rest come arrivals
+      → AreNear since (true ∷ come) → Walk size pages (Some (number % 16)) (in_hand hand (succession last (number % 16)) piece.starts piece.bytes) (number + 1) rest come arrivals
       → WalksOn kind (number + 1) rest come (brought hand (succession last (number % 16)) piece.starts piece.bytes place ++ arrivals)
   added_on Fresh last hand number since piece rest come arrivals place inner stands near walk =
       let order : succession last (number % 16) ≡ Next = ap (λ before. succession before (number % 16)) stands.0 in
@@ -206,7 +207,7 @@ module _ (size page : ℕ) where
         steps = tt;
         stands = (number, refl, refl, refl, refl);
         near = subst (λ (k : Option ℕ). AreNear k (true ∷ come)) stands.2 near;
-        walk = subst (λ (kept_now : Option (List ℕ)). Walk size page (Some (number % 16)) kept_now (number + 1) rest come arrivals) (λ i. in_hand (stands.1 i) (order i) (inner i) piece.bytes) walk;
+        walk = subst (λ (kept_now : Option (List ℕ)). Walk size pages (Some (number % 16)) kept_now (number + 1) rest come arrivals) (λ i. in_hand (stands.1 i) (order i) (inner i) piece.bytes) walk;
       }
   added_on Joined last hand number since piece rest come arrivals place inner stands near walk =
       let order : succession last (number % 16) ≡ Next = ap (λ before. succession before (number % 16)) stands.1 ∙ in_turn stands.0 number stands.2 in
@@ -222,7 +223,7 @@ module _ (size page : ℕ) where
         steps = tt;
         stands = (number, refl, refl, refl, refl);
         near = close.1;
-        walk = subst (λ (kept_now : Option (List ℕ)). Walk size page (Some (number % 16)) kept_now (number + 1) rest come arrivals) (λ i. in_hand (stands.3 i) (order i) (inner i) piece.bytes) walk;
+        walk = subst (λ (kept_now : Option (List ℕ)). Walk size pages (Some (number % 16)) kept_now (number + 1) rest come arrivals) (λ i. in_hand (stands.3 i) (order i) (inner i) piece.bytes) walk;
       }
   added_on Apart last hand number since piece rest come arrivals place inner stands near walk =
       let close = subst (λ (k : Option ℕ). AreNear k (true ∷ come)) stands.5 near in
@@ -238,7 +239,7 @@ module _ (size page : ℕ) where
         steps = omega arith;
         stands = (number, refl, refl, refl, refl);
         near = close.1;
-        walk = subst (λ (kept_now : Option (List ℕ)). Walk size page (Some (number % 16)) kept_now (number + 1) rest come arrivals) (λ i. in_hand hand (order i) (inner i) piece.bytes) walk;
+        walk = subst (λ (kept_now : Option (List ℕ)). Walk size pages (Some (number % 16)) kept_now (number + 1) rest come arrivals) (λ i. in_hand hand (order i) (inner i) piece.bytes) walk;
       }
 
   -- one walk behind another
@@ -264,7 +265,7 @@ module _ (size page : ℕ) where
 
   -- all further pieces
   pub walk_on : (kind : Kind) (last : Option ℕ) (hand : Option (List ℕ)) (number : ℕ) (since : Option ℕ) (further rest : List Piece) (come : List Bool) (arrivals : List Arrival) → AreFurther further → StandsAt kind last hand number since → AreNear since come
-      → Walk size page last hand number (further ++ rest) come arrivals → WalksOn kind (number + length further) rest (drop (length further) come) arrivals
+      → Walk size pages last hand number (further ++ rest) come arrivals → WalksOn kind (number + length further) rest (drop (length further) come) arrivals
   walk_on kind last hand number since [] rest come arrivals are stands near walk =
       let same : number ≡ number + 0 = omega arith in
       subst (λ (n : ℕ). WalksOn kind n rest come arrivals) same
@@ -298,15 +299,15 @@ module _ (size page : ℕ) where
 
   -- it arrives with its last piece, or a piece is missing
   data GoesTo (bytes : List ℕ) (number : ℕ) (rest : List Piece) (come : List Bool) : Bool → List Arrival → Type 0 where
-    reaches : {arrivals : List Arrival} (place : ℕ) (behind : List Arrival) → arrivals ≡ arrival_of_unit page place bytes ∷ behind → Walking Joined number rest come behind → GoesTo bytes number rest come true arrivals
+    reaches : {arrivals : List Arrival} (place : ℕ) (behind : List Arrival) → arrivals ≡ arrival_of_unit pages place bytes ∷ behind → Walking Joined number rest come behind → GoesTo bytes number rest come true arrivals
     stops : {arrivals : List Arrival} → WalksOn Apart number rest come arrivals → GoesTo bytes number rest come false arrivals
 
   -- what a piece that ends a unit brings, and one behind which it waits
-  whole_added : (front piece bytes : List ℕ) (place : ℕ) → fate_of size (front ++ piece) ≡ Whole bytes → brought (Some front) Next false piece place ≡ arrival_of_unit page place bytes ∷ []
-  whole_added front piece bytes place fate = ap (λ f. losses_at (followed size f) ++ units_at page place (handed_out (Some f))) fate
+  whole_added : (front piece bytes : List ℕ) (place : ℕ) → fate_of size (front ++ piece) ≡ Whole bytes → brought (Some front) Next false piece place ≡ arrival_of_unit pages place bytes ∷ []
+  whole_added front piece bytes place fate = ap (λ f. losses_at (followed size f) ++ units_at pages place (handed_out (Some f))) fate
 
   waits_added : (front piece : List ℕ) (place : ℕ) → fate_of size (front ++ piece) ≡ Waits → brought (Some front) Next false piece place ≡ []
-  waits_added front piece place fate = ap (λ f. losses_at (followed size f) ++ units_at page place (handed_out (Some f))) fate
+  waits_added front piece place fate = ap (λ f. losses_at (followed size f) ++ units_at pages place (handed_out (Some f))) fate
 
   whole_kept : (bytes whole : List ℕ) → fate_of size bytes ≡ Whole whole → kept size (Some bytes) ≡ None
   whole_kept bytes whole fate = ap (λ f. if is_waiting f then Some bytes else None) fate
@@ -315,7 +316,7 @@ module _ (size page : ℕ) where
   waits_kept bytes fate = ap (λ f. if is_waiting f then Some bytes else None) fate
 
   going : (bytes front : List ℕ) (last : Option ℕ) (hand : Option (List ℕ)) (number : ℕ) (since : Option ℕ) (piece : Piece) (further rest : List Piece) (come : List Bool) (arrivals : List Arrival) → IsUnit size bytes → bytes ≡ front ++ concat (bytes_of (piece ∷ further))
-      → AreFurther (piece ∷ further) → IsGoing front last hand number since → AreNear since come → Walk size page last hand number (piece ∷ (further ++ rest)) come arrivals
+      → AreFurther (piece ∷ further) → IsGoing front last hand number since → AreNear since come → Walk size pages last hand number (piece ∷ (further ++ rest)) come arrivals
       → GoesTo bytes (number + suc (length further)) rest (drop (suc (length further)) come) (all_true (suc (length further)) come) arrivals
   going bytes front last hand number since piece further rest [] arrivals is whole are at near walk = elim walk [ ]
   going bytes front last hand number since piece further rest (false ∷ come) arrivals is whole are at near (passes_by walk) =
@@ -327,7 +328,7 @@ module _ (size page : ℕ) where
       let order : succession last (number % 16) ≡ Next = ap (λ before. succession before (number % 16)) at.1 ∙ in_turn at.0 number at.2 in
       let all : front ++ piece.bytes ≡ bytes = ap (λ xs. front ++ xs) (sym (append-nil piece.bytes)) ∙ sym whole in
       let fate : fate_of size (front ++ piece.bytes) ≡ Whole bytes = ap (fate_of size) all ∙ unit_is_whole size bytes is in
-      let front_is : brought hand (succession last (number % 16)) piece.starts piece.bytes place ≡ arrival_of_unit page place bytes ∷ [] = (λ i. brought (at.3 i) (order i) (are.0.1 i) piece.bytes place) ∙ whole_added front piece.bytes bytes place fate in
+      let front_is : brought hand (succession last (number % 16)) piece.starts piece.bytes place ≡ arrival_of_unit pages place bytes ∷ [] = (λ i. brought (at.3 i) (order i) (are.0.1 i) piece.bytes place) ∙ whole_added front piece.bytes bytes place fate in
       let hand_is : in_hand hand (succession last (number % 16)) piece.starts piece.bytes ≡ None = (λ i. in_hand (at.3 i) (order i) (are.0.1 i) piece.bytes) ∙ whole_kept (front ++ piece.bytes) bytes fate in
       let close = (subst (λ (k : Option ℕ). AreNear k (true ∷ come)) at.4 near).1 in
       reaches place left (ap (λ first. first ++ left) front_is) (record {
@@ -336,7 +337,7 @@ module _ (size page : ℕ) where
         since = Some 0;
         stands = (number, refl, refl, refl, refl);
         near = close;
-        walk = subst (λ (now : Option (List ℕ)). Walk size page (Some (number % 16)) now (number + 1) rest come left) hand_is walk;
+        walk = subst (λ (now : Option (List ℕ)). Walk size pages (Some (number % 16)) now (number + 1) rest come left) hand_is walk;
       })
   going bytes front last hand number since piece (next ∷ further) rest (true ∷ come) arrivals is whole are at near (comes_in {arrivals = left} place walk) =
       let order : succession last (number % 16) ≡ Next = ap (λ before. succession before (number % 16)) at.1 ∙ in_turn at.0 number at.2 in
@@ -354,7 +355,7 @@ module _ (size page : ℕ) where
 
   -- a piece with which a unit begins, by what becomes of the unit
   record IsBegun (kind : Kind) (last : Option ℕ) (hand : Option (List ℕ)) (number : ℕ) (piece : Piece) (come : List Bool) (place : ℕ) (fate : Fate) : Type 0 where
-    brings : brought hand (succession last (number % 16)) piece.starts piece.bytes place ≡ lost_before kind ++ units_at page place (handed_out (Some fate))
+    brings : brought hand (succession last (number % 16)) piece.starts piece.bytes place ≡ lost_before kind ++ units_at pages place (handed_out (Some fate))
     keeps : in_hand hand (succession last (number % 16)) piece.starts piece.bytes ≡ kept size (Some piece.bytes)
     near : AreNear (Some 0) come
 
@@ -365,8 +366,8 @@ module _ (size page : ℕ) where
       record {
         brings =
             (λ i. brought (stands.1 i) (order i) (first i) piece.bytes place)
-            ∙ ap (λ f. losses_at (followed size f) ++ units_at page place (handed_out (Some f))) is
-            ∙ ap (λ lost. (if lost then loss ∷ [] else []) ++ units_at page place (handed_out (Some fate))) sound;
+            ∙ ap (λ f. losses_at (followed size f) ++ units_at pages place (handed_out (Some f))) is
+            ∙ ap (λ lost. (if lost then loss ∷ [] else []) ++ units_at pages place (handed_out (Some fate))) sound;
         keeps = λ i. in_hand (stands.1 i) (order i) (first i) piece.bytes;
         near = subst (λ (k : Option ℕ). AreNear k (true ∷ come)) stands.2 near;
       }
@@ -375,8 +376,8 @@ module _ (size page : ℕ) where
       record {
         brings =
             (λ i. brought (stands.3 i) (order i) (first i) piece.bytes place)
-            ∙ ap (λ f. losses_at (followed size f) ++ units_at page place (handed_out (Some f))) is
-            ∙ ap (λ lost. (if lost then loss ∷ [] else []) ++ units_at page place (handed_out (Some fate))) sound;
+            ∙ ap (λ f. losses_at (followed size f) ++ units_at pages place (handed_out (Some f))) is
+            ∙ ap (λ lost. (if lost then loss ∷ [] else []) ++ units_at pages place (handed_out (Some fate))) sound;
         keeps = λ i. in_hand (stands.3 i) (order i) (first i) piece.bytes;
         near = (subst (λ (k : Option ℕ). AreNear k (true ∷ come)) stands.4 near).1;
       }
@@ -384,14 +385,14 @@ module _ (size page : ℕ) where
       let close = subst (λ (k : Option ℕ). AreNear k (true ∷ come)) stands.5 near in
       let order : succession last (number % 16) ≡ Missing ((stands.0 % 16 + 1) % 16) (number % 16) = ap (λ before. succession before (number % 16)) stands.2 ∙ missing_before stands.0 stands.1 number stands.3 stands.4 close.0 in
       record {
-        brings = (λ i. brought hand (order i) (first i) piece.bytes place) ∙ ap (λ f. loss ∷ units_at page place (handed_out (Some f))) is;
+        brings = (λ i. brought hand (order i) (first i) piece.bytes place) ∙ ap (λ f. loss ∷ units_at pages place (handed_out (Some f))) is;
         keeps = λ i. in_hand hand (order i) (first i) piece.bytes;
         near = close.1;
       }
 
   -- a unit arrives where all its pieces come, and is missed else
   pub data UnitEnds (kind : Kind) (bytes : List ℕ) (number : ℕ) (rest : List Piece) (come : List Bool) : Bool → List Arrival → Type 0 where
-    comes_whole : {arrivals : List Arrival} (place : ℕ) (behind : List Arrival) → arrivals ≡ lost_before kind ++ arrival_of_unit page place bytes ∷ behind → Walking Joined number rest come behind → UnitEnds kind bytes number rest come true arrivals
+    comes_whole : {arrivals : List Arrival} (place : ℕ) (behind : List Arrival) → arrivals ≡ lost_before kind ++ arrival_of_unit pages place bytes ∷ behind → Walking Joined number rest come behind → UnitEnds kind bytes number rest come true arrivals
     is_missed : {arrivals : List Arrival} → WalksOn (missed_from kind) number rest come arrivals → UnitEnds kind bytes number rest come false arrivals
 
   stopped : (kind : Kind) (number : ℕ) (rest : List Piece) (come : List Bool) (arrivals : List Arrival) → WalksOn Apart number rest come arrivals → WalksOn (missed_from kind) number rest come (lost_before kind ++ arrivals)
@@ -404,7 +405,7 @@ module _ (size page : ℕ) where
   ended kind bytes number rest come false arrivals left are (stops on) = is_missed (subst (WalksOn (missed_from kind) number rest come) (sym are) (stopped kind number rest come left on))
 
   unit_from_start : (kind : Kind) (bytes : List ℕ) (last : Option ℕ) (hand : Option (List ℕ)) (number : ℕ) (since : Option ℕ) (piece : Piece) (further rest : List Piece) (come : List Bool) (arrivals : List Arrival) → IsUnit size bytes → bytes ≡ concat (bytes_of (piece ∷ further))
-      → piece.starts ≡ true → AreFurther further → StandsAt kind last hand number since → AreNear since come → Walk size page last hand number (piece ∷ (further ++ rest)) come arrivals
+      → piece.starts ≡ true → AreFurther further → StandsAt kind last hand number since → AreNear since come → Walk size pages last hand number (piece ∷ (further ++ rest)) come arrivals
       → UnitEnds kind bytes (number + suc (length further)) rest (drop (suc (length further)) come) (all_true (suc (length further)) come) arrivals
   unit_from_start kind bytes last hand number since piece further rest [] arrivals is whole first are stands near walk = elim walk [ ]
   unit_from_start kind bytes last hand number since piece further rest (false ∷ come) arrivals is whole first are stands near (passes_by walk) =
@@ -417,13 +418,13 @@ module _ (size page : ℕ) where
       let all : piece.bytes ≡ bytes = sym (append-nil piece.bytes) ∙ sym whole in
       let fate : fate_of size piece.bytes ≡ Whole bytes = ap (fate_of size) all ∙ unit_is_whole size bytes is in
       let begun = is_begun kind last hand number since piece come place (Whole bytes) first stands near fate refl in
-      comes_whole place left (ap (λ front. front ++ left) begun.brings ∙ append_assoc (lost_before kind) (arrival_of_unit page place bytes ∷ []) left) (record {
+      comes_whole place left (ap (λ front. front ++ left) begun.brings ∙ append_assoc (lost_before kind) (arrival_of_unit pages place bytes ∷ []) left) (record {
         last = Some (number % 16);
         hand = None;
         since = Some 0;
         stands = (number, refl, refl, refl, refl);
         near = begun.near;
-        walk = subst (λ (now : Option (List ℕ)). Walk size page (Some (number % 16)) now (number + 1) rest come left) (begun.keeps ∙ whole_kept piece.bytes bytes fate) walk;
+        walk = subst (λ (now : Option (List ℕ)). Walk size pages (Some (number % 16)) now (number + 1) rest come left) (begun.keeps ∙ whole_kept piece.bytes bytes fate) walk;
       })
   unit_from_start kind bytes last hand number since piece (next ∷ further) rest (true ∷ come) arrivals is whole first are stands near (comes_in {arrivals = left} place walk) =
       let some = are.0.0.0 in
@@ -444,11 +445,11 @@ module _ (size page : ℕ) where
   come_whole (one ∷ units) come = all_true (piece_count one) come ∷ come_whole units (drop (piece_count one) come)
 
   -- all units
-  pub units_arrive : (kind : Kind) (number : ℕ) (units : List (List ℕ)) (timed : List TimedUnit) (come : List Bool) (arrivals : List Arrival) → AllByRecursion (IsUnit size) units → AllZip (IsUnitOf page) units timed
+  pub units_arrive : (kind : Kind) (number : ℕ) (units : List (List ℕ)) (timed : List TimedUnit) (come : List Bool) (arrivals : List Arrival) → AllByRecursion (IsUnit size) units → AllZip (IsUnitOf pages) units timed
       → Walking kind number (all_pieces units) come arrivals → Arrive kind timed (come_whole units come) arrivals
   units_arrive kind number [] [] come arrivals are each on = by come arrivals on.walk
     where
-      by : {last : Option ℕ} {hand : Option (List ℕ)} (come : List Bool) (arrivals : List Arrival) → Walk size page last hand number [] come arrivals → Arrive kind [] [] arrivals
+      by : {last : Option ℕ} {hand : Option (List ℕ)} (come : List Bool) (arrivals : List Arrival) → Walk size pages last hand number [] come arrivals → Arrive kind [] [] arrivals
       by [] arrivals (no_piece_left) = none_arrive
       by (b ∷ come) arrivals walk = elim walk [ ]
   units_arrive kind number [] (one ∷ timed) come arrivals are each on = absurd each
@@ -458,7 +459,7 @@ module _ (size page : ℕ) where
       let some : 1 ≤ length bytes = omega arith in
       let further = further_of bytes in
       let count : suc (length further) ≡ piece_count bytes = sym (ap length (its_pieces bytes some)) ∙ length-pieces_of bytes in
-      let walk = subst (λ (pieces : List Piece). Walk size page on.last on.hand number (pieces ++ all_pieces units) come arrivals) (its_pieces bytes some) on.walk in
+      let walk = subst (λ (pieces : List Piece). Walk size pages on.last on.hand number (pieces ++ all_pieces units) come arrivals) (its_pieces bytes some) on.walk in
       let ends = unit_from_start kind bytes on.last on.hand number on.since (first_piece bytes) further (all_pieces units) come arrivals are.0 (its_bytes bytes some) refl (its_further bytes some) on.stands on.near walk in
       subst (λ (n : ℕ). Arrive kind (one ∷ timed) (all_true n come ∷ come_whole units (drop n come)) arrivals) count
       (by (all_true (suc (length further)) come) (drop (suc (length further)) come) arrivals ends (λ next more left there. units_arrive next (number + suc (length further)) units timed more left are.1 each.1 there))
@@ -467,7 +468,7 @@ module _ (size page : ℕ) where
           → ((next : Kind) (more : List Bool) (left : List Arrival) → Walking next after (all_pieces units) more left → Arrive next timed (come_whole units more) left)
           → Arrive kind (one ∷ timed) (all ∷ come_whole units more) arrivals
       by true more arrivals (comes_whole place behind is there) onward =
-          subst (Arrive kind (one ∷ timed) (true ∷ come_whole units more)) (sym (is ∙ ap (λ first. lost_before kind ++ first ∷ behind) (arrives page place bytes one each.0)))
+          subst (Arrive kind (one ∷ timed) (true ∷ come_whole units more)) (sym (is ∙ ap (λ first. lost_before kind ++ first ∷ behind) (arrives pages place bytes one each.0)))
           (one_arrives place (onward Joined more behind there))
       by false more arrivals (is_missed there) onward =
           subst (Arrive kind (one ∷ timed) (false ∷ come_whole units more)) (sym there.are)

@@ -8,6 +8,7 @@ use Rattle.sub_base.specs.declared.profile.Profile.{Profile}
 use Rattle.cue_list.specs.declared.script.Script.{Script}
 use Rattle.page_epoch.specs.Plan.{IsPlan}
 use Rattle.page_epoch.specs.declared.planned_set.PlannedSet.{PlannedSet}
+use Rattle.decoder_model.specs.Frames.{only}
 use Rattle.decoder_model.specs.Arrivals.{Arrival}
 use Rattle.decoder_model.specs.Readings.{Reading, AreDeliveriesRead}
 use Rattle.decoder_model.specs.Sets.{Delivery, runs_of, sets_in}
@@ -50,7 +51,7 @@ module _ (script : Script) (profile : Profile) (anchor origin page : ℕ) (sets 
   abbrev pub StandsBefore : Kind → List (Delivery (List ℕ)) → List (Delivery Reading) → List PlannedSet → List PlannedSet → List TimedSet → List Bool → List (Delivery (List ℕ)) → Type 0
   StandsBefore = Before script profile anchor origin page sets ComesWhole
 
-  nothing_left : (kind : Kind) (come : List Bool) (deliveries : List (Delivery (List ℕ))) → Bound profile.coded page kind [] come deliveries → deliveries ≡ []
+  nothing_left : (kind : Kind) (come : List Bool) (deliveries : List (Delivery (List ℕ))) → Bound profile.coded (only page) kind [] come deliveries → deliveries ≡ []
   nothing_left kind come deliveries bound = bound.are ∙ by bound.arrive
     where
       by : {come : List Bool} {arrivals : List Arrival} → Arrive kind [] come arrivals → sets_in profile.coded true (runs_of arrivals) ≡ []

@@ -6,6 +6,7 @@ use Rattle.cue_list.specs.Sound.{IsTick}
 use Rattle.cue_list.specs.declared.script.Script.{Script}
 use Rattle.page_epoch.specs.Plan.{IsPlan}
 use Rattle.page_epoch.specs.declared.planned_set.PlannedSet.{PlannedSet}
+use Rattle.decoder_model.specs.Frames.{only}
 use Rattle.decoder_model.specs.Readings.{Reading, AreDeliveriesRead}
 use Rattle.decoder_model.specs.Sets.{Delivery}
 use Rattle.decoder_model.specs.Shown.{Agrees, view_at}
@@ -30,7 +31,7 @@ module _ (script : Script) (profile : Profile) (anchor origin page : ℕ) (sets 
   -- where a receiver stands before a set: what it has got, what is known, and what comes
   pub record Before (kind : Kind) (taken : List (Delivery (List ℕ))) (past : List (Delivery Reading)) (plan left : List PlannedSet) (sent : List TimedSet) (come : List Bool) (deliveries : List (Delivery (List ℕ))) : Type 0 where
     pub parts : sets ≡ reverse plan ++ left
-    pub bound : Bound profile.coded page kind sent come deliveries
+    pub bound : Bound profile.coded (only page) kind sent come deliveries
     pub read : AreDeliveriesRead taken past
     pub known : KnownBy script profile anchor kind past plan
     pub last : LastBy origin anchor past left
@@ -39,7 +40,7 @@ module _ (script : Script) (profile : Profile) (anchor origin page : ℕ) (sets 
   -- what is used of a set
   pub record IsFit (plan left : List PlannedSet) (set : PlannedSet) (one : TimedSet) (sent : List TimedSet) (come : List Bool) : Type 0 where
     pub its : SetSent script page set one
-    pub timed : IsTimedSet profile.coded page one
+    pub timed : IsTimedSet profile.coded (only page) one
     pub any : 1 ≤ length one.units
     pub apart : IsApart one.time sent
     pub some : AllByRecursion (λ (other : TimedSet). 1 ≤ length other.units) sent
@@ -70,7 +71,7 @@ module _ (script : Script) (profile : Profile) (anchor origin page : ℕ) (sets 
 
   -- a set of which no unit comes whole
   nothing_after : (kind : Kind) (taken : List (Delivery (List ℕ))) (past : List (Delivery Reading)) (plan left : List PlannedSet) (set : PlannedSet) (one : TimedSet) (sent : List TimedSet) (come : List Bool) (deliveries : List (Delivery (List ℕ)))
-      → Before kind taken past plan (set ∷ left) (one ∷ sent) come deliveries → NothingOut profile.coded page kind one sent come deliveries → After kind taken past plan left set one sent come deliveries
+      → Before kind taken past plan (set ∷ left) (one ∷ sent) come deliveries → NothingOut profile.coded (only page) kind one sent come deliveries → After kind taken past plan left set one sent come deliveries
   nothing_after kind taken past plan left set one sent come deliveries stands out =
       let pushed = push_losts script profile anchor sets ComesWhole out.n taken past stands.read stands.holds in
       record {
@@ -93,7 +94,7 @@ module _ (script : Script) (profile : Profile) (anchor origin page : ℕ) (sets 
 
   -- a set that comes whole
   set_after : (kind : Kind) (taken : List (Delivery (List ℕ))) (past : List (Delivery Reading)) (plan left : List PlannedSet) (set : PlannedSet) (one : TimedSet) (sent : List TimedSet) (come : List Bool) (deliveries behind : List (Delivery (List ℕ))) → IsPlan script profile sets
-      → Before kind taken past plan (set ∷ left) (one ∷ sent) come deliveries → IsFit plan left set one sent come → IsAheadOf anchor None set.pts → Bound profile.coded page Joined sent (drop (length one.units) come) behind → deliveries ≡ losts (count_before kind) ++ delivered one ∷ behind
+      → Before kind taken past plan (set ∷ left) (one ∷ sent) come deliveries → IsFit plan left set one sent come → IsAheadOf anchor None set.pts → Bound profile.coded (only page) Joined sent (drop (length one.units) come) behind → deliveries ≡ losts (count_before kind) ++ delivered one ∷ behind
       → After kind taken past plan left set one sent come deliveries
   set_after kind taken past plan left set one sent come deliveries behind is_plan stands fit suits bound are =
       let pushed = push_losts script profile anchor sets ComesWhole (count_before kind) taken past stands.read stands.holds in
@@ -131,7 +132,7 @@ module _ (script : Script) (profile : Profile) (anchor origin page : ℕ) (sets 
 
   -- a set of which a unit is missing
   missed_after : (kind : Kind) (taken : List (Delivery (List ℕ))) (past : List (Delivery Reading)) (plan left : List PlannedSet) (set : PlannedSet) (one : TimedSet) (sent : List TimedSet) (come : List Bool) (deliveries : List (Delivery (List ℕ))) → IsPlan script profile sets
-      → Before kind taken past plan (set ∷ left) (one ∷ sent) come deliveries → IsFit plan left set one sent come → IsAheadOf anchor None set.pts → all_come (length one.units) come ≡ false → MissedOut profile.coded page (missed_from kind) one sent (drop (length one.units) come) deliveries
+      → Before kind taken past plan (set ∷ left) (one ∷ sent) come deliveries → IsFit plan left set one sent come → IsAheadOf anchor None set.pts → all_come (length one.units) come ≡ false → MissedOut profile.coded (only page) (missed_from kind) one sent (drop (length one.units) come) deliveries
       → After kind taken past plan left set one sent come deliveries
   missed_after kind taken past plan left set one sent come deliveries is_plan stands fit suits missing (goes_by next n [] rest steps is bound are) =
       let pushed = push_losts script profile anchor sets ComesWhole n taken past stands.read stands.holds in
@@ -165,7 +166,7 @@ module _ (script : Script) (profile : Profile) (anchor origin page : ℕ) (sets 
         now = kept.delivery ∷ pushed.now;
         stands = record {
           parts = moved plan left set stands.parts;
-          bound = subst (λ (k : Kind). Bound profile.coded page k sent (drop (length one.units) come) rest) is.1 bound;
+          bound = subst (λ (k : Kind). Bound profile.coded (only page) k sent (drop (length one.units) come) rest) is.1 bound;
           read = subst (λ (all : List (Delivery (List ℕ))). AreDeliveriesRead all (kept.delivery ∷ pushed.now)) (sym (turned-both (losts n) (delivered part ∷ []) taken)) (kept.is_read, pushed.read);
           known = inl broken.unknown;
           last = inr (set.pts, kept.last, fit.within, fit.above);
@@ -204,10 +205,10 @@ module _ (script : Script) (profile : Profile) (anchor origin page : ℕ) (sets 
       → Before kind taken past plan (set ∷ left) (one ∷ sent) come deliveries → IsFit plan left set one sent come → After kind taken past plan left set one sent come deliveries
   after kind taken past plan left set one sent come deliveries is_plan stands fit = by (some_come (length one.units) come) refl
     where
-      by_all : IsAheadOf anchor None set.pts → (all : Bool) → all_come (length one.units) come ≡ all → SetOut profile.coded page kind one sent (drop (length one.units) come) deliveries all → After kind taken past plan left set one sent come deliveries
+      by_all : IsAheadOf anchor None set.pts → (all : Bool) → all_come (length one.units) come ≡ all → SetOut profile.coded (only page) kind one sent (drop (length one.units) come) deliveries all → After kind taken past plan left set one sent come deliveries
       by_all suits true e (set_whole behind bound are) = set_after kind taken past plan left set one sent come deliveries behind is_plan stands fit suits bound are
       by_all suits false e (set_missed out) = missed_after kind taken past plan left set one sent come deliveries is_plan stands fit suits e out
 
       by : (some : Bool) → some_come (length one.units) come ≡ some → After kind taken past plan left set one sent come deliveries
-      by false none = nothing_after kind taken past plan left set one sent come deliveries stands (nothing_out profile.coded page kind one sent come deliveries fit.any none stands.bound)
-      by true some = by_all (fit.suits some) (all_come (length one.units) come) refl (set_out profile.coded page kind one sent come deliveries fit.timed fit.any fit.apart fit.some stands.bound)
+      by false none = nothing_after kind taken past plan left set one sent come deliveries stands (nothing_out profile.coded (only page) kind one sent come deliveries fit.any none stands.bound)
+      by true some = by_all (fit.suits some) (all_come (length one.units) come) refl (set_out profile.coded (only page) kind one sent come deliveries fit.timed fit.any fit.apart fit.some stands.bound)

@@ -19,6 +19,7 @@ use Rattle.buffer_model.specs.Calls.{Call}
 use Rattle.schedule.specs.Packets.{no_load, load_of}
 use Rattle.schedule.specs.Slots.{IsLoad}
 use Rattle.set_coder.specs.SetSizes.{sent_painting, IsPaintedIn, IsSetLoad}
+use Rattle.decoder_model.specs.Frames.{only}
 use Rattle.decoder_model.specs.Readings.{Reading, AreDeliveriesRead}
 use Rattle.decoder_model.specs.Sets.{Delivery, sets_of}
 use Rattle.decoder_model.specs.Streams.{entered_at}
@@ -140,10 +141,10 @@ entry_before name pid page script bytes free compiled known loads_are missed lat
     let coded = (profile_of name).coded in
     let is = compiled_stream name pid page script bytes compiled known loads_are in
     let n = cut_units name pid page script bytes compiled known loads_are missed in
-    let same = late_sets coded pid page missed (all_units compiled.units) known.sent compiled.table.slots free is.whole known.are.carry known.apart is.pieces is.ahead in
+    let same = late_sets coded pid (only page) missed (all_units compiled.units) known.sent compiled.table.slots free is.whole known.are.carry known.apart is.pieces is.ahead in
     omega (
       arith,
-      count_behind coded page compiled.loads n 0 compiled.units known.sent is.sent,
+      count_behind coded (only page) compiled.loads n 0 compiled.units known.sent is.sent,
       late.few,
       rest_few known.sent late.first late.rest late.is_rest,
       length-map (sets_behind n known.sent) delivered,
@@ -184,10 +185,10 @@ all_heard name pid page script bytes free compiled known loads_are missed anchor
     begun : List (Delivery Reading)
     begun = parts.begun.past
 
-    same : sets_of profile.coded pid page true (entered_at missed (packets_in name pid page script bytes compiled)) ≡ map delivered (sets_behind (cut_units name pid page script bytes compiled known loads_are missed) known.sent)
+    same : sets_of profile.coded pid (only page) true (entered_at missed (packets_in name pid page script bytes compiled)) ≡ map delivered (sets_behind (cut_units name pid page script bytes compiled known loads_are missed) known.sent)
     same =
         let is = compiled_stream name pid page script bytes compiled known loads_are in
-        late_sets profile.coded pid page missed (all_units compiled.units) known.sent compiled.table.slots free is.whole known.are.carry known.apart is.pieces is.ahead
+        late_sets profile.coded pid (only page) missed (all_units compiled.units) known.sent compiled.table.slots free is.whole known.are.carry known.apart is.pieces is.ahead
 
     cut_calls : List (List Call)
     cut_calls = calls_behind profile anchor [] (reverse begun)

@@ -9,6 +9,7 @@ use Rattle.page_epoch.specs.declared.planned_set.PlannedSet.{PlannedSet}
 use Rattle.stream_syntax.specs.Cutting.{IsUnit}
 use Rattle.stream_syntax.specs.TransportPackets.{packet_fault}
 use Rattle.stream_syntax.specs.declared.wire.TheConstants.{TIME_ROUND}
+use Rattle.decoder_model.specs.declared.pages.Pages.{Pages}
 use Rattle.decoder_model.specs.Sets.{Delivery, sets_of}
 use Rattle.decoder_model.proofs.Growth.{packets_add}
 use Rattle.decoder_model.proofs.SentSets.{TimedSet, AreUnitsOf, HaveDifferentTimes, delivered, sets_come_whole}
@@ -29,19 +30,19 @@ front_of : (all : List TimedSet) (some more : List (Delivery (List ℕ))) → ma
 front_of all some more e = sym (take-append_seam some more) ∙ ap (take (length some)) (sym e) ∙ take-map delivered (length some) all
 
 -- up to a packet those are whole that come first
-pub sets_up_to : (coded pid page missed m : ℕ) (units : List (List ℕ)) (sets : List TimedSet) (slots : List ℕ) → IsFree pid → (whole : AllByRecursion (IsUnit coded) units) → AreUnitsOf coded page units sets → HaveDifferentTimes sets
+pub sets_up_to : (coded pid : ℕ) (pages : Pages) (missed m : ℕ) (units : List (List ℕ)) (sets : List TimedSet) (slots : List ℕ) → IsFree pid → (whole : AllByRecursion (IsUnit coded) units) → AreUnitsOf coded pages units sets → HaveDifferentTimes sets
     → length (all_pieces units) ≡ length slots → IsAhead 0 slots
-    → (count : ℕ) × (sets_of coded pid page false (take m (drop missed (laid pid 0 0 (all_pieces units) slots))) ≡ map delivered (take count (sets_behind (units_missed coded missed units slots whole) sets)))
-sets_up_to coded pid page missed m units sets slots free whole are apart same ahead =
+    → (count : ℕ) × (sets_of coded pid pages false (take m (drop missed (laid pid 0 0 (all_pieces units) slots))) ≡ map delivered (take count (sets_behind (units_missed coded missed units slots whole) sets)))
+sets_up_to coded pid pages missed m units sets slots free whole are apart same ahead =
     let packets = drop missed (laid pid 0 0 (all_pieces units) slots) in
     let n = units_missed coded missed units slots whole in
     let sound = all_drop (λ packet. packet_fault pid packet ≡ None) missed (laid pid 0 0 (all_pieces units) slots) (none_refused pid 0 0 (all_pieces units) slots free (pieces_are coded units whole)) in
     let parts : take m packets ++ drop m packets ≡ packets = take-append-drop m packets in
-    let some = sets_of coded pid page false (take m packets) in
-    let added = packets_add coded pid page (take m packets) (drop m packets) (all_taken pid (take m packets) (all_take (λ packet. packet_fault pid packet ≡ None) m packets sound))
+    let some = sets_of coded pid pages false (take m packets) in
+    let added = packets_add coded pid pages (take m packets) (drop m packets) (all_taken pid (take m packets) (all_take (λ packet. packet_fault pid packet ≡ None) m packets sound))
     (all_taken pid (take m packets ++ drop m packets) (subst (AllByRecursion (λ packet. packet_fault pid packet ≡ None)) (sym parts) sound)) in
-    let all = sets_come_whole coded pid page false packets (drop n units) (sets_behind n sets) (entered_late pid coded missed units slots free whole same ahead) (units_behind coded page n units sets are) (apart_behind n sets apart) in
-    (length some, front_of (sets_behind n sets) some added.0 (sym all ∙ ap (sets_of coded pid page false) (sym parts) ∙ added.1))
+    let all = sets_come_whole coded pid pages false packets (drop n units) (sets_behind n sets) (entered_late pid coded missed units slots free whole same ahead) (units_behind coded pages n units sets are) (apart_behind n sets apart) in
+    (length some, front_of (sets_behind n sets) some added.0 (sym all ∙ ap (sets_of coded pid pages false) (sym parts) ∙ added.1))
 
 -- ---- their times
 

@@ -9,7 +9,9 @@ use Rattle.stream_syntax.specs.Cutting.{IsUnit}
 use Rattle.stream_syntax.specs.Pes.{written_pes}
 use Rattle.stream_syntax.specs.Segments.{SegmentValue, of_page, of_region, of_clut, of_object, of_display, end_of_set, passed_over, spelled, segment_kind, IsWritable, set_kinds}
 use Rattle.stream_syntax.specs.Tests.{byte_at}
+use Rattle.decoder_model.specs.Frames.{only}
 use Rattle.decoder_model.proofs.FieldFrames.{IsHeaded}
+use Rattle.decoder_model.proofs.ServicePages.{only_counts}
 use Rattle.decoder_model.proofs.SoleCue.{is_same_id}
 use Rattle.decoder_model.proofs.SentSets.{all-append, SetUnit, TimedSet, timed, size_of_units, all_segments, IsBefore, AreSetUnits, IsTimedSet, IsUnitOf}
 use Rattle.pes_packets.proofs.PesLayout.{pes_is_read}
@@ -47,19 +49,20 @@ inner_no_end (of_display value) h = refl
 inner_no_end end_of_set h = absurd h
 inner_no_end passed_over h = absurd h
 
-headed_by : (page : ℕ) (value : SegmentValue) → IsWritable page value → list_any (λ kind. eqb (segment_kind value) kind) set_kinds ≡ true → IsHeaded page (spelled page value)
+headed_by : (page : ℕ) (value : SegmentValue) → IsWritable page value → list_any (λ kind. eqb (segment_kind value) kind) set_kinds ≡ true → IsHeaded (only page) (spelled page value)
 headed_by page value writable known =
     let head = spelled_head page value writable in record {
       sync = ap (byte_at 0) (spelled_as page value writable.fits);
       size = sym head.size_is;
-      of_page =
-          ap (λ id. eqb id page && list_any (λ kind. eqb (byte_at 1 (spelled page value)) kind) set_kinds) head.page_is
+      of_pages =
+          only_counts page (spelled page value)
+          ∙ ap (λ id. eqb id page && list_any (λ kind. eqb (byte_at 1 (spelled page value)) kind) set_kinds) head.page_is
           ∙ ap (λ same. same && list_any (λ kind. eqb (byte_at 1 (spelled page value)) kind) set_kinds) (is_same_id page)
           ∙ ap (λ found. list_any (λ kind. eqb found kind) set_kinds) head.kind_is
           ∙ known;
     }
 
-inner_before : (page : ℕ) (value : SegmentValue) → IsWritable page value → IsInner value → IsBefore page (spelled page value)
+inner_before : (page : ℕ) (value : SegmentValue) → IsWritable page value → IsInner value → IsBefore (only page) (spelled page value)
 inner_before page value writable inner = record {
   headed = headed_by page value writable (inner_kind value inner);
   no_end = ap (λ kind. eqb kind 0x80) (spelled_head page value writable).kind_is ∙ inner_no_end value inner;
@@ -71,7 +74,7 @@ inner_before page value writable inner = record {
 abbrev pub AreInner : ℕ → List SegmentValue → Type 0
 AreInner page values = AllByRecursion (λ value. IsWritable page value × IsInner value) values
 
-all_before : (page : ℕ) (values : List SegmentValue) → AreInner page values → AllByRecursion (IsBefore page) (map (spelled page) values)
+all_before : (page : ℕ) (values : List SegmentValue) → AreInner page values → AllByRecursion (IsBefore (only page)) (map (spelled page) values)
 all_before page [] h = tt
 all_before page (value ∷ values) h = (inner_before page value h.0.0 h.0.1, all_before page values h.1)
 
@@ -86,7 +89,7 @@ inner_known : (page : ℕ) (values : List SegmentValue) → AreInner page values
 inner_known page [] h = tt
 inner_known page (value ∷ values) h = ((h.0.0, inner_kind value h.0.1), inner_known page values h.1)
 
-all_headed : (page : ℕ) (values : List SegmentValue) → AreKnown page values → AllByRecursion (IsHeaded page) (map (spelled page) values)
+all_headed : (page : ℕ) (values : List SegmentValue) → AreKnown page values → AllByRecursion (IsHeaded (only page)) (map (spelled page) values)
 all_headed page [] h = tt
 all_headed page (value ∷ values) h = (headed_by page value h.0.0 h.0.1, all_headed page values h.1)
 
@@ -122,7 +125,7 @@ below_round time = omega arith
 
 -- its PES packet is read so
 written_unit : (page time : ℕ) (values : List SegmentValue) → AreKnown page values → 1 ≤ length values → length (unit_packet page time values) ≤ 65541
-    → IsUnitOf page (unit_packet page time values) (timed (time % TIME_ROUND) (unit_with page time values))
+    → IsUnitOf (only page) (unit_packet page time values) (timed (time % TIME_ROUND) (unit_with page time values))
 written_unit page time values known some short =
     let size = packet_size (time % TIME_ROUND) (segments_field page values) in
     let read = pes_is_read (unit_packet page time values) (time % TIME_ROUND) (flat_map (spelled page) values ++ 0xFF ∷ [])
@@ -202,7 +205,7 @@ HaveSegments units = AllByRecursion (λ unit. 1 ≤ length unit) units
 
 -- units of segments, the last of which ends the set, are those of a set
 pub set_units : (page time : ℕ) (units : List (List SegmentValue)) (inner : List SegmentValue) → HaveSegments units → joined_units units ≡ inner ++ end_of_set ∷ [] → AreInner page inner → IsWritable page end_of_set
-    → AreSetUnits page (set_with page time units).units
+    → AreSetUnits (only page) (set_with page time units).units
 set_units page time [] inner some whole fit end = absurd (omega (arith, ap length whole, length-append inner (end_of_set ∷ [])))
 set_units page time (unit ∷ []) inner some whole fit end = record {
   front = map (spelled page) inner;
@@ -220,7 +223,7 @@ set_units page time (unit ∷ next ∷ units) inner some whole fit end =
 
 -- and such a set is one that a receiver with room for its PES packets takes whole
 pub whole_set : (coded page time : ℕ) (units : List (List SegmentValue)) (inner : List SegmentValue) → HaveSegments units → joined_units units ≡ inner ++ end_of_set ∷ [] → AreInner page inner → IsWritable page end_of_set
-    → sum (map length (map (unit_packet page time) units)) ≤ coded → IsTimedSet coded page (set_with page time units)
+    → sum (map length (map (unit_packet page time) units)) ≤ coded → IsTimedSet coded (only page) (set_with page time units)
 whole_set coded page time units inner some whole fit end room = record {
   units = set_units page time units inner some whole fit end;
   fits = omega (arith, bytes_with page time units, size_with page time units, room);
@@ -228,7 +231,7 @@ whole_set coded page time units inner some whole fit end room = record {
 
 -- the PES packets are those of its units
 pub packets_are : (page time : ℕ) (units : List (List SegmentValue)) → HaveSegments units → AreKnown page (joined_units units) → AllByRecursion (λ packet. length packet ≤ 65541) (map (unit_packet page time) units)
-    → AllZip (IsUnitOf page) (map (unit_packet page time) units) (map (timed (time % TIME_ROUND)) (set_with page time units).units)
+    → AllZip (IsUnitOf (only page)) (map (unit_packet page time) units) (map (timed (time % TIME_ROUND)) (set_with page time units).units)
 packets_are page time [] some known short = tt
 packets_are page time (unit ∷ units) some known short =
     let parts = parts_of_all (λ value. IsWritable page value × IsKnown value) unit (joined_units units) known in

@@ -7,7 +7,6 @@ mod piece;
 mod pieces;
 
 // The packets of all slots, many written at a time.
-mod outgoing;
 mod stream;
 
 pub use piece::Piece;

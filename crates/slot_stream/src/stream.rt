@@ -1,16 +1,16 @@
-ghost use Rattle.std.specs.Prelude.{◌≡◌, ◌+◌, ◌%◌, ◌<◌, ◌≤◌, ◌++◌, List, Option, ℕ, length, OnOk, OnErr, IfErr, All, ◌^◌};
+ghost use Rattle.std.specs.Prelude.{◌≡◌, ◌+◌, ◌%◌, ◌<◌, ◌≤◌, length, OnOk, IfErr, All, ◌^◌};
 ghost use Rattle.std.specs.List.Sorted.{IsStrictlyIncreasing};
 ghost use Rattle.std.specs.Io.KnownBytes.{Appends, Keeps};
 ghost use Rattle.sub_base.specs.Counts.{HasRisen};
 ghost use Rattle.sub_base.specs.Endpoints.{AppendsPrefix};
-ghost use Rattle.command_text.specs.Putting.{Sent};
 ghost use Rattle.slot_stream.specs.SlotStream.{IsPiece, packet_of, slot_packet, slot_count as slot_count_of, stream_of};
 ghost use Rattle.slot_stream.specs.SlotWalk.{IsNext};
 
-use crate::outgoing::{Outgoing, PACKET};
 use crate::piece::Piece;
+use command_text::{TextBuffer, flush, put};
 use std::alloc::Global;
-use sub_base::{Sink, WriteFailed, write_whole};
+use stream_syntax::PACKET_LENGTH;
+use sub_base::Sink;
 use ts_packets::{Packetiser, null_packet};
 
 /// Makes the packet of a slot: that of the next piece where this is its slot, and else the null
@@ -54,30 +54,6 @@ fn send(packetiser: &mut Packetiser, piece: &Piece<'_>, number: usize, packet: &
     packetiser.packet(piece.bytes, piece.starts, packet);
 }
 
-/// Puts the packet behind those that are to be written together; where there is no room, these are
-/// written first.
-fn pass_on<K: Sink>(
-    sink: &mut K,
-    outgoing: &mut Outgoing,
-    packet: &[u8; 188],
-) -> Result<(), WriteFailed>
-    ensures sent { OnOk result ((start : Option (List ℕ)) (bytes : List ℕ)
-        → Sent start (K.received sink.old).written outgoing.old bytes
-        → Sent start (K.received sink.new).written outgoing.new (bytes ++ packet.now)) }
-    ensures front { OnErr result
-        (AppendsPrefix (K.received sink.old).written (K.received sink.new).written outgoing.old) }
-    ensures kept { (K.received sink.old).faults ≤ (K.received sink.new).faults }
-    ensures cause { OnErr result
-        (HasRisen (K.received sink.old).faults (K.received sink.new).faults) }
-{
-    if outgoing.is_full() {
-        write_whole(sink, outgoing.as_bytes())?;
-        outgoing.clear();
-    }
-    outgoing.push(packet);
-    Ok(())
-}
-
 /// Why packets were not all written.
 #[derive(Drop)]
 pub enum StreamFault {
@@ -113,22 +89,24 @@ pub fn write_stream<K: Sink>(
     ensures cause { IfErr result (λ fault. fault ≡ StreamFault.Write
         → HasRisen (K.received sink.old).faults (K.received sink.new).faults) }
 {
-    let Ok(mut outgoing) = Outgoing::make(alloc) else {
+    let Ok(mut buffer) = TextBuffer::make(alloc) else {
         return Err(StreamFault::Memory);
     };
     let mut packetiser = Packetiser::make(pid);
-    let mut packet = [0u8; PACKET];
+    let mut packet = [0u8; PACKET_LENGTH];
     let mut next = 0;
     for slot in 0..slot_count(slots) {
         next = packet_at(&mut packetiser, pieces, slots, next, slot, &mut packet);
-        if let Err(WriteFailed) = pass_on(sink, &mut outgoing, &packet) {
+        put(sink, &mut buffer, &packet);
+        if buffer.has_failed() {
             return Err(StreamFault::Write);
         }
     }
-    match write_whole(sink, outgoing.as_bytes()) {
-        Ok(()) => Ok(()),
-        Err(WriteFailed) => Err(StreamFault::Write),
+    flush(sink, &mut buffer);
+    if buffer.has_failed() {
+        return Err(StreamFault::Write);
     }
+    Ok(())
 }
 
 /// How many slots there are up to the last one of the list.

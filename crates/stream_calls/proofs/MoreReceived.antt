@@ -6,6 +6,7 @@ use Rattle.sub_base.specs.Lists.{prefixes}
 use Rattle.sub_base.specs.declared.profile.Profile.{Profile}
 use Rattle.stream_syntax.specs.DataField.{Frame}
 use Rattle.stream_syntax.specs.TransportPackets.{packet_fault}
+use Rattle.decoder_model.specs.declared.pages.Pages.{Pages}
 use Rattle.decoder_model.specs.Arrivals.{PesUnit, arrivals_of, packets_taken}
 use Rattle.decoder_model.specs.Readings.{Reading, AreDeliveriesRead}
 use Rattle.decoder_model.specs.Received.{HasReceived}
@@ -48,16 +49,16 @@ ends_add coded (run first more ∷ next ∷ rest) =
           ∙ sym (append_assoc here (sets_in coded false (next ∷ rest)) behind.0),
     )
 
-end_adds : (coded pid page : ℕ) (packets : List (List ℕ)) → (added : List (Delivery (List ℕ)))
-    × (sets_of coded pid page true packets ≡ sets_of coded pid page false packets ++ added)
+end_adds : (coded pid : ℕ) (pages : Pages) (packets : List (List ℕ)) → (added : List (Delivery (List ℕ)))
+    × (sets_of coded pid pages true packets ≡ sets_of coded pid pages false packets ++ added)
 unfolding sets_of has_ended
-end_adds coded pid page packets = by (has_ended true pid packets)
+end_adds coded pid pages packets = by (has_ended true pid packets)
   where
     by : (b : Bool) → (added : List (Delivery (List ℕ)))
-        × (sets_in coded b (runs_of (arrivals_of coded pid page packets))
-        ≡ sets_in coded false (runs_of (arrivals_of coded pid page packets)) ++ added)
-    by true = ends_add coded (runs_of (arrivals_of coded pid page packets))
-    by false = ([], sym (append-nil (sets_in coded false (runs_of (arrivals_of coded pid page packets)))))
+        × (sets_in coded b (runs_of (arrivals_of coded pid pages packets))
+        ≡ sets_in coded false (runs_of (arrivals_of coded pid pages packets)) ++ added)
+    by true = ends_add coded (runs_of (arrivals_of coded pid pages packets))
+    by false = ([], sym (append-nil (sets_in coded false (runs_of (arrivals_of coded pid pages packets)))))
 
 -- ---- what was received before
 
@@ -69,33 +70,33 @@ read_behind (delivery ∷ front) behind [] h = absurd h
 read_behind (delivery ∷ front) behind (one ∷ all) h =
     let rest = read_behind front behind all h.1 in (one ∷ rest.0, rest.1, ap (λ others. one ∷ others) rest.2, rest.3)
 
-more_than : (profile : Profile) (pid page : ℕ) (packets : List (List ℕ)) (sets added : List (Delivery (List ℕ)))
+more_than : (profile : Profile) (pid : ℕ) (pages : Pages) (packets : List (List ℕ)) (sets added : List (Delivery (List ℕ)))
     (all : List (Delivery Reading))
-    → sets ≡ sets_of profile.coded pid page false packets ++ added → AreDeliveriesRead (reverse sets) all
-    → IsMoreThan profile pid page packets all
-more_than profile pid page packets sets added all is read =
-    let front = sets_of profile.coded pid page false packets in
+    → sets ≡ sets_of profile.coded pid pages false packets ++ added → AreDeliveriesRead (reverse sets) all
+    → IsMoreThan profile pid pages packets all
+more_than profile pid pages packets sets added all is read =
+    let front = sets_of profile.coded pid pages false packets in
     let found = read_behind (reverse added) (reverse front) all
     (subst (λ (turned : List (Delivery (List ℕ))). AreDeliveriesRead turned all)
     (ap reverse is ∙ reverse-append front added) read) in
     record { more = found.0; past = found.1; joined = found.2; received = found.3 }
 
 -- with one packet more
-pub packet_receives_more : (profile : Profile) (pid page : ℕ) (packets : List (List ℕ)) (packet : List ℕ)
+pub packet_receives_more : (profile : Profile) (pid : ℕ) (pages : Pages) (packets : List (List ℕ)) (packet : List ℕ)
     (all : List (Delivery Reading))
     → packets_taken pid packets ≡ packets → packet_fault pid packet ≡ None
-    → HasReceived profile pid page false (packets ++ packet ∷ []) all → IsMoreThan profile pid page packets all
-packet_receives_more profile pid page packets packet all taken sound received =
+    → HasReceived profile pid pages false (packets ++ packet ∷ []) all → IsMoreThan profile pid pages packets all
+packet_receives_more profile pid pages packets packet all taken sound received =
     let longer = all_taken pid (packets ++ packet ∷ [])
     (all-append (λ packet. packet_fault pid packet ≡ None) packets (packet ∷ []) (sound_taken pid packets taken)
     (sound, tt)) in
-    let added = packets_add profile.coded pid page packets (packet ∷ []) taken longer in
-    more_than profile pid page packets (sets_of profile.coded pid page false (packets ++ packet ∷ [])) added.0 all
+    let added = packets_add profile.coded pid pages packets (packet ∷ []) taken longer in
+    more_than profile pid pages packets (sets_of profile.coded pid pages false (packets ++ packet ∷ [])) added.0 all
     added.1 received
 
 -- with the end of the stream
-pub end_receives_more : (profile : Profile) (pid page : ℕ) (packets : List (List ℕ)) (all : List (Delivery Reading))
-    → HasReceived profile pid page true packets all → IsMoreThan profile pid page packets all
-end_receives_more profile pid page packets all received =
-    let added = end_adds profile.coded pid page packets in
-    more_than profile pid page packets (sets_of profile.coded pid page true packets) added.0 all added.1 received
+pub end_receives_more : (profile : Profile) (pid : ℕ) (pages : Pages) (packets : List (List ℕ)) (all : List (Delivery Reading))
+    → HasReceived profile pid pages true packets all → IsMoreThan profile pid pages packets all
+end_receives_more profile pid pages packets all received =
+    let added = end_adds profile.coded pid pages packets in
+    more_than profile pid pages packets (sets_of profile.coded pid pages true packets) added.0 all added.1 received

@@ -6,6 +6,7 @@ use Rattle.std.proofs.lemmas.List.{map-append}
 use Rattle.stream_syntax.specs.Units.{event_at}
 use Rattle.stream_syntax.specs.declared.transport.Event.{Event}
 use Rattle.buffer_model.specs.Calls.{Call, Arrived, Dropped}
+use Rattle.decoder_model.specs.declared.pages.Pages.{Pages}
 use Rattle.decoder_model.specs.PacketArrivals.{PacketArrival, packet_arrival, is_break}
 use Rattle.stream_calls.specs.StreamCalls.{count_with, calls_of_packet, calls_from}
 use Rattle.sub_base.specs.Lists.{all_of}
@@ -76,17 +77,17 @@ same_of_packet {X} {Y} f of event arrival slot sets = by (is_break event) arriva
         rest_mapped false = refl
 
 -- the calls of packets
-pub same_calls : {X Y : Type 0} (f : X → Y) (of : Call → X) (coded pid page slot : ℕ) (before packets : List (List ℕ))
+pub same_calls : {X Y : Type 0} (f : X → Y) (of : Call → X) (coded pid : ℕ) (pages : Pages) (slot : ℕ) (before packets : List (List ℕ))
     (left : List (List X))
-    → map f (calls_from of coded pid page slot before packets left)
-    ≡ calls_from (λ call. f (of call)) coded pid page slot before packets (map (map f) left)
-same_calls f of coded pid page slot before [] left = map_all_of f left
-same_calls {X} {Y} f of coded pid page slot before (packet ∷ packets) left =
-    let count = count_with coded pid page before packet in
+    → map f (calls_from of coded pid pages slot before packets left)
+    ≡ calls_from (λ call. f (of call)) coded pid pages slot before packets (map (map f) left)
+same_calls f of coded pid pages slot before [] left = map_all_of f left
+same_calls {X} {Y} f of coded pid pages slot before (packet ∷ packets) left =
+    let count = count_with coded pid pages before packet in
     let event = event_at pid coded before packet in
-    let arrival = packet_arrival coded pid page before packet in
+    let arrival = packet_arrival coded pid pages before packet in
     let mine = all_of (take count left) in
-    let rest = calls_from of coded pid page (slot + 1) (before ++ packet ∷ []) packets (drop count left) in
+    let rest = calls_from of coded pid pages (slot + 1) (before ++ packet ∷ []) packets (drop count left) in
     let told : Call → Y = λ call. f (of call) in
     map-append f (calls_of_packet of event arrival slot mine) rest
     ∙ ap {B = List Y} (λ calls. calls ++ map f rest) (same_of_packet f of event arrival slot mine
@@ -94,6 +95,6 @@ same_calls {X} {Y} f of coded pid page slot before (packet ∷ packets) left =
     (map_all_of f (take count left) ∙ ap {B = List Y} (λ sets. all_of sets) (sym (take-map (map f) count left))))
     ∙ ap {B = List Y} (λ calls. calls_of_packet told event arrival slot (all_of (take count (map (map f) left)))
     ++ calls)
-    (same_calls f of coded pid page (slot + 1) (before ++ packet ∷ []) packets (drop count left)
-    ∙ ap {B = List Y} (calls_from told coded pid page (slot + 1) (before ++ packet ∷ []) packets)
+    (same_calls f of coded pid pages (slot + 1) (before ++ packet ∷ []) packets (drop count left)
+    ∙ ap {B = List Y} (calls_from told coded pid pages (slot + 1) (before ++ packet ∷ []) packets)
     (sym (drop-map (map f) count left)))

@@ -23,16 +23,16 @@ unless_faulty : (fault : Option SetFault) (load : SetLoad) → call_of_end (show
 unless_faulty None load = refl
 unless_faulty (Some fault) load = refl
 
-in_epoch : (profile : Profile) (page : Page) (epoch : Option (List (List Content))) (load : SetLoad)
-    → call_of_end (verdict_in_epoch profile page epoch) load ≡ SetWhole load
-in_epoch profile page None load = refl
-in_epoch profile page (Some []) load = refl
-in_epoch profile page (Some (set ∷ before)) load = unless_faulty (epoch_fault profile before set page) load
+in_epoch : (profile : Profile) (pages : Page) (epoch : Option (List (List Content))) (load : SetLoad)
+    → call_of_end (verdict_in_epoch profile pages epoch) load ≡ SetWhole load
+in_epoch profile pages None load = refl
+in_epoch profile pages (Some []) load = refl
+in_epoch profile pages (Some (set ∷ before)) load = unless_faulty (epoch_fault profile before set pages) load
 
-with_page : (profile : Profile) (sets : List (List Content)) (set : List Content) (page : Option Page) (load : SetLoad)
-    → call_of_end (verdict_with_page profile sets set page) load ≡ SetWhole load
+with_page : (profile : Profile) (sets : List (List Content)) (set : List Content) (pages : Option Page) (load : SetLoad)
+    → call_of_end (verdict_with_page profile sets set pages) load ≡ SetWhole load
 with_page profile sets set None load = refl
-with_page profile sets set (Some page) load = in_epoch profile page (epoch_of (set ∷ sets)) load
+with_page profile sets set (Some pages) load = in_epoch profile pages (epoch_of (set ∷ sets)) load
 
 on_segments : (profile : Profile) (sets : List (List Content)) (set : List Content) (fault : Option SetFault)
     (load : SetLoad) → call_of_end (verdict_on_segments profile sets set fault) load ≡ SetWhole load

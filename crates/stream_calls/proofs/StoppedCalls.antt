@@ -7,6 +7,7 @@ use Rattle.sub_base.specs.declared.profile.Profile.{Profile}
 use Rattle.stream_syntax.specs.TransportPackets.{packet_fault}
 use Rattle.stream_syntax.specs.Units.{each_after}
 use Rattle.stream_syntax.specs.declared.transport.PacketFault.{PacketFault}
+use Rattle.decoder_model.specs.declared.pages.Pages.{Pages}
 use Rattle.decoder_model.specs.Arrivals.{Arrival, arrivals_at, packets_taken, arrivals_of}
 use Rattle.decoder_model.specs.Readings.{AreDeliveriesRead}
 use Rattle.decoder_model.specs.Sets.{Delivery, runs_of, has_ended, sets_of, sets_in}
@@ -52,31 +53,31 @@ unfolding has_ended
 not_ended pid true packets packet rest faulty = not_all pid packets packet rest faulty
 not_ended pid false packets packet rest faulty = refl
 
-sets_before : (coded pid page : ℕ) (ended : Bool) (packets : List (List ℕ)) (packet : List ℕ) (rest : List (List ℕ))
+sets_before : (coded pid : ℕ) (pages : Pages) (ended : Bool) (packets : List (List ℕ)) (packet : List ℕ) (rest : List (List ℕ))
     → packets_taken pid packets ≡ packets → is_none (packet_fault pid packet) ≡ false
-    → sets_of coded pid page ended (packets ++ packet ∷ rest) ≡ sets_of coded pid page false packets
+    → sets_of coded pid pages ended (packets ++ packet ∷ rest) ≡ sets_of coded pid pages false packets
 unfolding sets_of arrivals_of
-sets_before coded pid page ended packets packet rest taken faulty =
+sets_before coded pid pages ended packets packet rest taken faulty =
     let from : Bool → List (List ℕ) → List (Delivery (List ℕ)) =
     λ ended. λ found. sets_in coded ended
-    (runs_of (flat_map (λ (arrivals : List Arrival). arrivals) (each_after (arrivals_at coded pid page) [] found)))
+    (runs_of (flat_map (λ (arrivals : List Arrival). arrivals) (each_after (arrivals_at coded pid pages) [] found)))
     in
     ap (λ end. from end (packets_taken pid (packets ++ packet ∷ rest))) (not_ended pid ended packets packet rest faulty)
     ∙ ap (from (has_ended false pid packets))
     (taken_before pid packets packet rest (sound_taken pid packets taken) faulty ∙ sym taken)
 
 -- what is told of packets with one that cannot be taken is told of those before it
-pub calls_stop : (profile : Profile) (pid page anchor slot : ℕ) (ended : Bool) (packets : List (List ℕ))
+pub calls_stop : (profile : Profile) (pid : ℕ) (pages : Pages) (anchor slot : ℕ) (ended : Bool) (packets : List (List ℕ))
     (packet : List ℕ) (rest : List (List ℕ)) (fault : PacketFault) (told : List ToldCall)
     → packets_taken pid packets ≡ packets → packet_fault pid packet ≡ Some fault
-    → AreToldCalls profile pid page anchor slot ended (packets ++ packet ∷ rest) told
-    → AreToldCalls profile pid page anchor slot false packets told
-calls_stop profile pid page anchor slot ended packets packet rest fault told taken faulty is =
+    → AreToldCalls profile pid pages anchor slot ended (packets ++ packet ∷ rest) told
+    → AreToldCalls profile pid pages anchor slot false packets told
+calls_stop profile pid pages anchor slot ended packets packet rest fault told taken faulty is =
     let none = is_faulty pid packet fault faulty in
     record {
       past = is.past;
       received = subst (λ (sets : List (Delivery (List ℕ))). AreDeliveriesRead (reverse sets) is.past)
-          (sets_before profile.coded pid page ended packets packet rest taken none) is.received;
-      are = is.are ∙ ap (λ found. told_of profile pid page anchor slot found is.past)
+          (sets_before profile.coded pid pages ended packets packet rest taken none) is.received;
+      are = is.are ∙ ap (λ found. told_of profile pid pages anchor slot found is.past)
           (taken_before pid packets packet rest (sound_taken pid packets taken) none ∙ sym taken);
     }

@@ -12,6 +12,7 @@ use Rattle.stream_syntax.specs.declared.page.State.TheVariants.{ModeChange}
 use Rattle.buffer_model.specs.Calls.{Arrived, SetWhole, Dropped}
 use Rattle.decoder_model.specs.Arrivals.{arrivals_of}
 use Rattle.decoder_model.specs.Faults.{all_region_ids, epoch_fault}
+use Rattle.decoder_model.specs.Frames.{only}
 use Rattle.decoder_model.specs.Kept.{last_time, epoch_of}
 use Rattle.decoder_model.specs.Nodes.{region_ids, clut_ids, table_entries}
 use Rattle.decoder_model.specs.Pixels.{painted_listings}
@@ -38,7 +39,7 @@ packets =
     packet_at 0x30 (0x21 ∷ 0x00 ∷ 0x05 ∷ 0xBF ∷ 0x21 ∷ []) ∷ packet_at 0x31 (0x21 ∷ 0x00 ∷ 0x01 ∷ 0x00 ∷ 0x01 ∷ []) ∷ []
 
 -- both sets come
-both_come : sets_of 24576 256 1 true packets ≡ whole 90000 25 (page_bytes ∷ []) ∷ whole 0 25 (page_bytes ∷ []) ∷ []
+both_come : sets_of 24576 256 (only 1) true packets ≡ whole 90000 25 (page_bytes ∷ []) ∷ whole 0 25 (page_bytes ∷ []) ∷ []
 unfolding packets packet_at page_bytes sets_of has_ended arrivals_of frames_of last_counter part_after parts_of fate_of
     stays_in_hand hand_after event_after
 both_come = refl
@@ -69,7 +70,7 @@ told =
     ∷ []
 
 -- what is told of them
-told_is : told_of (profile_of Sd) 256 1 0 0 packets received ≡ told
+told_is : told_of (profile_of Sd) 256 (only 1) 0 0 packets received ≡ told
 unfolding packets packet_at page_bytes received page_read told shown_load dropped_load sets_of has_ended arrivals_of
     frames_of last_counter part_after parts_of fate_of stays_in_hand hand_after event_after sets_since last_time epoch_of
     epoch_fault all_region_ids segments_of taken_among region_ids clut_ids table_entries painted_listings

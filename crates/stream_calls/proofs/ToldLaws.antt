@@ -9,6 +9,7 @@ use Rattle.sub_base.specs.declared.profile.Profile.{Profile}
 use Rattle.stream_syntax.specs.TransportPackets.{packet_fault}
 use Rattle.stream_syntax.specs.Units.{event_at}
 use Rattle.buffer_model.specs.Calls.{Call}
+use Rattle.decoder_model.specs.declared.pages.Pages.{Pages}
 use Rattle.decoder_model.specs.Arrivals.{packets_taken}
 use Rattle.decoder_model.specs.PacketArrivals.{packet_arrival}
 use Rattle.decoder_model.specs.Readings.{Reading, AreDeliveriesRead}
@@ -32,12 +33,12 @@ as_many_read [] (one ∷ past) h = absurd h
 as_many_read (delivery ∷ deliveries) [] h = absurd h
 as_many_read (delivery ∷ deliveries) (one ∷ past) h = ap suc (as_many_read deliveries past h.1)
 
-pub as_many_received : (profile : Profile) (pid page : ℕ) (ended : Bool) (packets : List (List ℕ))
-    (past : List (Delivery Reading)) → HasReceived profile pid page ended packets past
-    → length past ≡ length (sets_of profile.coded pid page ended packets)
-as_many_received profile pid page ended packets past received =
-    as_many_read (reverse (sets_of profile.coded pid page ended packets)) past received
-    ∙ length-reverse (sets_of profile.coded pid page ended packets)
+pub as_many_received : (profile : Profile) (pid : ℕ) (pages : Pages) (ended : Bool) (packets : List (List ℕ))
+    (past : List (Delivery Reading)) → HasReceived profile pid pages ended packets past
+    → length past ≡ length (sets_of profile.coded pid pages ended packets)
+as_many_received profile pid pages ended packets past received =
+    as_many_read (reverse (sets_of profile.coded pid pages ended packets)) past received
+    ∙ length-reverse (sets_of profile.coded pid pages ended packets)
 
 told_count : (profile : Profile) (anchor : ℕ) (older received : List (Delivery Reading))
     → length (told_behind profile anchor older received) ≡ length received
@@ -47,26 +48,26 @@ told_count profile anchor older received = each_count (told_call profile anchor)
 
 -- behind packets that were all taken, one without a fault adds its calls, with those of the sets that come with it,
 -- and changes none before them
-pub packet_tells : (profile : Profile) (pid page anchor slot : ℕ) (packets : List (List ℕ)) (packet : List ℕ)
+pub packet_tells : (profile : Profile) (pid : ℕ) (pages : Pages) (anchor slot : ℕ) (packets : List (List ℕ)) (packet : List ℕ)
     (past more : List (Delivery Reading))
     → packets_taken pid packets ≡ packets → packet_fault pid packet ≡ None
-    → HasReceived profile pid page false packets past → HasReceived profile pid page false (packets ++ packet ∷ [])
+    → HasReceived profile pid pages false packets past → HasReceived profile pid pages false (packets ++ packet ∷ [])
     (more ++ past)
-    → told_of profile pid page anchor slot (packets ++ packet ∷ []) (more ++ past)
-    ≡ told_of profile pid page anchor slot packets past
+    → told_of profile pid pages anchor slot (packets ++ packet ∷ []) (more ++ past)
+    ≡ told_of profile pid pages anchor slot packets past
     ++ calls_of_packet of_no_set (event_at pid profile.coded packets packet)
-    (packet_arrival profile.coded pid page packets packet) (slot + length packets)
+    (packet_arrival profile.coded pid pages packets packet) (slot + length packets)
     (all_of (told_behind profile anchor past (reverse more)))
-packet_tells profile pid page anchor slot packets packet past more taken sound before behind =
+packet_tells profile pid pages anchor slot packets packet past more taken sound before behind =
     let front = told_behind profile anchor [] (reverse past) in
     let back = told_behind profile anchor past (reverse more) in
     let all_sound : AreSound pid (packets ++ packet ∷ []) = all-append
     (λ packet. packet_fault pid packet ≡ None) packets (packet ∷ []) (sound_taken pid packets taken) (sound, tt) in
-    let some : many profile.coded pid page packets ≡ length front =
-    sym (as_many_received profile pid page false packets past before)
+    let some : many profile.coded pid pages packets ≡ length front =
+    sym (as_many_received profile pid pages false packets past before)
     ∙ sym (told_count profile anchor [] (reverse past) ∙ length-reverse past) in
-    let all : many profile.coded pid page (packets ++ packet ∷ []) ≡ length (front ++ back) =
-    sym (as_many_received profile pid page false (packets ++ packet ∷ []) (more ++ past) behind)
+    let all : many profile.coded pid pages (packets ++ packet ∷ []) ≡ length (front ++ back) =
+    sym (as_many_received profile pid pages false (packets ++ packet ∷ []) (more ++ past) behind)
     ∙ omega (
       arith,
       length-append more past,
@@ -77,26 +78,26 @@ packet_tells profile pid page anchor slot packets packet past more taken sound b
       told_count profile anchor past (reverse more),
       length-reverse more,
     ) in
-    ap (calls_from of_no_set profile.coded pid page slot [] (packets ++ packet ∷ []))
+    ap (calls_from of_no_set profile.coded pid pages slot [] (packets ++ packet ∷ []))
     (each_more (told_call profile anchor) past more)
-    ∙ calls_of_last of_no_set profile.coded pid page slot packets packet front back all_sound some all
+    ∙ calls_of_last of_no_set profile.coded pid pages slot packets packet front back all_sound some all
 
 -- ---- the end
 
 -- the end of the stream adds the calls of the sets that it alone makes ready, last
-pub end_tells : (profile : Profile) (pid page anchor slot : ℕ) (packets : List (List ℕ))
+pub end_tells : (profile : Profile) (pid : ℕ) (pages : Pages) (anchor slot : ℕ) (packets : List (List ℕ))
     (past more : List (Delivery Reading))
-    → packets_taken pid packets ≡ packets → HasReceived profile pid page false packets past
-    → told_of profile pid page anchor slot packets (more ++ past)
-    ≡ told_of profile pid page anchor slot packets past ++ all_of (told_behind profile anchor past (reverse more))
-end_tells profile pid page anchor slot packets past more taken before =
+    → packets_taken pid packets ≡ packets → HasReceived profile pid pages false packets past
+    → told_of profile pid pages anchor slot packets (more ++ past)
+    ≡ told_of profile pid pages anchor slot packets past ++ all_of (told_behind profile anchor past (reverse more))
+end_tells profile pid pages anchor slot packets past more taken before =
     let front = told_behind profile anchor [] (reverse past) in
     let back = told_behind profile anchor past (reverse more) in
-    let some : many profile.coded pid page packets ≡ length front =
-    sym (as_many_received profile pid page false packets past before)
+    let some : many profile.coded pid pages packets ≡ length front =
+    sym (as_many_received profile pid pages false packets past before)
     ∙ sym (told_count profile anchor [] (reverse past) ∙ length-reverse past) in
-    ap (calls_from of_no_set profile.coded pid page slot [] packets) (each_more (told_call profile anchor) past more)
-    ∙ calls_at_end of_no_set profile.coded pid page slot packets front back (sound_taken pid packets taken) some
+    ap (calls_from of_no_set profile.coded pid pages slot [] packets) (each_more (told_call profile anchor) past more)
+    ∙ calls_at_end of_no_set profile.coded pid pages slot packets front back (sound_taken pid packets taken) some
 
 -- ---- the calls themselves
 
@@ -115,17 +116,17 @@ told_are_calls profile anchor older (one ∷ received) =
     ∙ ap (λ rest. set_call profile anchor older one ∷ rest) (told_are_calls profile anchor (one ∷ older) received)
 
 -- the calls of packets are those that are told of them
-pub are_calls : (profile : Profile) (pid page anchor slot : ℕ) (ended : Bool) (packets : List (List ℕ))
+pub are_calls : (profile : Profile) (pid : ℕ) (pages : Pages) (anchor slot : ℕ) (ended : Bool) (packets : List (List ℕ))
     (told : List ToldCall)
-    → AreToldCalls profile pid page anchor slot ended packets told
-    → AreCallsOf profile pid page anchor slot ended packets (calls_told told)
-are_calls profile pid page anchor slot ended packets told is = record {
+    → AreToldCalls profile pid pages anchor slot ended packets told
+    → AreCallsOf profile pid pages anchor slot ended packets (calls_told told)
+are_calls profile pid pages anchor slot ended packets told is = record {
   past = is.past;
   received = is.received;
   are = ap calls_told is.are
-      ∙ ap reverse (same_calls (λ (one : ToldCall). one.call) of_no_set profile.coded pid page slot []
+      ∙ ap reverse (same_calls (λ (one : ToldCall). one.call) of_no_set profile.coded pid pages slot []
       (packets_taken pid packets) (told_behind profile anchor [] (reverse is.past))
-      ∙ ap (calls_from itself profile.coded pid page slot [] (packets_taken pid packets))
+      ∙ ap (calls_from itself profile.coded pid pages slot [] (packets_taken pid packets))
       (told_are_calls profile anchor [] (reverse is.past)));
 }
 
@@ -170,11 +171,11 @@ losses_tell profile anchor past (one ∷ more) h =
 -- ---- nothing
 
 -- before the first packet nothing is told
-pub nothing_told : (profile : Profile) (pid page anchor slot : ℕ) (ended : Bool)
-    → AreToldCalls profile pid page anchor slot ended [] []
-nothing_told profile pid page anchor slot ended = record {
+pub nothing_told : (profile : Profile) (pid : ℕ) (pages : Pages) (anchor slot : ℕ) (ended : Bool)
+    → AreToldCalls profile pid pages anchor slot ended [] []
+nothing_told profile pid pages anchor slot ended = record {
   past = [];
   received = subst (λ (sets : List (Delivery (List ℕ))). AreDeliveriesRead (reverse sets) [])
-      (sym (none_yet profile.coded pid page ended)) tt;
+      (sym (none_yet profile.coded pid pages ended)) tt;
   are = refl;
 }

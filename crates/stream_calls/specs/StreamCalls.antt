@@ -6,6 +6,7 @@ use Rattle.sub_base.specs.declared.profile.Profile.{Profile}
 use Rattle.stream_syntax.specs.Units.{event_at}
 use Rattle.stream_syntax.specs.declared.transport.Event.{Event}
 use Rattle.buffer_model.specs.Calls.{Call, Arrived, SetWhole, Dropped}
+use Rattle.decoder_model.specs.declared.pages.Pages.{Pages}
 use Rattle.decoder_model.specs.Arrivals.{packets_taken}
 use Rattle.decoder_model.specs.Kept.{lifted_time}
 use Rattle.sub_base.specs.Lists.{with_earlier, all_of}
@@ -42,9 +43,9 @@ set_calls profile anchor received = each_behind (set_call profile anchor) [] rec
 -- ---- a packet
 
 -- how many sets and losses come with a packet
-abbrev pub count_with : ℕ → ℕ → ℕ → List (List ℕ) → List ℕ → ℕ
-count_with coded pid page before packet =
-    length (sets_of coded pid page false (before ++ packet ∷ [])) - length (sets_of coded pid page false before)
+abbrev pub count_with : ℕ → ℕ → Pages → List (List ℕ) → List ℕ → ℕ
+count_with coded pid pages before packet =
+    length (sets_of coded pid pages false (before ++ packet ∷ [])) - length (sets_of coded pid pages false before)
 
 -- a call stands for itself
 abbrev pub itself : Call → Call
@@ -70,20 +71,20 @@ calls_of_packet of event arrival slot sets =
 
 -- the calls of packets behind others, the first of them in that slot, by the calls of the sets and losses that are
 -- left: those that no packet makes ready come last, with the end of the stream
-abbrev pub calls_from : {X : Type 0} → (Call → X) → ℕ → ℕ → ℕ → ℕ
+abbrev pub calls_from : {X : Type 0} → (Call → X) → ℕ → ℕ → Pages → ℕ
     → List (List ℕ) → List (List ℕ) → List (List X) → List X
-calls_from of coded pid page slot before [] left = all_of left
-calls_from of coded pid page slot before (packet ∷ packets) left =
-    calls_of_packet of (event_at pid coded before packet) (packet_arrival coded pid page before packet) slot
-    (all_of (take (count_with coded pid page before packet) left))
-    ++ calls_from of coded pid page (slot + 1) (before ++ packet ∷ []) packets
-    (drop (count_with coded pid page before packet) left)
+calls_from of coded pid pages slot before [] left = all_of left
+calls_from of coded pid pages slot before (packet ∷ packets) left =
+    calls_of_packet of (event_at pid coded before packet) (packet_arrival coded pid pages before packet) slot
+    (all_of (take (count_with coded pid pages before packet) left))
+    ++ calls_from of coded pid pages (slot + 1) (before ++ packet ∷ []) packets
+    (drop (count_with coded pid pages before packet) left)
 
 -- these are the calls, the latest first, that packets give, the first of which stands in that slot, in a receiver of
--- a profile for a PID and a page with that anchor; the stream ends with the packets or not
-pub record AreCallsOf (profile : Profile) (pid page anchor slot : ℕ) (ended : Bool) (packets : List (List ℕ))
-    (calls : List Call) : Type 0 where
+-- a profile for a PID and these pages with that anchor; the stream ends with the packets or not
+pub record AreCallsOf (profile : Profile) (pid : ℕ) (pages : Pages) (anchor slot : ℕ) (ended : Bool)
+    (packets : List (List ℕ)) (calls : List Call) : Type 0 where
   pub past : List (Delivery Reading)
-  pub received : HasReceived profile pid page ended packets past
-  pub are : calls ≡ reverse (calls_from itself profile.coded pid page slot [] (packets_taken pid packets)
+  pub received : HasReceived profile pid pages ended packets past
+  pub are : calls ≡ reverse (calls_from itself profile.coded pid pages slot [] (packets_taken pid packets)
       (set_calls profile anchor (reverse past)))

@@ -7,6 +7,7 @@ use Rattle.sub_base.specs.declared.load.SetLoad.{SetLoad}
 use Rattle.sub_base.specs.declared.pace.Pace.{Pace}
 use Rattle.sub_base.specs.declared.profile.Profile.{Profile}
 use Rattle.buffer_model.specs.Calls.{Call, Arrived, SetWhole, Dropped, last_slot, done_of}
+use Rattle.decoder_model.specs.declared.pages.Pages.{Pages}
 use Rattle.decoder_model.specs.Arrivals.{packets_taken}
 use Rattle.decoder_model.specs.Painting.{set_load}
 use Rattle.decoder_model.specs.Readings.{Reading}
@@ -66,18 +67,18 @@ call_of_end (NotLater last) load = Dropped
 
 -- the told calls, the first one first, of packets that were all taken, the first of which stands in that slot, and of
 -- what was received with them, the latest first
-abbrev pub told_of : Profile → ℕ → ℕ → ℕ → ℕ → List (List ℕ) → List (Delivery Reading)
+abbrev pub told_of : Profile → ℕ → Pages → ℕ → ℕ → List (List ℕ) → List (Delivery Reading)
     → List ToldCall
-told_of profile pid page anchor slot packets past =
-    calls_from of_no_set profile.coded pid page slot [] packets (told_behind profile anchor [] (reverse past))
+told_of profile pid pages anchor slot packets past =
+    calls_from of_no_set profile.coded pid pages slot [] packets (told_behind profile anchor [] (reverse past))
 
 -- these are the told calls, the first one first, that packets give, the first of which stands in that slot, in a
--- receiver of a profile for a PID and a page with that anchor; the stream ends with the packets or not
-pub record AreToldCalls (profile : Profile) (pid page anchor slot : ℕ) (ended : Bool) (packets : List (List ℕ))
-    (told : List ToldCall) : Type 0 where
+-- receiver of a profile for a PID and these pages with that anchor; the stream ends with the packets or not
+pub record AreToldCalls (profile : Profile) (pid : ℕ) (pages : Pages) (anchor slot : ℕ) (ended : Bool)
+    (packets : List (List ℕ)) (told : List ToldCall) : Type 0 where
   pub past : List (Delivery Reading)
-  pub received : HasReceived profile pid page ended packets past
-  pub are : told ≡ told_of profile pid page anchor slot (packets_taken pid packets) past
+  pub received : HasReceived profile pid pages ended packets past
+  pub are : told ≡ told_of profile pid pages anchor slot (packets_taken pid packets) past
 
 -- the calls themselves, the latest first
 abbrev pub calls_told : List ToldCall → List Call

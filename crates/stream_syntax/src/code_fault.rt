@@ -4,7 +4,7 @@ use thiserror::Error;
 /// The kinds stand in the order in which they are tested.
 #[derive(Clone, Copy, Debug, PartialEq, Eq, Error)]
 pub enum CodeKind {
-    /// The type byte names no sub-block.
+    /// The type byte (data_type) names no sub-block.
     #[error("unknown sub-block type")]
     UnknownType,
     /// The string has more bits per pixel code than the region.

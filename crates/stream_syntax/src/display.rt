@@ -2,12 +2,12 @@
 /// last row, the ends included (EN 300 743, display definition segment, display_window).
 #[derive(Clone, Copy, Debug, PartialEq, Eq)]
 pub struct Window {
-    /// The first column, in pixels of the display.
+    /// The first column, in pixels of the display (display_window_horizontal_position_minimum).
     pub left: u16,
-    /// The last column.
+    /// The last column (display_window_horizontal_position_maximum).
     pub right: u16,
-    /// The first row.
+    /// The first row (display_window_vertical_position_minimum).
     pub top: u16,
-    /// The last row.
+    /// The last row (display_window_vertical_position_maximum).
     pub bottom: u16,
 }

@@ -2,11 +2,11 @@
 /// composition segment, page_state).
 #[derive(Clone, Copy, Debug, PartialEq, Eq)]
 pub enum State {
-    /// The set changes the page that is shown.
+    /// The set changes the page that is shown (normal case).
     Normal,
-    /// The set has the whole page again, so a receiver can begin here.
+    /// The set has the whole page again, so a receiver can begin here (acquisition point).
     Acquisition,
-    /// The set begins a new page, of which nothing was known before.
+    /// The set begins a new page, of which nothing was known before (mode change).
     ModeChange,
 }
 
@@ -14,10 +14,10 @@ pub enum State {
 /// (EN 300 743, page composition segment).
 #[derive(Clone, Copy, Debug, PartialEq, Eq)]
 pub struct PageEntry {
-    /// The id of the region.
+    /// The id of the region (region_id).
     pub region: u8,
-    /// The column of its left edge.
+    /// The column of its left edge (region_horizontal_address).
     pub x: u16,
-    /// The row of its upper edge.
+    /// The row of its upper edge (region_vertical_address).
     pub y: u16,
 }

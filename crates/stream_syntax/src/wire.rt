@@ -10,11 +10,11 @@ pub const SYNC_BYTE: u8 = 0x47;
 /// The PID of null packets.
 pub const NULL_PID: u16 = 0x1FFF;
 
-/// The stream id of a PES packet of subtitles: private stream 1 (ISO/IEC 13818-1, table 2-22).
+/// The stream id of a PES packet of subtitles: private_stream_1 (ISO/IEC 13818-1, table 2-22).
 pub const PRIVATE_STREAM_1: u8 = 0xBD;
 
-/// Presentation times have 33 bits: they are sent modulo this number of ticks (ISO/IEC 13818-1,
-/// 2.4.3.7).
+/// Presentation times (PTS) have 33 bits: they are sent modulo this number of ticks (ISO/IEC
+/// 13818-1, 2.4.3.7).
 pub const TIME_ROUND: u64 = 8_589_934_592;
 
 /// Half of that: a time is taken as a later one where it is fewer ticks ahead.

@@ -1,5 +1,5 @@
 -- How a tool ends: the cause of each status, its line in the notes, and its code.
-use Rattle.std.specs.Prelude.{◌≡◌, ℕ, ◌⊎◌, List, ◌∷◌, [], ◌++◌, codes}
+use Rattle.std.specs.Prelude.{◌≡◌, ℕ, ◌⊎◌, List, ◌∷◌, [], ◌++◌, Option, Some, None, codes}
 use Rattle.std.specs.Io.KnownBytes.{Appends}
 use Rattle.sub_base.specs.Counts.{HasRisen, HasRisenPast}
 use Rattle.sub_base.specs.Endpoints.{AppendsPrefix, Received, WroteNothing}
@@ -114,3 +114,23 @@ pub record IsToolUntroubled (F : Type 0) (causes : Causes F) (before now : Seen)
 abbrev pub IsToolComplete : {F : Type 0} → Causes F → Seen → Seen → Received → Received → ToolStatus F → Type 0
 IsToolComplete {F} causes before now notes_before notes_now answer =
     IsToolUntroubled F causes before now notes_before notes_now → (answer ≡ tool.Done) ⊎ (answer ≡ tool.Memory)
+
+-- ---- a tool with its words read
+
+-- the cause of the status of a run, by the command that the words are; words that are no command end with the usage
+abbrev pub IsToolRun : {C F : Type 0} → (C → Seen → Seen → Causes F) → Option C → Seen → Seen → ToolStatus F → Type 0
+IsToolRun causes None before now run = IsToolUsage before now run
+IsToolRun causes (Some command) before now run = IsToolCause (causes command before now) before now run
+
+-- the cause of the status that a tool answers, and its line in the notes
+abbrev pub HasToolCause : {C F : Type 0} → (F → List ℕ) → (C → Seen → Seen → Causes F) → Option C → Seen → Seen
+    → Received → Received → ToolStatus F → Type 0
+HasToolCause {C} {F} name causes command before now notes_before notes_now answer =
+    (run : ToolStatus F) × IsToolRun causes command before now run × TellsTool name notes_before notes_now run answer
+
+-- a tool whose words are a command of it is done, or memory is wanting, where nothing gives a cause of refusal
+abbrev pub IsToolWhole : {C F : Type 0} → (C → Seen → Seen → Causes F) → Option C → Seen → Seen
+    → Received → Received → ToolStatus F → Type 0
+IsToolWhole causes None before now notes_before notes_now answer = Unit {0}
+IsToolWhole causes (Some command) before now notes_before notes_now answer =
+    IsToolComplete (causes command before now) before now notes_before notes_now answer

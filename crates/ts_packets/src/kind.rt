@@ -1,4 +1,4 @@
-ghost use Rattle.std.specs.Prelude.{◌≡◌, ℕ, ◌<◌, ◌≤◌, ◌==◌, ◌↔◌, false, not, length, drop, IsTrue, MatchResult, None, Some};
+ghost use Rattle.std.specs.Prelude.{◌≡◌, ℕ, ◌<◌, ◌≤◌, ◌==◌, ◌↔◌, false, length, drop, IsTrue, MatchResult, None, Some};
 ghost use Rattle.stream_syntax.specs.TransportPackets.{packet_fault, pid_of, counter_of, has_start_flag};
 ghost use Rattle.ts_packets.specs.Private.Kinds.{IsKind};
 
@@ -10,9 +10,9 @@ use stream_syntax::{PacketFault, SYNC_BYTE};
 pub enum Kind<'a> {
     /// It has another PID.
     Other,
-    /// It is marked as damaged.
+    /// It is marked as damaged (transport_error_indicator).
     Damaged,
-    /// It has no payload.
+    /// It has no payload (adaptation_field_control 10).
     Empty,
     /// It has bytes of a unit.
     Payload(Payload<'a>),
@@ -21,9 +21,9 @@ pub enum Kind<'a> {
 /// The bytes of a unit in a packet, with the packet's counter, and whether a unit begins with them.
 #[derive(Clone, Copy)]
 pub struct Payload<'a> {
-    /// The continuity counter, 0 to 15.
+    /// The continuity counter, 0 to 15 (continuity_counter).
     pub counter: u8,
-    /// Whether a unit begins with these bytes.
+    /// Whether a unit begins with these bytes (payload_unit_start_indicator).
     pub start: bool,
     /// The bytes of the payload.
     pub bytes: &'a [u8],
@@ -35,14 +35,15 @@ pub fn is_other(pid: u16, packet: &[u8; 188]) -> bool
     ensures { IsTrue result
         ↔ (packet_fault pid packet.now ≡ None) × ((pid_of packet.now == pid) ≡ false) }
 {
-    packet[0] == SYNC_BYTE && has_other_pid(pid, packet)
+    packet[0] == SYNC_BYTE && !is_of_pid(pid, packet)
 }
 
+/// Whether the packet has that PID.
 #[inline(always)]
-fn has_other_pid(pid: u16, packet: &[u8; 188]) -> bool
-    ensures { result ≡ not (pid_of packet.now == pid) }
+pub fn is_of_pid(pid: u16, packet: &[u8; 188]) -> bool
+    ensures { result ≡ (pid_of packet.now == pid) }
 {
-    BigEndian::read_u16(&packet[1..3]) & 0x1FFF != pid
+    BigEndian::read_u16(&packet[1..3]) & 0x1FFF == pid
 }
 
 /// Reads what a packet is for a PID, with the first of its faults. A packet of another PID costs
@@ -56,7 +57,7 @@ pub fn kind_of(pid: u16, packet: &[u8; 188]) -> Result<Kind<'_>, PacketFault>
     if packet[0] != SYNC_BYTE {
         return Err(PacketFault::NoSync);
     }
-    if has_other_pid(pid, packet) {
+    if !is_of_pid(pid, packet) {
         return Ok(Kind::Other);
     }
     // Nothing that follows in a damaged packet can be trusted, so that it is tested no further.

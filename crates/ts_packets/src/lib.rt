@@ -13,6 +13,7 @@ mod kind;
 mod laws;
 
 pub use demux::{Demux, Fed};
+pub use kind::is_of_pid;
 pub use laws::every_cutting_gives_its_unit;
 pub use packetiser::{Packetiser, null_packet};
 pub use stream_syntax::{Event, PacketFault};

@@ -11,7 +11,7 @@ use Rattle.packet_walk.specs.declared.walk.WalkEnd.TheVariants as end
 use Rattle.dvbsub_cmd.specs.StreamOutcome.{Telling}
 use Rattle.dvbsub_cmd.specs.declared.status.Status.{Status}
 use Rattle.dvbsub_cmd.specs.declared.status.Status.TheVariants as status
-use Rattle.dvbsub_cmd.specs.declared.status.Which.TheVariants as which
+use Rattle.sub_base.specs.declared.status.Which.TheVariants as which
 
 -- the walk ended with the stream, read whole
 abbrev pub is_whole_end : WalkEnd → Bool

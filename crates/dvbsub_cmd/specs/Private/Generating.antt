@@ -3,6 +3,7 @@ use Rattle.std.specs.Prelude.{◌≡◌, ℕ, ◌*◌, ◌/◌, ◌≤◌, List,
 use Rattle.std.specs.List.Sorted.{IsStrictlyIncreasing}
 use Rattle.check_text.specs.CheckText.{IsPeak}
 use Rattle.cue_list.specs.declared.script.Script.{Script}
+use Rattle.decoder_model.specs.Frames.{only}
 use Rattle.decoder_model.specs.Streams.{entered_at, entry_set}
 use Rattle.generated_script.specs.Generated.{IsGenerated}
 use Rattle.packet_source.specs.declared.limits.TheConstants.{STREAM_LIMIT}
@@ -39,7 +40,8 @@ pub record AreTold (ticks : List ℕ) : Type 0 where
 -- a receiver of the profile that gets these packets shows what the script authors at these ticks
 abbrev pub AreShown : ProfileName → Script → List (List ℕ) → List ℕ → Type 0
 AreShown profile script packets ticks =
-    All (λ tick. Shows (profile_of profile) generated_pid generated_page 0 packets tick (authored_view script tick))
+    All
+    (λ tick. Shows (profile_of profile) generated_pid (only generated_page) 0 packets tick (authored_view script tick))
     ticks
 
 -- the packets in memory of a generated script, and the times of its sets. Whoever gets the packets but for the
@@ -51,7 +53,7 @@ pub record AreOf (profile : ProfileName) (made : Generated) (packets : List (Lis
   pub times_are : times ≡ map (λ (set : PlannedSet). set.pts) made.sent.plan.sets
   pub told : AreTold times
   pub shown : (missed tick : ℕ)
-      → ShowsFrom (profile_of profile) generated_pid generated_page 0 (entered_at missed packets)
+      → ShowsFrom (profile_of profile) generated_pid (only generated_page) 0 (entered_at missed packets)
       (entry_set missed (sent_sets made.sent.schedule made.sent.plan.sets)) tick (authored_view made.script tick)
 
 -- a receiver that gets all packets but the first so many, and the time of its entry set
@@ -65,7 +67,7 @@ entry_behind made missed = record {
 pub record AreToldAs (profile : ProfileName) (made : Generated) (packets : List (List ℕ)) (told : Told) : Type 0 where
   pub sets_are : told.sets ≡ length made.sent.plan.sets
   pub packets_are : told.packets ≡ length packets
-  pub peak_is : IsPeak (profile_of profile) generated_pid generated_page 0 packets told.peak
+  pub peak_is : IsPeak (profile_of profile) generated_pid (only generated_page) 0 packets told.peak
   pub whole_is : told.whole ≡ entry_behind made 0
   pub third_is : told.third ≡ entry_behind made (length packets / 3)
   pub two_thirds_are : told.two_thirds ≡ entry_behind made (2 * length packets / 3)

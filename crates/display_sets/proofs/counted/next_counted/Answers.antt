@@ -7,16 +7,16 @@ pub split_at-requires : goal.split_at-requires
 split_at-requires c =
     let told : IsFirstFrame (frames_left c.loop-head.head-iterator) (frames_left c.next.new.self) c.in-Ok.frame =
     subst (λ head. TellsFirst c.loop-head.head-iterator (Some head) c.next.new.self) c.in-Ok.is c.in-Some.ensures.steps in
-    whole_inside c.args.page c.args.field.now c.loop-head.rest.now _ _ c.in-Ok.frame c.loop-head.invariant told
+    whole_inside c.args.pages c.args.field.now c.loop-head.rest.now _ _ c.in-Ok.frame c.loop-head.invariant told
 
-pub returns-then-is_of_page : goal.returns-then-is_of_page
-returns-then-is_of_page c =
+pub returns-then-is_counted : goal.returns-then-is_counted
+returns-then-is_counted c =
     let told : IsFirstFrame (frames_left c.loop-head.head-iterator) (frames_left c.next.new.self) c.in-Ok.frame =
     subst (λ head. TellsFirst c.loop-head.head-iterator (Some head) c.next.new.self) c.in-Ok.is c.in-Some.ensures.steps in
-    first_segment c.args.page c.args.field.now c.loop-head.rest.now _ _ c.in-Ok.frame _ c.loop-head.invariant told (sym c.is_of_page.ensures ∙ c.if-is_of_page.true) c.split_at.ensures.front c.split_at.ensures.back
+    first_segment c.args.pages c.args.field.now c.loop-head.rest.now _ _ c.in-Ok.frame _ c.loop-head.invariant told (sym c.is_counted.ensures ∙ c.if-is_counted.true) c.split_at.ensures.front c.split_at.ensures.back
 
 pub loop-head-preserved : goal.loop-head-preserved
 loop-head-preserved c =
     let told : IsFirstFrame (frames_left c.loop-head.head-iterator) (frames_left c.next.new.self) c.in-Ok.frame =
     subst (λ head. TellsFirst c.loop-head.head-iterator (Some head) c.next.new.self) c.in-Ok.is c.in-Some.ensures.steps in
-    passed c.args.page c.args.field.now c.loop-head.rest.now c.split_at.result.1.now _ _ c.in-Ok.frame c.loop-head.invariant told (sym c.is_of_page.ensures ∙ c.if-is_of_page.false) c.split_at.ensures.back
+    passed c.args.pages c.args.field.now c.loop-head.rest.now c.split_at.result.1.now _ _ c.in-Ok.frame c.loop-head.invariant told (sym c.is_counted.ensures ∙ c.if-is_counted.false) c.split_at.ensures.back

@@ -7,7 +7,7 @@ invariant-loop-next l =
     record {
       room : l.coded ≤ vec_capacity l.bytes;
       within : length l.bytes.items ≤ l.coded;
-      filling : IsFilling l.page l.coded l.field l.rest l.fn.bytes.items l.bytes.items;
+      filling : IsFilling l.pages l.coded l.field l.rest l.fn.bytes.items l.bytes.items;
     }
 
 abbrev pub decreases-loop-next : goal.decreases-loop-next

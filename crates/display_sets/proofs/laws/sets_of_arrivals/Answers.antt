@@ -5,5 +5,5 @@ use Rattle.display_sets.proofs.PacketLaws.{sets_of_packets, ended_packets}
 use Rattle.display_sets.proofs.laws.sets_of_arrivals.Goals as goal
 
 pub returns : goal.returns
-returns c = λ coded. λ pid. λ page. λ ended. λ packets. λ taken.
-    sets_of_packets coded pid page ended packets ∙ ap (λ all. sets_in coded all (runs_of (arrivals_of coded pid page packets))) (ended_packets ended pid packets taken)
+returns c = λ coded. λ pid. λ pages. λ ended. λ packets. λ taken.
+    sets_of_packets coded pid pages ended packets ∙ ap (λ all. sets_in coded all (runs_of (arrivals_of coded pid pages packets))) (ended_packets ended pid packets taken)

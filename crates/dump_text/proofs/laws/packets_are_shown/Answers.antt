@@ -7,10 +7,10 @@ use Rattle.readings.proofs.PacketsRead.{packets_read}
 use Rattle.dump_text.proofs.laws.packets_are_shown.Goals as goal
 
 pub returns-clause-some : goal.returns-clause-some
-returns-clause-some c profile pid page anchor ended packets tick bytes =
-    let read = packets_read profile pid page ended packets bytes in
+returns-clause-some c profile pid pages anchor ended packets tick bytes =
+    let read = packets_read profile pid pages ended packets bytes in
     (view_at profile anchor tick read.0, record { past = read.0; received = read.1; is_view = refl })
 
 pub returns-clause-one : goal.returns-clause-one
-returns-clause-one c profile pid page anchor ended packets tick shown other is too =
-    is.is_view ∙ ap (λ (past : List (Delivery Reading)). view_at profile anchor tick past) (same_past (reverse (sets_of profile.coded pid page ended packets)) is.past too.past is.received too.received) ∙ sym too.is_view
+returns-clause-one c profile pid pages anchor ended packets tick shown other is too =
+    is.is_view ∙ ap (λ (past : List (Delivery Reading)). view_at profile anchor tick past) (same_past (reverse (sets_of profile.coded pid pages ended packets)) is.past too.past is.received too.received) ∙ sym too.is_view

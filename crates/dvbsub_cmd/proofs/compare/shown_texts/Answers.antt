@@ -4,7 +4,8 @@ use Rattle.sub_base.specs.InMemory.{Store}
 use Rattle.dvbsub_cmd.specs.Dumps.{dumps}
 use Rattle.dvbsub_cmd.specs.GenText.{generated_page, generated_pid}
 use Rattle.dvbsub_cmd.proofs.DumpLaws.{tells_as_asked}
-use Rattle.dvbsub_cmd.proofs.PutOutLaws.{told_all, written_all}
+use Rattle.command_text.proofs.PutOutLaws.{written_all}
+use Rattle.dvbsub_cmd.proofs.PutOutLaws.{told_all}
 use Rattle.dvbsub_cmd.proofs.compare.shown_texts.Goals as goal
 
 pub returns : goal.returns
@@ -19,4 +20,4 @@ returns g c =
     let same : text ≡ c.flush.new.sink.written = sym (whole ∙ ap (λ (store : Store). store.written ++ (text ++ [])) c.make-texts.ensures ∙ append-nil text) in
     subst (dumps c.args.profile generated_pid generated_page c.args.ticks.now true c.args.packets.now) same
     (tells_as_asked c.args.profile generated_pid generated_page c.args.ticks.now made c.take_packets.new.self true c.args.packets.now text c.in_default.ensures.same
-    (c.in_ok-dump.ensures.profile ∙ c.of-profile.ensures) c.in_ok-dump.ensures.pid c.in_ok-dump.ensures.page c.in_ok-dump.ensures.ticks ended.1)
+    (c.in_ok-dump.ensures.profile ∙ c.of-profile.ensures) c.in_ok-dump.ensures.pid (c.in_ok-dump.ensures.pages ∙ c.only.ensures) c.in_ok-dump.ensures.ticks ended.1)

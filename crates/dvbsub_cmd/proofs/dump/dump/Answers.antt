@@ -3,12 +3,13 @@ use Rattle.std.specs.List.Sorted.{IsStrictlyIncreasing}
 use Rattle.dump_text.specs.DumpText.{anchor_of}
 use Rattle.packet_walk.proofs.EndLaws.{end_told}
 use Rattle.dvbsub_cmd.specs.Private.Closing.{is_whole_end}
-use Rattle.dvbsub_cmd.specs.Command.{asked_ticks}
+use Rattle.command_words.specs.Ticks.{asked_ticks}
 use Rattle.dvbsub_cmd.specs.Dumps.{dump_tells, dumps}
 use Rattle.dvbsub_cmd.specs.StreamOutcome.{IsStreamCause}
 use Rattle.dvbsub_cmd.proofs.CloseLaws.{closed}
 use Rattle.dvbsub_cmd.proofs.DumpLaws.{tells_as_asked}
-use Rattle.dvbsub_cmd.proofs.TickLaws.{early_anchor, rising_ticks}
+use Rattle.command_words.proofs.TickLaws.{rising_ticks}
+use Rattle.dvbsub_cmd.proofs.TickLaws.{early_anchor}
 use Rattle.dvbsub_cmd.proofs.dump.dump.Goals as goal
 
 pub make-requires-clause-asked : goal.make-requires-clause-asked
@@ -30,7 +31,7 @@ returns g c =
     let ended = c.finish.ensures made.receiving.demux.pid _ _ _ c.walk-end.ensures.end in
     let told = end_told (dump_tells walked (is_whole_end c.walk-end.result)) (dumps c.args.profile c.args.pid c.args.page ticks (is_whole_end c.walk-end.result)) made.receiving.demux.pid _ _ _ _ c.finish.new.buffer c.walk-end.result
     (λ packets text. tells_as_asked c.args.profile c.args.pid c.args.page ticks made walked (is_whole_end c.walk-end.result) packets text c.walk-end.ensures.same
-    (c.in-Ok-make.ensures.profile ∙ c.of-profile.ensures) c.in-Ok-make.ensures.pid c.in-Ok-make.ensures.page (c.in-Ok-make.ensures.ticks ∙ c.as_slice-ticks.ensures.value ∙ c.in-Ok.ensures)) ended in
+    (c.in-Ok-make.ensures.profile ∙ c.of-profile.ensures) c.in-Ok-make.ensures.pid (c.in-Ok-make.ensures.pages ∙ c.only.ensures) (c.in-Ok-make.ensures.ticks ∙ c.as_slice-ticks.ensures.value ∙ c.in-Ok.ensures)) ended in
     subst (λ (pid : ℕ). IsStreamCause (dumps c.args.profile c.args.pid c.args.page ticks) pid
     (g.A.Source.supplied c.args.stream.now)
     (g.A.Source.supplied c.walk-end.new.stream)

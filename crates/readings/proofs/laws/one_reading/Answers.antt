@@ -10,4 +10,4 @@ pub returns-clause-sets : goal.returns-clause-sets
 returns-clause-sets c = same_past
 
 pub returns-clause-packets : goal.returns-clause-packets
-returns-clause-packets c = λ profile. λ pid. λ page. λ ended. λ packets. same_past (reverse (sets_of profile.coded pid page ended packets))
+returns-clause-packets c = λ profile. λ pid. λ pages. λ ended. λ packets. same_past (reverse (sets_of profile.coded pid pages ended packets))

@@ -1,7 +1,7 @@
-use Rattle.std.proofs.Common.{◌≡◌, ◌%◌, ◌≤◌}
+use Rattle.std.proofs.Common.{◌≡◌, ◌%◌, false}
 use Rattle.std.specs.List.{flat_map, range_with_len}
 use Rattle.slot_stream.specs.SlotStream.{slot_packet}
-use Rattle.command_text.specs.Putting.{Sent}
+use Rattle.command_text.specs.Putting.{IsPutOut}
 use Rattle.slot_stream.specs.SlotWalk.{IsNext}
 use Rattle.slot_stream.proofs.stream.write_stream.Given as goal
 
@@ -11,7 +11,7 @@ invariant-loop-slot g l =
       next : IsNext l.slots l.next l.slot;
       pid : l.packetiser.pid ≡ l.pid;
       counter : l.packetiser.counter ≡ l.next % 16;
-      kept : (g.K.Sink.received l.fn.sink).faults ≤ (g.K.Sink.received l.sink).faults;
-      sent : Sent (g.K.Sink.received l.fn.sink).written (g.K.Sink.received l.sink).written l.outgoing
-          (flat_map (slot_packet l.pid (l.pieces) l.slots) (range_with_len 0 l.slot));
+      good : l.buffer.failed ≡ false;
+      out : IsPutOut (g.K.Sink.received l.fn.sink) (g.K.Sink.received l.sink) l.buffer
+          (flat_map (slot_packet l.pid l.pieces l.slots) (range_with_len 0 l.slot));
     }

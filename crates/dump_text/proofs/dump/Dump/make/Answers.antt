@@ -6,14 +6,14 @@ use Rattle.dump_text.proofs.dump.Dump.make.Goals as goal
 pub invariant_of-result : goal.invariant_of-result
 invariant_of-result c = record {
   asked = c.requires.asked;
-  none = none_at_first c.in_ok-make.field-0 c.in_ok-make.ensures.stands;
+  none = none_at_first c.in_ok-of_pages.field-0 c.in_ok-of_pages.ensures.stands;
   within = omega arith;
 }
 
 pub returns-clause-nothing : goal.returns-clause-nothing
 returns-clause-nothing c = record {
-  anchored = c.in_ok-make.ensures.anchor ∙ c.anchor.ensures;
+  anchored = c.in_ok-of_pages.ensures.anchor ∙ c.anchor.ensures;
   within = omega arith;
-  told = nothing_told c.in_ok-make.field-0 c.args.ticks.now c.in_ok-make.ensures.stands;
-  all = no_packets c.in_ok-make.field-0.showing.core.profile.coded c.in_ok-make.field-0.demux.pid c.in_ok-make.field-0.showing.core.page;
+  told = nothing_told c.in_ok-of_pages.field-0 c.args.ticks.now c.in_ok-of_pages.ensures.stands;
+  all = no_packets c.in_ok-of_pages.field-0.showing.core.profile.coded c.in_ok-of_pages.field-0.demux.pid c.in_ok-of_pages.field-0.sets.pages;
 }

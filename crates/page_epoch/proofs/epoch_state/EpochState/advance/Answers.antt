@@ -12,7 +12,7 @@ use Rattle.page_epoch.specs.Private.Changes.{AreChanges}
 use Rattle.page_epoch.specs.EpochStates.{AreOwn}
 use Rattle.page_epoch.specs.SentRegions.{listed_cues}
 use Rattle.page_epoch.specs.Needs.{clut_nodes}
-use Rattle.page_epoch.proofs.EpochWalkLaws.{few_cluts, few_regions, regions_on, sent_on, page_regions_within, shown_on, versions_on, cluts_on, page_on, drawn_count_on}
+use Rattle.page_epoch.proofs.EpochWalkLaws.{few_cluts, few_regions, regions_on, sent_on, page_regions_within, shown_on, versions_on, cluts_on, drawn_count_on}
 use Rattle.page_epoch.proofs.epoch_state.EpochState.advance.Goals as goal
 use Rattle.stream_syntax.specs.Segments.{is_entry_state}
 
@@ -45,32 +45,29 @@ drawn_count-requires-clause-few c =
     omega (arith, ap length c.as_slice-9.ensures, c.in_ok-regions.ensures.long, ap length c.as_slice.ensures, few, c.requires.few.regions)
 
 pub returns-clause-advanced : goal.returns-clause-advanced
-returns-clause-advanced c = λ epochs seen is timely.
+returns-clause-advanced c = λ seen is timely.
     let epoch = c.args.epoch.now in
     let layout = c.args.layout.now in
     let lay = c.requires.layout in
-    let tick = c.args.instant.tick in
+    let tick = c.args.head.instant.tick in
     let regions = regions_on epoch.cues c.as_slice-cues.result.now layout.by_id c.as_slice.result.now c.args.self.now.regions c.as_slice-2.result.now c.in_ok-regions.regions.states seen tick c.as_slice-cues.ensures c.as_slice.ensures c.as_slice-2.ensures is.regions
     (λ same. c.in_ok-regions.ensures.states seen is.first same timely.after) in
-    let page = page_on epochs epoch.start seen c.args.instant c.args.self.now.first c.args.self.now.page_version c.next_page_version-page_version.result timely is.first is.page c.next_page_version-page_version.ensures.value in
     record {
       current = record {
         regions = regions;
         versions = versions_on epoch.colours c.as_slice-3.result.now layout.cluts c.as_slice-4.result.now c.args.self.now.versions c.as_slice-5.result.now c.in_ok-cluts.cluts.versions seen tick c.as_slice-3.ensures c.as_slice-4.ensures c.as_slice-5.ensures is.versions
             (c.in_ok-cluts.ensures.versions seen);
-        page = page;
         first = refl;
       };
       carried = record {
         shown = shown_on epoch layout c.as_slice-6.result.now c.as_slice-7.result.now seen tick c.in_ok-shown.shown lay c.as_slice-6.ensures (c.as_slice-7.ensures ∙ regions) c.in_ok-shown.ensures;
-        regions = sent_on epoch layout c.as_slice-cues.result.now c.as_slice.result.now c.args.self.now.regions c.as_slice-2.result.now seen tick (is_entry_state c.args.state) c.is_entry_state-whole.result c.in_ok-regions.regions.sent lay c.as_slice-cues.ensures c.as_slice.ensures
+        regions = sent_on epoch layout c.as_slice-cues.result.now c.as_slice.result.now c.args.self.now.regions c.as_slice-2.result.now seen tick (is_entry_state c.args.head.state) c.is_entry_state-whole.result c.in_ok-regions.regions.sent lay c.as_slice-cues.ensures c.as_slice.ensures
             c.as_slice-2.ensures c.is_entry_state-whole.ensures is.regions (λ same. c.in_ok-regions.ensures.sent seen is.first same timely.after);
-        cluts = cluts_on (λ (xs : List SentClut). xs) epoch.colours c.as_slice-3.result.now layout.cluts c.as_slice-4.result.now c.args.self.now.versions c.as_slice-5.result.now seen tick (is_entry_state c.args.state) c.is_entry_state-whole.result c.in_ok-cluts.cluts.sent lay.cluts
+        cluts = cluts_on (λ (xs : List SentClut). xs) epoch.colours c.as_slice-3.result.now layout.cluts c.as_slice-4.result.now c.args.self.now.versions c.as_slice-5.result.now seen tick (is_entry_state c.args.head.state) c.is_entry_state-whole.result c.in_ok-cluts.cluts.sent lay.cluts
             c.as_slice-3.ensures c.as_slice-4.ensures c.as_slice-5.ensures c.is_entry_state-whole.ensures is.versions (c.in_ok-cluts.ensures.sent seen);
         cues = subst (λ (xs : List SentRegion). IsPermutation (listed_cues xs) c.in_ok-listed.listed) c.as_slice-8.ensures c.in_ok-listed.ensures.same;
         in_order = c.in_ok-listed.ensures.order;
       };
-      version = page;
       nodes =
           let drawn_count = c.drawn_count.ensures.value ∙ drawn_count_on epoch layout (tick ∷ seen) c.as_slice-9.result.now lay (c.as_slice-9.ensures ∙ regions) in
           let cluts = cluts_on clut_nodes epoch.colours c.as_slice-3.result.now layout.cluts c.as_slice-4.result.now c.args.self.now.versions c.as_slice-5.result.now seen tick true true c.in_ok-cluts.cluts.nodes lay.cluts

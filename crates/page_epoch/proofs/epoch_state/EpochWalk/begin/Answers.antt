@@ -7,6 +7,6 @@ returns-clause-walk c = record {
   epoch = c.index-epochs-place.result;
   found = slice_get_read c.args.epochs.now _ c.args.place c.index-epochs-place.result refl c.requires.there c.index-epochs-place.is;
   layout = c.in_ok-layout.ensures;
-  current = c.in_ok-current.ensures.current c.args.epochs.now c.index-epochs-place.result;
+  current = c.in_ok-current.ensures.current c.index-epochs-place.result;
   safe = c.in_ok-current.ensures.safe;
 }

@@ -10,7 +10,7 @@ use Rattle.receiver.proofs.receiver.Receiver.ready.Goals as goal
 pub returns-in_err-ready-clause-all : goal.returns-in_err-ready-clause-all
 returns-in_err-ready-clause-all c none fed ended given stands =
     let before = subst (Stands ended fed given) (sym c.self.view_is) stands in
-    subst (λ (now : Receiving). sets_of now.showing.core.profile.coded now.demux.pid now.showing.core.page ended fed ≡ given) c.self.view_is
+    subst (λ (now : Receiving). sets_of now.showing.core.profile.coded now.demux.pid now.sets.pages ended fed ≡ given) c.self.view_is
     (sets_gathered ended fed given _ c.self.invariant.0 before ∙ c.in_err-ready.ensures.delivery _ ended given before.gathers.sets)
 
 pub returns-clause-next : goal.returns-clause-next

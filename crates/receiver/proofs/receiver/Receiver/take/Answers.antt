@@ -12,7 +12,8 @@ returns-in-Some-clause-stands g c ended fed given rest delivery next =
     let before = subst (IsNext ended fed given delivery rest) (sym c.self.view_is) next in
     let all = next_gathered ended fed given delivery rest _ c.self.invariant.0 before in
     let ready = next_ready _ given delivery rest (lent c.in-Some.ready) all (c.in-Some.ensures.delivery _ ended given before.stands.gathers.sets) in
-    taken_stands ended fed given delivery rest _ _ before refl c.take-taken.ensures.same (c.give.ensures.stands _ ended given rest delivery before.stands.gathers.sets all)
+    taken_stands ended fed given delivery rest _ _ before refl (record { pid = refl; pages = c.give.ensures.pages; core = c.take-taken.ensures.same })
+    (c.give.ensures.stands _ ended given rest delivery before.stands.gathers.sets all)
     (λ past one read stands. c.take-taken.ensures.stands past delivery one ready read stands)
 
 pub returns-in-Some-clause-answer : goal.returns-in-Some-clause-answer

@@ -1,0 +1,115 @@
+ghost use Rattle.std.specs.Prelude.{◌≡◌, ◌+◌, ◌<◌, ◌≤◌, ◌^◌, ◌++◌, length, take, replicate, All, Some, OnOk};
+ghost use Rattle.sub_base.specs.Depth.{code_count};
+ghost use Rattle.cue_list.specs.CellFaults.{fault_in};
+ghost use Rattle.cue_list.specs.PixelRuns.{place_of as place_of_mark, code_at_depth as code_at_depth_of, run_in as run_in_of, run_codes, is_in_runs as is_in_runs_of};
+ghost use Rattle.cue_list.specs.RowFaults.{runs_fault};
+
+use crate::fault::ScriptKind;
+use crate::hex::hex_value;
+use crate::limits::LONGEST_RUN;
+use sub_base::{Depth, number_in};
+
+/// So many pixels of one code, one after the other.
+#[derive(Clone, Copy, Debug)]
+pub struct PixelRun {
+    /// How many pixels, 1 to 2,073,600.
+    pub count: u32,
+    /// Their code.
+    pub code: u8,
+}
+
+/// Whether the codes of a picture are runs: a `*` stands in them.
+pub(crate) fn is_in_runs(text: &[u8]) -> bool
+    ensures { result ≡ is_in_runs_of text.now }
+{
+    text.contains(&b'*')
+}
+
+/// Puts the codes that runs spell in their places, and says what is wrong with the runs: the first
+/// that is none, then their sum, then a code that is too large for the depth.
+pub(crate) fn put_runs(depth: Depth, text: &[u8], codes: &mut [u8]) -> Result<(), ScriptKind>
+    requires { (length codes.old < 2 ^ 32) }
+    ensures fault { fault_in result ≡ runs_fault depth (length codes.old) text.now }
+    ensures codes { OnOk result (run_codes depth text.now ≡ Some codes.new) }
+    ensures range { OnOk result (All (λ code. code < code_count depth) codes.new) }
+    ensures count { length codes.new ≡ length codes.old }
+{
+    let mut start = 0;
+    let mut filled = 0;
+    let mut right = true;
+    // A run begins behind each space, and so behind one at the end of the text.
+    while start <= text.len() {
+        let rest = &text[start..];
+        let end = place_of(b' ', rest);
+        let Some(run) = run_in(depth, &rest[..end]) else {
+            return Err(ScriptKind::Number);
+        };
+        filled = put_run(run, codes, filled);
+        right &= u16::from(run.code) < depth.code_count();
+        start += end + 1;
+    }
+    if filled != codes.len() {
+        return Err(ScriptKind::Count);
+    }
+    if !right {
+        return Err(ScriptKind::CodeRange);
+    }
+    Ok(())
+}
+
+/// Puts a run's pixels behind those that are there, and says how many there are then: one more than
+/// there are places, where they do not fit.
+fn put_run(run: PixelRun, codes: &mut [u8], filled: usize) -> usize
+    requires small { (length codes.old < 2 ^ 32) }
+    requires filled { filled ≤ length codes.old + 1 }
+    ensures fits { filled + run.count ≤ length codes.old
+        → (result ≡ filled + run.count)
+        × (take result codes.new ≡ take filled codes.old ++ replicate run.count run.code) }
+    ensures over { length codes.old < filled + run.count → result ≡ length codes.old + 1 }
+    ensures count { length codes.new ≡ length codes.old }
+{
+    let end = filled + run.count as usize;
+    if end > codes.len() {
+        return codes.len() + 1;
+    }
+    codes[filled..end].fill(run.code);
+    end
+}
+
+/// The run that a text is: a count, a `*`, and the digits of a code.
+fn run_in(depth: Depth, text: &[u8]) -> Option<PixelRun>
+    ensures { result ≡ run_in_of depth text.now }
+{
+    let star = place_of(b'*', text);
+    let count = number_in(&text[..star], 1, u64::from(LONGEST_RUN))?;
+    let code = code_at_depth(depth, text.get(star + 1..).unwrap_or(&[]))?;
+    Some(PixelRun {
+        count: count as u32,
+        code,
+    })
+}
+
+/// The code that digits are: one hexadecimal digit, two at 8 bits.
+fn code_at_depth(depth: Depth, digits: &[u8]) -> Option<u8>
+    ensures { result ≡ code_at_depth_of depth digits.now }
+{
+    match (depth, digits) {
+        (Depth::Two | Depth::Four, [digit]) => hex_value(char::from(*digit)),
+        (Depth::Eight, [high, low]) => {
+            Some(16 * hex_value(char::from(*high))? + hex_value(char::from(*low))?)
+        }
+        _ => None,
+    }
+}
+
+/// Where the first such byte of a text stands; its length, where there is none.
+fn place_of(mark: u8, text: &[u8]) -> usize
+    ensures value { result ≡ place_of_mark mark text.now }
+    ensures within { result ≤ length text.now }
+{
+    let mut place = 0;
+    while place < text.len() && text[place] != mark {
+        place += 1;
+    }
+    place
+}

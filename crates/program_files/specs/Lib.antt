@@ -1,0 +1,4 @@
+pub mod Identity
+pub mod Keeping
+pub mod Names
+pub mod Words

@@ -1,0 +1,23 @@
+//! The files of a program: the words that name them, its inputs, and its output, which takes the
+//! place of what was there whole or not at all.
+#![tactic(auto)]
+
+// The words of the command line.
+mod words;
+
+// Which file is which, and what a new file is called.
+mod identity;
+mod names;
+
+// The output: when what was written is kept, and the new file that it goes to.
+mod keeping;
+mod new_file;
+mod output;
+
+pub use identity::{FileNumbers, is_input, numbers_of, opened, output_name};
+pub use keeping::{OutputKind, is_kept};
+pub use output::Output;
+pub use words::{WordsFault, word_at, words_of};
+
+#[cfg(test)]
+mod tests;

@@ -1,0 +1,183 @@
+ghost use Rattle.std.specs.Io.{WritesAtMost};
+
+use crate::identity::{FileNumbers, has_numbers, is_input, numbers_in};
+use crate::new_file::NewFile;
+use std::fs::{self, File};
+use std::io::{self, ErrorKind, Write};
+
+/// The file of a command's output. It is made only as the first bytes are written or as the command
+/// has ended, so that a command that is refused touches nothing.
+///
+/// Where the output is missing or a regular file, what is written goes to a new file beside it, which
+/// is flushed and renamed at the end: whatever ends the program before, what was there stays whole. A
+/// pipe, a device and standard output are written as it comes.
+#[derive(Drop)]
+pub struct Output<'a> {
+    rt: &'a HostRuntime,
+    place: Place<'a>,
+    opened: Option<Opened>,
+    has_written: bool,
+}
+
+/// Where an output goes.
+#[derive(Clone, Copy)]
+enum Place<'a> {
+    /// Nowhere: it is an input, or has no name.
+    Nowhere,
+    /// To standard output.
+    StandardOutput,
+    /// Straight to what has that name.
+    Straight(&'a str),
+    /// To a new file beside what has that name.
+    Beside(&'a str),
+}
+
+#[derive(Drop)]
+enum Opened {
+    Straight(File),
+    Beside(NewFile),
+}
+
+impl<'a> Output<'a> {
+    /// An output that takes the place of what was there when its command has ended. Every write
+    /// fails where it is one of the two inputs, under whatever name.
+    pub fn whole(
+        rt: &'a HostRuntime,
+        name: Option<&'a str>,
+        first: Option<FileNumbers>,
+        second: Option<FileNumbers>,
+    ) -> Output<'a> {
+        let place = match place_of(rt, name, first, second) {
+            Place::Straight(name) if may_be_replaced(rt, name) => Place::Beside(name),
+            place => place,
+        };
+        Output::at(rt, place)
+    }
+
+    /// An output that is written as it comes, for a program whose reader waits for it. Every write
+    /// fails where it is one of the two inputs, under whatever name.
+    pub fn as_it_comes(
+        rt: &'a HostRuntime,
+        name: Option<&'a str>,
+        first: Option<FileNumbers>,
+        second: Option<FileNumbers>,
+    ) -> Output<'a> {
+        Output::at(rt, place_of(rt, name, first, second))
+    }
+
+    fn at(rt: &'a HostRuntime, place: Place<'a>) -> Output<'a> {
+        Output {
+            rt,
+            place,
+            opened: None,
+            has_written: false,
+        }
+    }
+
+    /// Whether standard output itself has the output: then it can have no line besides.
+    pub fn is_standard_output(&self) -> bool {
+        matches!(self.place, Place::StandardOutput)
+    }
+
+    /// Whether it has nowhere to go: it is an input, or has no name.
+    pub fn is_refused(&self) -> bool {
+        matches!(self.place, Place::Nowhere)
+    }
+
+    /// Whether something was written.
+    pub fn has_written(&self) -> bool {
+        self.has_written
+    }
+
+    /// The output is to be kept, even where nothing was written: it takes the place of what was
+    /// there.
+    pub fn finish(&mut self) -> io::Result<()> {
+        self.make()?;
+        match self.opened.take() {
+            Some(Opened::Beside(new)) => new.put_in_place(self.rt),
+            _ => Ok(()),
+        }
+    }
+
+    /// The output is not to be kept: what was there stays as it was.
+    pub fn abandon(&mut self) {
+        if let Some(Opened::Beside(new)) = self.opened.take() {
+            new.remove(self.rt);
+        }
+    }
+
+    /// Writes to what was opened, and where nothing was to standard output.
+    fn put(&mut self, piece: &[u8]) -> io::Result<usize>
+        ensures bound { WritesAtMost result piece.now }
+    {
+        match &mut self.opened {
+            Some(Opened::Straight(file)) => file.write(piece),
+            Some(Opened::Beside(new)) => new.write(piece),
+            None => io::writer(self.rt).write(piece),
+        }
+    }
+
+    fn make(&mut self) -> io::Result<()> {
+        if self.opened.is_some() {
+            return Ok(());
+        }
+        match self.place {
+            Place::Nowhere => return Err(io::Error::from(ErrorKind::NotFound)),
+            Place::StandardOutput => {}
+            Place::Straight(name) => {
+                self.opened = Some(Opened::Straight(File::create(self.rt, name)?));
+            }
+            Place::Beside(name) => {
+                self.opened = Some(Opened::Beside(NewFile::make(self.rt, name)?));
+            }
+        }
+        Ok(())
+    }
+}
+
+impl Write for Output<'_> {
+    fn write(&mut self, piece: &[u8]) -> io::Result<usize> {
+        self.make()?;
+        let count = self.put(piece)?;
+        self.has_written = self.has_written || count > 0;
+        Ok(count)
+    }
+
+    fn flush(&mut self) -> io::Result<()> {
+        Ok(())
+    }
+}
+
+/// Where the output of that name goes, as it comes.
+fn place_of<'a>(
+    rt: &HostRuntime,
+    name: Option<&'a str>,
+    first: Option<FileNumbers>,
+    second: Option<FileNumbers>,
+) -> Place<'a> {
+    let Some(name) = name else {
+        return Place::Nowhere;
+    };
+    match numbers_at(rt, name) {
+        Some(numbers) if is_input(numbers, first, second) => Place::Nowhere,
+        Some(numbers) if has_numbers(numbers, numbers_at(rt, STANDARD_OUTPUT)) => {
+            Place::StandardOutput
+        }
+        _ => Place::Straight(name),
+    }
+}
+
+/// The name under which the system shows standard output.
+const STANDARD_OUTPUT: &str = "/dev/stdout";
+
+fn numbers_at(rt: &HostRuntime, name: &str) -> Option<FileNumbers> {
+    fs::metadata(rt, name).ok().map(|there| numbers_in(&there))
+}
+
+/// Whether the file of that name is missing or a regular one.
+fn may_be_replaced(rt: &HostRuntime, name: &str) -> bool {
+    match fs::metadata(rt, name) {
+        Ok(there) => there.is_file(),
+        Err(_) => true,
+    }
+}
