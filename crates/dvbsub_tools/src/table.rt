@@ -1,0 +1,4 @@
+/// The tools, one a line. A tool that is added gets its line here.
+pub(crate) const TOOLS: &str =
+    "mux N1 M1 PID1 PAGE1 LANG1 N2 M2 PID2 PAGE2 LANG2 STREAM1 STREAM2 OUT\n\
+     take N STREAM OUT";

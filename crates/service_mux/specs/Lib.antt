@@ -1,0 +1,11 @@
+pub mod Multiplex
+pub mod MuxOutcome
+pub mod MuxWords
+pub mod Private
+pub mod Reading
+pub mod Sections
+pub mod ServicesAgain
+pub mod StreamReads
+pub mod TakeOutcome
+pub mod TakeWords
+pub mod Taken
