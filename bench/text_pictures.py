@@ -1,12 +1,13 @@
 """Writes scripts whose pictures are lines of smoothed text, 720 by 80 pixels, for bench/text_pictures.sh.
 
-    python3 bench/text_pictures.py FONT DEPTH PICTURES SETS > script.csv
+    python3 bench/text_pictures.py FONT DEPTH PICTURES SETS [runs] > script.csv
     python3 bench/text_pictures.py FONT DEPTH PICTURES noise > script.csv
 
 Text of the BDF font is drawn three times as large and smoothed: each pixel is the mean of the nine about it, by so many
 levels as the depth has codes. SETS cues, half a second apart, show the PICTURES in turn. With `noise` each pixel of a
-picture differs from the one before it.
+picture differs from the one before it. With `runs` the codes are written as runs, and else as digits.
 """
+import itertools
 import random
 import sys
 
@@ -71,6 +72,12 @@ def noise(chance, levels):
     return codes
 
 
+def written(codes, form, runs):
+    if runs:
+        return " ".join(f"{len(list(run))}*{form % code}" for code, run in itertools.groupby(codes))
+    return "".join(form % code for code in codes)
+
+
 def main():
     path, depth, pictures, sets = sys.argv[1], int(sys.argv[2]), int(sys.argv[3]), sys.argv[4]
     font, chance, levels = glyphs(path), random.Random(7), 2 ** depth
@@ -78,7 +85,7 @@ def main():
     print("origin,0\ndisplay,720,576\nrefresh,5")
     for number in range(pictures):
         codes = noise(chance, levels) if sets == "noise" else drawn(font, chance, levels)
-        print(f"picture,p{number},{depth},{WIDTH},{HEIGHT},{''.join(form % code for code in codes)}")
+        print(f"picture,p{number},{depth},{WIDTH},{HEIGHT},{written(codes, form, sys.argv[5:] == ['runs'])}")
     print(f"epoch,900000\nregion,0,0,480,{WIDTH},{HEIGHT},{depth},0")
     for number in range(pictures if sets == "noise" else int(sets)):
         start = 900_000 + 45_000 * number

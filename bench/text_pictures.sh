@@ -1,6 +1,6 @@
 #!/usr/bin/env bash
 # Pictures of 720 by 80 pixels of smoothed text at each depth: 4,096 sets that show 8 pictures in turn, 512 sets that each
-# show another picture, and 8 pictures in which each pixel differs from the one before it. Prints the sets a second of
+# show another picture, in digits and in runs, and 8 pictures in which each pixel differs from the one before it. Prints the sets a second of
 # `compile`, by its own time and by the clock (the best of 15 runs), its memory, and the seconds that `cp` takes for the bytes that
 # it wrote; then the pixels a second that are coded anew (`write_fields`) and read (`check_block` and `next_run`) of the 8 text
 # pictures. Where libavcodec's headers are installed, its encoder is given the same pictures, and ours is compared with it.
@@ -40,6 +40,8 @@ for depth in 8 4 2; do
     compile "$depth-bit-4096-sets-of-8-pictures" 4096 "$encoded"
     python3 bench/text_pictures.py $font $depth 512 512 >$script
     compile "$depth-bit-512-different-pictures" 512 "$encoded"
+    python3 bench/text_pictures.py $font $depth 512 512 runs >$script
+    compile "$depth-bit-512-different-pictures-in-runs" 512 "$encoded"
     python3 bench/text_pictures.py $font $depth 8 noise >$script
     read -r written read < <(pictures 500)
     echo "$depth-bit pictures where each pixel differs: $written million pixels a second coded, $read checked and read"

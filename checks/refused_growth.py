@@ -3,7 +3,7 @@
     python3 checks/refused_growth.py [--all] [--jobs N] [CRATE[=FIRST-LAST]]...
 
 For numbers N from 1 on, `rt try CRATE --test --fail-alloc N` runs each test of the crate, in a process of its own, with its Nth allocation
-refused. Each public call that takes memory is called in such a test (docs/CALLS.md names them). A test may pass, end with the error of the
+refused. Each public call that takes memory is called in such a test. A test may pass, end with the error of the
 call, or find the answer for want of memory where it wanted another one. A fault, a test that does not end, and any other answer is
 printed: there must be none. A crate is done with the first N at which every test passes, as no test takes memory so often.
 

@@ -1,0 +1,201 @@
+#!/usr/bin/env python3
+"""Compares what a receiver shows of compiled scripts with what libavcodec shows, which most players are made with.
+
+    python3 checks/players.py [PROFILE SCRIPT FONT]...
+
+Without words it takes the scripts of `examples`. Each script is compiled and put behind tables (PAT and PMT) by which players
+find the subtitles; then each display set's picture by `dump` is compared, pixel for pixel, with libavcodec's, in colours as
+libavcodec turns them (2 of 255 apart at the most, since entries that nothing sets come from its own table). A set is left out
+whose fault is libavcodec's own and known: a line of 8 bit codes that ends at the right edge of its region, or code 1 let through.
+Where libavcodec's headers are not installed nothing is compared, and the last line says so.
+"""
+import os
+import re
+import struct
+import subprocess
+import sys
+import tempfile
+
+TOP = os.path.dirname(os.path.dirname(os.path.abspath(__file__)))
+PROGRAM = os.environ.get("DVBSUB", os.path.join(TOP, "dvbsub"))
+PID, PAGE, TABLE_PID = 256, 1, 32
+ROUND = 1 << 33
+
+
+def crc(data):
+    """The checksum of a section (ISO/IEC 13818-1, annex A)."""
+    register = 0xFFFFFFFF
+    for byte in data:
+        register ^= byte << 24
+        for _ in range(8):
+            register = (register << 1 ^ (0x04C11DB7 if register >> 31 else 0)) & 0xFFFFFFFF
+    return register
+
+
+def section(table, number, body):
+    """A section of one table in a packet's payload."""
+    data = struct.pack(">BHHBBB", table, 0xB000 | len(body) + 9, number, 0xC1, 0, 0) + body
+    return b"\0" + data + struct.pack(">I", crc(data))
+
+
+def packet(pid, counter, payload):
+    return struct.pack(">BHB", 0x47, 0x4000 | pid, 0x10 | counter) + payload.ljust(184, b"\xff")
+
+
+def with_tables(stream):
+    """The packets of a stream behind a PAT and a PMT, which come again every 500 packets."""
+    subtitles = b"\x59\x08eng\x10" + struct.pack(">HH", PAGE, PAGE)
+    pat = section(0, 1, struct.pack(">HH", 1, 0xE000 | TABLE_PID))
+    pmt = section(2, 1, struct.pack(">HHBHH", 0xFFFF, 0xF000, 6, 0xE000 | PID, 0xF000 | len(subtitles)) + subtitles)
+    out, counter = [], 0
+    for place in range(0, len(stream), 188 * 500):
+        out += [packet(0, counter, pat), packet(TABLE_PID, counter, pmt), stream[place:place + 188 * 500]]
+        counter = (counter + 1) % 16
+    return b"".join(out)
+
+
+def clip(number):
+    return max(0, min(255, number))
+
+
+def rgba(colour):
+    """A colour as libavcodec turns it: red, green, blue and alpha."""
+    y, cr, cb, t = colour
+    if y == 0 or t == 255:
+        return 0, 0, 0, 0
+
+    def fix(number):
+        return int(number * 1024 + 0.5)
+    cr, cb, y = cr - 128, cb - 128, (y - 16) * fix(255 / 219)
+    red = fix(1.402 * 255 / 224) * cr + 512
+    green = -fix(0.34414 * 255 / 224) * cb - fix(0.71414 * 255 / 224) * cr + 512
+    blue = fix(1.772 * 255 / 224) * cb + 512
+    return clip(y + red >> 10), clip(y + green >> 10), clip(y + blue >> 10), 255 - t
+
+
+def pictures_of(text):
+    """The pictures of `dump` by their ticks: None where all is clear, or rows of colours."""
+    pictures, lines = {}, iter(text.splitlines())
+    for line in lines:
+        words = line.split()
+        if words[2] == "clear":
+            pictures[int(words[1])] = None
+            continue
+        rows = []
+        for _ in range(int(words[3])):
+            row = []
+            for run in next(lines).split():
+                length, colour = run.split("*")
+                row += [rgba(tuple(bytes.fromhex(colour)))] * int(length)
+            rows.append(row)
+        pictures[int(words[1])] = rows
+    return pictures
+
+
+def read_sets(data):
+    """The sets that libavcodec shows: times, and rectangles with their places and pixels."""
+    place, sets = 0, []
+
+    def numbers(count):
+        nonlocal place
+        place += 8 * count
+        return struct.unpack_from("<%dq" % count, data, place - 8 * count)
+    while place < len(data):
+        pts, count = numbers(2)
+        rectangles = []
+        for _ in range(count):
+            x, y, width, height = numbers(4)
+            rectangles.append((x, y, width, height, data[place:place + 4 * width * height]))
+            place += 4 * width * height
+        sets.append((pts % ROUND, rectangles))
+    return sets
+
+
+def is_same(rows, rectangles):
+    """A picture is what the rectangles show, and clear elsewhere."""
+    shown = {}
+    for left, top, width, height, pixels in rectangles:
+        for k in range(width * height):
+            pixel = tuple(pixels[4 * k:4 * k + 4])
+            if pixel[3]:
+                shown[left + k % width, top + k // width] = pixel
+    for y, row in enumerate(rows or []):
+        for x, pixel in enumerate(row):
+            other = shown.pop((x, y), (0, 0, 0, 0))
+            if (pixel[3] or other[3]) and any(abs(a - b) > 2 for a, b in zip(pixel, other)):
+                return False
+    return not shown
+
+
+def has_known_fault(script):
+    """Why libavcodec is known to show a script otherwise, if it does."""
+    if re.search(r"^place,.*,through,", script, re.M):
+        return "code 1 is let through"
+    if re.search(r"^region,\d+,\d+,\d+,\d+,\d+,8,", script, re.M):
+        return "8 bit codes may end at the right edge"
+    return None
+
+
+def compare(folder, reader, profile, script, font):
+    """How many sets a script has, and how many libavcodec shows otherwise."""
+    stream, wrapped, text, sets = (os.path.join(folder, name) for name in ("s.ts", "w.ts", "d.txt", "sets"))
+    run = [PROGRAM, "compile", profile, str(PID), str(PAGE), script, font, stream]
+    if subprocess.run(run, stdout=subprocess.PIPE).returncode:
+        return None
+    with open(stream, "rb") as file, open(wrapped, "wb") as out:
+        out.write(with_tables(file.read()))
+    subprocess.run([reader, wrapped, sets], check=True, stderr=subprocess.DEVNULL)
+    with open(sets, "rb") as file:
+        shown = read_sets(file.read())
+    listed = os.path.join(folder, "list.txt")
+    subprocess.run([PROGRAM, "list", str(PID), stream, listed], stdout=subprocess.PIPE, check=True)
+    with open(listed) as file:
+        times = sorted({int(time) for time in re.findall(r"^unit \d+ pts (\d+) ", file.read(), re.M)})
+    rows = {}
+    for first in range(0, len(times), 1000):
+        ticks = [str(time) for time in times[first:first + 1000]]
+        subprocess.run([PROGRAM, "dump", profile, str(PID), str(PAGE), "4", stream, text] + ticks,
+                       stdout=subprocess.PIPE, check=True)
+        with open(text) as file:
+            rows.update(pictures_of(file.read()))
+    # A set without a rectangle clears the display; one that libavcodec passes over leaves what was there.
+    by_time = dict(shown)
+    current, wrong = [], 0
+    for time in times:
+        current = by_time.get(time, current)
+        wrong += not is_same(rows[time], current)
+    return len(times), wrong
+
+
+def main():
+    words = sys.argv[1:]
+    examples = os.path.join(TOP, "examples")
+    scripts = [words[k:k + 3] for k in range(0, len(words), 3)] or [
+        ["sd", os.path.join(examples, name), os.path.join(examples, "television.bdf")]
+        for name in sorted(os.listdir(examples)) if name.endswith(".csv")]
+    with tempfile.TemporaryDirectory() as folder:
+        reader = os.path.join(folder, "reader")
+        made = subprocess.run(["cc", "-O2", "-o", reader, os.path.join(TOP, "checks", "libavcodec_pictures.c"),
+                               "-lavformat", "-lavcodec", "-lavutil"], stderr=subprocess.DEVNULL)
+        if made.returncode:
+            print("libavcodec's headers are not installed: not compared")
+            return 0
+        bad = all_sets = 0
+        for profile, script, font in scripts:
+            with open(script, encoding="utf-8", errors="replace") as file:
+                known = has_known_fault(file.read())
+            found = compare(folder, reader, profile, script, font)
+            name = os.path.basename(script)
+            if found is None:
+                print("%s: not compiled" % name)
+                bad += 1
+                continue
+            print("%s: %d sets, %d differ%s" % (name, *found, " (known of libavcodec: %s)" % known if known else ""))
+            all_sets += found[0]
+            bad += found[1] if not known else 0
+    print("%d scripts, %d sets, %d differ" % (len(scripts), all_sets, bad))
+    return 1 if bad else 0
+
+
+if __name__ == "__main__":
+    sys.exit(main())
