@@ -74,7 +74,7 @@ fn each_write_of_many_packets_fails(rt: HostRuntime) -> Result<(), Fail> {
     let sent = run(&rt, alloc, &asked, sound(100_000))?;
     let packets = sent.out.written();
     assert_eq!(rt; packets.len(), 4_597 * 188);
-    each_write_fails(&rt, alloc, &asked, 36_096, packets)
+    each_write_fails(&rt, alloc, &asked, 65_424, packets)
 }
 
 /// A byte a call both ways.

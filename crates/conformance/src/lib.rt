@@ -1,4 +1,4 @@
-//! Tables of vectors over the commands: hostile input, and every call that fails. There is no code
+//! Tables of vectors over the commands and the tools: hostile input, and every call that fails. There is no code
 //! here but tests, and a source for them; each expected value was worked out by hand, or is
 //! reckoned here from the rules of docs/FORMATS.md.
 #![tactic(auto)]
@@ -25,6 +25,8 @@ mod streams;
 mod failing;
 #[cfg(test)]
 mod failing_reads;
+#[cfg(test)]
+mod failing_tools;
 #[cfg(test)]
 mod failing_writes;
 #[cfg(test)]

@@ -1,6 +1,7 @@
 ghost use Rattle.std.specs.Prelude.{◌≤◌};
 
 use dvbsub_cmd::top;
+use service_mux::{mux_top, take_top};
 use std::alloc::Global;
 use std::process::Abort;
 use std::test::Fail;
@@ -87,7 +88,7 @@ fn sink_of(alloc: Global, most: usize, bad_write: u64) -> Result<MemSink, Fail> 
     Ok(MemSink::make(alloc, most.max(1), fails))
 }
 
-/// Carries out a command over any sources.
+/// Carries out a command, or a tool of the second program, over any sources.
 pub(crate) fn run_over<R: Threads + Sync, A: Source, B: Source>(
     rt: &R,
     alloc: Global,
@@ -99,14 +100,17 @@ pub(crate) fn run_over<R: Threads + Sync, A: Source, B: Source>(
     let words = words_of(alloc, line)?;
     let mut out = sink_of(alloc, edges.most_written, edges.bad_write)?;
     let mut notes = sink_of(alloc, edges.most_written, edges.bad_note)?;
-    let status = top(
-        rt, alloc, &words, first, second, &mut out, &mut notes, &NoGate,
-    );
-    Ok(Ended {
-        code: status.code(),
-        out,
-        notes,
-    })
+    let code = if line.starts_with("mux ") {
+        mux_top(alloc, &words, first, second, &mut out, &mut notes).code()
+    } else if line.starts_with("take ") {
+        take_top(alloc, &words, first, &mut out, &mut notes).code()
+    } else {
+        let status = top(
+            rt, alloc, &words, first, second, &mut out, &mut notes, &NoGate,
+        );
+        status.code()
+    };
+    Ok(Ended { code, out, notes })
 }
 
 /// How a command has to end.
