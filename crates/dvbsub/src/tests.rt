@@ -10,12 +10,12 @@ const FONT: &str = "STARTFONT 2.1\nFONTBOUNDINGBOX 3 4 0 -1\nSTARTCHAR A\nENCODI
                     BBX 2 3 0 0\nBITMAP\n40\nC0\n40\nENDCHAR\nENDFONT\n";
 
 /// The code that the program ends with over the words of a line.
-fn code_of_line(rt: &HostRuntime, line: &str) -> Result<u8, Fail> {
+fn code_of_line<T: Threads + Sync>(rt: &HostRuntime, threads: &T, line: &str) -> Result<u8, Fail> {
     let mut words = Words::make(rt.alloc());
     for word in line.split(' ') {
         words.push(word)?;
     }
-    Ok(carry_out(rt, rt, &words))
+    Ok(carry_out(rt, threads, &words))
 }
 
 /// A folder that no other test has, with a script, its font, and an old output.
@@ -49,7 +49,7 @@ fn codes_of_commands_that_fail(rt: HostRuntime) -> Result<(), Fail> {
         (overwriting, 6),
     ];
     for (line, code) in cases {
-        assert_eq!(rt; code_of_line(&rt, line)?, code);
+        assert_eq!(rt; code_of_line(&rt, &rt, line)?, code);
     }
     Ok(())
 }
@@ -60,11 +60,11 @@ fn the_font_is_its_own_file(rt: HostRuntime) -> Result<(), Fail> {
     let folder = folder_of(&rt, "font")?;
     let f = folder.as_str();
     let whole = format!(in rt.alloc(); "compile sd 256 1 {f}/s {f}/f {f}/out")?;
-    assert_eq!(rt; code_of_line(&rt, whole.as_str())?, 0);
+    assert_eq!(rt; code_of_line(&rt, &rt, whole.as_str())?, 0);
     let missing = format!(in rt.alloc(); "compile sd 256 1 {f}/s {f}/none {f}/out")?;
-    assert_eq!(rt; code_of_line(&rt, missing.as_str())?, 5);
+    assert_eq!(rt; code_of_line(&rt, &rt, missing.as_str())?, 5);
     let script = format!(in rt.alloc(); "compile sd 256 1 {f}/s {f}/s {f}/out")?;
-    assert_eq!(rt; code_of_line(&rt, script.as_str())?, 3);
+    assert_eq!(rt; code_of_line(&rt, &rt, script.as_str())?, 3);
     fs::remove_dir_all(&rt, f)?;
     Ok(())
 }
@@ -106,7 +106,7 @@ fn nothing_is_overwritten(rt: HostRuntime) -> Result<(), Fail> {
         ),
     ];
     for (line, code) in &lines {
-        assert_eq!(rt; code_of_line(&rt, line.as_str())?, *code);
+        assert_eq!(rt; code_of_line(&rt, &rt, line.as_str())?, *code);
         assert_eq!(rt; text_in(&rt, f, "s")?.as_str(), SCRIPT);
         assert_eq!(rt; text_in(&rt, f, "f")?.as_str(), FONT);
         assert_eq!(rt; text_in(&rt, f, "old")?.as_str(), "old");
@@ -124,7 +124,7 @@ fn what_was_told_is_kept(rt: HostRuntime) -> Result<(), Fail> {
     let stream = format!(in rt.alloc(); "{f}/stream")?;
     fs::write(&rt, stream.as_str(), [0; 188].as_slice())?;
     let line = format!(in rt.alloc(); "list 256 {f}/stream {f}/old")?;
-    assert_eq!(rt; code_of_line(&rt, line.as_str())?, 4);
+    assert_eq!(rt; code_of_line(&rt, &rt, line.as_str())?, 4);
     assert_eq!(rt; text_in(&rt, f, "old")?.as_str(), "");
     fs::remove_dir_all(&rt, f)?;
     Ok(())
