@@ -1,11 +1,11 @@
 #!/usr/bin/env python3
 """Lines that are longer than the house's: 100 columns in code and clauses, 120 in definitions and proofs.
 
-    python3 checks/long_lines.py                 how many there are, by file
+    python3 checks/long_lines.py                 how many there are, by file; status 1 where there are some
     python3 checks/long_lines.py --break FILE..  breaks them at an operator of the least depth
 
-A broken line goes on four columns further in. A paragraph of comments with a long line is wrapped anew. Imports, and lines
-with texts, stay as they are. Columns are counted in bytes. A file whose lines were broken is to be read again: the place that is
+A broken line goes on four columns further in. A paragraph of comments with a long line is wrapped anew. Imports, lines
+with texts, and lines with a name of more than 100 columns (the prover's, of a case) stay as they are. Columns are counted in bytes. A file whose lines were broken is to be read again: the place that is
 found is the one of least depth, and not always the one that reads best.
 """
 import glob
@@ -32,7 +32,8 @@ def columns(line):
 
 
 def is_left_alone(line):
-    return line.lstrip().startswith(("use ", "ghost use ", "--", "//", "#[")) or '"' in line
+    is_of_one_word = any(columns(word) > 100 for word in line.split())
+    return line.lstrip().startswith(("use ", "ghost use ", "--", "//", "#[")) or '"' in line or is_of_one_word
 
 
 def depths(line):
@@ -55,7 +56,7 @@ def is_between_words(line, place):
 
 
 def best_place(line, limit, start):
-    """The place of least depth: before an operator that binds least, else between two words; the last such one."""
+    """The place of least depth: before an operator that binds least, else between two words or after a comma; the last such one."""
     depth, places = depths(line), []
     for rank, operators in enumerate(OPERATORS + [SUMS]):
         for operator in operators:
@@ -66,6 +67,8 @@ def best_place(line, limit, start):
     for place in range(start + 9, min(limit, len(line) - 1) + 1):
         if is_between_words(line, place):
             places.append((depth[place], len(OPERATORS) + 1, -place))
+        elif line[place - 1 : place + 1] == ", ":
+            places.append((depth[place], len(OPERATORS) + 2, -place))
     return min(places) if places else None
 
 
@@ -145,12 +148,16 @@ def main(arguments):
                 file.write("\n".join(lines))
         return
     total = 0
-    for path in sorted(glob.glob("crates/*/src/*.rt") + glob.glob("crates/*/specs/**/*.antt", recursive=True)):
+    paths = glob.glob("crates/*/src/*.rt")
+    for folder in ("specs", "proofs"):
+        paths += glob.glob(f"crates/*/{folder}/**/*.antt", recursive=True)
+    for path in sorted(paths):
         count = count_long(path)
         total += count
         if count:
             print(f"{count:4} {path}")
     print(f"{total:4} in all")
+    sys.exit(total > 0)
 
 
 main(sys.argv[1:])

@@ -37,7 +37,8 @@ left_step : (t : Bool) (h s : ℕ) → (if t then h - (s + 1) else 0) ≡ (if t 
 left_step true h s = omega arith
 left_step false h s = omega arith
 
-left_same : (t : Bool) (h s : ℕ) → nat_lt 0 (if t then h - s else 0) ≡ false → (if t then h - (s + 1) else 0) ≡ (if t then h - s else 0)
+left_same : (t : Bool) (h s : ℕ) → nat_lt 0 (if t then h - s else 0) ≡ false
+    → (if t then h - (s + 1) else 0) ≡ (if t then h - s else 0)
 left_same true h s e = omega (arith, ltb-false 0 (h - s) e)
 left_same false h s e = refl
 
@@ -47,14 +48,16 @@ no_bitmap t h k s r e = rw e refl
 abbrev height_in : List Line → ℕ
 height_in glyph = option_map_or (λ shape. shape.height) (shape_in glyph) 0
 
-row_bytes_more : (t : Bool) (bytes row : List ℕ) → t ≡ true → (if t then bytes ++ row else bytes) ≡ bytes ++ row
+row_bytes_more : (t : Bool) (bytes row : List ℕ) → t ≡ true
+    → (if t then bytes ++ row else bytes) ≡ bytes ++ row
 row_bytes_more t bytes row e = rw e refl
 
 row_bytes_same : (t : Bool) (bytes row : List ℕ) → t ≡ false → (if t then bytes ++ row else bytes) ≡ bytes
 row_bytes_same t bytes row e = rw e refl
 
 -- a row was added to the glyph in hand
-pub draft-row : (glyph : List Line) (keyword : Keyword) (text : List ℕ) → is_known keyword ≡ false → nat_lt 0 (rows_left glyph) ≡ true →
+pub draft-row : (glyph : List Line) (keyword : Keyword) (text : List ℕ) → is_known keyword ≡ false
+    → nat_lt 0 (rows_left glyph) ≡ true →
     open_glyph (record { keyword = keyword; text = text } ∷ glyph) ≡ with_row text (open_glyph glyph)
 draft-row glyph StartFont text plain e = λ i. record (open_glyph glyph) {
   left = left_step (has_bitmap glyph) (height_in glyph) (since_bitmap glyph) i;
@@ -79,7 +82,8 @@ draft-row glyph Other text plain e = λ i. record (open_glyph glyph) {
 }
 
 -- a line that means nothing to the glyph in hand
-pub draft-plain : (glyph : List Line) (keyword : Keyword) (text : List ℕ) → is_known keyword ≡ false → nat_lt 0 (rows_left glyph) ≡ false →
+pub draft-plain : (glyph : List Line) (keyword : Keyword) (text : List ℕ) → is_known keyword ≡ false
+    → nat_lt 0 (rows_left glyph) ≡ false →
     open_glyph (record { keyword = keyword; text = text } ∷ glyph) ≡ open_glyph glyph
 draft-plain glyph StartFont text plain e = λ i. record (open_glyph glyph) {
   left = left_same (has_bitmap glyph) (height_in glyph) (since_bitmap glyph) e i;
@@ -103,27 +107,39 @@ draft-plain glyph Other text plain e = λ i. record (open_glyph glyph) {
   bytes = row_bytes_same (nat_lt 0 (rows_left glyph)) (bytes_in glyph) (bytes_of_row (glyph_width glyph) text) e i;
 }
 
-pub draft-encoding : (glyph : List Line) (text : List ℕ) → has_bitmap glyph ≡ false → nat_lt 0 (rows_left glyph) ≡ false →
-    open_glyph (record { keyword = Encoding; text = text } ∷ glyph) ≡ with_encoding (encoding_of (words text)) (open_glyph glyph)
+pub draft-encoding : (glyph : List Line) (text : List ℕ) → has_bitmap glyph ≡ false
+    → nat_lt 0 (rows_left glyph) ≡ false →
+    open_glyph (record { keyword = Encoding; text = text } ∷ glyph)
+    ≡ with_encoding (encoding_of (words text)) (open_glyph glyph)
 draft-encoding glyph text none e = λ i. record (open_glyph glyph) {
   encoding = encoding_of (words text);
-  left = no_bitmap (has_bitmap glyph) (height_in (record { keyword = Encoding; text = text } ∷ glyph)) (height_in glyph) (since_bitmap glyph + 1) (since_bitmap glyph) none i;
+  left =
+      no_bitmap (has_bitmap glyph) (height_in (record { keyword = Encoding; text = text } ∷ glyph)) (height_in glyph)
+      (since_bitmap glyph + 1) (since_bitmap glyph) none i;
   bytes = row_bytes_same (nat_lt 0 (rows_left glyph)) (bytes_in glyph) (bytes_of_row (glyph_width glyph) text) e i;
 }
 
-pub draft-dwidth : (glyph : List Line) (text : List ℕ) → has_bitmap glyph ≡ false → nat_lt 0 (rows_left glyph) ≡ false →
-    open_glyph (record { keyword = Dwidth; text = text } ∷ glyph) ≡ with_advance (advance_of_words (words text)) (open_glyph glyph)
+pub draft-dwidth : (glyph : List Line) (text : List ℕ) → has_bitmap glyph ≡ false
+    → nat_lt 0 (rows_left glyph) ≡ false →
+    open_glyph (record { keyword = Dwidth; text = text } ∷ glyph)
+    ≡ with_advance (advance_of_words (words text)) (open_glyph glyph)
 draft-dwidth glyph text none e = λ i. record (open_glyph glyph) {
   advance = advance_of_words (words text);
-  left = no_bitmap (has_bitmap glyph) (height_in (record { keyword = Dwidth; text = text } ∷ glyph)) (height_in glyph) (since_bitmap glyph + 1) (since_bitmap glyph) none i;
+  left =
+      no_bitmap (has_bitmap glyph) (height_in (record { keyword = Dwidth; text = text } ∷ glyph)) (height_in glyph)
+      (since_bitmap glyph + 1) (since_bitmap glyph) none i;
   bytes = row_bytes_same (nat_lt 0 (rows_left glyph)) (bytes_in glyph) (bytes_of_row (glyph_width glyph) text) e i;
 }
 
-pub draft-bbx : (glyph : List Line) (text : List ℕ) → has_bitmap glyph ≡ false → nat_lt 0 (rows_left glyph) ≡ false →
-    open_glyph (record { keyword = Bbx; text = text } ∷ glyph) ≡ with_shape (box_of 0 (words text)) (open_glyph glyph)
+pub draft-bbx : (glyph : List Line) (text : List ℕ) → has_bitmap glyph ≡ false
+    → nat_lt 0 (rows_left glyph) ≡ false →
+    open_glyph (record { keyword = Bbx; text = text } ∷ glyph)
+    ≡ with_shape (box_of 0 (words text)) (open_glyph glyph)
 draft-bbx glyph text none e = λ i. record (open_glyph glyph) {
   shape = box_of 0 (words text);
-  left = no_bitmap (has_bitmap glyph) (height_in (record { keyword = Bbx; text = text } ∷ glyph)) (height_in glyph) (since_bitmap glyph + 1) (since_bitmap glyph) none i;
+  left =
+      no_bitmap (has_bitmap glyph) (height_in (record { keyword = Bbx; text = text } ∷ glyph)) (height_in glyph)
+      (since_bitmap glyph + 1) (since_bitmap glyph) none i;
   bytes = row_bytes_same (nat_lt 0 (rows_left glyph)) (bytes_in glyph) (bytes_of_row (glyph_width glyph) text) e i;
 }
 
@@ -138,7 +154,8 @@ draft-bitmap glyph text e =
     }
 
 -- a glyph in hand was begun
-count_positive : (a b : Bool) (inside : Bool) (n : ℕ) → (if a then true else if b then false else inside) ≡ true → (inside ≡ true → 0 < n) → 0 < (if a then n + 1 else n)
+count_positive : (a b : Bool) (inside : Bool) (n : ℕ) → (if a then true else if b then false else inside) ≡ true
+    → (inside ≡ true → 0 < n) → 0 < (if a then n + 1 else n)
 count_positive true b inside n e h = omega arith
 count_positive false true inside n e h = absurd (let no : false ≡ true = e in cc)
 count_positive false false inside n e h = h e
@@ -146,4 +163,5 @@ count_positive false false inside n e h = h e
 pub glyph_count-positive : (seen : List Line) → in_glyph seen ≡ true → 0 < glyph_count seen
 glyph_count-positive [] e = absurd (let no : false ≡ true = e in cc)
 glyph_count-positive (line ∷ earlier) e =
-    count_positive (is StartChar line) (is EndChar line) (in_glyph earlier) (glyph_count earlier) e (glyph_count-positive earlier)
+    count_positive (is StartChar line) (is EndChar line) (in_glyph earlier) (glyph_count earlier) e
+    (glyph_count-positive earlier)

@@ -10,11 +10,14 @@ use Rattle.bitmap_font.specs.Setting.{advance_of, this_line, pen_after, line_aft
 abbrev pub earlier : {A : Type 0} → List A → ℕ → List A
 earlier xs n = reverse (take n xs)
 
-pub earlier-more : {A : Type 0} (xs : List A) (n : ℕ) (other : A) → n < length xs → earlier xs (n + 1) ≡ get_or xs n other ∷ earlier xs n
-earlier-more xs n other inside = ap reverse (take_more xs n other inside) ∙ reverse-append (take n xs) (get_or xs n other ∷ [])
+pub earlier-more : {A : Type 0} (xs : List A) (n : ℕ) (other : A) → n < length xs
+    → earlier xs (n + 1) ≡ get_or xs n other ∷ earlier xs n
+earlier-more xs n other inside =
+    ap reverse (take_more xs n other inside) ∙ reverse-append (take n xs) (get_or xs n other ∷ [])
 
 -- the first n characters are laid out
-pub record LaidOut (font : FontValue) (characters : List ℕ) (n : ℕ) (placed : List PlacedGlyph) (pen width line : ℕ) : Type 0 where
+pub record LaidOut (font : FontValue) (characters : List ℕ) (n : ℕ) (placed : List PlacedGlyph)
+    (pen width line : ℕ) : Type 0 where
   pub glyphs : map drawn_of placed ≡ drawn_glyphs font (earlier characters n)
   pub pen_is : pen ≡ pen_after font (earlier characters n)
   pub width_is : width ≡ widest_line font (earlier characters n)
@@ -61,7 +64,8 @@ appended Q placed new old here k other inside =
           rw (get_or-append_right placed (new ∷ []) (length placed) k other refl last, zeroth) here
     ]
 
-module _ (font : FontValue) (characters : List ℕ) (n : ℕ) (inside : n < length characters) (placed : List PlacedGlyph) (pen width line : ℕ)
+module _ (font : FontValue) (characters : List ℕ) (n : ℕ) (inside : n < length characters)
+    (placed : List PlacedGlyph) (pen width line : ℕ)
     (before : LaidOut font characters n placed pen width line) where
   abbrev here : ℕ
   here = get_or characters n 0
@@ -73,7 +77,9 @@ module _ (font : FontValue) (characters : List ℕ) (n : ℕ) (inside : n < leng
         glyphs = rw more before.glyphs;
         pen_is = rw more refl;
         width_is = rw more (before.width_is ∙ max_none (widest_line font (earlier characters n)));
-        line_is = rw more (omega (arith, before.line_is, sum_by-cons (λ (c : ℕ). if c == 10 then 1 else 0) 10 (earlier characters n)));
+        line_is =
+            rw more (omega
+            (arith, before.line_is, sum_by-cons (λ (c : ℕ). if c == 10 then 1 else 0) 10 (earlier characters n)));
         each = each_more (λ k. CanBeSet font (get_or characters k 0)) n before.each (inl feed);
         pens = before.pens;
         on_lines = λ k other below. omega (arith, before.on_lines k other below);
@@ -98,33 +104,54 @@ module _ (font : FontValue) (characters : List ℕ) (n : ℕ) (inside : n < leng
 
     line_more : line_after (earlier characters (n + 1)) ≡ line_after (earlier characters n)
     line_more = ap line_after more ∙ sum_by-cons (λ (c : ℕ). if c == 10 then 1 else 0) here (earlier characters n)
-        ∙ ap (λ (test : Bool). (if test then 1 else 0) + line_after (earlier characters n)) no_feed ∙ zero-add (line_after (earlier characters n))
+        ∙ ap (λ (test : Bool). (if test then 1 else 0) + line_after (earlier characters n)) no_feed
+        ∙ zero-add (line_after (earlier characters n))
 
     glyphs_more : drawn_glyphs font (earlier characters (n + 1))
-        ≡ drawn_glyphs font (earlier characters n) ++ record { glyph = glyph; pen = pen_after font (earlier characters n); line = line_after (earlier characters n) } ∷ []
+        ≡ drawn_glyphs font (earlier characters n)
+        ++ record {
+          glyph = glyph;
+          pen = pen_after font (earlier characters n);
+          line = line_after
+              (earlier characters n);
+        } ∷ []
     glyphs_more = rw (more, no_feed, found) refl
 
-    widest_more : widest_line font (earlier characters (n + 1)) ≡ max (widest_line font (earlier characters n)) (pen_after font (earlier characters (n + 1)))
+    widest_more : widest_line font (earlier characters (n + 1))
+        ≡ max (widest_line font (earlier characters n)) (pen_after font (earlier characters (n + 1)))
     widest_more = rw more refl
 
-    pub LaidOut-glyph : (new : PlacedGlyph) → new.glyph.now ≡ glyph → new.pen ≡ pen → new.line ≡ line → glyph.advance < 256 →
+    pub LaidOut-glyph : (new : PlacedGlyph) → new.glyph.now ≡ glyph → new.pen ≡ pen → new.line ≡ line
+        → glyph.advance < 256 →
         (pen' width' : ℕ) → pen' ≡ pen + glyph.advance → width' ≡ max width pen' →
         LaidOut font characters (n + 1) (placed ++ new ∷ []) pen' width' line
     LaidOut-glyph new glyph_is pen_at line_at narrow_glyph pen' width' pen'_is width'_is =
         let at_pen = pen_at ∙ before.pen_is in
         let at_line = line_at ∙ before.line_is in
-        let drawn : drawn_of new ≡ record { glyph = glyph; pen = pen_after font (earlier characters n); line = line_after (earlier characters n) } = cc in
-        let now : pen' ≡ pen_after font (earlier characters (n + 1)) = omega (arith, pen'_is, before.pen_is, pen_more) in
+        let drawn : drawn_of new
+        ≡ record {
+          glyph = glyph;
+          pen = pen_after font (earlier characters n);
+          line = line_after
+              (earlier characters n);
+        } = cc in
+        let now : pen' ≡ pen_after font (earlier characters (n + 1)) =
+        omega (arith, pen'_is, before.pen_is, pen_more) in
         record {
           glyphs = map-append drawn_of placed (new ∷ [])
               ∙ ap (λ (l : List Drawn). l ++ drawn_of new ∷ []) before.glyphs
               ∙ ap (λ (d : Drawn). drawn_glyphs font (earlier characters n) ++ d ∷ []) drawn
               ∙ sym glyphs_more;
           pen_is = now;
-          width_is = width'_is ∙ ap (λ (w : ℕ). max w pen') before.width_is ∙ ap (λ (p : ℕ). max (widest_line font (earlier characters n)) p) now ∙ sym widest_more;
+          width_is =
+              width'_is ∙ ap (λ (w : ℕ). max w pen') before.width_is
+              ∙ ap (λ (p : ℕ). max (widest_line font (earlier characters n)) p) now ∙ sym widest_more;
           line_is = before.line_is ∙ sym line_more;
           each = each_more (λ k. CanBeSet font (get_or characters k 0)) n before.each (inr (rw found refl));
-          pens = appended (λ p. p.pen ≤ width') placed new (λ k o below. omega (arith, width'_is, before.pens k o below)) (omega (arith, pen_at, width'_is, before.within));
+          pens =
+              appended (λ p. p.pen ≤ width') placed new
+              (λ k o below. omega (arith, width'_is, before.pens k o below))
+              (omega (arith, pen_at, width'_is, before.within));
           on_lines = appended (λ p. p.line ≤ line) placed new before.on_lines (omega arith);
           few = omega (arith, before.few);
           narrow = omega (arith, before.narrow, before.within, pen'_is, width'_is);
@@ -132,7 +159,8 @@ module _ (font : FontValue) (characters : List ℕ) (n : ℕ) (inside : n < leng
         }
 
 -- two clauses of one outcome
-pub IfOk-with : {T E : Type 0} (P Q R : T → Type 0) (r : Result T E) → IfOk r P → IfOk r Q → ((x : T) → P x → Q x → R x) → IfOk r R
+pub IfOk-with : {T E : Type 0} (P Q R : T → Type 0) (r : Result T E) → IfOk r P → IfOk r Q
+    → ((x : T) → P x → Q x → R x) → IfOk r R
 IfOk-with P Q R (Ok x) p q f = f x p q
 IfOk-with P Q R (Err e) p q f = tt
 

@@ -12,10 +12,12 @@ within_none low high z outside = grind (arith, ints)
 
 capped_same : (z : ℤ) → negsuc 1999998 ≤ℤ z → z ≤ℤ pos 1999999 → capped z ≡ z
 capped_same (pos n) low high = let few : min n 2000000 ≡ n = omega (arith, ints) in ap pos few
-capped_same (negsuc n) low high = let few : min (n + 1) 2000000 ≡ suc n = omega (arith, ints) in ap (λ (k : ℕ). neg_ℤ (pos k)) few
+capped_same (negsuc n) low high =
+    let few : min (n + 1) 2000000 ≡ suc n = omega (arith, ints) in ap (λ (k : ℕ). neg_ℤ (pos k)) few
 
 -- a number that is out of range when capped is out of range
-pub capped_outside : (low high : ℤ) (word : Option ℤ) (number : ℤ) → negsuc 1999998 ≤ℤ low → high ≤ℤ pos 1999999 → option_map capped word ≡ Some number →
+pub capped_outside : (low high : ℤ) (word : Option ℤ) (number : ℤ) → negsuc 1999998 ≤ℤ low
+    → high ≤ℤ pos 1999999 → option_map capped word ≡ Some number →
     (low ≤ℤ number → number ≤ℤ high → ⊥) → option_and_then (within low high) word ≡ None
 capped_outside low high None number floor top e outside = absurd (let bad : None ≡ Some number = e in cc)
 capped_outside low high (Some z) number floor top e outside =
@@ -27,63 +29,86 @@ capped_outside low high (Some z) number floor top e outside =
     outside (rw this above) (rw this below))
 
 pub box_from : (line_words : List (List ℕ)) (least : ℕ) (width height left bottom : ℤ) →
-    Some width ≡ number_within line_words 1 (pos least) (pos 256) → Some height ≡ number_within line_words 2 (pos least) (pos 256) →
-    Some left ≡ number_within line_words 3 (negsuc 255) (pos 256) → Some bottom ≡ number_within line_words 4 (negsuc 255) (pos 256) →
-    Some (record { width = nat_abs width; height = nat_abs height; left = left; bottom = bottom }) ≡ box_of least line_words
+    Some width ≡ number_within line_words 1 (pos least) (pos 256)
+    → Some height ≡ number_within line_words 2 (pos least) (pos 256) →
+    Some left ≡ number_within line_words 3 (negsuc 255) (pos 256)
+    → Some bottom ≡ number_within line_words 4 (negsuc 255) (pos 256) →
+    Some (record { width = nat_abs width; height = nat_abs height; left = left; bottom = bottom })
+    ≡ box_of least line_words
 box_from line_words least width height left bottom w h l b = rw (← w, ← h, ← l, ← b) refl
 
 -- one more byte of a row
-pub bytes_from-more : (line : List ℕ) (n high low : ℕ) (bytes old : List ℕ) → bytes ≡ old ++ bytes_from line n →
-    high ≡ unwrap_or (digit_of (slice_index line (2 * n))) 0 → low ≡ unwrap_or (digit_of (slice_index line (2 * n + 1))) 0 →
+pub bytes_from-more : (line : List ℕ) (n high low : ℕ) (bytes old : List ℕ)
+    → bytes ≡ old ++ bytes_from line n →
+    high ≡ unwrap_or (digit_of (slice_index line (2 * n))) 0
+    → low ≡ unwrap_or (digit_of (slice_index line (2 * n + 1))) 0 →
     bytes ++ (high * 16 + low) ∷ [] ≡ old ++ bytes_from line (n + 1)
 bytes_from-more line n high low bytes old so_far high_is low_is =
     ap (λ (l : List ℕ). l ++ (high * 16 + low) ∷ []) so_far
     ∙ append_assoc old (bytes_from line n) ((high * 16 + low) ∷ [])
     ∙ ap (λ (h : ℕ). old ++ (bytes_from line n ++ (h * 16 + low) ∷ [])) high_is
-    ∙ ap (λ (l : ℕ). old ++ (bytes_from line n ++ (unwrap_or (digit_of (slice_index line (2 * n))) 0 * 16 + l) ∷ [])) low_is
+    ∙ ap (λ (l : ℕ). old
+    ++ (bytes_from line n ++ (unwrap_or (digit_of (slice_index line (2 * n))) 0 * 16 + l) ∷ [])) low_is
     ∙ ap (λ (l : List ℕ). old ++ l) (sym (map-range_with_len_more
-    (λ k. unwrap_or (digit_of (slice_index line (2 * k))) 0 * 16 + unwrap_or (digit_of (slice_index line (2 * k + 1))) 0) 0 n n (omega arith)))
+    (λ k. unwrap_or (digit_of (slice_index line (2 * k))) 0 * 16
+    + unwrap_or (digit_of (slice_index line (2 * k + 1))) 0) 0 n n (omega arith)))
 
-pub nat_abs_between : (z : ℤ) (n m : ℕ) → pos n ≤ℤ z → z ≤ℤ pos m → (n ≤ nat_abs z) × (nat_abs z ≤ m)
+pub nat_abs_between : (z : ℤ) (n m : ℕ) → pos n ≤ℤ z → z ≤ℤ pos m → (n ≤ nat_abs z)
+    × (nat_abs z ≤ m)
 nat_abs_between (pos k) n m low high = (omega (arith, ints), omega (arith, ints))
 nat_abs_between (negsuc k) n m low high = absurd (omega (arith, ints))
 
-find-push : (character : ℕ) (glyphs : List GlyphValue) (glyph : GlyphValue) → find (λ g. g.character == character) glyphs ≡ None →
-    find (λ g. g.character == character) (glyphs ++ glyph ∷ []) ≡ (if glyph.character == character then Some glyph else None)
+find-push : (character : ℕ) (glyphs : List GlyphValue) (glyph : GlyphValue)
+    → find (λ g. g.character == character) glyphs ≡ None →
+    find (λ g. g.character == character) (glyphs ++ glyph ∷ [])
+    ≡ (if glyph.character == character then Some glyph else None)
 find-push character [] glyph none = refl
-find-push character (first ∷ glyphs) glyph none = find-push-by (first.character == character) first character glyphs glyph none (find-push character glyphs glyph)
+find-push character (first ∷ glyphs) glyph none =
+    find-push-by (first.character == character) first character glyphs glyph none (find-push character glyphs glyph)
   where
-    find-push-by : (test : Bool) (first : GlyphValue) (character : ℕ) (glyphs : List GlyphValue) (glyph : GlyphValue) →
+    find-push-by : (test : Bool) (first : GlyphValue) (character : ℕ) (glyphs : List GlyphValue)
+        (glyph : GlyphValue) →
         (if test then Some first else find (λ g. g.character == character) glyphs) ≡ None →
-        (find (λ g. g.character == character) glyphs ≡ None → find (λ g. g.character == character) (glyphs ++ glyph ∷ []) ≡ (if glyph.character == character then Some glyph else None)) →
-        (if test then Some first else find (λ g. g.character == character) (glyphs ++ glyph ∷ [])) ≡ (if glyph.character == character then Some glyph else None)
+        (find (λ g. g.character == character) glyphs ≡ None
+        → find (λ g. g.character == character) (glyphs ++ glyph ∷ [])
+        ≡ (if glyph.character == character then Some glyph else None)) →
+        (if test then Some first else find (λ g. g.character == character) (glyphs ++ glyph ∷ []))
+        ≡ (if glyph.character == character then Some glyph else None)
     find-push-by true first character glyphs glyph none next = absurd (let bad : Some first ≡ None = none in cc)
     find-push-by false first character glyphs glyph none next = next none
 
-find-other : (character : ℕ) (glyphs : List GlyphValue) (glyph : GlyphValue) → (glyph.character == character) ≡ false →
+find-other : (character : ℕ) (glyphs : List GlyphValue) (glyph : GlyphValue)
+    → (glyph.character == character) ≡ false →
     find (λ g. g.character == character) (glyphs ++ glyph ∷ []) ≡ find (λ g. g.character == character) glyphs
 find-other character [] glyph other = rw other refl
 find-other character (first ∷ glyphs) glyph other =
-    ap (λ (rest : Option GlyphValue). if first.character == character then Some first else rest) (find-other character glyphs glyph other)
+    ap (λ (rest : Option GlyphValue). if first.character == character then Some first else rest)
+    (find-other character glyphs glyph other)
 
-slice_get-append : (glyphs more : List GlyphValue) (place : ℕ) → place < length glyphs → slice_get (glyphs ++ more) place ≡ slice_get glyphs place
+slice_get-append : (glyphs more : List GlyphValue) (place : ℕ) → place < length glyphs
+    → slice_get (glyphs ++ more) place ≡ slice_get glyphs place
 slice_get-append [] more place inside = absurd (omega arith)
 slice_get-append (first ∷ glyphs) more zero inside = refl
 slice_get-append (first ∷ glyphs) more (suc place) inside = slice_get-append glyphs more place (omega arith)
 
-slice_get-last : (glyphs : List GlyphValue) (glyph : GlyphValue) → slice_get (glyphs ++ glyph ∷ []) (length glyphs) ≡ Some glyph
+slice_get-last : (glyphs : List GlyphValue) (glyph : GlyphValue)
+    → slice_get (glyphs ++ glyph ∷ []) (length glyphs) ≡ Some glyph
 slice_get-last [] glyph = refl
 slice_get-last (first ∷ glyphs) glyph = slice_get-last glyphs glyph
 
-old_place : (glyphs more : List GlyphValue) (place : Option ℕ) → ((p : ℕ) → place ≡ Some p → p < length glyphs) →
+old_place : (glyphs more : List GlyphValue) (place : Option ℕ)
+    → ((p : ℕ) → place ≡ Some p → p < length glyphs) →
     option_and_then (slice_get (glyphs ++ more)) place ≡ option_and_then (slice_get glyphs) place
 old_place glyphs more None within = refl
 old_place glyphs more (Some p) within = slice_get-append glyphs more p (within p refl)
 
 -- one more glyph, and its place
-pub Indexes-push : (place_of new_place_of : ℕ → Option ℕ) (glyphs : List GlyphValue) (glyph : GlyphValue) → Indexes place_of glyphs →
+pub Indexes-push : (place_of new_place_of : ℕ → Option ℕ) (glyphs : List GlyphValue) (glyph : GlyphValue)
+    → Indexes place_of glyphs →
     find (λ g. g.character == glyph.character) glyphs ≡ None →
-    new_place_of glyph.character ≡ Some (length glyphs) → ((character : ℕ) → (glyph.character == character) ≡ false → new_place_of character ≡ place_of character) →
+    new_place_of glyph.character ≡ Some (length glyphs)
+    → ((character : ℕ) → (glyph.character == character) ≡ false
+    → new_place_of character ≡ place_of character) →
     Indexes new_place_of (glyphs ++ glyph ∷ [])
 Indexes-push place_of new_place_of glyphs glyph indexes none here others = record {
   within = λ character place at. elim (eqb_tells glyph.character character) [
@@ -97,7 +122,9 @@ Indexes-push place_of new_place_of glyphs glyph indexes none here others = recor
   ];
   leads = λ character. elim (eqb_tells glyph.character character) [
     | inl same ↦
-        let P : ℕ → Type 0 = λ c. option_and_then (slice_get (glyphs ++ glyph ∷ [])) (new_place_of c) ≡ find (λ g. g.character == c) (glyphs ++ glyph ∷ []) in
+        let P : ℕ
+        → Type 0 = λ c. option_and_then (slice_get (glyphs ++ glyph ∷ [])) (new_place_of c)
+        ≡ find (λ g. g.character == c) (glyphs ++ glyph ∷ []) in
         let self : (glyph.character == glyph.character) ≡ true = eq-eqb glyph.character glyph.character refl in
         subst P same.1 (ap (option_and_then (slice_get (glyphs ++ glyph ∷ []))) here ∙ slice_get-last glyphs glyph
         ∙ sym (find-push glyph.character glyphs glyph none ∙ rw self refl))
@@ -117,4 +144,5 @@ row_done left row some =
 
 pub length-bytes_from : (line : List ℕ) (n : ℕ) → length (bytes_from line n) ≡ n
 length-bytes_from line n = length-map-range_with_len
-    (λ k. unwrap_or (digit_of (slice_index line (2 * k))) 0 * 16 + unwrap_or (digit_of (slice_index line (2 * k + 1))) 0) 0 n
+    (λ k. unwrap_or (digit_of (slice_index line (2 * k))) 0 * 16
+    + unwrap_or (digit_of (slice_index line (2 * k + 1))) 0) 0 n

@@ -26,7 +26,8 @@ unassigned_moved by (Arrived slot bytes ∷ past) = ap (λ n. n + bytes) (unassi
 unassigned_moved by (SetWhole load ∷ past) = refl
 unassigned_moved by (Dropped ∷ past) = refl
 
-last_moved : (by : ℕ) (past : List Call) → has_arrived past ≡ true → last_slot (moved by past) ≡ last_slot past + by
+last_moved : (by : ℕ) (past : List Call) → has_arrived past ≡ true
+    → last_slot (moved by past) ≡ last_slot past + by
 last_moved by [] h = let e : false ≡ true = h in cc
 last_moved by (Arrived slot bytes ∷ past) h = refl
 last_moved by (SetWhole load ∷ past) h = last_moved by past h
@@ -39,19 +40,25 @@ shown_moved by (SetWhole load ∷ past) = refl
 shown_moved by (Dropped ∷ past) = shown_moved by past
 
 -- done ticks are the same
-pub done_moved : (pace : Pace) (by : ℕ) (load : SetLoad) (past : List Call) → has_arrived past ≡ true → done_of (later_by by pace) load past ≡ done_of pace load (moved by past)
+pub done_moved : (pace : Pace) (by : ℕ) (load : SetLoad) (past : List Call) → has_arrived past ≡ true
+    → done_of (later_by by pace) load past ≡ done_of pace load (moved by past)
 done_moved pace by load past h =
-    ap (λ tick. done_tick tick (last_shown past) load) (tick_moved pace by (last_slot past) ∙ ap (tick_of pace) (sym (last_moved by past h)))
+    ap (λ tick. done_tick tick (last_shown past) load)
+    (tick_moved pace by (last_slot past) ∙ ap (tick_of pace) (sym (last_moved by past h)))
     ∙ ap (λ shown. done_tick (tick_of pace (last_slot (moved by past))) shown load) (sym (shown_moved by past))
 
 -- what has left by a tick is the same
-left_moved : (pace : Pace) (by tick : ℕ) (past : List Call) → AllHeard past → left (later_by by pace) tick past ≡ left pace tick (moved by past)
+left_moved : (pace : Pace) (by tick : ℕ) (past : List Call) → AllHeard past
+    → left (later_by by pace) tick past ≡ left pace tick (moved by past)
 left_moved pace by tick [] h = refl
 left_moved pace by tick (Arrived slot bytes ∷ past) h = left_moved pace by tick past h
 left_moved pace by tick (SetWhole load ∷ past) h =
-    ap (λ done. left_by tick done (unassigned past) + left (later_by by pace) tick past) (done_moved pace by load past h.0)
-    ∙ ap (λ bytes. left_by tick (done_of pace load (moved by past)) bytes + left (later_by by pace) tick past) (sym (unassigned_moved by past))
-    ∙ ap (λ rest. left_by tick (done_of pace load (moved by past)) (unassigned (moved by past)) + rest) (left_moved pace by tick past h.1)
+    ap (λ done. left_by tick done (unassigned past) + left (later_by by pace) tick past)
+    (done_moved pace by load past h.0)
+    ∙ ap (λ bytes. left_by tick (done_of pace load (moved by past)) bytes + left (later_by by pace) tick past)
+    (sym (unassigned_moved by past))
+    ∙ ap (λ rest. left_by tick (done_of pace load (moved by past)) (unassigned (moved by past)) + rest)
+    (left_moved pace by tick past h.1)
 left_moved pace by tick (Dropped ∷ past) h =
     ap (λ bytes. bytes + left (later_by by pace) tick past) (sym (unassigned_moved by past))
     ∙ ap (λ rest. unassigned (moved by past) + rest) (left_moved pace by tick past h)
@@ -68,8 +75,11 @@ level_moved pace by slot bytes past h =
     )
 
 -- so buffer and times hold for the one where they do for the other
-pub moved_within : (pace : Pace) (by : ℕ) (past : List Call) → AllHeard past → AreWithin pace (moved by past) → AreWithin (later_by by pace) past
+pub moved_within : (pace : Pace) (by : ℕ) (past : List Call) → AllHeard past → AreWithin pace (moved by past)
+    → AreWithin (later_by by pace) past
 moved_within pace by [] heard h = tt
-moved_within pace by (Arrived slot bytes ∷ past) heard h = (omega (arith, h.0, level_moved pace by slot bytes past heard), moved_within pace by past heard h.1)
-moved_within pace by (SetWhole load ∷ past) heard h = (omega (arith, h.0, done_moved pace by load past heard.0), moved_within pace by past heard.1 h.1)
+moved_within pace by (Arrived slot bytes ∷ past) heard h =
+    (omega (arith, h.0, level_moved pace by slot bytes past heard), moved_within pace by past heard h.1)
+moved_within pace by (SetWhole load ∷ past) heard h =
+    (omega (arith, h.0, done_moved pace by load past heard.0), moved_within pace by past heard.1 h.1)
 moved_within pace by (Dropped ∷ past) heard h = moved_within pace by past heard h

@@ -17,10 +17,10 @@ use Rattle.display_sets.specs.Standing.{AreReady}
 use Rattle.display_sets.proofs.PacketLaws.{none_arrived}
 use Rattle.packet_walk.specs.Told.{TellsOne}
 use Rattle.receiver.specs.Receiving.{AreLosses, IsSame, Receiving, Stands}
-use Rattle.stream_calls.specs.StreamCalls.{calls_of_packet}
-use Rattle.stream_calls.specs.ToldSets.{ToldCall, calls_told, of_no_set, told_of}
-use Rattle.stream_calls.proofs.ToldLaws.{end_tells, losses_tell, packet_tells}
-use Rattle.stream_calls.proofs.PacketCalls.{none_yet}
+use Rattle.received_level_laws.specs.StreamCalls.{calls_of_packet}
+use Rattle.received_level_laws.specs.ToldSets.{ToldCall, calls_told, of_no_set, told_of}
+use Rattle.received_level_laws.proofs.ToldLaws.{end_tells, losses_tell, packet_tells}
+use Rattle.received_level_laws.proofs.PacketCalls.{none_yet}
 use Rattle.stream_syntax.specs.TransportPackets.{packet_fault}
 use Rattle.stream_syntax.specs.Units.{event_at}
 use Rattle.stream_syntax.specs.declared.transport.Event.{Event}
@@ -41,8 +41,10 @@ use Rattle.check_text.proofs.StepLaws.{with_both}
 -- ---- before the first packet
 
 -- the coded data buffer and the page memory of a profile with a step are of so many bytes and nodes at most
-pub few_in_profile : (profile : Profile) → IsSending profile → (profile.coded ≤ 2 ^ 18) × (profile.nodes < 2 ^ 31)
-few_in_profile profile sending = subst (λ (p : Profile). (p.coded ≤ 2 ^ 18) × (p.nodes < 2 ^ 31)) (sym sending.0.1) (by sending.0.0)
+pub few_in_profile : (profile : Profile) → IsSending profile → (profile.coded ≤ 2 ^ 18)
+    × (profile.nodes < 2 ^ 31)
+few_in_profile profile sending =
+    subst (λ (p : Profile). (p.coded ≤ 2 ^ 18) × (p.nodes < 2 ^ 31)) (sym sending.0.1) (by sending.0.0)
   where
     by : (name : ProfileName) → ((profile_of name).coded ≤ 2 ^ 18) × ((profile_of name).nodes < 2 ^ 31)
     by Sd = (omega arith, omega arith)
@@ -52,12 +54,22 @@ few_in_profile profile sending = subst (λ (p : Profile). (p.coded ≤ 2 ^ 18) �
 
 -- nothing was received
 pub none_received : (profile : Profile) (pid : ℕ) (pages : Pages) → HasReceived profile pid pages false [] []
-none_received profile pid pages = subst (λ (sets : List (Delivery (List ℕ))). AreDeliveriesRead (reverse sets) []) (sym (none_yet profile.coded pid pages false)) tt
+none_received profile pid pages =
+    subst (λ (sets : List (Delivery (List ℕ))). AreDeliveriesRead (reverse sets) [])
+    (sym (none_yet profile.coded pid pages false)) tt
 
-pub nothing_checked : (receiving : Receiving) (meter : Meter) → Stands false [] [] receiving → meters.Stands [] meter → meter.pace ≡ pace_of receiving.showing.core.anchor receiving.showing.core.profile → meter.next ≡ 0
+pub nothing_checked : (receiving : Receiving) (meter : Meter) → Stands false [] [] receiving
+    → meters.Stands [] meter → meter.pace ≡ pace_of receiving.showing.core.anchor receiving.showing.core.profile
+    → meter.next ≡ 0
     → HasChecked (record { receiving = receiving; meter = meter }) [] []
 nothing_checked receiving meter stands metered pace next = record {
-  made = record { profile = receiving.showing.core.profile; pid = receiving.demux.pid; pages = receiving.sets.pages; origin = receiving.showing.core.anchor };
+  made =
+      record {
+        profile = receiving.showing.core.profile;
+        pid = receiving.demux.pid;
+        pages = receiving.sets.pages;
+        origin = receiving.showing.core.anchor;
+      };
   past = [];
   told = [];
   at = record {
@@ -82,14 +94,19 @@ pub bytes_of : (packet : List ℕ) → ((k : ℕ) → get_or packet k 0 < 256) �
 bytes_of packet small k d within = omega (arith, small k, get_or_default packet k d 0 within)
 
 -- a packet was fed
-pub record IsFed (made : Purpose) (receiving : Receiving) (meter : Meter) (packets : List (List ℕ)) (past : List (Delivery Reading)) (told : List ToldCall) (text : List ℕ) : Type 0 where
+pub record IsFed (made : Purpose) (receiving : Receiving) (meter : Meter) (packets : List (List ℕ))
+    (past : List (Delivery Reading)) (told : List ToldCall) (text : List ℕ) : Type 0 where
   pub more : List (Delivery Reading)
   pub are_lost : AreLost more
   pub at : IsAt made false receiving meter packets (more ++ past) told text
 
-pub fed_at : (made : Purpose) (old new : Receiving) (meter : Meter) (packets : List (List ℕ)) (packet : List ℕ) (past : List (Delivery Reading)) (told : List ToldCall) (text : List ℕ) → AreBytes packet → IsSame old new
-    → ((fed : List (List ℕ)) (given : List (Delivery (List ℕ))) → Stands false fed given old → (losses : List (Delivery (List ℕ))) × AreLosses losses × Stands false (fed ++ packet ∷ []) (given ++ losses) new)
-    → IsAt made false old meter packets past told text → IsFed made new meter (packets ++ packet ∷ []) past told text
+pub fed_at : (made : Purpose) (old new : Receiving) (meter : Meter) (packets : List (List ℕ)) (packet : List ℕ)
+    (past : List (Delivery Reading)) (told : List ToldCall) (text : List ℕ) → AreBytes packet → IsSame old new
+    → ((fed : List (List ℕ)) (given : List (Delivery (List ℕ))) → Stands false fed given old
+    → (losses : List (Delivery (List ℕ))) × AreLosses losses
+    × Stands false (fed ++ packet ∷ []) (given ++ losses) new)
+    → IsAt made false old meter packets past told text
+    → IsFed made new meter (packets ++ packet ∷ []) past told text
 fed_at made old new meter packets packet past told text bytes same feeds at =
     let fed = feeds packets at.given at.stands in
     let read = losses_read fed.0 at.given past fed.1 at.read in
@@ -109,44 +126,69 @@ fed_at made old new meter packets packet past told text bytes same feeds at =
     }
 
 -- what was taken is all that was received
-pub received_at : (made : Purpose) (ended : Bool) (receiving : Receiving) (meter : Meter) (packets : List (List ℕ)) (past : List (Delivery Reading)) (told : List ToldCall) (text : List ℕ)
-    → AllTaken receiving → IsAt made ended receiving meter packets past told text → HasReceived made.profile made.pid made.pages ended packets past
+pub received_at : (made : Purpose) (ended : Bool) (receiving : Receiving) (meter : Meter) (packets : List (List ℕ))
+    (past : List (Delivery Reading)) (told : List ToldCall) (text : List ℕ)
+    → AllTaken receiving → IsAt made ended receiving meter packets past told text
+    → HasReceived made.profile made.pid made.pages ended packets past
 received_at made ended receiving meter packets past told text all at =
     let here : sets_of made.profile.coded made.pid made.pages ended packets ≡ at.given =
-    (λ i. sets_of (sym at.own.profile i).coded (sym at.own.pid i) (sym at.own.pages i) ended packets) ∙ all packets ended at.given at.stands in
+    (λ i. sets_of (sym at.own.profile i).coded (sym at.own.pid i) (sym at.own.pages i) ended packets)
+    ∙ all packets ended at.given at.stands in
     subst (λ (sets : List (Delivery (List ℕ))). AreDeliveriesRead (reverse sets) past) (sym here) at.read
 
 -- the calls of a packet come behind those of the packets before it
-told_packet : (made : Purpose) (packets : List (List ℕ)) (packet : List ℕ) (past lost more : List (Delivery Reading)) (told : List ToldCall) (event : Event) (arrival : PacketArrival) (place : ℕ)
-    → packets_taken made.pid packets ≡ packets → packet_fault made.pid packet ≡ None → HasReceived made.profile made.pid made.pages false packets past
-    → HasReceived made.profile made.pid made.pages false (packets ++ packet ∷ []) (more ++ (lost ++ past)) → AreLost lost
-    → event ≡ event_at made.pid made.profile.coded packets packet → arrival ≡ packet_arrival made.profile.coded made.pid made.pages packets packet → length packets ≡ place
+told_packet : (made : Purpose) (packets : List (List ℕ)) (packet : List ℕ)
+    (past lost more : List (Delivery Reading)) (told : List ToldCall) (event : Event) (arrival : PacketArrival)
+    (place : ℕ)
+    → packets_taken made.pid packets ≡ packets → packet_fault made.pid packet ≡ None
+    → HasReceived made.profile made.pid made.pages false packets past
+    → HasReceived made.profile made.pid made.pages false (packets ++ packet ∷ []) (more ++ (lost ++ past))
+    → AreLost lost
+    → event ≡ event_at made.pid made.profile.coded packets packet
+    → arrival ≡ packet_arrival made.profile.coded made.pid made.pages packets packet
+    → length packets ≡ place
     → told ≡ told_of made.profile made.pid made.pages made.origin 0 packets past
-    → told ++ calls_of_packet of_no_set event arrival place (told_with made (lost ++ past) more) ≡ told_of made.profile made.pid made.pages made.origin 0 (packets ++ packet ∷ []) (more ++ (lost ++ past))
-told_packet made packets packet past lost more told event arrival place taken sound before behind are_lost event_is arrival_is count told_is =
+    → told ++ calls_of_packet of_no_set event arrival place (told_with made (lost ++ past) more)
+    ≡ told_of made.profile made.pid made.pages made.origin 0 (packets ++ packet ∷ []) (more ++ (lost ++ past))
+told_packet made packets packet past lost more told event arrival place taken sound before behind are_lost event_is
+    arrival_is count told_is =
     let calls : told_with made (lost ++ past) more ≡ told_with made past (more ++ lost) =
-    sym (with_both made past lost more ∙ ap (λ (none : List ToldCall). none ++ told_with made (lost ++ past) more) (losses_tell made.profile made.origin past lost are_lost)) in
+    sym (with_both made past lost more
+    ∙ ap (λ (none : List ToldCall). none ++ told_with made (lost ++ past) more)
+    (losses_tell made.profile made.origin past lost are_lost)) in
     let own : HasReceived made.profile made.pid made.pages false (packets ++ packet ∷ []) ((more ++ lost) ++ past) =
-    subst (λ (all : List (Delivery Reading)). HasReceived made.profile made.pid made.pages false (packets ++ packet ∷ []) all) (sym (append_assoc more lost past)) behind in
+    subst (λ (all : List (Delivery Reading)). HasReceived made.profile made.pid made.pages false
+    (packets ++ packet ∷ []) all) (sym (append_assoc more lost past)) behind in
     let slot : place ≡ 0 + length packets = omega (arith, count) in
     (λ i. told_is i ++ calls_of_packet of_no_set (event_is i) (arrival_is i) (slot i) (calls i))
-    ∙ sym (packet_tells made.profile made.pid made.pages made.origin 0 packets packet past (more ++ lost) taken sound before own)
-    ∙ ap (told_of made.profile made.pid made.pages made.origin 0 (packets ++ packet ∷ [])) (append_assoc more lost past)
+    ∙ sym (packet_tells made.profile made.pid made.pages made.origin 0 packets packet past (more ++ lost) taken sound
+    before own)
+    ∙ ap (told_of made.profile made.pid made.pages made.origin 0 (packets ++ packet ∷ []))
+    (append_assoc more lost past)
 
-module _ (old mid new : Receiving) (was is : Meter) (packet : List ℕ) (event : Event) (arrival : PacketArrival) (place : ℕ) (before now : Received) (old_buffer new_buffer : Buffered)
+module _ (old mid new : Receiving) (was is : Meter) (packet : List ℕ) (event : Event) (arrival : PacketArrival)
+    (place : ℕ) (before now : Received) (old_buffer new_buffer : Buffered)
     (bytes : AreBytes packet) (same : IsSame old mid)
     (sound : packet_fault old.demux.pid packet ≡ None)
-    (feeds : (fed : List (List ℕ)) (given : List (Delivery (List ℕ))) → Stands false fed given old → (losses : List (Delivery (List ℕ))) × AreLosses losses × Stands false (fed ++ packet ∷ []) (given ++ losses) mid)
-    (events : (fed : List (List ℕ)) (given : List (Delivery (List ℕ))) → Stands false fed given old → event ≡ event_at old.demux.pid old.showing.core.profile.coded fed packet)
-    (arrivals : (fed : List (List ℕ)) (given : List (Delivery (List ℕ))) → Stands false fed given old → mid.arrival ≡ packet_arrival old.showing.core.profile.coded old.demux.pid old.sets.pages fed packet)
+    (feeds : (fed : List (List ℕ)) (given : List (Delivery (List ℕ))) → Stands false fed given old
+    → (losses : List (Delivery (List ℕ))) × AreLosses losses
+    × Stands false (fed ++ packet ∷ []) (given ++ losses) mid)
+    (events : (fed : List (List ℕ)) (given : List (Delivery (List ℕ))) → Stands false fed given old
+    → event ≡ event_at old.demux.pid old.showing.core.profile.coded fed packet)
+    (arrivals : (fed : List (List ℕ)) (given : List (Delivery (List ℕ))) → Stands false fed given old
+    → mid.arrival ≡ packet_arrival old.showing.core.profile.coded old.demux.pid old.sets.pages fed packet)
     (arrival_is : arrival ≡ mid.arrival)
     (calls : TakesCalls event arrival place before now mid new was is old_buffer new_buffer)
     (all : AllTaken new)
     (next : is.next ≤ place + 1) where
-  told_so : (packets : List (List ℕ)) (text line : List ℕ) (has : HasChecked (record { receiving = old; meter = was }) packets text) (lost more : List (Delivery Reading)) → length packets ≡ place → AreLost lost
-      → HasReceived has.made.profile has.made.pid has.made.pages false (packets ++ packet ∷ []) (more ++ (lost ++ has.past))
+  told_so : (packets : List (List ℕ)) (text line : List ℕ)
+      (has : HasChecked (record { receiving = old; meter = was }) packets text) (lost more : List (Delivery Reading))
+      → length packets ≡ place → AreLost lost
+      → HasReceived has.made.profile has.made.pid has.made.pages false (packets ++ packet ∷ [])
+      (more ++ (lost ++ has.past))
       → has.told ++ calls_of_packet of_no_set event arrival place (told_with has.made (lost ++ has.past) more)
-      ≡ told_of has.made.profile has.made.pid has.made.pages has.made.origin 0 (packets ++ packet ∷ []) (more ++ (lost ++ has.past))
+      ≡ told_of has.made.profile has.made.pid has.made.pages has.made.origin 0 (packets ++ packet ∷ [])
+      (more ++ (lost ++ has.past))
   told_so packets text line has lost more count are_lost behind =
       let own = has.at.own in
       told_packet has.made packets packet has.past lost more has.told event arrival place
@@ -154,11 +196,16 @@ module _ (old mid new : Receiving) (was is : Meter) (packet : List ℕ) (event :
       (ap (λ (pid : ℕ). packet_fault pid packet) (sym own.pid) ∙ sound)
       has.received behind are_lost
       (events packets has.at.given has.at.stands ∙ (λ i. event_at (own.pid i) (own.profile i).coded packets packet))
-      (arrival_is ∙ arrivals packets has.at.given has.at.stands ∙ (λ i. packet_arrival (own.profile i).coded (own.pid i) (own.pages i) packets packet))
+      (arrival_is ∙ arrivals packets has.at.given has.at.stands
+      ∙ (λ i. packet_arrival (own.profile i).coded (own.pid i) (own.pages i) packets packet))
       count has.are
 
-  checked_so : (packets : List (List ℕ)) (text line : List ℕ) (has : HasChecked (record { receiving = old; meter = was }) packets text) (lost more : List (Delivery Reading)) → length packets ≡ place → AreLost lost
-      → IsAt has.made false new is (packets ++ packet ∷ []) (more ++ (lost ++ has.past)) (has.told ++ calls_of_packet of_no_set event arrival place (told_with has.made (lost ++ has.past) more)) (text ++ line)
+  checked_so : (packets : List (List ℕ)) (text line : List ℕ)
+      (has : HasChecked (record { receiving = old; meter = was }) packets text) (lost more : List (Delivery Reading))
+      → length packets ≡ place → AreLost lost
+      → IsAt has.made false new is (packets ++ packet ∷ []) (more ++ (lost ++ has.past))
+      (has.told ++ calls_of_packet of_no_set event arrival place (told_with has.made (lost ++ has.past) more))
+      (text ++ line)
       → HasChecked (record { receiving = new; meter = is }) (packets ++ packet ∷ []) (text ++ line)
   checked_so packets text line has lost more count are_lost at =
       let behind = received_at has.made false new is (packets ++ packet ∷ []) _ _ _ all at in
@@ -173,7 +220,8 @@ module _ (old mid new : Receiving) (was is : Meter) (packet : List ℕ) (event :
       }
 
   -- a packet more
-  pub packet_told : TellsOne HasChecked before now (record { receiving = old; meter = was }) (record { receiving = new; meter = is }) old_buffer new_buffer place packet
+  pub packet_told : TellsOne HasChecked before now (record { receiving = old; meter = was })
+      (record { receiving = new; meter = is }) old_buffer new_buffer place packet
   packet_told = record {
     goes = λ packets text. λ count has.
         let fed = fed_at has.made old mid was packets packet has.past has.told text bytes same feeds has.at in
@@ -187,16 +235,21 @@ module _ (old mid new : Receiving) (was is : Meter) (packet : List ℕ) (event :
 -- ---- the end
 
 -- the text with the end of the stream
-ended_text : (pace : Pace) (told : List ToldCall) (text : List ℕ) → text ≡ sets_text pace told → text ++ end_text pace told ≡ check_text true pace told
+ended_text : (pace : Pace) (told : List ToldCall) (text : List ℕ) → text ≡ sets_text pace told
+    → text ++ end_text pace told ≡ check_text true pace told
 ended_text pace told text whole = ap (λ (front : List ℕ). front ++ end_text pace told) whole
 
-module _ (old mid new : Receiving) (was is : Meter) (before half now : Received) (old_buffer mid_buffer new_buffer : Buffered)
+module _ (old mid new : Receiving) (was is : Meter) (before half now : Received)
+    (old_buffer mid_buffer new_buffer : Buffered)
     (same : IsSame old mid)
-    (ends : (fed : List (List ℕ)) (given : List (Delivery (List ℕ))) → Stands false fed given old → Stands true fed given mid)
+    (ends : (fed : List (List ℕ)) (given : List (Delivery (List ℕ))) → Stands false fed given old
+    → Stands true fed given mid)
     (sets : TakesSets before half mid new was is old_buffer mid_buffer)
     (all : AllTaken new)
     (last : PutsEnd is half now mid_buffer new_buffer) where
-  at_end : (made : Purpose) (packets : List (List ℕ)) (past : List (Delivery Reading)) (told : List ToldCall) (text : List ℕ) → IsAt made false old was packets past told text → IsAt made true mid was packets past told text
+  at_end : (made : Purpose) (packets : List (List ℕ)) (past : List (Delivery Reading)) (told : List ToldCall)
+      (text : List ℕ) → IsAt made false old was packets past told text
+      → IsAt made true mid was packets past told text
   at_end made packets past told text at = record {
     own = still_made made old mid same at.own;
     bytes = at.bytes;
@@ -208,64 +261,97 @@ module _ (old mid new : Receiving) (was is : Meter) (before half now : Received)
     whole = at.whole;
   }
 
-  told_end : (packets : List (List ℕ)) (text line : List ℕ) (has : HasChecked (record { receiving = old; meter = was }) packets text) (more : List (Delivery Reading))
-      → IsAt has.made true new is packets (more ++ has.past) (has.told ++ told_with has.made has.past more) (text ++ line)
+  told_end : (packets : List (List ℕ)) (text line : List ℕ)
+      (has : HasChecked (record { receiving = old; meter = was }) packets text) (more : List (Delivery Reading))
+      → IsAt has.made true new is packets (more ++ has.past) (has.told ++ told_with has.made has.past more)
+      (text ++ line)
       → IsCheckText has.made.profile has.made.origin has.made.pid has.made.pages true packets
-      (text ++ (line ++ end_text (pace_of has.made.origin has.made.profile) (has.told ++ told_with has.made has.past more)))
+      (text ++ (line
+      ++ end_text (pace_of has.made.origin has.made.profile) (has.told ++ told_with has.made has.past more)))
   told_end packets text line has more at =
-      let taken : packets_taken has.made.pid packets ≡ packets = ap (λ (pid : ℕ). packets_taken pid packets) (sym has.at.own.pid) ∙ has.at.stands.taken in
+      let taken : packets_taken has.made.pid packets ≡ packets =
+      ap (λ (pid : ℕ). packets_taken pid packets) (sym has.at.own.pid) ∙ has.at.stands.taken in
       record {
         told = has.told ++ told_with has.made has.past more;
         are = record {
           past = more ++ has.past;
           received = received_at has.made true new is packets _ _ _ all at;
           are = ap (λ (calls : List ToldCall). calls ++ told_with has.made has.past more) has.are
-              ∙ sym (end_tells has.made.profile has.made.pid has.made.pages has.made.origin 0 packets has.past more taken has.received)
-              ∙ ap (λ (all : List (List ℕ)). told_of has.made.profile has.made.pid has.made.pages has.made.origin 0 all (more ++ has.past)) (sym taken);
+              ∙ sym (end_tells has.made.profile has.made.pid has.made.pages has.made.origin 0 packets has.past more
+              taken has.received)
+              ∙ ap (λ (all : List (List ℕ)). told_of has.made.profile has.made.pid has.made.pages has.made.origin 0
+              all (more ++ has.past)) (sym taken);
         };
-        whole = sym (append_assoc text line (end_text (pace_of has.made.origin has.made.profile) (has.told ++ told_with has.made has.past more)))
-            ∙ ended_text (pace_of has.made.origin has.made.profile) (has.told ++ told_with has.made has.past more) (text ++ line) at.whole;
+        whole =
+            sym (append_assoc text line
+            (end_text (pace_of has.made.origin has.made.profile) (has.told ++ told_with has.made has.past more)))
+            ∙ ended_text (pace_of has.made.origin has.made.profile) (has.told ++ told_with has.made has.past more)
+            (text ++ line) at.whole;
       }
 
-  puts_end : (made : Purpose) (packets : List (List ℕ)) (past : List (Delivery Reading)) (told : List ToldCall) (text line : List ℕ) → IsAt made true new is packets past told text
-      → PutsOut before half old_buffer mid_buffer line → PutsOut before now old_buffer new_buffer (line ++ end_text (pace_of made.origin made.profile) told)
+  puts_end : (made : Purpose) (packets : List (List ℕ)) (past : List (Delivery Reading)) (told : List ToldCall)
+      (text line : List ℕ) → IsAt made true new is packets past told text
+      → PutsOut before half old_buffer mid_buffer line
+      → PutsOut before now old_buffer new_buffer (line ++ end_text (pace_of made.origin made.profile) told)
   puts_end made packets past told text line at puts =
       PutsOut-both before half now old_buffer mid_buffer new_buffer line _ puts
-      (subst (λ (pace : Pace). PutsOut half now mid_buffer new_buffer (end_text pace told)) at.pace (last.puts (calls_told told) at.metered))
+      (subst (λ (pace : Pace). PutsOut half now mid_buffer new_buffer (end_text pace told)) at.pace
+      (last.puts (calls_told told) at.metered))
 
   -- the stream has ended
-  pub end_told : (packets : List (List ℕ)) (text : List ℕ) → HasChecked (record { receiving = old; meter = was }) packets text
-      → (more : List ℕ) × IsCheckText old.showing.core.profile old.showing.core.anchor old.demux.pid old.sets.pages true packets (text ++ more)
+  pub end_told : (packets : List (List ℕ)) (text : List ℕ)
+      → HasChecked (record { receiving = old; meter = was }) packets text
+      → (more : List ℕ)
+      × IsCheckText old.showing.core.profile old.showing.core.anchor old.demux.pid old.sets.pages true packets
+      (text ++ more)
       × PutsOut before now old_buffer new_buffer more
   end_told packets text has =
-      let taken = sets.goes has.made true packets has.past has.told text (at_end has.made packets has.past has.told text has.at) in
-      let more : List ℕ = taken.1 ++ end_text (pace_of has.made.origin has.made.profile) (has.told ++ told_with has.made has.past taken.0) in (
+      let taken =
+      sets.goes has.made true packets has.past has.told text (at_end has.made packets has.past has.told text has.at)
+      in
+      let more : List ℕ =
+      taken.1 ++ end_text (pace_of has.made.origin has.made.profile)
+      (has.told ++ told_with has.made has.past taken.0) in (
         more,
         in_receiver has.at.own (text ++ more) (told_end packets text taken.1 has taken.0 taken.3),
         puts_end has.made packets _ _ _ taken.1 taken.3 taken.4,
       )
     where
-      in_receiver : IsMadeFor has.made old → (all : List ℕ) → IsCheckText has.made.profile has.made.origin has.made.pid has.made.pages true packets all
+      in_receiver : IsMadeFor has.made old → (all : List ℕ)
+          → IsCheckText has.made.profile has.made.origin has.made.pid has.made.pages true packets all
           → IsCheckText old.showing.core.profile old.showing.core.anchor old.demux.pid old.sets.pages true packets all
       in_receiver own all is =
-          subst (λ (profile : Profile). IsCheckText profile old.showing.core.anchor old.demux.pid old.sets.pages true packets all) (sym own.profile)
-          (subst (λ (origin : ℕ). IsCheckText has.made.profile origin old.demux.pid old.sets.pages true packets all) (sym own.origin)
-          (subst (λ (pid : ℕ). IsCheckText has.made.profile has.made.origin pid old.sets.pages true packets all) (sym own.pid)
-          (subst (λ (pages : Pages). IsCheckText has.made.profile has.made.origin has.made.pid pages true packets all) (sym own.pages) is)))
+          subst (λ (profile : Profile). IsCheckText profile old.showing.core.anchor old.demux.pid old.sets.pages true
+          packets all) (sym own.profile)
+          (subst (λ (origin : ℕ). IsCheckText has.made.profile origin old.demux.pid old.sets.pages true packets all)
+          (sym own.origin)
+          (subst (λ (pid : ℕ). IsCheckText has.made.profile has.made.origin pid old.sets.pages true packets all)
+          (sym own.pid)
+          (subst (λ (pages : Pages). IsCheckText has.made.profile has.made.origin has.made.pid pages true packets all)
+          (sym own.pages) is)))
 
 -- what was told of packets, where the stream does not end with them
-pub text_so_far : (checking : Checking) (packets : List (List ℕ)) (text : List ℕ) → HasChecked checking packets text
-    → IsCheckText checking.receiving.showing.core.profile checking.receiving.showing.core.anchor checking.receiving.demux.pid checking.receiving.sets.pages false packets text
+pub text_so_far : (checking : Checking) (packets : List (List ℕ)) (text : List ℕ)
+    → HasChecked checking packets text
+    → IsCheckText checking.receiving.showing.core.profile checking.receiving.showing.core.anchor
+    checking.receiving.demux.pid checking.receiving.sets.pages false packets text
 text_so_far checking packets text has =
-    subst (λ (profile : Profile). IsCheckText profile checking.receiving.showing.core.anchor checking.receiving.demux.pid checking.receiving.sets.pages false packets text) (sym has.at.own.profile)
-    (subst (λ (origin : ℕ). IsCheckText has.made.profile origin checking.receiving.demux.pid checking.receiving.sets.pages false packets text) (sym has.at.own.origin)
-    (subst (λ (pid : ℕ). IsCheckText has.made.profile has.made.origin pid checking.receiving.sets.pages false packets text) (sym has.at.own.pid)
-    (subst (λ (pages : Pages). IsCheckText has.made.profile has.made.origin has.made.pid pages false packets text) (sym has.at.own.pages) (record {
+    subst (λ (profile : Profile). IsCheckText profile checking.receiving.showing.core.anchor
+    checking.receiving.demux.pid checking.receiving.sets.pages false packets text) (sym has.at.own.profile)
+    (subst (λ (origin : ℕ). IsCheckText has.made.profile origin checking.receiving.demux.pid
+    checking.receiving.sets.pages false packets text) (sym has.at.own.origin)
+    (subst (λ (pid : ℕ). IsCheckText has.made.profile has.made.origin pid checking.receiving.sets.pages false packets
+    text) (sym has.at.own.pid)
+    (subst (λ (pages : Pages). IsCheckText has.made.profile has.made.origin has.made.pid pages false packets text)
+    (sym has.at.own.pages) (record {
       told = has.told;
       are = record {
         past = has.past;
         received = has.received;
-        are = has.are ∙ ap (λ (all : List (List ℕ)). told_of has.made.profile has.made.pid has.made.pages has.made.origin 0 all has.past)
+        are =
+            has.are ∙ ap
+            (λ (all : List (List ℕ)). told_of has.made.profile has.made.pid has.made.pages has.made.origin 0 all
+            has.past)
             (sym (ap (λ (pid : ℕ). packets_taken pid packets) (sym has.at.own.pid) ∙ has.at.stands.taken));
       };
       whole = has.at.whole;

@@ -17,18 +17,26 @@ pub record Loses (given losses : List (Delivery (List ℕ))) (past : List (Deliv
   pub are_lost : AreLost more
   pub read : AreDeliveriesRead (reverse (given ++ losses)) (more ++ past)
 
-pub losses_read : (losses given : List (Delivery (List ℕ))) (past : List (Delivery Reading)) → AreLosses losses → AreDeliveriesRead (reverse given) past → Loses given losses past
+pub losses_read : (losses given : List (Delivery (List ℕ))) (past : List (Delivery Reading)) → AreLosses losses
+    → AreDeliveriesRead (reverse given) past → Loses given losses past
 losses_read [] given past are read = record {
   more = [];
   are_lost = tt;
-  read = subst (λ (deliveries : List (Delivery (List ℕ))). AreDeliveriesRead (reverse deliveries) past) (sym (append-nil given)) read;
+  read =
+      subst (λ (deliveries : List (Delivery (List ℕ))). AreDeliveriesRead (reverse deliveries) past)
+      (sym (append-nil given)) read;
 }
 losses_read (loss ∷ losses) given past are read =
     let rest = losses_read losses (given ++ loss ∷ []) (lost ∷ past) are.1
-    (read_more given loss past lost read (subst (λ (one : Delivery (List ℕ)). IsDeliveryRead one lost) (sym are.0) refl)) in
+    (read_more given loss past lost read
+    (subst (λ (one : Delivery (List ℕ)). IsDeliveryRead one lost) (sym are.0) refl)) in
     record {
       more = rest.more ++ lost ∷ [];
-      are_lost = all-append (λ (one : Delivery Reading). one ≡ lost) rest.more (lost ∷ []) rest.are_lost (refl, tt);
-      read = subst (λ (all : List (Delivery Reading)). AreDeliveriesRead (reverse (given ++ loss ∷ losses)) all) (sym (append_assoc rest.more (lost ∷ []) past))
-          (subst (λ (deliveries : List (Delivery (List ℕ))). AreDeliveriesRead (reverse deliveries) (rest.more ++ lost ∷ past)) (append_assoc given (loss ∷ []) losses) rest.read);
+      are_lost =
+          all-append (λ (one : Delivery Reading). one ≡ lost) rest.more (lost ∷ []) rest.are_lost (refl, tt);
+      read =
+          subst (λ (all : List (Delivery Reading)). AreDeliveriesRead (reverse (given ++ loss ∷ losses)) all)
+          (sym (append_assoc rest.more (lost ∷ []) past))
+          (subst (λ (deliveries : List (Delivery (List ℕ))). AreDeliveriesRead (reverse deliveries)
+          (rest.more ++ lost ∷ past)) (append_assoc given (loss ∷ []) losses) rest.read);
     }

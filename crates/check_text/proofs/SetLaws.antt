@@ -14,11 +14,11 @@ use Rattle.decoder_model.specs.Sets.{Delivery}
 use Rattle.decoder_model.specs.Verdict.{verdict_of}
 use Rattle.decoder_model.specs.declared.set_end.SetEnd.{SetEnd}
 use Rattle.display_sets.specs.Gathered.{ReadySet, first_ready, ready_sets, sets_behind}
-use Rattle.readings.proofs.PacketsRead.{packets_read}
+use Rattle.reading_laws.proofs.PacketsRead.{packets_read}
 use Rattle.receiver.specs.Receiving.{IsNext, IsSame, Receiving, Stands}
-use Rattle.stream_calls.specs.StreamCalls.{arrived_in, calls_of_packet, drop_where}
-use Rattle.stream_calls.specs.ToldSets.{ToldCall, call_of_end, calls_told, done_by, of_no_set}
-use Rattle.stream_calls.proofs.ToldLaws.{calls_more}
+use Rattle.received_level_laws.specs.StreamCalls.{arrived_in, calls_of_packet, drop_where}
+use Rattle.received_level_laws.specs.ToldSets.{ToldCall, call_of_end, calls_told, done_by, of_no_set}
+use Rattle.received_level_laws.proofs.ToldLaws.{calls_more}
 use Rattle.stream_syntax.specs.declared.transport.Event.{Event}
 use Rattle.sub_base.specs.Endpoints.{Received}
 use Rattle.sub_base.specs.Pace.{pace_of}
@@ -45,51 +45,78 @@ one_less : (sets : List ReadySet) → IsSome (first_ready sets) → 1 + length (
 one_less [] some = absurd (let never : false ≡ true = some in cc)
 one_less (set ∷ sets) some = omega arith
 
-module _ (old new : Receiving) (start fin : Meter) (before now : Received) (was is : Buffered) (end : SetEnd) (load : SetLoad) (done : ℕ)
+module _ (old new : Receiving) (start fin : Meter) (before now : Received) (was is : Buffered) (end : SetEnd)
+    (load : SetLoad) (done : ℕ)
     (has_next : HasNext old)
-    (takes : (ended : Bool) (packets : List (List ℕ)) (given rest : List (Delivery (List ℕ))) (delivery : Delivery (List ℕ)) → IsNext ended packets given delivery rest old → Stands ended packets (given ++ delivery ∷ []) new)
-    (answers : (ended : Bool) (packets : List (List ℕ)) (given rest : List (Delivery (List ℕ))) (delivery : Delivery (List ℕ)) (past : List (Delivery Reading)) (one : Delivery Reading)
-    → IsNext ended packets given delivery rest old → AreDeliveriesRead (reverse given) past → IsDeliveryRead delivery one → Some end ≡ verdict_of old.showing.core.profile old.showing.core.anchor past one)
-    (loads : (ended : Bool) (packets : List (List ℕ)) (given rest : List (Delivery (List ℕ))) (delivery : Delivery (List ℕ)) (past : List (Delivery Reading)) (one : Delivery Reading)
-    → IsNext ended packets given delivery rest old → AreDeliveriesRead (reverse given) past → IsDeliveryRead delivery one → Some new.load ≡ set_load old.showing.core.profile old.showing.core.anchor past one)
+    (takes : (ended : Bool) (packets : List (List ℕ)) (given rest : List (Delivery (List ℕ)))
+    (delivery : Delivery (List ℕ)) → IsNext ended packets given delivery rest old
+    → Stands ended packets (given ++ delivery ∷ []) new)
+    (answers : (ended : Bool) (packets : List (List ℕ)) (given rest : List (Delivery (List ℕ)))
+    (delivery : Delivery (List ℕ)) (past : List (Delivery Reading)) (one : Delivery Reading)
+    → IsNext ended packets given delivery rest old → AreDeliveriesRead (reverse given) past
+    → IsDeliveryRead delivery one
+    → Some end ≡ verdict_of old.showing.core.profile old.showing.core.anchor past one)
+    (loads : (ended : Bool) (packets : List (List ℕ)) (given rest : List (Delivery (List ℕ)))
+    (delivery : Delivery (List ℕ)) (past : List (Delivery Reading)) (one : Delivery Reading)
+    → IsNext ended packets given delivery rest old → AreDeliveriesRead (reverse given) past
+    → IsDeliveryRead delivery one
+    → Some new.load ≡ set_load old.showing.core.profile old.showing.core.anchor past one)
     (load_is : load ≡ new.load)
     (same : IsSame old new)
     (some : IsSome (first_ready (ready_sets old.sets)))
     (left : ready_sets new.sets ≡ sets_behind (ready_sets old.sets))
     (counts : (past : List Call) → meters.Stands past start → meters.Stands (call_of_end end load ∷ past) fin)
-    (done_at : (past : List Call) → meters.Stands past start → done ≡ done_by start.pace past (call_of_end end load))
+    (done_at : (past : List Call) → meters.Stands past start
+    → done ≡ done_by start.pace past (call_of_end end load))
     (pace : fin.pace ≡ start.pace)
-    (puts : PutsOut before now was is (set_line (record { set = record { end = end; load = load }; done = done }))) where
+    (puts : PutsOut before now was is
+    (set_line (record { set = record { end = end; load = load }; done = done }))) where
   -- the set that comes next, as it is read
-  record Comes (made : Purpose) (ended : Bool) (packets : List (List ℕ)) (given : List (Delivery (List ℕ))) (past : List (Delivery Reading)) : Type 0 where
+  record Comes (made : Purpose) (ended : Bool) (packets : List (List ℕ)) (given : List (Delivery (List ℕ)))
+      (past : List (Delivery Reading)) : Type 0 where
     delivery : Delivery (List ℕ)
     one : Delivery Reading
     stands : Stands ended packets (given ++ delivery ∷ []) new
     read : AreDeliveriesRead (reverse (given ++ delivery ∷ [])) (one ∷ past)
     told : told_with made past (one ∷ []) ≡ told_one end load ∷ []
 
-  told_so : (made : Purpose) (past : List (Delivery Reading)) (one : Delivery Reading) → IsMadeFor made old → Some end ≡ verdict_of old.showing.core.profile old.showing.core.anchor past one
-      → Some new.load ≡ set_load old.showing.core.profile old.showing.core.anchor past one → told_with made past (one ∷ []) ≡ told_one end load ∷ []
+  told_so : (made : Purpose) (past : List (Delivery Reading)) (one : Delivery Reading) → IsMadeFor made old
+      → Some end ≡ verdict_of old.showing.core.profile old.showing.core.anchor past one
+      → Some new.load ≡ set_load old.showing.core.profile old.showing.core.anchor past one
+      → told_with made past (one ∷ []) ≡ told_one end load ∷ []
   told_so made past one own is_end is_load =
       one_told made past one end load
-      (is_end ∙ ap (λ (profile : Profile). verdict_of profile old.showing.core.anchor past one) own.profile ∙ ap (λ (anchor : ℕ). verdict_of made.profile anchor past one) own.origin)
-      (ap Some load_is ∙ is_load ∙ ap (λ (profile : Profile). set_load profile old.showing.core.anchor past one) own.profile ∙ ap (λ (anchor : ℕ). set_load made.profile anchor past one) own.origin)
+      (is_end ∙ ap (λ (profile : Profile). verdict_of profile old.showing.core.anchor past one) own.profile
+      ∙ ap (λ (anchor : ℕ). verdict_of made.profile anchor past one) own.origin)
+      (ap Some load_is ∙ is_load
+      ∙ ap (λ (profile : Profile). set_load profile old.showing.core.anchor past one) own.profile
+      ∙ ap (λ (anchor : ℕ). set_load made.profile anchor past one) own.origin)
 
-  comes : (made : Purpose) (ended : Bool) (packets : List (List ℕ)) (past : List (Delivery Reading)) (told : List ToldCall) (text : List ℕ) (at : IsAt made ended old start packets past told text) → Comes made ended packets at.given past
+  comes : (made : Purpose) (ended : Bool) (packets : List (List ℕ)) (past : List (Delivery Reading))
+      (told : List ToldCall) (text : List ℕ) (at : IsAt made ended old start packets past told text)
+      → Comes made ended packets at.given past
   comes made ended packets past told text at =
       let next = has_next ended packets at.given at.stands in
       let all = packets_read old.showing.core.profile old.demux.pid old.sets.pages ended packets at.bytes in
-      let found = next_read old.showing.core.profile old.demux.pid old.sets.pages ended packets at.given next.1 next.0 all.0 all.1 next.2.all in
+      let found =
+      next_read old.showing.core.profile old.demux.pid old.sets.pages ended packets at.given next.1 next.0 all.0
+      all.1 next.2.all in
       record {
         delivery = next.0;
         one = found.0;
         stands = takes ended packets at.given next.1 next.0 next.2;
         read = read_more at.given next.0 past found.0 at.read found.1;
-        told = told_so made past found.0 at.own (answers ended packets at.given next.1 next.0 past found.0 next.2 at.read found.1) (loads ended packets at.given next.1 next.0 past found.0 next.2 at.read found.1);
+        told =
+            told_so made past found.0 at.own
+            (answers ended packets at.given next.1 next.0 past found.0 next.2 at.read found.1)
+            (loads ended packets at.given next.1 next.0 past found.0 next.2 at.read found.1);
       }
 
-  at_one : (made : Purpose) (ended : Bool) (packets : List (List ℕ)) (past : List (Delivery Reading)) (told : List ToldCall) (text : List ℕ) (at : IsAt made ended old start packets past told text) (next : Comes made ended packets at.given past)
-      → IsAt made ended new fin packets (next.one ∷ past) (told ++ told_one end load ∷ []) (text ++ set_line (record { set = record { end = end; load = load }; done = done }))
+  at_one : (made : Purpose) (ended : Bool) (packets : List (List ℕ)) (past : List (Delivery Reading))
+      (told : List ToldCall) (text : List ℕ) (at : IsAt made ended old start packets past told text)
+      (next : Comes made ended packets at.given past)
+      → IsAt made ended new fin packets (next.one ∷ past) (told ++ told_one end load ∷ [])
+      (text ++ set_line (record { set = record { end = end; load = load }; done = done }))
   at_one made ended packets past told text at next = record {
     own = still_made made old new same at.own;
     bytes = at.bytes;
@@ -97,13 +124,24 @@ module _ (old new : Receiving) (start fin : Meter) (before now : Received) (was 
     stands = next.stands;
     read = next.read;
     pace = pace ∙ at.pace;
-    metered = subst (λ (calls : List Call). meters.Stands calls fin) (sym (calls_more told (told_one end load ∷ []))) (counts (calls_told told) at.metered);
+    metered =
+        subst (λ (calls : List Call). meters.Stands calls fin) (sym (calls_more told (told_one end load ∷ [])))
+        (counts (calls_told told) at.metered);
     whole = text_one (pace_of made.origin made.profile) told text end load done
-        (done_at (calls_told told) at.metered ∙ ap (λ (p : Pace). done_by p (calls_told told) (call_of_end end load)) at.pace) at.whole;
+        (done_at (calls_told told) at.metered
+        ∙ ap (λ (p : Pace). done_by p (calls_told told) (call_of_end end load)) at.pace) at.whole;
   }
 
-  count_one : (calls : List ToldCall) → calls ≡ told_one end load ∷ [] → length calls + length (ready_sets new.sets) ≡ length (ready_sets old.sets)
-  count_one calls is = omega (arith, ap (λ (l : List ToldCall). length l) is, ap (λ (l : List ReadySet). length l) left, one_less (ready_sets old.sets) some)
+  count_one : (calls : List ToldCall) → calls ≡ told_one end load ∷ []
+      → length calls + length (ready_sets new.sets) ≡ length (ready_sets old.sets)
+  count_one calls is =
+      omega (
+        arith,
+        ap (λ (l : List ToldCall). length l) is,
+        ap (λ (l : List ReadySet). length l) left,
+        one_less
+            (ready_sets old.sets) some,
+      )
 
   -- the set that is ready was taken
   pub set_taken : TakesSets before now old new start fin was is
@@ -113,7 +151,8 @@ module _ (old new : Receiving) (start fin : Meter) (before now : Received) (was 
           next.one ∷ [],
           set_line (record { set = record { end = end; load = load }; done = done }),
           count_one (told_with made past (next.one ∷ [])) next.told,
-          subst (λ (calls : List ToldCall). IsAt made ended new fin packets (next.one ∷ past) (told ++ calls) (text ++ set_line (record { set = record { end = end; load = load }; done = done })))
+          subst (λ (calls : List ToldCall). IsAt made ended new fin packets (next.one ∷ past) (told ++ calls)
+              (text ++ set_line (record { set = record { end = end; load = load }; done = done })))
               (sym next.told) (at_one made ended packets past told text at next),
           puts,
         );
@@ -121,38 +160,60 @@ module _ (old new : Receiving) (start fin : Meter) (before now : Received) (was 
 
 -- ---- several sets
 
-pub taken_nothing : (shown : Received) (receiving : Receiving) (meter : Meter) (buffer : Buffered) → TakesSets shown shown receiving receiving meter meter buffer buffer
+pub taken_nothing : (shown : Received) (receiving : Receiving) (meter : Meter) (buffer : Buffered)
+    → TakesSets shown shown receiving receiving meter meter buffer buffer
 taken_nothing shown receiving meter buffer = record {
   goes = λ made ended packets past told text. λ at. (
     [],
     [],
     omega arith,
-    subst (λ (calls : List ToldCall). IsAt made ended receiving meter packets past calls (text ++ [])) (sym (append-nil told))
-        (subst (λ (line : List ℕ). IsAt made ended receiving meter packets past told line) (sym (append-nil text)) at),
+    subst (λ (calls : List ToldCall). IsAt made ended receiving meter packets past calls (text ++ []))
+        (sym (append-nil told))
+        (subst (λ (line : List ℕ). IsAt made ended receiving meter packets past told line) (sym (append-nil text))
+        at),
     PutsOut-nothing shown buffer,
   );
 }
 
-at_both : (made : Purpose) (ended : Bool) (receiving : Receiving) (meter : Meter) (packets : List (List ℕ)) (past more later : List (Delivery Reading)) (told : List ToldCall) (text first second : List ℕ)
-    → IsAt made ended receiving meter packets (later ++ (more ++ past)) ((told ++ told_with made past more) ++ told_with made (more ++ past) later) ((text ++ first) ++ second)
-    → IsAt made ended receiving meter packets ((later ++ more) ++ past) (told ++ told_with made past (later ++ more)) (text ++ (first ++ second))
+at_both : (made : Purpose) (ended : Bool) (receiving : Receiving) (meter : Meter) (packets : List (List ℕ))
+    (past more later : List (Delivery Reading)) (told : List ToldCall) (text first second : List ℕ)
+    → IsAt made ended receiving meter packets (later ++ (more ++ past))
+    ((told ++ told_with made past more) ++ told_with made (more ++ past) later) ((text ++ first) ++ second)
+    → IsAt made ended receiving meter packets ((later ++ more) ++ past) (told ++ told_with made past (later ++ more))
+    (text ++ (first ++ second))
 at_both made ended receiving meter packets past more later told text first second at =
-    subst (λ (all : List (Delivery Reading)). IsAt made ended receiving meter packets all (told ++ told_with made past (later ++ more)) (text ++ (first ++ second))) (sym (append_assoc later more past))
-    (subst (λ (calls : List ToldCall). IsAt made ended receiving meter packets (later ++ (more ++ past)) calls (text ++ (first ++ second)))
-    (append_assoc told (told_with made past more) (told_with made (more ++ past) later) ∙ ap (λ (calls : List ToldCall). told ++ calls) (sym (with_both made past more later)))
-    (subst (λ (line : List ℕ). IsAt made ended receiving meter packets (later ++ (more ++ past)) ((told ++ told_with made past more) ++ told_with made (more ++ past) later) line) (append_assoc text first second) at))
+    subst (λ (all : List (Delivery Reading)). IsAt made ended receiving meter packets all
+    (told ++ told_with made past (later ++ more)) (text ++ (first ++ second))) (sym (append_assoc later more past))
+    (subst (λ (calls : List ToldCall). IsAt made ended receiving meter packets (later ++ (more ++ past)) calls
+    (text ++ (first ++ second)))
+    (append_assoc told (told_with made past more) (told_with made (more ++ past) later)
+    ∙ ap (λ (calls : List ToldCall). told ++ calls) (sym (with_both made past more later)))
+    (subst (λ (line : List ℕ). IsAt made ended receiving meter packets (later ++ (more ++ past))
+    ((told ++ told_with made past more) ++ told_with made (more ++ past) later) line)
+    (append_assoc text first second) at))
 
-count_both : (made : Purpose) (past more later : List (Delivery Reading)) (a b c : ℕ) → length (told_with made past more) + b ≡ a → length (told_with made (more ++ past) later) + c ≡ b
+count_both : (made : Purpose) (past more later : List (Delivery Reading)) (a b c : ℕ)
+    → length (told_with made past more) + b ≡ a → length (told_with made (more ++ past) later) + c ≡ b
     → length (told_with made past (later ++ more)) + c ≡ a
 count_both made past more later a b c one other =
-    omega (arith, one, other, ap (λ (l : List ToldCall). length l) (with_both made past more later), length-append (told_with made past more) (told_with made (more ++ past) later))
+    omega (
+      arith,
+      one,
+      other,
+      ap (λ (l : List ToldCall). length l) (with_both made past more later),
+      length-append
+          (told_with made past more) (told_with made (more ++ past) later),
+    )
 
-pub taken_both : (a b c : Received) (old mid new : Receiving) (start between fin : Meter) (was half is : Buffered) → TakesSets a b old mid start between was half → TakesSets b c mid new between fin half is
+pub taken_both : (a b c : Received) (old mid new : Receiving) (start between fin : Meter) (was half is : Buffered)
+    → TakesSets a b old mid start between was half → TakesSets b c mid new between fin half is
     → TakesSets a c old new start fin was is
 taken_both a b c old mid new start between fin was half is one other = record {
   goes = λ made ended packets past told text. λ at.
       let first = one.goes made ended packets past told text at in
-      let second = other.goes made ended packets (first.0 ++ past) (told ++ told_with made past first.0) (text ++ first.1) first.3 in (
+      let second =
+      other.goes made ended packets (first.0 ++ past) (told ++ told_with made past first.0) (text ++ first.1)
+      first.3 in (
         second.0 ++ first.0,
         first.1 ++ second.1,
         count_both made past first.0 second.0 _ _ _ first.2 second.2,
@@ -164,20 +225,28 @@ taken_both a b c old mid new start between fin was half is one other = record {
 -- ---- a packet
 
 -- the calls of the sets that come with a packet, by the one that stands before its bytes
-parted : (first : Bool) (sets : List ReadySet) (rest : List ReadySet) (one other : List ToldCall) → rest ≡ behind_first first sets → length one + length rest ≡ length sets → length other + 0 ≡ length rest
-    → ((if first then take 1 (one ++ other) else []) ≡ one) × ((if first then drop 1 (one ++ other) else one ++ other) ≡ other)
+parted : (first : Bool) (sets : List ReadySet) (rest : List ReadySet) (one other : List ToldCall)
+    → rest ≡ behind_first first sets → length one + length rest ≡ length sets
+    → length other + 0 ≡ length rest
+    → ((if first then take 1 (one ++ other) else []) ≡ one)
+    × ((if first then drop 1 (one ++ other) else one ++ other) ≡ other)
 parted true [] rest [] [] left few fewer = (refl, refl)
 parted true [] rest [] (call ∷ other) left few fewer = absurd (omega (arith, few, fewer))
 parted true [] rest (call ∷ one) other left few fewer = absurd (omega (arith, few))
-parted true (set ∷ sets) rest [] other left few fewer = absurd (omega (arith, few, ap (λ (l : List ReadySet). length l) left))
+parted true (set ∷ sets) rest [] other left few fewer =
+    absurd (omega (arith, few, ap (λ (l : List ReadySet). length l) left))
 parted true (set ∷ sets) rest (call ∷ []) other left few fewer = (refl, refl)
-parted true (set ∷ sets) rest (call ∷ next ∷ one) other left few fewer = absurd (omega (arith, few, ap (λ (l : List ReadySet). length l) left))
+parted true (set ∷ sets) rest (call ∷ next ∷ one) other left few fewer =
+    absurd (omega (arith, few, ap (λ (l : List ReadySet). length l) left))
 parted false sets rest [] other left few fewer = (refl, refl)
-parted false sets rest (call ∷ one) other left few fewer = absurd (omega (arith, few, ap (λ (l : List ReadySet). length l) left))
+parted false sets rest (call ∷ one) other left few fewer =
+    absurd (omega (arith, few, ap (λ (l : List ReadySet). length l) left))
 
-joined : (told a b c d e : List ToldCall) → ((((told ++ a) ++ b) ++ c) ++ d) ++ e ≡ told ++ (a ++ (b ++ (c ++ (d ++ e))))
+joined : (told a b c d e : List ToldCall)
+    → ((((told ++ a) ++ b) ++ c) ++ d) ++ e ≡ told ++ (a ++ (b ++ (c ++ (d ++ e))))
 joined told a b c d e =
-    append_assoc (((told ++ a) ++ b) ++ c) d e ∙ append_assoc ((told ++ a) ++ b) c (d ++ e) ∙ append_assoc (told ++ a) b (c ++ (d ++ e)) ∙ append_assoc told a (b ++ (c ++ (d ++ e)))
+    append_assoc (((told ++ a) ++ b) ++ c) d e ∙ append_assoc ((told ++ a) ++ b) c (d ++ e)
+    ∙ append_assoc (told ++ a) b (c ++ (d ++ e)) ∙ append_assoc told a (b ++ (c ++ (d ++ e)))
 
 module _ (event : Event) (arrival : PacketArrival) (slot : ℕ) where
   -- what breaks off, arrives, and is dropped with the packet
@@ -191,11 +260,13 @@ module _ (event : Event) (arrival : PacketArrival) (slot : ℕ) where
   drops = drop_where of_no_set arrival.dropped
 
   packet_calls : (all one other : List ToldCall) → all ≡ one ++ other
-      → ((if arrival.before then take 1 (one ++ other) else []) ≡ one) × ((if arrival.before then drop 1 (one ++ other) else one ++ other) ≡ other)
+      → ((if arrival.before then take 1 (one ++ other) else []) ≡ one)
+      × ((if arrival.before then drop 1 (one ++ other) else one ++ other) ≡ other)
       → breaks ++ (one ++ (arrives ++ (other ++ drops))) ≡ calls_of_packet of_no_set event arrival slot all
   packet_calls all one other is both =
       ap (λ (l : List ToldCall). breaks ++ (l ++ (arrives ++ (other ++ drops)))) (sym both.0)
-      ∙ ap (λ (l : List ToldCall). breaks ++ ((if arrival.before then take 1 (one ++ other) else []) ++ (arrives ++ (l ++ drops)))) (sym both.1)
+      ∙ ap (λ (l : List ToldCall). breaks
+      ++ ((if arrival.before then take 1 (one ++ other) else []) ++ (arrives ++ (l ++ drops)))) (sym both.1)
       ∙ ap (calls_of_packet of_no_set event arrival slot) (sym is)
 
   module _ (a b c : Received) (old mid new : Receiving) (m0 m1 m2 m3 m4 m5 : Meter) (was half is : Buffered)
@@ -207,48 +278,68 @@ module _ (event : Event) (arrival : PacketArrival) (slot : ℕ) where
       (none : ready_sets new.sets ≡ [])
       (dropped : Counts m4 m5 drops) where
     -- what comes of the whole packet
-    abbrev Comes_of : (made : Purpose) (packets : List (List ℕ)) (past : List (Delivery Reading)) (told : List ToldCall) (text : List ℕ) → Type 0
+    abbrev Comes_of : (made : Purpose) (packets : List (List ℕ)) (past : List (Delivery Reading))
+        (told : List ToldCall) (text : List ℕ) → Type 0
     Comes_of made packets past told text =
         (more : List (Delivery Reading)) × (line : List ℕ)
-        × IsAt made false new m5 packets (more ++ past) (told ++ calls_of_packet of_no_set event arrival slot (told_with made past more)) (text ++ line)
+        × IsAt made false new m5 packets (more ++ past)
+        (told ++ calls_of_packet of_no_set event arrival slot (told_with made past more)) (text ++ line)
         × PutsOut a c was is line
 
-    second : (made : Purpose) (packets : List (List ℕ)) (past more later : List (Delivery Reading)) (told : List ToldCall) (text line after : List ℕ)
+    second : (made : Purpose) (packets : List (List ℕ)) (past more later : List (Delivery Reading))
+        (told : List ToldCall) (text line after : List ℕ)
         → length (told_with made past more) + length (ready_sets mid.sets) ≡ length (ready_sets old.sets)
         → length (told_with made (more ++ past) later) + length (ready_sets new.sets) ≡ length (ready_sets mid.sets)
-        → IsAt made false new m4 packets (later ++ (more ++ past)) ((((told ++ breaks) ++ told_with made past more) ++ arrives) ++ told_with made (more ++ past) later) ((text ++ line) ++ after)
+        → IsAt made false new m4 packets (later ++ (more ++ past))
+        ((((told ++ breaks) ++ told_with made past more) ++ arrives) ++ told_with made (more ++ past) later)
+        ((text ++ line) ++ after)
         → PutsOut a b was half line → PutsOut b c half is after → Comes_of made packets past told text
     second made packets past more later told text line after few fewer at puts more_puts =
         let first_calls : List ToldCall = told_with made past more in
         let other_calls : List ToldCall = told_with made (more ++ past) later in
-        let rest : length other_calls + 0 ≡ length (ready_sets mid.sets) = omega (arith, fewer, ap (λ (l : List ReadySet). length l) none) in (
+        let rest : length other_calls + 0 ≡ length (ready_sets mid.sets) =
+        omega (arith, fewer, ap (λ (l : List ReadySet). length l) none) in (
           later ++ more,
           line ++ after,
-          subst (λ (all : List (Delivery Reading)). IsAt made false new m5 packets all (told ++ calls_of_packet of_no_set event arrival slot (told_with made past (later ++ more))) (text ++ (line ++ after))) (sym (append_assoc later more past))
-              (subst (λ (l : List ℕ). IsAt made false new m5 packets (later ++ (more ++ past)) (told ++ calls_of_packet of_no_set event arrival slot (told_with made past (later ++ more))) l) (append_assoc text line after)
-              (subst (λ (calls : List ToldCall). IsAt made false new m5 packets (later ++ (more ++ past)) calls ((text ++ line) ++ after))
+          subst (λ (all : List (Delivery Reading)). IsAt made false new m5 packets all
+              (told ++ calls_of_packet of_no_set event arrival slot (told_with made past (later ++ more)))
+              (text ++ (line ++ after))) (sym (append_assoc later more past))
+              (subst (λ (l : List ℕ). IsAt made false new m5 packets (later ++ (more ++ past))
+              (told ++ calls_of_packet of_no_set event arrival slot (told_with made past (later ++ more))) l)
+              (append_assoc text line after)
+              (subst (λ (calls : List ToldCall). IsAt made false new m5 packets (later ++ (more ++ past)) calls
+              ((text ++ line) ++ after))
               (joined told breaks first_calls arrives other_calls drops
               ∙ ap (λ (calls : List ToldCall). told ++ calls)
-              (packet_calls (told_with made past (later ++ more)) first_calls other_calls (with_both made past more later)
-              (parted arrival.before (ready_sets old.sets) (ready_sets mid.sets) first_calls other_calls left few rest)))
-              (counted made false new m4 m5 packets (later ++ (more ++ past)) ((((told ++ breaks) ++ first_calls) ++ arrives) ++ other_calls) drops ((text ++ line) ++ after)
+              (packet_calls (told_with made past (later ++ more)) first_calls other_calls
+              (with_both made past more later)
+              (parted arrival.before (ready_sets old.sets) (ready_sets mid.sets) first_calls other_calls left few
+              rest)))
+              (counted made false new m4 m5 packets (later ++ (more ++ past))
+              ((((told ++ breaks) ++ first_calls) ++ arrives) ++ other_calls) drops ((text ++ line) ++ after)
               (drop_silent arrival.dropped) dropped at))),
           PutsOut-both a b c was half is line after puts more_puts,
         )
 
-    first : (made : Purpose) (packets : List (List ℕ)) (past more : List (Delivery Reading)) (told : List ToldCall) (text line : List ℕ)
+    first : (made : Purpose) (packets : List (List ℕ)) (past more : List (Delivery Reading)) (told : List ToldCall)
+        (text line : List ℕ)
         → length (told_with made past more) + length (ready_sets mid.sets) ≡ length (ready_sets old.sets)
         → IsAt made false mid m2 packets (more ++ past) ((told ++ breaks) ++ told_with made past more) (text ++ line)
         → PutsOut a b was half line → Comes_of made packets past told text
     first made packets past more told text line few at puts =
-        let next = other.goes made false packets (more ++ past) (((told ++ breaks) ++ told_with made past more) ++ arrives) (text ++ line)
-        (counted made false mid m2 m3 packets (more ++ past) ((told ++ breaks) ++ told_with made past more) arrives (text ++ line) (arrived_silent slot arrival.bytes) arrived at) in
+        let next =
+        other.goes made false packets (more ++ past) (((told ++ breaks) ++ told_with made past more) ++ arrives)
+        (text ++ line)
+        (counted made false mid m2 m3 packets (more ++ past) ((told ++ breaks) ++ told_with made past more) arrives
+        (text ++ line) (arrived_silent slot arrival.bytes) arrived at) in
         second made packets past more next.0 told text line next.1 few next.2 next.3 puts next.4
 
     -- the calls of a packet, one after the other
     pub calls_taken : TakesCalls event arrival slot a c old new m0 m5 was is
     calls_taken = record {
       goes = λ made packets past told text. λ at.
-          let next = one.goes made false packets past (told ++ breaks) text (counted made false old m0 m1 packets past told breaks text (drop_silent (is_break event)) broken at) in
+          let next =
+          one.goes made false packets past (told ++ breaks) text
+          (counted made false old m0 m1 packets past told breaks text (drop_silent (is_break event)) broken at) in
           first made packets past next.0 told text next.1 next.2 next.3 next.4;
     }

@@ -9,8 +9,8 @@ use Rattle.command_text.specs.Lines.{line_end, then_number}
 use Rattle.decoder_model.specs.declared.pages.Pages.{Pages}
 use Rattle.decoder_model.specs.declared.set_end.SetEnd.{SetEnd}
 use Rattle.decoder_model.specs.declared.set_end.SetEnd.TheVariants.{Shown, Waiting, Broken, NotLater}
-use Rattle.stream_calls.specs.StreamCalls.{AreCallsOf}
-use Rattle.stream_calls.specs.ToldSets.{AreToldCalls, DoneSet, ToldCall, calls_told, told_sets}
+use Rattle.received_level_laws.specs.StreamCalls.{AreCallsOf}
+use Rattle.received_level_laws.specs.ToldSets.{AreToldCalls, DoneSet, ToldCall, calls_told, told_sets}
 use Rattle.sub_base.specs.Pace.{pace_of}
 use Rattle.sub_base.specs.declared.pace.Pace.{Pace}
 use Rattle.sub_base.specs.declared.profile.Profile.{Profile}

@@ -13,8 +13,8 @@ use Rattle.decoder_model.specs.Sets.{Delivery, sets_of}
 use Rattle.display_sets.specs.Gathered.{ReadySet, ready_sets, sets_behind}
 use Rattle.receiver.specs.Receiving.{IsSame, Receiving, Stands}
 use Rattle.receiver.specs.Taking.{AreBytes}
-use Rattle.stream_calls.specs.StreamCalls.{calls_of_packet}
-use Rattle.stream_calls.specs.ToldSets.{ToldCall, calls_told, of_no_set, told_behind, told_of}
+use Rattle.received_level_laws.specs.StreamCalls.{calls_of_packet}
+use Rattle.received_level_laws.specs.ToldSets.{ToldCall, calls_told, of_no_set, told_behind, told_of}
 use Rattle.stream_syntax.specs.declared.transport.Event.{Event}
 use Rattle.sub_base.specs.Endpoints.{Received}
 use Rattle.sub_base.specs.Pace.{pace_of}

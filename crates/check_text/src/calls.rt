@@ -9,8 +9,8 @@ ghost use Rattle.display_sets.specs.Gathered.{first_ready, ready_sets, sets_behi
 ghost use Rattle.packet_source.specs.declared.limits.TheConstants.{STREAM_LIMIT};
 ghost use Rattle.receiver.specs.Arrived.{arrival_value};
 ghost use Rattle.receiver.specs.Receiving.{IsSame};
-ghost use Rattle.stream_calls.specs.StreamCalls.{arrived_in, drop_where as drop_calls};
-ghost use Rattle.stream_calls.specs.ToldSets.{call_of_end, done_by, of_no_set};
+ghost use Rattle.received_level_laws.specs.StreamCalls.{arrived_in, drop_where as drop_calls};
+ghost use Rattle.received_level_laws.specs.ToldSets.{call_of_end, done_by, of_no_set};
 ghost use Rattle.stream_syntax.specs.declared.wire.TheConstants.{PAYLOAD_LENGTH};
 ghost use Rattle.receiver.specs.Taking.{AllTaken, HasNext};
 ghost use Rattle.check_text.specs.Checking.{Counts, TakesCalls, TakesSets};

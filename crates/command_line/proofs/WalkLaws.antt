@@ -44,12 +44,14 @@ no_flags : (x : ℕ) (xs : Text) → is_plain (x ∷ xs) ≡ true → short_of (
 no_flags x xs e = rw (not_dash x xs e) refl
 
 -- a plain word is a value, the first one and each that follows
-taken_first : (word : Text) → is_plain word ≡ true → walked rules [] (walk_from nothing_held) word ≡ taken (word ∷ [])
+taken_first : (word : Text) → is_plain word ≡ true
+    → walked rules [] (walk_from nothing_held) word ≡ taken (word ∷ [])
 unfolding clap_on_literals
 taken_first [] e = absurd (true≢false (sym e))
 taken_first (x ∷ xs) e = rw (not_dash x xs e, no_flags x xs e) refl
 
-taken_next : (words : List Text) (word : Text) → is_plain word ≡ true → walked rules [] (taken words) word ≡ taken (words ++ word ∷ [])
+taken_next : (words : List Text) (word : Text) → is_plain word ≡ true
+    → walked rules [] (taken words) word ≡ taken (words ++ word ∷ [])
 unfolding clap_on_literals
 taken_next words [] e = absurd (true≢false (sym e))
 taken_next words (x ∷ xs) e = rw (not_dash x xs e, no_flags x xs e) refl
@@ -59,36 +61,43 @@ unfolding clap_on_literals
 turn_first [] e = absurd (true≢false (sym e))
 turn_first (x ∷ xs) e = rw (not_dash x xs e, no_flags x xs e) refl
 
-turn_next : (words : List Text) (word : Text) → is_plain word ≡ true → turn_passes shape [] (taken words) word ≡ true
+turn_next : (words : List Text) (word : Text) → is_plain word ≡ true
+    → turn_passes shape [] (taken words) word ≡ true
 unfolding clap_on_literals
 turn_next words [] e = absurd (true≢false (sym e))
 turn_next words (x ∷ xs) e = rw (not_dash x xs e, no_flags x xs e) refl
 
 -- the walk over all words
-walk_taken : (before words : List Text) → list_all is_plain words ≡ true → fold (walked rules []) (taken before) words ≡ taken (before ++ words)
+walk_taken : (before words : List Text) → list_all is_plain words ≡ true
+    → fold (walked rules []) (taken before) words ≡ taken (before ++ words)
 walk_taken before [] e = ap taken (sym (append-nil before))
 walk_taken before (word ∷ rest) e =
     ap (λ (w : Walk). fold (walked rules []) w rest) (taken_next before word (both (is_plain word) _ e).0)
     ∙ walk_taken (before ++ word ∷ []) rest (both (is_plain word) _ e).1
     ∙ ap taken (append_assoc before (word ∷ []) rest)
 
-walk_words : (word : Text) (rest : List Text) → list_all is_plain (word ∷ rest) ≡ true → walk rules [] nothing_held (word ∷ rest) ≡ taken (word ∷ rest)
+walk_words : (word : Text) (rest : List Text) → list_all is_plain (word ∷ rest) ≡ true
+    → walk rules [] nothing_held (word ∷ rest) ≡ taken (word ∷ rest)
 walk_words word rest e =
     ap (λ (w : Walk). fold (walked rules []) w rest) (taken_first word (both (is_plain word) _ e).0)
     ∙ walk_taken (word ∷ []) rest (both (is_plain word) _ e).1
 
-passes_taken : (before words : List Text) → list_all is_plain words ≡ true → walk_passes shape [] (taken before) words ≡ true
+passes_taken : (before words : List Text) → list_all is_plain words ≡ true
+    → walk_passes shape [] (taken before) words ≡ true
 unfolding walk_passes
 passes_taken before [] e = refl
 passes_taken before (word ∷ rest) e =
-    ap₂ (λ (b : Bool) (w : Walk). b && walk_passes shape [] w rest) (turn_next before word (both (is_plain word) _ e).0) (taken_next before word (both (is_plain word) _ e).0)
+    ap₂ (λ (b : Bool) (w : Walk). b && walk_passes shape [] w rest)
+    (turn_next before word (both (is_plain word) _ e).0) (taken_next before word (both (is_plain word) _ e).0)
     ∙ passes_taken (before ++ word ∷ []) rest (both (is_plain word) _ e).1
 
-passes_words : (words : List Text) → list_all is_plain words ≡ true → walk_passes shape [] (walk_from nothing_held) words ≡ true
+passes_words : (words : List Text) → list_all is_plain words ≡ true
+    → walk_passes shape [] (walk_from nothing_held) words ≡ true
 unfolding walk_passes
 passes_words [] e = refl
 passes_words (word ∷ rest) e =
-    ap₂ (λ (b : Bool) (w : Walk). b && walk_passes shape [] w rest) (turn_first word (both (is_plain word) _ e).0) (taken_first word (both (is_plain word) _ e).0)
+    ap₂ (λ (b : Bool) (w : Walk). b && walk_passes shape [] w rest) (turn_first word (both (is_plain word) _ e).0)
+    (taken_first word (both (is_plain word) _ e).0)
     ∙ passes_taken (word ∷ []) rest (both (is_plain word) _ e).1
 
 -- any text is a value
@@ -97,7 +106,8 @@ all_pass [] = refl
 all_pass (word ∷ rest) = all_pass rest
 
 -- so many words as an address counts are not too many
-settles : (word : Text) (rest : List Text) → length (word ∷ rest) ≤ usize_max → settle_passes rules false (held (word ∷ rest)) ≡ true
+settles : (word : Text) (rest : List Text) → length (word ∷ rest) ≤ usize_max
+    → settle_passes rules false (held (word ∷ rest)) ≡ true
 unfolding clap_on_literals
 settles word rest fits =
     let least : nat_le 1 (length (word ∷ rest)) ≡ true = grind (arith, nat_tests) in
@@ -116,7 +126,8 @@ words_found (word ∷ rest) e =
     ap (λ (w : Walk). unwrap_or (all_of (codes "word") (finished rules w.held)) []) (walk_words word rest e)
 
 -- no list of plain words is refused
-pub words_pass : (words : List Text) → length words ≤ usize_max → list_all is_plain words ≡ true → takes one_argument words ≡ true
+pub words_pass : (words : List Text) → length words ≤ usize_max → list_all is_plain words ≡ true
+    → takes one_argument words ≡ true
 unfolding clap_on_literals
 words_pass [] fits e = refl
 words_pass (word ∷ rest) fits e =

@@ -37,7 +37,8 @@ module _ (F : Type 0) (causes : Causes F) (before now : Seen) (notes_before note
   tool_complete name run answer cause (inr front) = λ calm. absurd (calm.told front.1)
 
 -- by the command that the words are
-pub tool_whole : {C F : Type 0} (name : F → List ℕ) (causes : C → Seen → Seen → Causes F) (command : Option C) (before now : Seen) (notes_before notes_now : Received) (run answer : ToolStatus F)
+pub tool_whole : {C F : Type 0} (name : F → List ℕ) (causes : C → Seen → Seen → Causes F) (command : Option C)
+    (before now : Seen) (notes_before notes_now : Received) (run answer : ToolStatus F)
     → IsToolRun causes command before now run → TellsTool name notes_before notes_now run answer
     → IsToolWhole causes command before now notes_before notes_now answer
 tool_whole name causes None before now notes_before notes_now run answer cause tells = tt

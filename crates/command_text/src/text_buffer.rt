@@ -11,8 +11,8 @@ const ROOM: usize = 65_536;
 /// The most bytes that are put out at once: a transport packet has 188, and no line has more.
 const LONGEST: usize = 188;
 
-/// Text, or packets, that wait to be written. Once its sink has failed, further text is dropped: a command
-/// finishes what it has in hand, and looks for the failure then.
+/// Text, or packets, that wait to be written. Once its sink has failed, further text is dropped: a
+/// command finishes what it has in hand, and looks for the failure then.
 #[derive(Drop)]
 pub struct TextBuffer {
     bytes: Vec<u8>,
@@ -91,8 +91,8 @@ impl TextBuffer {
     }
 }
 
-/// Puts out a text of at most 188 bytes, or a packet: it waits behind the text before it, which is written first
-/// where there is no room.
+/// Puts out a text of at most 188 bytes, or a packet: it waits behind the text before it, which is
+/// written first where there is no room.
 pub fn put<K: Sink>(sink: &mut K, buffer: &mut TextBuffer, text: &[u8])
     requires { length text.now ≤ 188 }
     ensures { PutsOut

@@ -23,7 +23,8 @@ pub fn tell_tool<F: FaultName, N: Sink>(status: ToolStatus<F>, notes: &mut N) ->
     }
 }
 
-/// Writes what waits, and answers the status of a tool's run, or that the output could not be written.
+/// Writes what waits, and answers the status of a tool's run, or that the output could not be
+/// written.
 pub fn close_tool<F: Copy, K: Sink>(
     out: &mut K,
     buffer: &mut TextBuffer,

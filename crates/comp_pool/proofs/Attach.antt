@@ -5,7 +5,8 @@ use Rattle.comp_pool.specs.Private.Links.{list_at, IsRing, IsLinked, appended}
 use Rattle.comp_pool.proofs.Chains.{Puts, Before, kept, put_last, apart, back_is, off_end, Nodes-append}
 use Rattle.comp_pool.proofs.Moves.{IsWithout, Puts-set, Before-below, Before-off, at_changed, inside-set}
 
-module _ (count : ℕ) (N P : List ℕ) (lists : List (List ℕ)) (n : ℕ) (w : IsWithout count N P lists n) (b : ℕ) (in_lists : b < length lists) where
+module _ (count : ℕ) (N P : List ℕ) (lists : List (List ℕ)) (n : ℕ) (w : IsWithout count N P lists n) (b : ℕ)
+    (in_lists : b < length lists) where
   abbrev f : ℕ → ℕ
   f = λ i. get_or N i 0
 
@@ -69,16 +70,21 @@ module _ (count : ℕ) (N P : List ℕ) (lists : List (List ℕ)) (n : ℕ) (w :
       let other = w.rings l short in
       let apart_ends : s ≢ count + l = λ e. ne (omega (arith, e)) in
       let hl : count ≤ count + l = omega arith in
-      let ot = Before-off f g count (g s) s (count + l) xs (list_at lists l) ring.nodes other.nodes hs hl apart_ends ring.chain other.chain before_t in
+      let ot =
+      Before-off f g count (g s) s (count + l) xs (list_at lists l) ring.nodes other.nodes hs hl apart_ends
+      ring.chain other.chain before_t in
       let c_n : count + l ≢ n = λ e. absurd (omega (arith, e, w.node)) in
-      let first = kept f g _ _ (g s) n (count + l) (list_at lists l) (count + l) F G (ot.1, ot.0) (w.off l short) c_n other.chain in
+      let first =
+      kept f g _ _ (g s) n (count + l) (list_at lists l) (count + l) F G (ot.1, ot.0) (w.off l short) c_n
+      other.chain in
       record {
         chain = kept _ _ _ _ n s (count + l) (list_at lists l) (count + l) F' G' (c_n, w.off l short)
             (off_end count s (list_at lists l) hs other.nodes) (λ e. apart_ends (sym e)) first;
         nodes = other.nodes;
       }
 
-  pub attached : IsLinked count (set (set N (get_or P (count + b) 0) n) n (count + b)) (set (set P n (get_or P (count + b) 0)) (count + b) n) (appended n b lists)
+  pub attached : IsLinked count (set (set N (get_or P (count + b) 0) n) n (count + b))
+      (set (set P n (get_or P (count + b) 0)) (count + b) n) (appended n b lists)
   attached =
       let same : length (appended n b lists) ≡ length lists = length-set lists b (xs ++ n ∷ []) in
       record {
@@ -92,7 +98,10 @@ module _ (count : ℕ) (N P : List ℕ) (lists : List (List ℕ)) (n : ℕ) (w :
           inside-set N1 (length N) n s (length-set N (g s) n) (omega (arith, w.ends, in_lists))
               (inside-set N (length N) (g s) n refl (omega (arith, w.ends, w.node)) w.inside) k short,
         );
-        rings = λ l short. at_changed lists b l (xs ++ n ∷ []) in_lists (λ k zs. IsRing count N2 P2 (count + k) zs) ring_here
+        rings =
+            λ l short. at_changed lists b l (xs ++ n ∷ []) in_lists (λ k zs. IsRing count N2 P2 (count + k) zs)
+            ring_here
             (ring_other l (omega (arith, same, short)));
-        whole = omega (arith, w.whole, sum_by-set length lists b (xs ++ n ∷ []) [] in_lists, length-append xs (n ∷ []));
+        whole =
+            omega (arith, w.whole, sum_by-set length lists b (xs ++ n ∷ []) [] in_lists, length-append xs (n ∷ []));
       }

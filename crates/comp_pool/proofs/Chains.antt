@@ -24,11 +24,13 @@ kept f g f' g' p q a (x ∷ xs) b F G offp offq bq c =
     (F.miss a offp.0 ∙ c.0, G.miss x offq.0 ∙ c.1, kept f g f' g' p q x xs b F G offp.1 offq.1 bq c.2)
 
 -- the step back from the far end is not to what is off the chain
-back_off : (f g : ℕ → ℕ) (a : ℕ) (x : ℕ) (xs : List ℕ) (b : ℕ) → Off a (x ∷ xs) → Chain f g x xs b → a ≢ g b
+back_off : (f g : ℕ → ℕ) (a : ℕ) (x : ℕ) (xs : List ℕ) (b : ℕ) → Off a (x ∷ xs)
+    → Chain f g x xs b → a ≢ g b
 back_off f g a x [] b off c = λ e. off.0 (sym (e ∙ c.1))
 back_off f g a x (y ∷ ys) b off c = back_off f g a y ys b off.1 c.2
 
-next_off : (f g : ℕ → ℕ) (a x : ℕ) (xs : List ℕ) (b : ℕ) → Off x xs → b ≢ x → Chain f g a xs b → x ≢ f a
+next_off : (f g : ℕ → ℕ) (a x : ℕ) (xs : List ℕ) (b : ℕ) → Off x xs → b ≢ x → Chain f g a xs b
+    → x ≢ f a
 next_off f g a x [] b off bx c = λ e. bx (sym (e ∙ c.0))
 next_off f g a x (y ∷ ys) b off bx c = λ e. off.0 (sym (e ∙ c.0))
 
@@ -41,8 +43,10 @@ Off-left n [] ys o = tt
 Off-left n (x ∷ xs) ys o = (o.0, Off-left n xs ys o.1)
 
 -- the node n taken out of a chain
-pub taken_out : (f g f' g' : ℕ → ℕ) (n a : ℕ) (xs ys : List ℕ) (b : ℕ) → Puts f (g n) (f n) f' → Puts g (f n) (g n) g' →
-    Off a (xs ++ ys) → Apart (xs ++ ys) → Off b (xs ++ ys) → Chain f g a xs n → Chain f g n ys b → Chain f' g' a (xs ++ ys) b
+pub taken_out : (f g f' g' : ℕ → ℕ) (n a : ℕ) (xs ys : List ℕ) (b : ℕ) → Puts f (g n) (f n) f'
+    → Puts g (f n) (g n) g' →
+    Off a (xs ++ ys) → Apart (xs ++ ys) → Off b (xs ++ ys) → Chain f g a xs n → Chain f g n ys b
+    → Chain f' g' a (xs ++ ys) b
 taken_out f g f' g' n a [] [] b F G offa apart offb c d =
     let at : f' a ≡ f n = subst (λ (p : ℕ). f' p ≡ f n) c.1 F.hit in
     let back : g' b ≡ g n = subst (λ (q : ℕ). g' q ≡ g n) d.0 G.hit in
@@ -74,7 +78,8 @@ put_last f g f' g' f'' g'' n a (x ∷ xs) b F G F' G' offa offn an bn apart offb
     )
 
 -- two chains from one node that end outside of the nodes are one
-pub same_chain : (f g : ℕ → ℕ) (count n : ℕ) (xs ys : List ℕ) (b c : ℕ) → AllNodes count xs → AllNodes count ys →
+pub same_chain : (f g : ℕ → ℕ) (count n : ℕ) (xs ys : List ℕ) (b c : ℕ) → AllNodes count xs
+    → AllNodes count ys →
     count ≤ b → count ≤ c → Chain f g n xs b → Chain f g n ys c → (xs ≡ ys) × (b ≡ c)
 same_chain f g count n [] [] b c A B hb hc p q = (refl, sym p.0 ∙ q.0)
 same_chain f g count n [] (y ∷ ys) b c A B hb hc p q = absurd (omega (arith, sym p.0 ∙ q.0))
@@ -85,7 +90,8 @@ same_chain f g count n (x ∷ xs) (y ∷ ys) b c A B hb hc p q =
     (ap (λ (zs : List ℕ). x ∷ zs) r.0 ∙ ap (λ (z : ℕ). z ∷ ys) (sym e), r.1)
 
 -- following the links gives the nodes of the chain
-pub walk-chain : (f g : ℕ → ℕ) (count fuel a : ℕ) (xs : List ℕ) (b : ℕ) → AllNodes count xs → count ≤ b →
+pub walk-chain : (f g : ℕ → ℕ) (count fuel a : ℕ) (xs : List ℕ) (b : ℕ) → AllNodes count xs
+    → count ≤ b →
     length xs ≤ fuel → Chain f g a xs b → walk f count fuel (f a) ≡ xs
 walk-chain f g count zero a [] b A hb short c = refl
 walk-chain f g count (suc fuel) a [] b A hb short c =
@@ -122,7 +128,8 @@ off_or_in n (x ∷ xs) = elim (cases_eq x n) [
   | inr ne ↦ elim (off_or_in n xs) [ inl off ↦ inl (ne, off) | inr s ↦ inr (Split-cons n x xs s) ]
 ]
 
-pub Chain-split : (f g : ℕ → ℕ) (a : ℕ) (us : List ℕ) (n : ℕ) (vs : List ℕ) (b : ℕ) → Chain f g a (us ++ n ∷ vs) b →
+pub Chain-split : (f g : ℕ → ℕ) (a : ℕ) (us : List ℕ) (n : ℕ) (vs : List ℕ) (b : ℕ)
+    → Chain f g a (us ++ n ∷ vs) b →
     Chain f g a us n × Chain f g n vs b
 Chain-split f g a [] n vs b c = ((c.0, c.1), c.2)
 Chain-split f g a (u ∷ us) n vs b c =
@@ -134,7 +141,8 @@ Nodes-split count [] n vs A = (tt, A.0, A.1)
 Nodes-split count (u ∷ us) n vs A =
     let r = Nodes-split count us n vs A.1 in ((A.0, r.0), r.1, r.2)
 
-pub Nodes-append : (count : ℕ) (us vs : List ℕ) → AllNodes count us → AllNodes count vs → AllNodes count (us ++ vs)
+pub Nodes-append : (count : ℕ) (us vs : List ℕ) → AllNodes count us → AllNodes count vs
+    → AllNodes count (us ++ vs)
 Nodes-append count [] vs A B = B
 Nodes-append count (u ∷ us) vs A B = (A.0, Nodes-append count us vs A.1 B)
 
@@ -143,7 +151,8 @@ off_end count b [] hb A = tt
 off_end count b (x ∷ xs) hb A = ((λ e. absurd (omega (arith, e, A.0))), off_end count b xs hb A.1)
 
 -- no node is twice in a chain
-pub apart : (f g : ℕ → ℕ) (count a : ℕ) (xs : List ℕ) (b : ℕ) → AllNodes count xs → count ≤ b → Chain f g a xs b → Apart xs
+pub apart : (f g : ℕ → ℕ) (count a : ℕ) (xs : List ℕ) (b : ℕ) → AllNodes count xs → count ≤ b
+    → Chain f g a xs b → Apart xs
 apart f g count a [] b A hb c = tt
 apart f g count a (x ∷ xs) b A hb c =
     let rest = apart f g count x xs b A.1 hb c.2 in
@@ -157,7 +166,8 @@ apart f g count a (x ∷ xs) b A hb c =
     ]
 
 -- a node of one chain is in no chain with another end
-pub elsewhere : (f g : ℕ → ℕ) (count n : ℕ) (vs : List ℕ) (b c : ℕ) (ys : List ℕ) → AllNodes count vs → AllNodes count ys →
+pub elsewhere : (f g : ℕ → ℕ) (count n : ℕ) (vs : List ℕ) (b c : ℕ) (ys : List ℕ) → AllNodes count vs
+    → AllNodes count ys →
     count ≤ b → count ≤ c → b ≢ c → Chain f g n vs b → Chain f g c ys c → Off n ys
 elsewhere f g count n vs b c ys A B hb hc bc p q =
     elim (off_or_in n ys) [
@@ -188,12 +198,14 @@ next_is f g a (x ∷ xs) b c = a_node (Split-head (f a) x xs (sym c.0))
 pub without_off : (n : ℕ) (xs : List ℕ) → Off n xs → dropping n xs ≡ xs
 without_off n [] o = refl
 without_off n (x ∷ xs) o =
-    let differ : eqb x n ≡ false = ne_eqb x n o.0 in rw differ (ap (λ (zs : List ℕ). x ∷ zs) (without_off n xs o.1))
+    let differ : eqb x n ≡ false =
+    ne_eqb x n o.0 in rw differ (ap (λ (zs : List ℕ). x ∷ zs) (without_off n xs o.1))
 
 pub dropping-split : (n : ℕ) (us vs : List ℕ) → Off n us → Off n vs → dropping n (us ++ n ∷ vs) ≡ us ++ vs
 dropping-split n [] vs o p = let same : eqb n n ≡ true = eq-eqb n n refl in rw same (without_off n vs p)
 dropping-split n (u ∷ us) vs o p =
-    let differ : eqb u n ≡ false = ne_eqb u n o.0 in rw differ (ap (λ (zs : List ℕ). u ∷ zs) (dropping-split n us vs o.1 p))
+    let differ : eqb u n ≡ false =
+    ne_eqb u n o.0 in rw differ (ap (λ (zs : List ℕ). u ∷ zs) (dropping-split n us vs o.1 p))
 
 Off-middle : (u : ℕ) (us : List ℕ) (n : ℕ) (vs : List ℕ) → Off u (us ++ n ∷ vs) → n ≢ u
 Off-middle u [] n vs o = o.0
@@ -224,7 +236,8 @@ Before-left n a us vs b = elim b [
   })
 ]
 
-pub Before-right : (n a : ℕ) (us : List ℕ) (m : ℕ) (vs : List ℕ) → Before n a vs → Before n a (us ++ m ∷ vs)
+pub Before-right : (n a : ℕ) (us : List ℕ) (m : ℕ) (vs : List ℕ) → Before n a vs
+    → Before n a (us ++ m ∷ vs)
 Before-right n a us m vs b = elim b [
   | the_end e ↦ the_end e
   | a_node s ↦ a_node (record {

@@ -10,13 +10,18 @@ use Rattle.comp_pool.specs.Private.Links.{Chain, AllNodes, list_at, IsRing, IsLi
 use Rattle.comp_pool.specs.Private.View.{pairs, pool_of, pool_of_lists}
 use Rattle.comp_pool.proofs.Lists.{lists_of-is}
 
-made_chain : (f g : ℕ → ℕ) (count a j m : ℕ) → j + m ≡ count → f a ≡ j → g j ≡ a → ((k : ℕ) → k < count → f k ≡ k + 1) →
+made_chain : (f g : ℕ → ℕ) (count a j m : ℕ) → j + m ≡ count → f a ≡ j → g j ≡ a
+    → ((k : ℕ) → k < count → f k ≡ k + 1) →
     ((k : ℕ) → k < count → g (k + 1) ≡ k) → Chain f g a (range_with_len j m) count
 made_chain f g count a j zero is fa gj F G =
     let same : j ≡ count = omega (arith, is) in
     (fa ∙ same, subst (λ (z : ℕ). g z ≡ a) same gj)
-made_chain f g count a j (suc m) is fa gj F G =
-    (fa, gj, made_chain f g count j (j + 1) m (omega (arith, is)) (F j (omega (arith, is))) (G j (omega (arith, is))) F G)
+made_chain f g count a j (suc m) is fa gj F G = (
+  fa,
+  gj,
+  made_chain f g count j (j + 1) m (omega (arith, is)) (F j (omega (arith, is))) (G j (omega (arith, is))) F
+      G,
+)
 
 made_nodes : (count j m : ℕ) → j + m ≤ count → AllNodes count (range_with_len j m)
 made_nodes count j zero le = tt
@@ -61,8 +66,10 @@ next_inside count k m short ends = elim (cases_lt k count) [
 abbrev pub free_lists : ℕ → ℕ → List (List ℕ)
 free_lists count n = range_with_len 0 count ∷ replicate n []
 
-pub made : (count n : ℕ) (N P : List ℕ) → length N ≡ count + 1 + n → length P ≡ length N → length N < 2 ^ 64 →
-    ((k : ℕ) → k < length N → get_or N k 0 ≡ next_when_free count k) → ((k : ℕ) → k < length P → get_or P k 0 ≡ back_when_free count k) →
+pub made : (count n : ℕ) (N P : List ℕ) → length N ≡ count + 1 + n → length P ≡ length N
+    → length N < 2 ^ 64 →
+    ((k : ℕ) → k < length N → get_or N k 0 ≡ next_when_free count k)
+    → ((k : ℕ) → k < length P → get_or P k 0 ≡ back_when_free count k) →
     IsLinked count N P (free_lists count n)
 made count n N P long both few F G = record {
   few = few;
@@ -70,9 +77,12 @@ made count n N P long both few F G = record {
   both = both;
   inside = λ k short. omega (arith, F k short, next_inside count k (length N) short (omega (arith, long)));
   rings = λ l short. made_ring l short;
-  whole = sum_by-cons length (range_with_len 0 count) (replicate n []) ∙ omega (arith, length-range_with_len 0 count, sum_by-replicate {X = List ℕ} length n []);
+  whole =
+      sum_by-cons length (range_with_len 0 count) (replicate n [])
+      ∙ omega (arith, length-range_with_len 0 count, sum_by-replicate {X = List ℕ} length n []);
 } where
-  made_ring : (l : ℕ) → l < length (free_lists count n) → IsRing count N P (count + l) (list_at (free_lists count n) l)
+  made_ring : (l : ℕ) → l < length (free_lists count n)
+      → IsRing count N P (count + l) (list_at (free_lists count n) l)
   made_ring zero short =
       let here : count + 0 ≡ count = omega arith in
       rw here (record {
@@ -94,26 +104,37 @@ made count n N P long both few F G = record {
         nodes = tt;
       })
 
-map-empty : {T : Type 0} (filler : T) (items : List T) (n : ℕ) → map (pairs filler items) (replicate n []) ≡ replicate n []
+map-empty : {T : Type 0} (filler : T) (items : List T) (n : ℕ)
+    → map (pairs filler items) (replicate n []) ≡ replicate n []
 map-empty filler items zero = refl
 map-empty {T} filler items (suc n) = ap (λ (ls : List (List (NodeId × T))). [] ∷ ls) (map-empty filler items n)
 
-pub made_pool : {T : Type 0} (filler : T) (items : List T) (count n : ℕ) (N P : List ℕ) → IsLinked count N P (free_lists count n) →
+pub made_pool : {T : Type 0} (filler : T) (items : List T) (count n : ℕ) (N P : List ℕ)
+    → IsLinked count N P (free_lists count n) →
     pool_of count N filler items ≡ record { lists = replicate n []; free = count }
 made_pool {T} filler items count n N P linked =
     ap (pool_of_lists filler items) (lists_of-is count N P (free_lists count n) linked)
     ∙ (λ i. record { lists = map-empty filler items n i; free = length-range_with_len 0 count i })
 
 -- a value's nodes and its free nodes are all
-pub pool_whole : {T : Type 0} (filler : T) (items : List T) (count : ℕ) (lists : List (List ℕ)) → 0 < length lists → sum_by length lists ≡ count →
+pub pool_whole : {T : Type 0} (filler : T) (items : List T) (count : ℕ) (lists : List (List ℕ))
+    → 0 < length lists → sum_by length lists ≡ count →
     (pool_of_lists filler items lists).free + sum_by length (pool_of_lists filler items lists).lists ≡ count
 pool_whole {T} filler items count [] some_list is = absurd (omega arith)
-pool_whole {T} filler items count (free ∷ lists) some_list is = omega (arith, is, sum_by-cons length free lists, sum_pairs lists) where
-  sum_pairs : (ls : List (List ℕ)) → sum_by length (map (pairs filler items) ls) ≡ sum_by length ls
-  sum_pairs [] = refl
-  sum_pairs (x ∷ ls) =
-      let f : ℕ → NodeId × T = λ n. (record { number = n }, get_or items n filler) in
-      omega (arith, sum_by-cons length x ls, sum_by-cons length (pairs filler items x) (map (pairs filler items) ls), length-map x f, sum_pairs ls)
+pool_whole {T} filler items count (free ∷ lists) some_list is =
+    omega (arith, is, sum_by-cons length free lists, sum_pairs lists) where
+      sum_pairs : (ls : List (List ℕ)) → sum_by length (map (pairs filler items) ls) ≡ sum_by length ls
+      sum_pairs [] = refl
+      sum_pairs (x ∷ ls) =
+          let f : ℕ → NodeId × T = λ n. (record { number = n }, get_or items n filler) in
+          omega (
+            arith,
+            sum_by-cons length x ls,
+            sum_by-cons length (pairs filler items x)
+                (map (pairs filler items) ls),
+            length-map x f,
+            sum_pairs ls,
+          )
 
 pub length-lists : {T : Type 0} (filler : T) (items : List T) (lists : List (List ℕ)) → 0 < length lists →
     length (pool_of_lists filler items lists).lists ≡ length lists - 1

@@ -12,7 +12,8 @@ use Rattle.comp_pool.proofs.Kept.{Follows, a_list, follows}
 
 -- The first free node, as `push_back` takes it.
 
-module _ {T : Type 0} (filler : T) (items : List T) (count : ℕ) (N P : List ℕ) (free : ℕ) (kept : IsKept count N P (length items) free)
+module _ {T : Type 0} (filler : T) (items : List T) (count : ℕ) (N P : List ℕ) (free : ℕ)
+    (kept : IsKept count N P (length items) free)
     (old : PoolOf T) (view : pool_of count N filler items ≡ old) (n : ℕ) (is : n ≡ get_or N count 0) where
   first_free : Ahead count n (list_at (lists_of count N) 0)
   first_free =
@@ -21,7 +22,8 @@ module _ {T : Type 0} (filler : T) (items : List T) (count : ℕ) (N P : List �
 
   pub none_free : count ≤ n → old.free ≡ 0
   none_free past =
-      ap (λ (pool : PoolOf T). pool.free) (sym view) ∙ empty-ahead count n (list_at (lists_of count N) 0) past first_free
+      ap (λ (pool : PoolOf T). pool.free) (sym view)
+      ∙ empty-ahead count n (list_at (lists_of count N) 0) past first_free
 
   pub is_free : n < count → Contains (list_at (lists_of count N) 0) n
   is_free below = Contains-ahead count n (list_at (lists_of count N) 0) below first_free
@@ -40,9 +42,11 @@ module _ {T : Type 0} (filler : T) (items : List T) (count : ℕ) (N P : List �
 
   short : (l : ℕ) → l < length old.lists → l + 1 < length (lists_of count N)
   short l within =
-      length-pool filler items (lists_of count N) l (subst (λ (pool : PoolOf T). l < length pool.lists) (sym view) within)
+      length-pool filler items (lists_of count N) l
+      (subst (λ (pool : PoolOf T). l < length pool.lists) (sym view) within)
 
-  pub pushed_kept : n < count → (l : ℕ) → l < length old.lists → (N' P' : List ℕ) → IsLinked count N' P' (moved n 0 (l + 1) (lists_of count N)) →
+  pub pushed_kept : n < count → (l : ℕ) → l < length old.lists → (N' P' : List ℕ)
+      → IsLinked count N' P' (moved n 0 (l + 1) (lists_of count N)) →
       length N' ≡ length N → (item : T) → IsKept count N' P' (length (set items n item)) (free - 1)
   pushed_kept below l within N' P' linked' same item = record {
     linked = again count N' P' (moved n 0 (l + 1) (lists_of count N)) linked';
@@ -53,9 +57,12 @@ module _ {T : Type 0} (filler : T) (items : List T) (count : ℕ) (N P : List �
     ends = omega (arith, kept.ends, same);
   }
 
-  pub pushed_follows : n < count → (l : ℕ) → l < length old.lists → (N' P' : List ℕ) → IsLinked count N' P' (moved n 0 (l + 1) (lists_of count N)) →
-      length N' ≡ length N → (item : T) → Follows T old (pool_of count N' filler (set items n item)) (pushed l (named n, item) old)
+  pub pushed_follows : n < count → (l : ℕ) → l < length old.lists → (N' P' : List ℕ)
+      → IsLinked count N' P' (moved n 0 (l + 1) (lists_of count N)) →
+      length N' ≡ length N → (item : T)
+      → Follows T old (pool_of count N' filler (set items n item)) (pushed l (named n, item) old)
   pushed_follows below l within N' P' linked' same item =
-      follows filler items (set items n item) count N P N' P' (length items) (length (set items n item)) free (free - 1) old
+      follows filler items (set items n item) count N P N' P' (length items) (length (set items n item)) free (free - 1)
+      old
       (pushed l (named n, item)) kept (pushed_kept below l within N' P' linked' same item) view
       (pushed_pool filler item items count N P N' P' l n kept.linked kept.itemed is below (short l within) linked')

@@ -9,7 +9,8 @@ use Rattle.comp_pool.proofs.Kept.{Follows, follows, a_list, node_count_kept}
 
 -- Links as `free_all` writes them, of a pool that is made or reset.
 
-pub freed_kept : {T : Type 0} (filler : T) (items : List T) (count n : ℕ) (N P : List ℕ) → IsLinked count N P (free_lists count n) → length items ≡ count →
+pub freed_kept : {T : Type 0} (filler : T) (items : List T) (count n : ℕ) (N P : List ℕ)
+    → IsLinked count N P (free_lists count n) → length items ≡ count →
     count < length N → IsKept count N P (length items) count
 freed_kept {T} filler items count n N P linked itemed ends = record {
   linked = again count N P (free_lists count n) linked;
@@ -18,23 +19,29 @@ freed_kept {T} filler items count n N P linked itemed ends = record {
   ends = ends;
 }
 
-module _ {T : Type 0} (filler : T) (items : List T) (count : ℕ) (N P : List ℕ) (free : ℕ) (kept : IsKept count N P (length items) free)
-    (old : PoolOf T) (view : pool_of count N filler items ≡ old) (N' P' : List ℕ) (same : length N' ≡ length N) (both : length P' ≡ length N)
+module _ {T : Type 0} (filler : T) (items : List T) (count : ℕ) (N P : List ℕ) (free : ℕ)
+    (kept : IsKept count N P (length items) free)
+    (old : PoolOf T) (view : pool_of count N filler items ≡ old) (N' P' : List ℕ) (same : length N' ≡ length N)
+    (both : length P' ≡ length N)
     (forward : (k : ℕ) → k < length N' → get_or N' k 0 ≡ next_when_free count k)
     (backward : (k : ℕ) → k < length P' → get_or P' k 0 ≡ back_when_free count k) where
   linked : IsLinked count N' P' (free_lists count (length (lists_of count N) - 1))
   linked =
-      made count (length (lists_of count N) - 1) N' P' (omega (arith, a_list count N P (length items) free kept, kept.linked.ends, same))
+      made count (length (lists_of count N) - 1) N' P'
+      (omega (arith, a_list count N P (length items) free kept, kept.linked.ends, same))
       (omega (arith, both, same)) (omega (arith, kept.linked.few, same)) forward backward
 
   pub reset_kept : IsKept count N' P' (length items) count
   reset_kept =
-      freed_kept filler items count (length (lists_of count N) - 1) N' P' linked kept.itemed (omega (arith, kept.ends, same))
+      freed_kept filler items count (length (lists_of count N) - 1) N' P' linked kept.itemed
+      (omega (arith, kept.ends, same))
 
   pub reset_follows : Follows T old (pool_of count N' filler items) (emptied old)
   reset_follows =
-      follows filler items items count N P N' P' (length items) (length items) free count old (λ pool. emptied pool) kept reset_kept view
+      follows filler items items count N P N' P' (length items) (length items) free count old (λ pool. emptied pool)
+      kept reset_kept view
       (made_pool filler items count (length (lists_of count N) - 1) N' P' linked
-      ∙ ap (λ (n : ℕ). empty_pool n count) (sym (length-lists filler items (lists_of count N) (a_list count N P (length items) free kept)))
+      ∙ ap (λ (n : ℕ). empty_pool n count)
+      (sym (length-lists filler items (lists_of count N) (a_list count N P (length items) free kept)))
       ∙ ap (λ (n : ℕ). empty_pool (length (pool_of count N filler items).lists) n)
       (sym (node_count_kept filler items count N P (length items) free kept)))

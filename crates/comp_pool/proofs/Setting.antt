@@ -11,8 +11,10 @@ use Rattle.comp_pool.proofs.Reading.{is_one}
 
 -- A node in some list, as `set_item` takes it.
 
-module _ {T : Type 0} (filler : T) (items : List T) (count : ℕ) (N P : List ℕ) (free : ℕ) (kept : IsKept count N P (length items) free)
-    (old : PoolOf T) (view : pool_of count N filler items ≡ old) (node : NodeId) (listed : IsInSomeList old node) (item : T) where
+module _ {T : Type 0} (filler : T) (items : List T) (count : ℕ) (N P : List ℕ) (free : ℕ)
+    (kept : IsKept count N P (length items) free)
+    (old : PoolOf T) (view : pool_of count N filler items ≡ old) (node : NodeId) (listed : IsInSomeList old node)
+    (item : T) where
   pub replaced_kept : IsKept count N P (length (set items node.number item)) free
   replaced_kept = record {
     linked = kept.linked;
@@ -25,5 +27,6 @@ module _ {T : Type 0} (filler : T) (items : List T) (count : ℕ) (N P : List �
   replaced_follows =
       let below : node.number < length items =
       omega (arith, is_one filler items count N P free kept old view node listed, kept.itemed) in
-      follows filler items (set items node.number item) count N P N P (length items) (length (set items node.number item)) free free old
+      follows filler items (set items node.number item) count N P N P (length items)
+      (length (set items node.number item)) free free old
       (replaced node item) kept replaced_kept view (replaced_view filler items node item (lists_of count N) below)

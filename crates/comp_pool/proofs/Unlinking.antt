@@ -10,8 +10,10 @@ use Rattle.comp_pool.proofs.Kept.{Follows, follows}
 
 -- A node in list l, as `unlink` takes it.
 
-module _ {T : Type 0} (filler : T) (items : List T) (count : ℕ) (N P : List ℕ) (free : ℕ) (kept : IsKept count N P (length items) free)
-    (old : PoolOf T) (view : pool_of count N filler items ≡ old) (l : ℕ) (node : NodeId) (listed : IsInList old l node) where
+module _ {T : Type 0} (filler : T) (items : List T) (count : ℕ) (N P : List ℕ) (free : ℕ)
+    (kept : IsKept count N P (length items) free)
+    (old : PoolOf T) (view : pool_of count N filler items ≡ old) (l : ℕ) (node : NodeId)
+    (listed : IsInList old l node) where
   was_listed : IsInList (pool_of count N filler items) l node
   was_listed = let Q : PoolOf T → Type 0 = λ pool. IsInList pool l node in subst Q (sym view) listed
 
@@ -24,17 +26,20 @@ module _ {T : Type 0} (filler : T) (items : List T) (count : ℕ) (N P : List �
   pub has_item : node.number < length items
   has_item = omega (arith, IsInList-below filler items count N P l node kept.linked was_listed, kept.itemed)
 
-  pub unlinked_kept : (N' P' : List ℕ) → IsLinked count N' P' (moved node.number (l + 1) 0 (lists_of count N)) → length N' ≡ length N →
+  pub unlinked_kept : (N' P' : List ℕ) → IsLinked count N' P' (moved node.number (l + 1) 0 (lists_of count N))
+      → length N' ≡ length N →
       IsKept count N' P' (length items) (free + 1)
   unlinked_kept N' P' linked' same = record {
     linked = again count N' P' (moved node.number (l + 1) 0 (lists_of count N)) linked';
     itemed = kept.itemed;
     counted = ap (λ (k : ℕ). k + 1) kept.counted
-        ∙ sym (ap (λ (pool : PoolOf T). pool.free) (unlinked_pool filler items count N N' P' l node.number within linked'));
+        ∙ sym (ap (λ (pool : PoolOf T). pool.free)
+        (unlinked_pool filler items count N N' P' l node.number within linked'));
     ends = omega (arith, kept.ends, same);
   }
 
-  pub unlinked_follows : (N' P' : List ℕ) → IsLinked count N' P' (moved node.number (l + 1) 0 (lists_of count N)) → length N' ≡ length N →
+  pub unlinked_follows : (N' P' : List ℕ) → IsLinked count N' P' (moved node.number (l + 1) 0 (lists_of count N))
+      → length N' ≡ length N →
       Follows T old (pool_of count N' filler items) (unlinked l node old)
   unlinked_follows N' P' linked' same =
       follows filler items items count N P N' P' (length items) (length items) free (free + 1) old

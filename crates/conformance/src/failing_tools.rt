@@ -66,8 +66,8 @@ fn again(head: &[u8]) -> [u8; 188] {
     packet
 }
 
-/// Both streams in one multiplex: the tables, and two frames of a table, a packet of the first stream
-/// and one of the second.
+/// Both streams in one multiplex: the tables, and two frames of a table, a packet of the first
+/// stream and one of the second.
 fn multiplex(alloc: Global) -> Result<Vec<u8>, Fail> {
     let [first, second] = first_packets();
     let [beside_first, beside_second] = second_packets();

@@ -1,6 +1,6 @@
-//! Tables of vectors over the commands and the tools: hostile input, and every call that fails. There is no code
-//! here but tests, and a source for them; each expected value was worked out by hand, or is
-//! reckoned here from the rules of docs/FORMATS.md.
+//! Tables of vectors over the commands and the tools: hostile input, and every call that fails.
+//! There is no code here but tests, and a source for them; each expected value was worked out by
+//! hand, or is reckoned here from the rules of docs/FORMATS.md.
 #![tactic(auto)]
 
 // A source without content, however long.
@@ -15,6 +15,10 @@ mod running;
 // The first run: two packets of one cue, and what each command tells of them.
 #[cfg(test)]
 mod first_run;
+
+// The same for other PIDs and pages, many pictures, and generated scripts.
+#[cfg(test)]
+mod other_services;
 
 // Units and packets made here.
 #[cfg(test)]

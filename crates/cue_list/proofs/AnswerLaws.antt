@@ -21,17 +21,20 @@ apart_or_same a b = grind arith
 right_or_wrong : (found : Option ScriptKind) (kind : ScriptKind) → found ≡ None → found ≡ Some kind → ⊥
 right_or_wrong found kind right wrong = let bad : None ≡ Some kind = sym right ∙ wrong in cc
 
-not_before : (font : FontValue) (all : List Record) (n before : ℕ) (kind : ScriptKind) → AreRight font all n → before < n →
+not_before : (font : FontValue) (all : List Record) (n before : ℕ) (kind : ScriptKind) → AreRight font all n
+    → before < n →
     fault_of font (records_before all before) (record_at all before) ≡ Some kind → ⊥
 not_before font all n before kind right less wrong =
-    right_or_wrong (fault_of font (records_before all before) (record_at all before)) kind (right.right before less) wrong
+    right_or_wrong (fault_of font (records_before all before) (record_at all before)) kind (right.right before less)
+    wrong
 
 -- an epoch was started, or none
 some_or_none : {A : Type 0} (found : Option A) → is_some found ≡ true → found ≡ None → ⊥
 some_or_none found some none = let bad : false ≡ true = ap is_some (sym none) ∙ some in cc
 
 -- bytes are not both a script and faulty
-pub script_or_fault : (bytes : List ℕ) (font : FontValue) (origin width height refresh : ℕ) (epochs : List Epoch) (pictures : List Picture) (row : ℕ) (kind : ScriptKind) →
+pub script_or_fault : (bytes : List ℕ) (font : FontValue) (origin width height refresh : ℕ) (epochs : List Epoch)
+    (pictures : List Picture) (row : ℕ) (kind : ScriptKind) →
     IsScript bytes font origin width height refresh epochs pictures → IsRefused bytes font row kind → ⊥
 script_or_fault bytes font origin width height refresh epochs pictures row kind is bad =
     let all = records_of bytes in
@@ -45,7 +48,8 @@ same_kind : (a b : ScriptKind) (found : Option ScriptKind) → found ≡ Some a 
 same_kind a b found first second = let same : Some a ≡ Some b = sym first ∙ second in cc
 
 -- the first faulty record of bytes is one, for one kind of reason
-pub one_refusal : (bytes : List ℕ) (font : FontValue) (row other : ℕ) (a b : ScriptKind) → IsRefused bytes font row a → IsRefused bytes font other b →
+pub one_refusal : (bytes : List ℕ) (font : FontValue) (row other : ℕ) (a b : ScriptKind)
+    → IsRefused bytes font row a → IsRefused bytes font other b →
     (row ≡ other) × (a ≡ b)
 one_refusal bytes font row other a b first second =
     let all = records_of bytes in
@@ -62,7 +66,8 @@ one_refusal bytes font row other a b first second =
         omega (arith, first.number, second.number),
         elim first.wrong [
           | inl wrong ↦ elim second.wrong [
-            | inl again ↦ same_kind a b (fault_of font (records_before all first.before) (record_at all first.before)) wrong.1
+            | inl again ↦ same_kind a b (fault_of font (records_before all first.before) (record_at all first.before))
+                wrong.1
                 (ap (λ (n : ℕ). fault_of font (records_before all n) (record_at all n)) same ∙ again.1)
             | inr none ↦ absurd (omega (arith, wrong.0, none.0))
           ]
@@ -76,7 +81,8 @@ one_refusal bytes font row other a b first second =
 
 -- What is answered of a file.
 
-pub every_script : {T : Type 0} (bytes : List ℕ) (font : FontValue) (result : Result T ScriptFault) → IfErr result (IsScriptFault bytes font) →
+pub every_script : {T : Type 0} (bytes : List ℕ) (font : FontValue) (result : Result T ScriptFault)
+    → IfErr result (IsScriptFault bytes font) →
     (origin width height refresh : ℕ) (epochs : List Epoch) (pictures : List Picture) →
     IsScript bytes font origin width height refresh epochs pictures → IsOkUnless result Memory
 every_script bytes font (Ok script) refused origin width height refresh epochs pictures is = tt
@@ -85,11 +91,15 @@ every_script bytes font (Err (Refused row kind)) refused origin width height ref
     absurd (script_or_fault bytes font origin width height refresh epochs pictures row kind is refused)
 
 pub every_fault : (bytes : List ℕ) (font : FontValue) (result : Result Script ScriptFault) →
-    IfOk result (λ script. IsScript bytes font script.origin script.width script.height script.refresh script.epochs script.pictures) →
-    IfErr result (IsScriptFault bytes font) → (fault : ScriptFault) → IsScriptFault bytes font fault → fault ≢ Memory → IsRefusal fault result
+    IfOk result
+    (λ script. IsScript bytes font script.origin script.width script.height script.refresh script.epochs
+    script.pictures) →
+    IfErr result (IsScriptFault bytes font) → (fault : ScriptFault) → IsScriptFault bytes font fault
+    → fault ≢ Memory → IsRefusal fault result
 every_fault bytes font result found refused Memory is other = absurd (other refl)
 every_fault bytes font (Ok script) found refused (Refused row kind) is other =
-    script_or_fault bytes font script.origin script.width script.height script.refresh script.epochs script.pictures row kind found is
+    script_or_fault bytes font script.origin script.width script.height script.refresh script.epochs script.pictures row
+    kind found is
 every_fault bytes font (Err Memory) found refused (Refused row kind) is other = inl refl
 every_fault bytes font (Err (Refused place reason)) found refused (Refused row kind) is other =
     let one = one_refusal bytes font place row reason kind refused is in

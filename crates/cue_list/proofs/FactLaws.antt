@@ -20,12 +20,14 @@ use Rattle.cue_list.specs.Rows.{Row}
 use Rattle.cue_list.specs.TextSizes.{text_head, missing_glyph}
 
 -- the first of tests that pass passes, and so do the others
-pub passed : (test : Option ScriptKind) (tests : List (Option ScriptKind)) → first_of (test ∷ tests) ≡ None → (test ≡ None) × (first_of tests ≡ None)
+pub passed : (test : Option ScriptKind) (tests : List (Option ScriptKind)) → first_of (test ∷ tests) ≡ None
+    → (test ≡ None) × (first_of tests ≡ None)
 passed None tests h = (refl, h)
 passed (Some kind) tests h = absurd (let never : Some kind ≡ None = h in cc)
 
 -- a test that passes
-pub right : (wrong : Bool) (kind : ScriptKind) (tests : List (Option ScriptKind)) → first_of (fails wrong kind ∷ tests) ≡ None → (wrong ≡ false) × (first_of tests ≡ None)
+pub right : (wrong : Bool) (kind : ScriptKind) (tests : List (Option ScriptKind))
+    → first_of (fails wrong kind ∷ tests) ≡ None → (wrong ≡ false) × (first_of tests ≡ None)
 right true kind tests h = absurd (let never : Some kind ≡ None = h in cc)
 right false kind tests h = (refl, h)
 
@@ -48,20 +50,32 @@ pub record IsRightRow (font : FontValue) (past : Past) (kind : RowKind) (number 
   pub cells_right : cells_fault past.origin kind cells ≡ None
   pub content : kind_fault font past kind number cells ≡ None
 
-pub IsRightRow-from : (font : FontValue) (past : Past) (kind : RowKind) (number : ℕ) (cells : Row) → fault_with font past (record { number = number; kind = kind; cells = cells }) ≡ None → IsRightRow font past kind number cells
+pub IsRightRow-from : (font : FontValue) (past : Past) (kind : RowKind) (number : ℕ) (cells : Row)
+    → fault_with font past (record { number = number; kind = kind; cells = cells }) ≡ None
+    → IsRightRow font past kind number cells
 IsRightRow-from font past kind number cells h =
     let shape = passed (shape_fault kind cells) _ h in
     let place = right (is_misplaced past kind) faults.Order _ shape.1 in
     let full = right (is_full past kind) faults.TooMany _ place.1 in
     let read = passed (cells_fault past.origin kind cells) _ full.1 in
-    record { placed = place.0; room = full.0; cells_right = read.0; content = (passed (kind_fault font past kind number cells) [] read.1).0 }
+    record {
+      placed = place.0;
+      room = full.0;
+      cells_right = read.0;
+      content = (passed (kind_fault font past kind number cells) [] read.1).0;
+    }
 
 -- a right number lies in its range
-pub number-range : (least most : ℕ) (cell : List ℕ) → number_fault least most cell ≡ None → (least ≤ value_of cell) × (value_of cell ≤ most)
+pub number-range : (least most : ℕ) (cell : List ℕ) → number_fault least most cell ≡ None
+    → (least ≤ value_of cell) × (value_of cell ≤ most)
 unfolding number_fault
 number-range least most cell h =
-    let first = right (not (is_number MOST_DIGITS cell)) faults.Number (fails (not (nat_le least (value_of cell) && nat_le (value_of cell) most)) faults.Range ∷ []) h in
-    let inside = not-false (nat_le least (value_of cell) && nat_le (value_of cell) most) (right (not (nat_le least (value_of cell) && nat_le (value_of cell) most)) faults.Range [] first.1).0 in
+    let first =
+    right (not (is_number MOST_DIGITS cell)) faults.Number
+    (fails (not (nat_le least (value_of cell) && nat_le (value_of cell) most)) faults.Range ∷ []) h in
+    let inside =
+    not-false (nat_le least (value_of cell) && nat_le (value_of cell) most)
+    (right (not (nat_le least (value_of cell) && nat_le (value_of cell) most)) faults.Range [] first.1).0 in
     let parts = both-true (nat_le least (value_of cell)) (nat_le (value_of cell) most) inside in
     (least-of parts.0, most-of parts.1)
   where
@@ -72,7 +86,9 @@ number-range least most cell h =
     most-of e = grind (arith, nat_tests)
 
 -- a right epoch
-pub epoch-right : (past : Past) (start : ℕ) → epoch_fault past start ≡ None → (starts_before start past.epoch ≡ true) × (lasts_past start past.epoch ≡ false) × (past.is_near start ≡ false)
+pub epoch-right : (past : Past) (start : ℕ) → epoch_fault past start ≡ None
+    → (starts_before start past.epoch ≡ true) × (lasts_past start past.epoch ≡ false)
+    × (past.is_near start ≡ false)
 unfolding epoch_fault
 epoch-right past start h =
     let first = right (not (starts_before start past.epoch)) faults.Order _ h in
@@ -82,7 +98,9 @@ epoch-right past start h =
 
 -- a right region
 pub region-right : (past : Past) (region : Region) → region_fault past region ≡ None
-    → (is_some (region_with region.id (regions_of past.epoch)) ≡ false) × (lies_on past.width past.height region ≡ true) × (list_any (share_row region) (regions_of past.epoch) ≡ false)
+    → (is_some (region_with region.id (regions_of past.epoch)) ≡ false)
+    × (lies_on past.width past.height region ≡ true)
+    × (list_any (share_row region) (regions_of past.epoch) ≡ false)
 unfolding region_fault
 region-right past region h =
     let first = right (is_some (region_with region.id (regions_of past.epoch))) faults.DoubleRegion _ h in
@@ -91,7 +109,9 @@ region-right past region h =
     (first.0, not-false _ second.0, third.0)
 
 -- a right colour
-pub colour-right : (past : Past) (row : ColourRow) → colour_fault past row ≡ None → (nat_lt row.entry (code_count row.depth) ≡ true) × (is_early row.tick past.epoch ≡ false) × (past.is_near row.tick ≡ false)
+pub colour-right : (past : Past) (row : ColourRow) → colour_fault past row ≡ None
+    → (nat_lt row.entry (code_count row.depth) ≡ true) × (is_early row.tick past.epoch ≡ false)
+    × (past.is_near row.tick ≡ false)
 unfolding colour_fault
 colour-right past row h =
     let first = right (not (nat_lt row.entry (code_count row.depth))) faults.CodeRange _ h in
@@ -129,42 +149,75 @@ pub record IsRightPlacing (past : Past) (placing : PlaceRow) (region : Region) (
 not-deeper : (a b : ℕ) → nat_lt a b ≡ false → b ≤ a
 not-deeper a b h = grind (arith, nat_tests)
 
-placed-right : (past : Past) (placing : PlaceRow) (region : Option Region) (head : Option PictureHead) → region_with placing.region (regions_of past.epoch) ≡ region → placed_fault past placing region head ≡ None
+placed-right : (past : Past) (placing : PlaceRow) (region : Option Region) (head : Option PictureHead)
+    → region_with placing.region (regions_of past.epoch) ≡ region → placed_fault past placing region head ≡ None
     → (r : Region) × (h : PictureHead) × (head ≡ Some h) × IsRightPlacing past placing r h
 placed-right past placing None head is h = absurd (let never : Some faults.NoRegion ≡ None = h in cc)
 placed-right past placing (Some region) None is h = absurd (let never : Some faults.NoPicture ≡ None = h in cc)
 placed-right past placing (Some region) (Some head) is h =
     let first = right (nat_lt (bits_of region.depth) (bits_of head.depth)) faults.CodeRange _ h in
     let second = right (not (has_room_at region placing.x placing.y head)) faults.CueOutside _ first.1 in
-    let third = passed (span_fault past placing.start placing.end) [] second.1 in
-    (region, head, refl, record { found = is; inside = not-false _ second.0; shallow = not-deeper _ _ first.0; span = span-right past placing.start placing.end third.0 })
+    let third = passed (span_fault past placing.start placing.end) [] second.1 in (
+      region,
+      head,
+      refl,
+      record {
+        found = is;
+        inside = not-false _ second.0;
+        shallow = not-deeper _ _ first.0;
+        span = span-right past placing.start placing.end third.0;
+      },
+    )
 
 pub place-right : (past : Past) (placing : PlaceRow) (name : List ℕ) → place_fault past placing name ≡ None
-    → (r : Region) × (h : PictureHead) × (head_at past.heads (past.named name) ≡ Some h) × IsRightPlacing past placing r h
+    → (r : Region) × (h : PictureHead) × (head_at past.heads (past.named name) ≡ Some h)
+    × IsRightPlacing past placing r h
 unfolding place_fault
 place-right past placing name h = placed-right past placing _ _ refl h
 
-set-right : (font : FontValue) (past : Past) (placing : PlaceRow) (ink paper : ℕ) (characters : List ℕ) (region : Option Region) → region_with placing.region (regions_of past.epoch) ≡ region → set_fault font past placing ink paper characters region ≡ None
-    → (r : Region) × IsRightPlacing past placing r (text_head font r.depth characters) × (are_too_many past (text_head font r.depth characters) ≡ false)
+set-right : (font : FontValue) (past : Past) (placing : PlaceRow) (ink paper : ℕ) (characters : List ℕ)
+    (region : Option Region) → region_with placing.region (regions_of past.epoch) ≡ region
+    → set_fault font past placing ink paper characters region ≡ None
+    → (r : Region) × IsRightPlacing past placing r (text_head font r.depth characters)
+    × (are_too_many past (text_head font r.depth characters) ≡ false)
 unfolding text_head
-set-right font past placing ink paper characters None is h = absurd (let never : Some faults.NoRegion ≡ None = h in cc)
+set-right font past placing ink paper characters None is h =
+    absurd (let never : Some faults.NoRegion ≡ None = h in cc)
 set-right font past placing ink paper characters (Some region) is h =
     let head = text_head font region.depth characters in
-    let first = right (not (nat_lt ink (code_count region.depth) && nat_lt paper (code_count region.depth))) faults.CodeRange (glyph_fault (missing_glyph font characters) ∷ text_fault past placing region head ∷ []) h in
-    let second = passed (glyph_fault (missing_glyph font characters)) (text_fault past placing region head ∷ []) first.1 in
+    let first =
+    right (not (nat_lt ink (code_count region.depth) && nat_lt paper (code_count region.depth))) faults.CodeRange
+    (glyph_fault (missing_glyph font characters) ∷ text_fault past placing region head ∷ []) h in
+    let second =
+    passed (glyph_fault (missing_glyph font characters)) (text_fault past placing region head ∷ []) first.1 in
     let third = passed (text_fault past placing region head) [] second.1 in
     let after_span : List (Option ScriptKind) = fails (are_too_many past head) faults.TooMany ∷ [] in
     let after_inside : List (Option ScriptKind) = span_fault past placing.start placing.end ∷ after_span in
-    let outside : Bool = nat_lt 1920 head.width || nat_lt 1080 head.height || not (has_room_at region placing.x placing.y head) in
+    let outside : Bool =
+    nat_lt 1920 head.width || nat_lt 1080 head.height || not (has_room_at region placing.x placing.y head) in
     let wide = right (head.width == 0) faults.Range (fails outside faults.CueOutside ∷ after_inside) third.0 in
     let inside = right outside faults.CueOutside after_inside wide.1 in
-    let lies = not-false (has_room_at region placing.x placing.y head) (both-false (nat_lt 1920 head.width || nat_lt 1080 head.height) (not (has_room_at region placing.x placing.y head)) inside.0).1 in
+    let lies =
+    not-false (has_room_at region placing.x placing.y head)
+    (both-false (nat_lt 1920 head.width || nat_lt 1080 head.height)
+    (not (has_room_at region placing.x placing.y head)) inside.0).1 in
     let span = passed (span_fault past placing.start placing.end) after_span inside.1 in
     let few = right (are_too_many past head) faults.TooMany [] span.1 in
-    let same : bits_of head.depth ≤ bits_of region.depth = omega arith in
-    (region, record { found = is; inside = lies; shallow = same; span = span-right past placing.start placing.end span.0 }, few.0)
+    let same : bits_of head.depth ≤ bits_of region.depth = omega arith in (
+      region,
+      record {
+        found = is;
+        inside = lies;
+        shallow = same;
+        span = span-right past placing.start placing.end
+            span.0;
+      },
+      few.0,
+    )
 
-pub cue-right : (font : FontValue) (past : Past) (placing : PlaceRow) (ink paper : ℕ) (characters : List ℕ) → cue_fault font past placing ink paper characters ≡ None
-    → (r : Region) × IsRightPlacing past placing r (text_head font r.depth characters) × (are_too_many past (text_head font r.depth characters) ≡ false)
+pub cue-right : (font : FontValue) (past : Past) (placing : PlaceRow) (ink paper : ℕ) (characters : List ℕ)
+    → cue_fault font past placing ink paper characters ≡ None
+    → (r : Region) × IsRightPlacing past placing r (text_head font r.depth characters)
+    × (are_too_many past (text_head font r.depth characters) ≡ false)
 unfolding cue_fault
 cue-right font past placing ink paper characters h = set-right font past placing ink paper characters _ refl h

@@ -18,7 +18,9 @@ use Rattle.cue_list.specs.RowFaults.{codes_fault, digits_of, is_hex, is_large}
 use Rattle.cue_list.proofs.FactLaws.{both-true, not-false}
 
 -- where three tests find nothing each one passes
-pub three-pass : (a b c : Bool) (j k l : ScriptKind) → first_of (fails a j ∷ fails b k ∷ fails c l ∷ []) ≡ None → (a ≡ false) × (b ≡ false) × (c ≡ false)
+pub three-pass : (a b c : Bool) (j k l : ScriptKind)
+    → first_of (fails a j ∷ fails b k ∷ fails c l ∷ []) ≡ None → (a ≡ false) × (b ≡ false)
+    × (c ≡ false)
 three-pass true b c j k l h = absurd (let never : Some j ≡ None = h in cc)
 three-pass false true c j k l h = absurd (let never : Some k ≡ None = h in cc)
 three-pass false false true j k l h = absurd (let never : Some l ≡ None = h in cc)
@@ -38,13 +40,16 @@ ascii-hex (c ∷ cs) (suc i) all = ascii-hex cs i (both-true (is_hex c) (list_al
 
 -- a text of digits has one byte a character
 pub chars-hex : (text : List ℕ) → IsUtf8 text → list_all is_hex (chars text) ≡ true → chars text ≡ text
-chars-hex text utf8 all = sym (encodes-IsAscii (chars text) (λ i. ascii-hex (chars text) i all)) ∙ encodes-chars text utf8
+chars-hex text utf8 all =
+    sym (encodes-IsAscii (chars text) (λ i. ascii-hex (chars text) i all)) ∙ encodes-chars text utf8
 
 -- a text of digits has one character a byte
 hex-chars : (text : List ℕ) → list_all is_hex text ≡ true → chars text ≡ text
 hex-chars text all = chars-IsAscii text (λ i. ascii-hex text i all)
 
-two_by : (read : Option ℕ) → is_some (read >>= λ value. if nat_lt value 4 then Some value else None) ≡ (is_some read && not (option_map_or (λ value. nat_lt 3 value) read false))
+two_by : (read : Option ℕ)
+    → is_some (read >>= λ value. if nat_lt value 4 then Some value else None)
+    ≡ (is_some read && not (option_map_or (λ value. nat_lt 3 value) read false))
 two_by None = refl
 two_by (Some value) = by (nat_lt value 4) (nat_lt 3 value) (grind (arith, nat_tests))
   where
@@ -52,7 +57,8 @@ two_by (Some value) = by (nat_lt value 4) (nat_lt 3 value) (grind (arith, nat_te
     by true large h = h
     by false large h = h
 
-hex_by : (digit : ℕ) (read : Option ℕ) → hex_value digit ≡ read → is_some (read >>= λ value. if nat_lt value 16 then Some value else None) ≡ is_some read
+hex_by : (digit : ℕ) (read : Option ℕ) → hex_value digit ≡ read
+    → is_some (read >>= λ value. if nat_lt value 16 then Some value else None) ≡ is_some read
 hex_by digit None is = refl
 hex_by digit (Some value) is =
     let low = value-small digit value is in
@@ -67,22 +73,29 @@ apart true false true large = refl
 apart true false false large = refl
 apart false l all large = refl
 
-digits_two : (text : List ℕ) → (list_all is_hex text && not (list_any (is_large Two) text)) ≡ list_all (has_code 4) text
+digits_two : (text : List ℕ)
+    → (list_all is_hex text && not (list_any (is_large Two) text)) ≡ list_all (has_code 4) text
 digits_two [] = refl
-digits_two (digit ∷ text) = apart (is_hex digit) (is_large Two digit) (list_all is_hex text) (list_any (is_large Two) text) ∙ ap₂ (λ a b. a && b) (sym (two_by (hex_value digit))) (digits_two text)
+digits_two (digit ∷ text) =
+    apart (is_hex digit) (is_large Two digit) (list_all is_hex text) (list_any (is_large Two) text)
+    ∙ ap₂ (λ a b. a && b) (sym (two_by (hex_value digit))) (digits_two text)
 
-digits_all : (depth : Depth) → ((digit : ℕ) → is_large depth digit ≡ false) → (text : List ℕ) → (list_all is_hex text && not (list_any (is_large depth) text)) ≡ list_all (has_code 16) text
+digits_all : (depth : Depth) → ((digit : ℕ) → is_large depth digit ≡ false) → (text : List ℕ)
+    → (list_all is_hex text && not (list_any (is_large depth) text)) ≡ list_all (has_code 16) text
 digits_all depth none [] = refl
 digits_all depth none (digit ∷ text) =
     apart (is_hex digit) (is_large depth digit) (list_all is_hex text) (list_any (is_large depth) text)
-    ∙ ap₂ (λ a b. a && b) (ap (λ l. is_hex digit && not l) (none digit) ∙ whole (is_hex digit) ∙ sym (hex_by digit (hex_value digit) refl)) (digits_all depth none text)
+    ∙ ap₂ (λ a b. a && b)
+    (ap (λ l. is_hex digit && not l) (none digit) ∙ whole (is_hex digit)
+    ∙ sym (hex_by digit (hex_value digit) refl)) (digits_all depth none text)
   where
     whole : (b : Bool) → (b && true) ≡ b
     whole true = refl
     whole false = refl
 
 -- digits that are not too large are digits of the depth
-digits_by : (depth : Depth) (text : List ℕ) → (list_all is_hex text && not (list_any (is_large depth) text)) ≡ are_digits depth text
+digits_by : (depth : Depth) (text : List ℕ)
+    → (list_all is_hex text && not (list_any (is_large depth) text)) ≡ are_digits depth text
 digits_by Two text = digits_two text
 digits_by Four text = digits_all Four (λ digit. refl) text
 digits_by Eight text = digits_all Eight (λ digit. refl) text
@@ -96,21 +109,27 @@ not-true true h = absurd (let never : false ≡ true = h in cc)
 not-true false h = refl
 
 -- where the tests of a text's codes find nothing, it has as many digits as are wanted
-pub right-digits : (head : PictureHead) (text : List ℕ) → IsUtf8 text → codes_fault head (chars text) ≡ None → (length text ≡ digits_of head.depth * area head) × (are_digits head.depth text ≡ true)
+pub right-digits : (head : PictureHead) (text : List ℕ) → IsUtf8 text → codes_fault head (chars text) ≡ None
+    → (length text ≡ digits_of head.depth * area head) × (are_digits head.depth text ≡ true)
 unfolding codes_fault
 right-digits head text utf8 right =
     let passed = three-pass _ _ _ _ _ _ right in
     let all : list_all is_hex (chars text) ≡ true = not-false _ passed.1 in
     let same : chars text ≡ text = chars-hex text utf8 all in (
       ap length (sym same) ∙ eqb-true _ _ (not-false _ passed.0),
-      sym (digits_by head.depth text) ∙ ap (λ (t : List ℕ). list_all is_hex t && not (list_any (is_large head.depth) t)) (sym same) ∙ both-are _ _ all passed.2,
+      sym (digits_by head.depth text)
+          ∙ ap (λ (t : List ℕ). list_all is_hex t && not (list_any (is_large head.depth) t)) (sym same)
+          ∙ both-are _ _ all passed.2,
     )
 
 -- and the other way round
-pub digits-right : (head : PictureHead) (text : List ℕ) → length text ≡ digits_of head.depth * area head → are_digits head.depth text ≡ true → codes_fault head (chars text) ≡ None
+pub digits-right : (head : PictureHead) (text : List ℕ) → length text ≡ digits_of head.depth * area head
+    → are_digits head.depth text ≡ true → codes_fault head (chars text) ≡ None
 unfolding codes_fault
 digits-right head text count digits =
-    let parts = both-true (list_all is_hex text) (not (list_any (is_large head.depth) text)) (digits_by head.depth text ∙ digits) in
+    let parts =
+    both-true (list_all is_hex text) (not (list_any (is_large head.depth) text))
+    (digits_by head.depth text ∙ digits) in
     let same : chars text ≡ text = hex-chars text parts.0 in
     let one : (length text == digits_of head.depth * area head) ≡ true = eq-eqb _ _ count in
     let small : list_any (is_large head.depth) text ≡ false = not-true _ parts.1 in

@@ -25,13 +25,15 @@ module _ {X : Type 0} (f : ℕ → ℕ → X) (width : ℕ) where
       ∙ ap (λ (k : ℕ). k + length (flat_map row_from (range_with_len (first + 1) n))) (length-row_from first)
       ∙ ap (λ (k : ℕ). width + k) (length-rows (first + 1) n) ∙ sym more
 
-  get_or-rows : (first n x y : ℕ) (d : X) → x < width → y < n → get_or (flat_map row_from (range_with_len first n)) (y * width + x) d ≡ f x (first + y)
+  get_or-rows : (first n x y : ℕ) (d : X) → x < width → y < n
+      → get_or (flat_map row_from (range_with_len first n)) (y * width + x) d ≡ f x (first + y)
   get_or-rows first zero x y d across down = absurd (omega arith)
   get_or-rows first (suc n) x zero d across down =
       let here : 0 * width + x ≡ x = omega arith in
       let row : first + 0 ≡ first = omega arith in
       ap (λ (k : ℕ). get_or (row_from first ++ flat_map row_from (range_with_len (first + 1) n)) k d) here
-      ∙ get_or_append_left (row_from first) (flat_map row_from (range_with_len (first + 1) n)) d x (omega (arith, length-row_from first))
+      ∙ get_or_append_left (row_from first) (flat_map row_from (range_with_len (first + 1) n)) d x
+      (omega (arith, length-row_from first))
       ∙ get_or-map-range_with_len (λ x. f x first) 0 width x x d across (omega arith) ∙ ap (f x) (sym row)
   get_or-rows first (suc n) x (suc y) d across down =
       let past : (suc y) * width + x ≡ length (row_from first) + (y * width + x) =
@@ -46,7 +48,8 @@ module _ {X : Type 0} (f : ℕ → ℕ → X) (width : ℕ) where
       ((x y : ℕ) → x < width → y < height → get_or plane (y * width + x) d ≡ f x y) →
       plane ≡ flat_map (λ y. map (λ x. f x y) (range_with_len 0 width)) (range_with_len 0 height)
   plane_is height d plane full each =
-      ext_get_or d plane (flat_map row_from (range_with_len 0 height)) (full ∙ mul_comm width height ∙ sym (length-rows 0 height))
+      ext_get_or d plane (flat_map row_from (range_with_len 0 height))
+      (full ∙ mul_comm width height ∙ sym (length-rows 0 height))
       (λ p inside.
       let within : p < height * width = omega (arith, full, mul_comm width height) in
       let wide : 0 < width = wide_enough p width height within in
@@ -54,4 +57,7 @@ module _ {X : Type 0} (f : ℕ → ℕ → X) (width : ℕ) where
       let across : p % width < width = omega arith in
       let down : p / width < height = (div-lt_iff_lt-mul wide).1 within in
       let Q : ℕ → Type 0 = λ q. get_or plane q d ≡ get_or (flat_map row_from (range_with_len 0 height)) q d in
-      subst Q place (each (p % width) (p / width) across down ∙ ap (f (p % width)) (let at : p / width ≡ 0 + p / width = omega arith in at) ∙ sym (get_or-rows 0 height (p % width) (p / width) d across down)))
+      subst Q place
+      (each (p % width) (p / width) across down
+      ∙ ap (f (p % width)) (let at : p / width ≡ 0 + p / width = omega arith in at)
+      ∙ sym (get_or-rows 0 height (p % width) (p / width) d across down)))

@@ -26,7 +26,8 @@ use Rattle.cue_list.proofs.PastLaws.{looking-back-more, regions-last}
 
 -- ---- lists
 
-few-next : (n : ℕ) (more : State → List ℕ → List Row) (o : Option Read) → ((s : State) (xs : List ℕ) → length (more s xs) ≤ n) → length (records_next more o) ≤ suc n
+few-next : (n : ℕ) (more : State → List ℕ → List Row) (o : Option Read)
+    → ((s : State) (xs : List ℕ) → length (more s xs) ≤ n) → length (records_next more o) ≤ suc n
 few-next n more None few = omega arith
 few-next n more (Some p) few = let below = few p.1 p.2 in omega arith
 
@@ -34,9 +35,11 @@ few-next n more (Some p) few = let below = few p.1 p.2 in omega arith
 few-from : (n : ℕ) (s : State) (xs : List ℕ) → length (records_from default_config n s xs) ≤ n
 unfolding records_from
 few-from zero s xs = omega arith
-few-from (suc n) s xs = few-next n (records_from default_config n) (next_record default_config s [] [] xs) (λ t ys. few-from n t ys)
+few-from (suc n) s xs =
+    few-next n (records_from default_config n) (next_record default_config s [] [] xs) (λ t ys. few-from n t ys)
 
-shorter : (b : Bool) (x y : List ℕ) (n : ℕ) → length x ≤ n → length y ≤ n → length (if b then x else y) ≤ n
+shorter : (b : Bool) (x y : List ℕ) (n : ℕ) → length x ≤ n → length y ≤ n
+    → length (if b then x else y) ≤ n
 shorter true x y n h k = h
 shorter false x y n h k = k
 
@@ -45,7 +48,8 @@ unfolding strip_bom
 bom-shorter [] = omega arith
 bom-shorter (a ∷ []) = omega arith
 bom-shorter (a ∷ b ∷ []) = omega arith
-bom-shorter (a ∷ b ∷ c ∷ rest) = shorter (is_bom a b c) rest (a ∷ b ∷ c ∷ rest) (length (a ∷ b ∷ c ∷ rest)) (omega arith) (omega arith)
+bom-shorter (a ∷ b ∷ c ∷ rest) =
+    shorter (is_bom a b c) rest (a ∷ b ∷ c ∷ rest) (length (a ∷ b ∷ c ∷ rest)) (omega arith) (omega arith)
 
 pub few-rows : (bytes : List ℕ) → length (rows_of bytes) ≤ length bytes + 1
 few-rows bytes =
@@ -60,7 +64,8 @@ length-numbered n (row ∷ rows) = ap suc (length-numbered (n + 1) rows)
 pub length-records : (bytes : List ℕ) → length (records_of bytes) ≡ length (rows_of bytes)
 length-records bytes = length-numbered 1 (rows_of bytes)
 
-numbered-at : (n : ℕ) (rows : List Row) (k : ℕ) (other : Record) → k < length rows → get_or (numbered n rows) k other ≡ record_of (n + k) (get_or rows k [])
+numbered-at : (n : ℕ) (rows : List Row) (k : ℕ) (other : Record) → k < length rows
+    → get_or (numbered n rows) k other ≡ record_of (n + k) (get_or rows k [])
 numbered-at n [] k other within = absurd (omega arith)
 numbered-at n (row ∷ rows) zero other within =
     let same : n ≡ n + 0 = omega arith in
@@ -70,16 +75,20 @@ numbered-at n (row ∷ rows) (suc k) other within =
     numbered-at (n + 1) rows k other (omega arith) ∙ ap (λ (m : ℕ). record_of m (get_or rows k [])) same
 
 -- the record at a place of the script
-pub record_at-row : (bytes : List ℕ) (k : ℕ) → k < length (rows_of bytes) → record_at (records_of bytes) k ≡ record_of (k + 1) (get_or (rows_of bytes) k [])
+pub record_at-row : (bytes : List ℕ) (k : ℕ) → k < length (rows_of bytes)
+    → record_at (records_of bytes) k ≡ record_of (k + 1) (get_or (rows_of bytes) k [])
 record_at-row bytes k within =
     let same : 1 + k ≡ k + 1 = omega arith in
     numbered-at 1 (rows_of bytes) k _ within ∙ ap (λ (m : ℕ). record_of m (get_or (rows_of bytes) k [])) same
 
 -- one more record before the one at hand
-pub before-more : (all : List Record) (n : ℕ) → n < length all → records_before all (n + 1) ≡ record_at all n ∷ records_before all n
-before-more all n within = ap reverse (take_more all n (record_of 0 []) within) ∙ reverse-append (take n all) (record_at all n ∷ [])
+pub before-more : (all : List Record) (n : ℕ) → n < length all
+    → records_before all (n + 1) ≡ record_at all n ∷ records_before all n
+before-more all n within =
+    ap reverse (take_more all n (record_of 0 []) within) ∙ reverse-append (take n all) (record_at all n ∷ [])
 
-next-row : (rows : List Row) (n : ℕ) (x : Row) (rest : List Row) → drop n rows ≡ x ∷ rest → (n < length rows) × (get_or rows n [] ≡ x) × (drop (n + 1) rows ≡ rest)
+next-row : (rows : List Row) (n : ℕ) (x : Row) (rest : List Row) → drop n rows ≡ x ∷ rest → (n < length rows)
+    × (get_or rows n [] ≡ x) × (drop (n + 1) rows ≡ rest)
 next-row [] zero x rest e = absurd (let never : [] ≡ x ∷ rest = e in cc)
 next-row [] (suc n) x rest e = absurd (let never : [] ≡ x ∷ rest = e in cc)
 next-row (y ∷ rows) zero x rest e = let same : y ∷ rows ≡ x ∷ rest = e in (omega arith, cc, cc)
@@ -105,13 +114,16 @@ not-none None h = absurd (let never : true ≡ false = h in cc)
 not-none (Some x) h = refl
 
 -- a right cue stands in an epoch
-pub cue-open : (font : FontValue) (past : Past) (kind : RowKind) (number : ℕ) (cells : Row) → fault_with font past (record { number = number; kind = kind; cells = cells }) ≡ None → kind ≡ kinds.Cue → is_some past.epoch ≡ true
+pub cue-open : (font : FontValue) (past : Past) (kind : RowKind) (number : ℕ) (cells : Row)
+    → fault_with font past (record { number = number; kind = kind; cells = cells }) ≡ None → kind ≡ kinds.Cue
+    → is_some past.epoch ≡ true
 cue-open font past kind number cells right is =
     let placed : is_misplaced past kind ≡ false = passes _ _ (second-none _ _ _ _ _ right) in
     not-none past.epoch (ap (is_misplaced past) (sym is) ∙ placed)
 
 -- only a cue's picture depends on the regions
-brings-with : (font : FontValue) (first second : List Region) (kind : RowKind) (cells : Row) (old new : List Picture) → (kind ≡ kinds.Cue → first ≡ second)
+brings-with : (font : FontValue) (first second : List Region) (kind : RowKind) (cells : Row) (old new : List Picture)
+    → (kind ≡ kinds.Cue → first ≡ second)
     → Brings font first kind cells old new → Brings font second kind cells old new
 brings-with font first second kinds.Origin cells old new same brings = brings
 brings-with font first second kinds.Display cells old new same brings = brings
@@ -121,10 +133,12 @@ brings-with font first second kinds.Region cells old new same brings = brings
 brings-with font first second kinds.Colour cells old new same brings = brings
 brings-with font first second kinds.Picture cells old new same brings = brings
 brings-with font first second kinds.Place cells old new same brings = brings
-brings-with font first second kinds.Cue cells old new same brings = subst (λ (regions : List Region). Brings font regions kinds.Cue cells old new) (same refl) brings
+brings-with font first second kinds.Cue cells old new same brings =
+    subst (λ (regions : List Region). Brings font regions kinds.Cue cells old new) (same refl) brings
 brings-with font first second kinds.Other cells old new same brings = brings
 
-AreRight-more : (font : FontValue) (all : List Record) (n : ℕ) → n < length all → AreRight font all n → fault_of font (records_before all n) (record_at all n) ≡ None → AreRight font all (n + 1)
+AreRight-more : (font : FontValue) (all : List Record) (n : ℕ) → n < length all → AreRight font all n
+    → fault_of font (records_before all n) (record_at all n) ≡ None → AreRight font all (n + 1)
 AreRight-more font all n within right now = record {
   there = omega arith;
   right = below_more (λ k. fault_of font (records_before all k) (record_at all k) ≡ None) n right.right now;
@@ -133,7 +147,8 @@ AreRight-more font all n within right now = record {
 -- ---- the reader
 
 -- before the first record
-pub HasRead-first : (bytes : List ℕ) (font : FontValue) (kept : Reader) → IsReader kept → kept.rows ≡ 0 → past_of kept ≡ looking_back font [] → kept.pictures.items ≡ [] → HasRead bytes font (rows_of bytes) kept
+pub HasRead-first : (bytes : List ℕ) (font : FontValue) (kept : Reader) → IsReader kept → kept.rows ≡ 0
+    → past_of kept ≡ looking_back font [] → kept.pictures.items ≡ [] → HasRead bytes font (rows_of bytes) kept
 HasRead-first bytes font kept reader none stands drawn =
     let start : (n : ℕ) → n ≡ 0 → records_before (records_of bytes) n ≡ [] = λ n e. rw e refl in
     let whole : drop kept.rows (rows_of bytes) ≡ rows_of bytes = ap (λ (n : ℕ). drop n (rows_of bytes)) none in
@@ -142,17 +157,20 @@ HasRead-first bytes font kept reader none stands drawn =
       right = record { there = omega arith; right = λ k below. absurd (omega arith) };
       reader = reader;
       stands = stands ∙ ap (looking_back font) (sym (start kept.rows none));
-      drawn = subst (λ (rows : List Record). AreDrawn font rows kept.pictures.items) (sym (start kept.rows none)) drawn;
+      drawn =
+          subst (λ (rows : List Record). AreDrawn font rows kept.pictures.items) (sym (start kept.rows none)) drawn;
     }
 
-module _ (bytes : List ℕ) (font : FontValue) (left rest : List Row) (kept : Reader) (cells : Row) (read : HasRead bytes font left kept) (next : left ≡ cells ∷ rest) where
+module _ (bytes : List ℕ) (font : FontValue) (left rest : List Row) (kept : Reader) (cells : Row)
+    (read : HasRead bytes font left kept) (next : left ≡ cells ∷ rest) where
   abbrev all : List Record
   all = records_of bytes
 
   abbrev row : Record
   row = record_of (kept.rows + 1) cells
 
-  at : (kept.rows < length (rows_of bytes)) × (get_or (rows_of bytes) kept.rows [] ≡ cells) × (drop (kept.rows + 1) (rows_of bytes) ≡ rest)
+  at : (kept.rows < length (rows_of bytes)) × (get_or (rows_of bytes) kept.rows [] ≡ cells)
+      × (drop (kept.rows + 1) (rows_of bytes) ≡ rest)
   at = next-row (rows_of bytes) kept.rows cells rest (sym read.left_is ∙ next)
 
   within : kept.rows < length all
@@ -162,14 +180,18 @@ module _ (bytes : List ℕ) (font : FontValue) (left rest : List Row) (kept : Re
   row-is = record_at-row bytes kept.rows at.0 ∙ ap (record_of (kept.rows + 1)) at.1
 
   -- the fault of the record at hand
-  fault-is : fault_of font (records_before all kept.rows) (record_at all kept.rows) ≡ fault_with font (past_of kept) row
-  fault-is = ap (fault_of font (records_before all kept.rows)) row-is ∙ ap (λ (past : Past). fault_with font past row) (sym read.stands)
+  fault-is : fault_of font (records_before all kept.rows) (record_at all kept.rows)
+      ≡ fault_with font (past_of kept) row
+  fault-is =
+      ap (fault_of font (records_before all kept.rows)) row-is
+      ∙ ap (λ (past : Past). fault_with font past row) (sym read.stands)
 
   pub room-next : kept.rows + 1 ≤ length bytes + 1
   room-next = let few = few-rows bytes in let below = at.0 in omega arith
 
   -- a record that is wrong
-  pub IsRefused-row : (kind : ScriptKind) → fault_with font (past_of kept) row ≡ Some kind → IsRefused bytes font (kept.rows + 1) kind
+  pub IsRefused-row : (kind : ScriptKind) → fault_with font (past_of kept) row ≡ Some kind
+      → IsRefused bytes font (kept.rows + 1) kind
   IsRefused-row kind wrong = record {
     before = kept.rows;
     number = refl;
@@ -178,25 +200,39 @@ module _ (bytes : List ℕ) (font : FontValue) (left rest : List Row) (kept : Re
   }
 
   -- a record that is right
-  pub HasRead-next : (new : Reader) → IsReader new → fault_with font (past_of kept) row ≡ None → past_of new ≡ next_with font (past_of kept) row
-      → Brings font (regions_of kept.epoch) row.kind cells kept.pictures.items new.pictures.items → HasRead bytes font rest new
+  pub HasRead-next : (new : Reader) → IsReader new → fault_with font (past_of kept) row ≡ None
+      → past_of new ≡ next_with font (past_of kept) row
+      → Brings font (regions_of kept.epoch) row.kind cells kept.pictures.items new.pictures.items
+      → HasRead bytes font rest new
   HasRead-next new reader right kept_is brings =
       let earlier = records_before all kept.rows in
       let count : new.rows ≡ kept.rows + 1 = ap (λ (past : Past). past.rows) kept_is in
-      let begun : row.kind ≡ kinds.Cue → is_some (last_epoch font earlier) ≡ true = λ (is : row.kind ≡ kinds.Cue).
-      ap (λ (past : Past). is_some past.epoch) (sym read.stands) ∙ cue-open font (past_of kept) row.kind row.number row.cells right is in
-      let more : records_before all (kept.rows + 1) ≡ row ∷ earlier = before-more all kept.rows within ∙ ap (λ (r : Record). r ∷ earlier) row-is in
+      let begun : row.kind ≡ kinds.Cue → is_some (last_epoch font earlier) ≡ true =
+      λ (is : row.kind ≡ kinds.Cue).
+      ap (λ (past : Past). is_some past.epoch) (sym read.stands)
+      ∙ cue-open font (past_of kept) row.kind row.number row.cells right is in
+      let more : records_before all (kept.rows + 1) ≡ row ∷ earlier =
+      before-more all kept.rows within ∙ ap (λ (r : Record). r ∷ earlier) row-is in
       let epochs : kept.epoch ≡ last_epoch font earlier = ap (λ (past : Past). past.epoch) read.stands in
-      let regions : row.kind ≡ kinds.Cue → regions_of kept.epoch ≡ regions_in earlier = λ (is : row.kind ≡ kinds.Cue).
+      let regions : row.kind ≡ kinds.Cue → regions_of kept.epoch ≡ regions_in earlier =
+      λ (is : row.kind ≡ kinds.Cue).
       ap regions_of epochs ∙ regions-last font earlier (begun is) in
       let stands : past_of new ≡ looking_back font (row ∷ earlier) =
-      kept_is ∙ (ap (λ (past : Past). next_with font past row) read.stands ∙ sym (looking-back-more font earlier row begun)) in
-      let drawn : AreDrawn font (row ∷ earlier) new.pictures.items =
-      (kept.pictures.items, read.drawn, brings-with font (regions_of kept.epoch) (regions_in earlier) row.kind cells kept.pictures.items new.pictures.items regions brings) in
+      kept_is ∙
+      (ap (λ (past : Past). next_with font past row) read.stands
+      ∙ sym (looking-back-more font earlier row begun)) in
+      let drawn : AreDrawn font (row ∷ earlier) new.pictures.items = (
+        kept.pictures.items,
+        read.drawn,
+        brings-with font (regions_of kept.epoch) (regions_in earlier) row.kind cells
+            kept.pictures.items new.pictures.items regions brings,
+      ) in
       let at_new : records_before all new.rows ≡ row ∷ earlier = ap (records_before all) count ∙ more in
       record {
         left_is = sym at.2 ∙ ap (λ (n : ℕ). drop n (rows_of bytes)) (sym count);
-        right = subst (AreRight font all) (sym count) (AreRight-more font all kept.rows within read.right (fault-is ∙ right));
+        right =
+            subst (AreRight font all) (sym count)
+            (AreRight-more font all kept.rows within read.right (fault-is ∙ right));
         reader = reader;
         stands = stands ∙ ap (looking_back font) (sym at_new);
         drawn = subst (λ (rows : List Record). AreDrawn font rows new.pictures.items) (sym at_new) drawn;
@@ -209,22 +245,32 @@ nothing_left (row ∷ rows) zero there e = absurd (let never : row ∷ rows ≡ 
 nothing_left (row ∷ rows) (suc n) there e = ap suc (nothing_left rows n (omega arith) e)
 
 -- all records were read
-pub all-read : (bytes : List ℕ) (font : FontValue) (left : List Row) (kept : Reader) → HasRead bytes font left kept → left ≡ [] → kept.rows ≡ length (records_of bytes)
+pub all-read : (bytes : List ℕ) (font : FontValue) (left : List Row) (kept : Reader)
+    → HasRead bytes font left kept → left ≡ [] → kept.rows ≡ length (records_of bytes)
 all-read bytes font left kept read none =
     let same = length-records bytes in
     let there = read.right.there in
     nothing_left (rows_of bytes) kept.rows (omega arith) (sym read.left_is ∙ none) ∙ sym same
 
 -- all records are right, and none starts an epoch
-pub IsRefused-whole : (bytes : List ℕ) (font : FontValue) (left : List Row) (kept : Reader) → HasRead bytes font left kept → left ≡ [] → kept.epoch ≡ None → IsRefused bytes font (kept.rows + 1) faults.Order
+pub IsRefused-whole : (bytes : List ℕ) (font : FontValue) (left : List Row) (kept : Reader)
+    → HasRead bytes font left kept → left ≡ [] → kept.epoch ≡ None
+    → IsRefused bytes font (kept.rows + 1) faults.Order
 IsRefused-whole bytes font left kept read none closed = record {
   before = kept.rows;
   number = refl;
   right = read.right;
-  wrong = inr (all-read bytes font left kept read none, ap (λ (past : Past). past.epoch) (sym read.stands) ∙ closed, refl);
+  wrong =
+      inr (
+        all-read bytes font left kept read none,
+        ap (λ (past : Past). past.epoch) (sym read.stands)
+            ∙ closed,
+        refl,
+      );
 }
 
 -- a fault that follows from another
-pub IfErr-follows : {A E : Type 0} (P Q : E → Type 0) (answer : Result A E) → ((fault : E) → P fault → Q fault) → IfErr answer P → IfErr answer Q
+pub IfErr-follows : {A E : Type 0} (P Q : E → Type 0) (answer : Result A E)
+    → ((fault : E) → P fault → Q fault) → IfErr answer P → IfErr answer Q
 IfErr-follows P Q (Ok value) follows told = tt
 IfErr-follows P Q (Err fault) follows told = follows fault told

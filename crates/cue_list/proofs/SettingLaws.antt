@@ -18,7 +18,8 @@ use Rattle.cue_list.specs.Private.State.{head_of, IsRowFault}
 use Rattle.cue_list.specs.TextSizes.{text_head, missing_glyph}
 
 -- a search finds the first element that passes
-find-first : (p : ℕ → Bool) (xs : List ℕ) (k c : ℕ) → k < length xs → get_or xs k 0 ≡ c → p c ≡ true → ((j : ℕ) → j < k → p (get_or xs j 0) ≡ false) → find p xs ≡ Some c
+find-first : (p : ℕ → Bool) (xs : List ℕ) (k c : ℕ) → k < length xs → get_or xs k 0 ≡ c
+    → p c ≡ true → ((j : ℕ) → j < k → p (get_or xs j 0) ≡ false) → find p xs ≡ Some c
 find-first p [] k c within there passes before = absurd (omega arith)
 find-first p (x ∷ xs) zero c within there passes before =
     let same : x ≡ c = there in
@@ -27,13 +28,15 @@ find-first p (x ∷ xs) (suc k) c within there passes before =
     let first : p x ≡ false = before 0 (omega arith) in
     rw first (find-first p xs k c (omega arith) there passes (λ j below. before (suc j) (omega arith)))
 
-find-none : (p : ℕ → Bool) (xs : List ℕ) → ((j : ℕ) → j < length xs → p (get_or xs j 0) ≡ false) → find p xs ≡ None
+find-none : (p : ℕ → Bool) (xs : List ℕ) → ((j : ℕ) → j < length xs → p (get_or xs j 0) ≡ false)
+    → find p xs ≡ None
 find-none p [] none = refl
 find-none p (x ∷ xs) none =
     let first : p x ≡ false = none 0 (omega arith) in
     rw first (find-none p xs (λ j below. none (suc j) (omega arith)))
 
-can-pass : (c : ℕ) (glyph : Option GlyphValue) → (c ≡ 10) ⊎ IsSome glyph → (not (c == 10) && not (is_some glyph)) ≡ false
+can-pass : (c : ℕ) (glyph : Option GlyphValue) → (c ≡ 10) ⊎ IsSome glyph
+    → (not (c == 10) && not (is_some glyph)) ≡ false
 can-pass c glyph (inl feed) = rw feed refl
 can-pass c None (inr some) = absurd (let never : false ≡ true = some in cc)
 can-pass c (Some glyph) (inr some) = last (c == 10)
@@ -42,24 +45,28 @@ can-pass c (Some glyph) (inr some) = last (c == 10)
     last true = refl
     last false = refl
 
-cannot-pass : (c : ℕ) (glyph : Option GlyphValue) → c ≢ 10 → glyph ≡ None → (not (c == 10) && not (is_some glyph)) ≡ true
+cannot-pass : (c : ℕ) (glyph : Option GlyphValue) → c ≢ 10 → glyph ≡ None
+    → (not (c == 10) && not (is_some glyph)) ≡ true
 cannot-pass c glyph other missing =
     let test : (c == 10) ≡ false = grind (arith, nat_tests) in
     rw (missing, test) refl
 
 -- where each character can be set none is missing
-pub missing-none : (font : FontValue) (characters : List ℕ) → AllCanBeSet font characters → missing_glyph font characters ≡ None
+pub missing-none : (font : FontValue) (characters : List ℕ) → AllCanBeSet font characters
+    → missing_glyph font characters ≡ None
 unfolding missing_glyph
 missing-none font characters all = find-none _ characters (λ j below. can-pass _ _ (all j below))
 
-pub missing-some : (font : FontValue) (characters : List ℕ) (c : ℕ) → IsFirstMissing font characters c → missing_glyph font characters ≡ Some c
+pub missing-some : (font : FontValue) (characters : List ℕ) (c : ℕ) → IsFirstMissing font characters c
+    → missing_glyph font characters ≡ Some c
 unfolding missing_glyph
 missing-some font characters c first =
     find-first _ characters first.place c first.within first.there (cannot-pass c _ first.no_line_feed first.missing)
     (λ j below. can-pass _ _ (first.before j below))
 
 -- the depth and sides of a text that was set
-pub text_head-set : (font : FontValue) (characters : List ℕ) (ink paper : ℕ) (depth : Depth) (picture : Picture) → IsSetting font characters ink paper depth picture
+pub text_head-set : (font : FontValue) (characters : List ℕ) (ink paper : ℕ) (depth : Depth) (picture : Picture)
+    → IsSetting font characters ink paper depth picture
     → text_head font depth characters ≡ head_of picture
 unfolding text_head
 text_head-set font characters ink paper depth picture set = λ i. record {
@@ -68,8 +75,11 @@ text_head-set font characters ink paper depth picture set = λ i. record {
   height = sym set.sides.high i;
 }
 
-glyph-first : (missing : Option ℕ) (c : ℕ) (past : Past) (placing : PlaceRow) (region : Region) (font : FontValue) (characters : List ℕ) → missing ≡ Some c
-    → first_of (glyph_fault missing ∷ text_fault past placing region (text_head font region.depth characters) ∷ []) ≡ glyph_fault (Some c)
+glyph-first : (missing : Option ℕ) (c : ℕ) (past : Past) (placing : PlaceRow) (region : Region) (font : FontValue)
+    (characters : List ℕ) → missing ≡ Some c
+    → first_of
+    (glyph_fault missing ∷ text_fault past placing region (text_head font region.depth characters) ∷ [])
+    ≡ glyph_fault (Some c)
 glyph-first missing c past placing region font characters e = rw e refl
 
 wide_tests : (w h : ℕ) → (1920 < w) ⊎ (1080 < h) → (nat_lt 1920 w || nat_lt 1080 h) ≡ true
@@ -79,8 +89,12 @@ not_zero : (w : ℕ) → 1 ≤ w → (w == 0) ≡ false
 not_zero w some = grind (arith, nat_tests)
 
 -- a text that cannot be set fails the test of its record
-pub set-refused : (font : FontValue) (characters : List ℕ) (fault : SetFault) (past : Past) (placing : PlaceRow) (region : Region) → IsSetFault font characters fault
-    → IsRowFault (first_of (glyph_fault (missing_glyph font characters) ∷ text_fault past placing region (text_head font region.depth characters) ∷ [])) (row_fault_of fault)
+pub set-refused : (font : FontValue) (characters : List ℕ) (fault : SetFault) (past : Past) (placing : PlaceRow)
+    (region : Region) → IsSetFault font characters fault
+    → IsRowFault
+    (first_of
+    (glyph_fault (missing_glyph font characters)
+    ∷ text_fault past placing region (text_head font region.depth characters) ∷ [])) (row_fault_of fault)
 unfolding text_head
 set-refused font characters set.Memory past placing region why = tt
 set-refused font characters (set.MissingGlyph c) past placing region why = rw (missing-some font characters c why) refl
@@ -92,6 +106,11 @@ set-refused font characters set.TooWide past placing region why =
       wide_tests (widest_line font (reverse characters)) ((line_after (reverse characters) + 1) * font.height) why.2,
     ) refl
 
-pub set-refused-as : (font : FontValue) (characters : List ℕ) (fault : SetFault) (past : Past) (placing : PlaceRow) (region : Region) (answer : RowFault) → answer ≡ row_fault_of fault → IsSetFault font characters fault
-    → IsRowFault (first_of (glyph_fault (missing_glyph font characters) ∷ text_fault past placing region (text_head font region.depth characters) ∷ [])) answer
-set-refused-as font characters fault past placing region answer is why = rw is (set-refused font characters fault past placing region why)
+pub set-refused-as : (font : FontValue) (characters : List ℕ) (fault : SetFault) (past : Past) (placing : PlaceRow)
+    (region : Region) (answer : RowFault) → answer ≡ row_fault_of fault → IsSetFault font characters fault
+    → IsRowFault
+    (first_of
+    (glyph_fault (missing_glyph font characters)
+    ∷ text_fault past placing region (text_head font region.depth characters) ∷ [])) answer
+set-refused-as font characters fault past placing region answer is why =
+    rw is (set-refused font characters fault past placing region why)

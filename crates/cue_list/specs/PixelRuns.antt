@@ -47,7 +47,8 @@ run_in depth token =
 -- the runs that these pieces are, where each is one
 abbrev pub all_runs : Depth → List (List ℕ) → Option (List PixelRun)
 all_runs depth [] = Some []
-all_runs depth (token ∷ tokens) = run_in depth token >>= λ run. all_runs depth tokens >>= λ runs. Some (run ∷ runs)
+all_runs depth (token ∷ tokens) =
+    run_in depth token >>= λ run. all_runs depth tokens >>= λ runs. Some (run ∷ runs)
 
 -- the runs of a text, with one space between two of them
 abbrev pub runs_in : Depth → List ℕ → Option (List PixelRun)

@@ -1,5 +1,5 @@
--- Computed examples: a broken set and what follows it, a receiver that enters at an acquisition point, times that go round,
--- objects of several versions, and a region without fill.
+-- Computed examples: a broken set and what follows it, a receiver that enters at an acquisition point, times that go
+-- round, objects of several versions, and a region without fill.
 use Rattle.std.specs.Prelude.{◌≡◌, ℕ, Bool, true, false, List, [], ◌∷◌, Some, refl}
 use Rattle.sub_base.specs.Profile.{profile_of}
 use Rattle.sub_base.specs.declared.depth.Depth.TheVariants.{Two}
@@ -28,65 +28,87 @@ plain segment = record { value = segment; top = []; bottom = [] }
 
 -- a set of a state with an empty page, in a unit of 31 bytes
 page_set : State → List Content
-page_set kind = plain (of_page (record { time_out = 10; version = 0; state = kind; entries = [] })) ∷ plain end_of_set ∷ []
+page_set kind =
+    plain (of_page (record { time_out = 10; version = 0; state = kind; entries = [] })) ∷ plain end_of_set ∷ []
 
 set_at : ℕ → State → Delivery Reading
-set_at time kind = whole time 31 (read (plain (of_page (record { time_out = 10; version = 0; state = kind; entries = [] }))) ∷ read (plain end_of_set) ∷ [])
+set_at time kind =
+    whole time 31
+    (read (plain (of_page (record { time_out = 10; version = 0; state = kind; entries = [] })))
+    ∷ read (plain end_of_set) ∷ [])
 
 -- a set without a page
 bare_set : ℕ → Delivery Reading
 bare_set time = whole time 23 (read (plain end_of_set) ∷ [])
 
 -- a set that is shown, a broken one, one that waits, and one that begins a new epoch
-broken_verdict : verdict_of (profile_of Sd) 0 (set_at 90000 ModeChange ∷ []) (bare_set 180000) ≡ Some (Broken NoPage)
-unfolding set_at bare_set plain sets_since last_time epoch_of epoch_fault all_region_ids segments_of taken_among region_ids clut_ids table_entries
+broken_verdict : verdict_of (profile_of Sd) 0 (set_at 90000 ModeChange ∷ []) (bare_set 180000)
+    ≡ Some (Broken NoPage)
+unfolding set_at bare_set plain sets_since last_time epoch_of epoch_fault all_region_ids segments_of taken_among
+    region_ids clut_ids table_entries
 broken_verdict = refl
 
-waits_behind_broken : verdict_of (profile_of Sd) 0 (bare_set 180000 ∷ set_at 90000 ModeChange ∷ []) (set_at 270000 Normal) ≡ Some Waiting
-unfolding set_at bare_set plain sets_since last_time epoch_of epoch_fault all_region_ids segments_of taken_among region_ids clut_ids table_entries
+waits_behind_broken : verdict_of (profile_of Sd) 0 (bare_set 180000 ∷ set_at 90000 ModeChange ∷ [])
+    (set_at 270000 Normal) ≡ Some Waiting
+unfolding set_at bare_set plain sets_since last_time epoch_of epoch_fault all_region_ids segments_of taken_among
+    region_ids clut_ids table_entries
 waits_behind_broken = refl
 
-begins_behind_broken : verdict_of (profile_of Sd) 0 (set_at 270000 Normal ∷ bare_set 180000 ∷ set_at 90000 ModeChange ∷ []) (set_at 360000 Acquisition) ≡ Some Shown
-unfolding set_at bare_set plain sets_since last_time epoch_of epoch_fault all_region_ids segments_of taken_among region_ids clut_ids table_entries
+begins_behind_broken : verdict_of (profile_of Sd) 0
+    (set_at 270000 Normal ∷ bare_set 180000 ∷ set_at 90000 ModeChange ∷ []) (set_at 360000 Acquisition)
+    ≡ Some Shown
+unfolding set_at bare_set plain sets_since last_time epoch_of epoch_fault all_region_ids segments_of taken_among
+    region_ids clut_ids table_entries
 begins_behind_broken = refl
 
 -- the epoch of a receiver that enters at an acquisition point begins there: the set before, which waited, is not of it
-entered_epoch : known_epoch (profile_of Sd) 0 (set_at 180000 Acquisition ∷ set_at 90000 Normal ∷ []) ≡ Some (page_set Acquisition ∷ [])
-unfolding set_at page_set plain sets_since last_time epoch_of epoch_fault all_region_ids segments_of taken_among region_ids clut_ids table_entries
+entered_epoch : known_epoch (profile_of Sd) 0 (set_at 180000 Acquisition ∷ set_at 90000 Normal ∷ [])
+    ≡ Some (page_set Acquisition ∷ [])
+unfolding set_at page_set plain sets_since last_time epoch_of epoch_fault all_region_ids segments_of taken_among
+    region_ids clut_ids table_entries
 entered_epoch = refl
 
 -- in a known epoch an acquisition point begins none
-epoch_goes_on : known_epoch (profile_of Sd) 0 (set_at 180000 Acquisition ∷ set_at 90000 ModeChange ∷ []) ≡ Some (page_set Acquisition ∷ page_set ModeChange ∷ [])
-unfolding set_at page_set plain sets_since last_time epoch_of epoch_fault all_region_ids segments_of taken_among region_ids clut_ids table_entries
+epoch_goes_on : known_epoch (profile_of Sd) 0 (set_at 180000 Acquisition ∷ set_at 90000 ModeChange ∷ [])
+    ≡ Some (page_set Acquisition ∷ page_set ModeChange ∷ [])
+unfolding set_at page_set plain sets_since last_time epoch_of epoch_fault all_region_ids segments_of taken_among
+    region_ids clut_ids table_entries
 epoch_goes_on = refl
 
 -- ---- times that go round
 
--- from anchor 0 a set at 8589934000 is shown, one at 100 behind it too, with the lifted time 8589934692, and 8589934000 again
--- is not later
+-- from anchor 0 a set at 8589934000 is shown, one at 100 behind it too, with the lifted time 8589934692, and 8589934000
+-- again is not later
 before_round : verdict_of (profile_of Sd) 0 [] (set_at 8589934000 ModeChange) ≡ Some Shown
-unfolding set_at plain sets_since last_time epoch_of epoch_fault all_region_ids segments_of taken_among region_ids clut_ids table_entries
+unfolding set_at plain sets_since last_time epoch_of epoch_fault all_region_ids segments_of taken_among region_ids
+    clut_ids table_entries
 before_round = refl
 
 behind_round : verdict_of (profile_of Sd) 0 (set_at 8589934000 ModeChange ∷ []) (set_at 100 ModeChange) ≡ Some Shown
-unfolding set_at plain sets_since last_time epoch_of epoch_fault all_region_ids segments_of taken_among region_ids clut_ids table_entries
+unfolding set_at plain sets_since last_time epoch_of epoch_fault all_region_ids segments_of taken_among region_ids
+    clut_ids table_entries
 behind_round = refl
 
 lifted_behind_round : lifted_time 0 (set_at 8589934000 ModeChange ∷ []) (set_at 100 ModeChange) ≡ Some 8589934692
 unfolding set_at last_time
 lifted_behind_round = refl
 
-not_later : verdict_of (profile_of Sd) 0 (set_at 100 ModeChange ∷ set_at 8589934000 ModeChange ∷ []) (set_at 8589934000 ModeChange) ≡ Some (NotLater 8589934692)
-unfolding set_at plain sets_since last_time epoch_of epoch_fault all_region_ids segments_of taken_among region_ids clut_ids table_entries
+not_later : verdict_of (profile_of Sd) 0 (set_at 100 ModeChange ∷ set_at 8589934000 ModeChange ∷ [])
+    (set_at 8589934000 ModeChange) ≡ Some (NotLater 8589934692)
+unfolding set_at plain sets_since last_time epoch_of epoch_fault all_region_ids segments_of taken_among region_ids
+    clut_ids table_entries
 not_later = refl
 
 -- what a set that is not later asks has the time as read
-not_later_load : set_load (profile_of Sd) 0 (set_at 100 ModeChange ∷ set_at 8589934000 ModeChange ∷ []) (set_at 8589934000 ModeChange) ≡ Some (record { pts = 8589934000; size = 31; painted = 0 })
-unfolding set_at plain sets_since last_time epoch_of epoch_fault all_region_ids segments_of taken_among region_ids clut_ids table_entries
+not_later_load : set_load (profile_of Sd) 0 (set_at 100 ModeChange ∷ set_at 8589934000 ModeChange ∷ [])
+    (set_at 8589934000 ModeChange) ≡ Some (record { pts = 8589934000; size = 31; painted = 0 })
+unfolding set_at plain sets_since last_time epoch_of epoch_fault all_region_ids segments_of taken_among region_ids
+    clut_ids table_entries
 not_later_load = refl
 
 -- a loss does not bring the anchor back
-lifted_behind_loss : lifted_time 0 (lost ∷ set_at 8589934000 ModeChange ∷ []) (set_at 100 ModeChange) ≡ Some 8589934692
+lifted_behind_loss : lifted_time 0 (lost ∷ set_at 8589934000 ModeChange ∷ []) (set_at 100 ModeChange)
+    ≡ Some 8589934692
 unfolding set_at last_time
 lifted_behind_loss = refl
 
@@ -95,7 +117,19 @@ lifted_behind_loss = refl
 -- a region of 1 by 1 pixel of two bits that lists an object, with fill code 2, or without fill
 small_region : ℕ → Bool → Content
 small_region number filled = plain (of_region (record {
-  head = record { region = 1; version = number; fill = filled; width = 1; height = 1; depth = Two; clut = 0; code8 = 0; code4 = 0; code2 = 2 };
+  head =
+      record {
+        region = 1;
+        version = number;
+        fill = filled;
+        width = 1;
+        height = 1;
+        depth = Two;
+        clut = 0;
+        code8 = 0;
+        code4 = 0;
+        code2 = 2;
+      };
   listings = record { object = 5; x = 0; y = 0 } ∷ [];
 }))
 
@@ -127,7 +161,8 @@ kept_without_fill : pixel_of (taken_of (small_region 1 false ∷ dot 0 1 ∷ sma
 unfolding dot small_region plain taken_among painted_listings pixel_of
 kept_without_fill = refl
 
-painted_anew : pixel_of (taken_of (dot 0 3 ∷ small_region 1 false ∷ dot 0 1 ∷ small_region 0 true ∷ [])) 1 0 0 ≡ 3
+painted_anew : pixel_of (taken_of (dot 0 3 ∷ small_region 1 false ∷ dot 0 1 ∷ small_region 0 true ∷ [])) 1 0 0
+    ≡ 3
 unfolding dot small_region plain taken_among painted_listings pixel_of
 painted_anew = refl
 

@@ -11,22 +11,26 @@ use Rattle.stream_syntax.specs.DataField.{Frame, segment, ends_segments, frames_
 use Rattle.decoder_model.specs.declared.pages.Pages.{Pages}
 use Rattle.decoder_model.specs.Frames.{is_of_pages}
 
--- the bytes are a segment of these pages by their head: the sync byte, a type with a page id that counts, and the length
+-- the bytes are a segment of these pages by their head: the sync byte, a type with a page id that counts, and the
+-- length
 pub record IsHeaded (pages : Pages) (bytes : List ℕ) : Type 0 where
   pub sync : byte_at 0 bytes ≡ 15
   pub size : length bytes ≡ segment_size bytes
   pub of_pages : is_of_pages pages bytes ≡ true
 
 -- the front of bytes keeps its places
-same_byte : (bytes rest : List ℕ) (place : ℕ) → place < length bytes → byte_at place (bytes ++ rest) ≡ byte_at place bytes
+same_byte : (bytes rest : List ℕ) (place : ℕ) → place < length bytes
+    → byte_at place (bytes ++ rest) ≡ byte_at place bytes
 same_byte bytes rest place inside = get_or-append bytes rest 0 place inside
 
 same_word : (bytes rest : List ℕ) → 6 ≤ length bytes → word_at 4 (bytes ++ rest) ≡ word_at 4 bytes
 same_word bytes rest long =
-    ap (λ high. high * 256 + byte_at 5 (bytes ++ rest)) (same_byte bytes rest 4 (omega arith)) ∙ ap (λ low. byte_at 4 bytes * 256 + low) (same_byte bytes rest 5 (omega arith))
+    ap (λ high. high * 256 + byte_at 5 (bytes ++ rest)) (same_byte bytes rest 4 (omega arith))
+    ∙ ap (λ low. byte_at 4 bytes * 256 + low) (same_byte bytes rest 5 (omega arith))
 
 -- such a segment passes the tests of its head, whatever follows
-no_frame_fault : (pages : Pages) (bytes rest : List ℕ) → IsHeaded pages bytes → first_fault (frame_tests (bytes ++ rest)) ≡ None
+no_frame_fault : (pages : Pages) (bytes rest : List ℕ) → IsHeaded pages bytes
+    → first_fault (frame_tests (bytes ++ rest)) ≡ None
 no_frame_fault pages bytes rest h =
     let size = h.size in
     let long : 6 ≤ length bytes = omega arith in
@@ -39,24 +43,30 @@ no_frame_fault pages bytes rest h =
     rw (one, short, cut) refl
 
 -- the frame at the front is the segment
-front_frame : (behind : List ℕ → List Frame) (pages : Pages) (bytes rest : List ℕ) → IsHeaded pages bytes → frames_by behind (bytes ++ rest) (first_fault (frame_tests (bytes ++ rest))) ≡ segment bytes ∷ behind rest
+front_frame : (behind : List ℕ → List Frame) (pages : Pages) (bytes rest : List ℕ) → IsHeaded pages bytes
+    → frames_by behind (bytes ++ rest) (first_fault (frame_tests (bytes ++ rest))) ≡ segment bytes ∷ behind rest
 front_frame behind pages bytes rest h =
     let size = h.size in
-    let same : segment_size (bytes ++ rest) ≡ length bytes = ap (λ word. 6 + word) (same_word bytes rest (omega arith)) ∙ sym size in
+    let same : segment_size (bytes ++ rest) ≡ length bytes =
+    ap (λ word. 6 + word) (same_word bytes rest (omega arith)) ∙ sym size in
     ap (frames_by behind (bytes ++ rest)) (no_frame_fault pages bytes rest h)
     ∙ ap (λ n. segment (take n (bytes ++ rest)) ∷ behind (drop n (bytes ++ rest))) same
     ∙ ap (λ front. segment front ∷ behind (drop (length bytes) (bytes ++ rest))) (take-append_seam bytes rest)
     ∙ ap (λ left. segment bytes ∷ behind left) (drop-append_seam bytes rest)
 
-at_front : (behind : List ℕ → List Frame) (pages : Pages) (bytes rest : List ℕ) → IsHeaded pages bytes → frames_at behind (bytes ++ rest) ≡ segment bytes ∷ behind rest
+at_front : (behind : List ℕ → List Frame) (pages : Pages) (bytes rest : List ℕ) → IsHeaded pages bytes
+    → frames_at behind (bytes ++ rest) ≡ segment bytes ∷ behind rest
 at_front behind pages [] rest h = absurd (omega (arith, h.size))
 at_front behind pages (first ∷ bytes) rest h =
     let sync = h.sync in
     let other : ends_segments ((first ∷ bytes) ++ rest) ≡ false = ap (λ byte. eqb byte 0xFF) sync in
-    ap (λ end. if end then [] else frames_by behind ((first ∷ bytes) ++ rest) (first_fault (frame_tests ((first ∷ bytes) ++ rest)))) other
+    ap (λ end. if end then []
+    else frames_by behind ((first ∷ bytes) ++ rest) (first_fault (frame_tests ((first ∷ bytes) ++ rest)))) other
     ∙ front_frame behind pages (first ∷ bytes) rest h
 
-within : (pages : Pages) (most : ℕ) (segments : List (List ℕ)) (after : List ℕ) → AllByRecursion (IsHeaded pages) segments → length segments ≤ most → frames_within most (concat segments ++ 0xFF ∷ after) ≡ map segment segments
+within : (pages : Pages) (most : ℕ) (segments : List (List ℕ)) (after : List ℕ)
+    → AllByRecursion (IsHeaded pages) segments → length segments ≤ most
+    → frames_within most (concat segments ++ 0xFF ∷ after) ≡ map segment segments
 within pages zero [] after h many = refl
 within pages (suc most) [] after h many = refl
 within pages zero (bytes ∷ segments) after h many = absurd (omega arith)
@@ -66,11 +76,17 @@ within pages (suc most) (bytes ∷ segments) after h many =
     ∙ ap (λ frames. segment bytes ∷ frames) (within pages most segments after h.1 (omega arith))
 
 -- there are fewer segments than bytes
-fewer : (pages : Pages) (segments : List (List ℕ)) → AllByRecursion (IsHeaded pages) segments → length segments ≤ length (concat segments)
+fewer : (pages : Pages) (segments : List (List ℕ)) → AllByRecursion (IsHeaded pages) segments
+    → length segments ≤ length (concat segments)
 fewer pages [] h = omega arith
-fewer pages (bytes ∷ segments) h = let size = h.0.size in omega (arith, fewer pages segments h.1, length-append bytes (concat segments))
+fewer pages (bytes ∷ segments) h =
+    let size = h.0.size in omega (arith, fewer pages segments h.1, length-append bytes (concat segments))
 
 -- the frames of the field are the segments
-pub frames_of_field : (pages : Pages) (segments : List (List ℕ)) (after : List ℕ) → AllByRecursion (IsHeaded pages) segments → frames_of (concat segments ++ 0xFF ∷ after) ≡ map segment segments
+pub frames_of_field : (pages : Pages) (segments : List (List ℕ)) (after : List ℕ)
+    → AllByRecursion (IsHeaded pages) segments
+    → frames_of (concat segments ++ 0xFF ∷ after) ≡ map segment segments
 unfolding frames_of
-frames_of_field pages segments after h = within pages (length (concat segments ++ 0xFF ∷ after)) segments after h (omega (arith, fewer pages segments h, length-append (concat segments) (0xFF ∷ after)))
+frames_of_field pages segments after h =
+    within pages (length (concat segments ++ 0xFF ∷ after)) segments after h
+    (omega (arith, fewer pages segments h, length-append (concat segments) (0xFF ∷ after)))

@@ -1,4 +1,5 @@
--- What counts of the two pages of a service, and that of a service without an ancillary page the segments of its page count.
+-- What counts of the two pages of a service, and that of a service without an ancillary page the segments of its page
+-- count.
 use Rattle.std.proofs.Common.{◌≡◌, ◌∙◌, ℕ, Bool, true, false, ◌==◌, ◌&&◌, ◌||◌, List, [], ◌∷◌, map, refl, sym, ap}
 use Rattle.std.specs.List.{list_any}
 use Rattle.stream_syntax.specs.Tests.{byte_at, word_at}
@@ -28,8 +29,10 @@ same_page false any shared among = refl
 -- where the ancillary page is the page itself, its segments of a display set count, each by itself
 pub only_counts : (page : ℕ) (bytes : List ℕ) → is_of_pages (only page) bytes ≡ is_of_page set_kinds page bytes
 only_counts page bytes =
-    same_page (word_at 2 bytes == page) (list_any (λ kind. byte_at 1 bytes == kind) set_kinds) (list_any (λ kind. byte_at 1 bytes == kind) shared_kinds)
-    (shared_among (byte_at 1 bytes == 0x10) (byte_at 1 bytes == 0x11) (byte_at 1 bytes == 0x12) (byte_at 1 bytes == 0x13) (byte_at 1 bytes == 0x14) (byte_at 1 bytes == 0x80))
+    same_page (word_at 2 bytes == page) (list_any (λ kind. byte_at 1 bytes == kind) set_kinds)
+    (list_any (λ kind. byte_at 1 bytes == kind) shared_kinds)
+    (shared_among (byte_at 1 bytes == 0x10) (byte_at 1 bytes == 0x11) (byte_at 1 bytes == 0x12)
+    (byte_at 1 bytes == 0x13) (byte_at 1 bytes == 0x14) (byte_at 1 bytes == 0x80))
 
 -- ---- by example: composition page 1 with ancillary page 2
 
@@ -44,15 +47,19 @@ head kind page = 0x0F ∷ kind ∷ 0 ∷ page ∷ 0 ∷ 0 ∷ []
 heads : ℕ → List (List ℕ)
 heads page = map (λ kind. head kind page) (0x10 ∷ 0x11 ∷ 0x12 ∷ 0x13 ∷ 0x14 ∷ 0x80 ∷ 0x16 ∷ [])
 
--- of the composition page all types of a display set count, of the ancillary page a CLUT and an object, of a third page none
-composition_counts : map (λ bytes. counts_for pages (segment bytes)) (heads 1) ≡ true ∷ true ∷ true ∷ true ∷ true ∷ true ∷ false ∷ []
+-- of the composition page all types of a display set count, of the ancillary page a CLUT and an object, of a third page
+-- none
+composition_counts : map (λ bytes. counts_for pages (segment bytes)) (heads 1) ≡ true ∷ true ∷ true ∷ true
+    ∷ true ∷ true ∷ false ∷ []
 unfolding pages heads head
 composition_counts = refl
 
-ancillary_counts : map (λ bytes. counts_for pages (segment bytes)) (heads 2) ≡ false ∷ false ∷ true ∷ true ∷ false ∷ false ∷ false ∷ []
+ancillary_counts : map (λ bytes. counts_for pages (segment bytes)) (heads 2) ≡ false ∷ false ∷ true ∷ true
+    ∷ false ∷ false ∷ false ∷ []
 unfolding pages heads head
 ancillary_counts = refl
 
-third_counts : map (λ bytes. counts_for pages (segment bytes)) (heads 3) ≡ false ∷ false ∷ false ∷ false ∷ false ∷ false ∷ false ∷ []
+third_counts : map (λ bytes. counts_for pages (segment bytes)) (heads 3) ≡ false ∷ false ∷ false ∷ false
+    ∷ false ∷ false ∷ false ∷ []
 unfolding pages heads head
 third_counts = refl

@@ -21,17 +21,18 @@ use Rattle.schedule.proofs.SumLaws.{sum_below-suc, sum_below-zero}
 use Rattle.set_coder.specs.SetSizes.{IsSetLoad}
 use Rattle.shown_stream.specs.Compiled.{all_units, IsCompiledFor, IsCompiledTo}
 use Rattle.slot_stream.specs.SlotStream.{Piece, packet_of, all_pieces}
-use Rattle.shown_stream.proofs.CompiledPackets.{packets_in, count_pieces}
+use Rattle.shown_stream.proofs.Sent.CompiledPackets.{packets_in, count_pieces}
 use Rattle.slot_stream.proofs.LaidPackets.{laid, behind, IsAhead}
-use Rattle.shown_stream.proofs.PlannedTimes.{pts_of, times_in_span}
-use Rattle.shown_stream.proofs.RisingSlots.{slots_rise}
+use Rattle.shown_stream.proofs.Sent.PlannedTimes.{pts_of, times_in_span}
+use Rattle.shown_stream.proofs.Sent.RisingSlots.{slots_rise}
 use Rattle.std.proofs.lemmas.Bool.{false≢true}
 use Rattle.std.proofs.lemmas.Nat.{mul-le}
 
 -- ---- the last slot
 
 -- packets stand up to the last slot
-laid_behind : (pid from number : ℕ) (pieces : List Piece) (slots : List ℕ) → IsAhead from slots → length pieces ≡ length slots → from + length (laid pid from number pieces slots) ≡ behind from slots
+laid_behind : (pid from number : ℕ) (pieces : List Piece) (slots : List ℕ) → IsAhead from slots
+    → length pieces ≡ length slots → from + length (laid pid from number pieces slots) ≡ behind from slots
 laid_behind pid from number [] [] ahead same = omega arith
 laid_behind pid from number [] (slot ∷ slots) ahead same = absurd (omega arith)
 laid_behind pid from number (piece ∷ pieces) [] ahead same = absurd (omega arith)
@@ -45,37 +46,48 @@ laid_behind pid from number (piece ∷ pieces) (slot ∷ slots) ahead same =
       length-replicate {A = List ℕ} (slot - from) null_packet,
     )
 
-behind_last : (from slot : ℕ) (slots : List ℕ) → behind from (slot ∷ slots) ≡ get_or (slot ∷ slots) (length slots) 0 + 1
+behind_last : (from slot : ℕ) (slots : List ℕ)
+    → behind from (slot ∷ slots) ≡ get_or (slot ∷ slots) (length slots) 0 + 1
 behind_last from slot [] = refl
 behind_last from slot (next ∷ slots) = behind_last (slot + 1) next slots
 
-behind_early : (most : ℕ) (slots : List ℕ) → ((last : ℕ) → last + 1 ≡ length slots → get_or slots last 0 ≤ most) → behind 0 slots ≤ most + 1
+behind_early : (most : ℕ) (slots : List ℕ)
+    → ((last : ℕ) → last + 1 ≡ length slots → get_or slots last 0 ≤ most) → behind 0 slots ≤ most + 1
 behind_early most [] early = omega arith
 behind_early most (slot ∷ slots) early = omega (arith, behind_last 0 slot slots, early (length slots) (omega arith))
 
 -- ---- the last set
 
-load_times : (P : ℕ → Type 0) (script : Script) (sets : List PlannedSet) (loads : List WriteLoad) → AllZip (IsSetLoad script) sets loads → AllByRecursion P (pts_of sets)
+load_times : (P : ℕ → Type 0) (script : Script) (sets : List PlannedSet) (loads : List WriteLoad)
+    → AllZip (IsSetLoad script) sets loads → AllByRecursion P (pts_of sets)
     → AllByRecursion (λ (load : WriteLoad). P load.load.pts) loads
 load_times P script [] [] asked all = tt
 load_times P script [] (load ∷ loads) asked all = absurd asked
 load_times P script (set ∷ sets) [] asked all = tt
-load_times P script (set ∷ sets) (load ∷ loads) asked all = (subst P (sym asked.0.time) all.0, load_times P script sets loads asked.1 all.1)
+load_times P script (set ∷ sets) (load ∷ loads) asked all =
+    (subst P (sym asked.0.time) all.0, load_times P script sets loads asked.1 all.1)
 
 -- the last slot comes before the last set is shown
-last_early : (loads : List WriteLoad) (n : ℕ) (pace : Pace) (table : Timetable) (most : ℕ) → IsSchedule loads n pace table → IsOnTime loads n pace table → 1 ≤ pace.step
-    → ((i : ℕ) → i < n → 1 ≤ packets_of loads i) → ((i : ℕ) → i < n → (load_of loads i).pts ≤ pace.origin + most) → (last : ℕ) → last + 1 ≡ length table.slots → get_or table.slots last 0 ≤ most
-last_early loads zero pace table most schedule on_time step some early last is = absurd (omega (arith, is, schedule.packets, sum_below-zero (packets_of loads)))
+last_early : (loads : List WriteLoad) (n : ℕ) (pace : Pace) (table : Timetable) (most : ℕ)
+    → IsSchedule loads n pace table → IsOnTime loads n pace table → 1 ≤ pace.step
+    → ((i : ℕ) → i < n → 1 ≤ packets_of loads i)
+    → ((i : ℕ) → i < n → (load_of loads i).pts ≤ pace.origin + most) → (last : ℕ)
+    → last + 1 ≡ length table.slots → get_or table.slots last 0 ≤ most
+last_early loads zero pace table most schedule on_time step some early last is =
+    absurd (omega (arith, is, schedule.packets, sum_below-zero (packets_of loads)))
 last_early loads (suc m) pace table most schedule on_time step some early last is =
     let own : 1 ≤ packets_of loads m = some m (omega arith) in
-    let place : last ≡ first_packet loads m + (packets_of loads m - 1) = omega (arith, is, schedule.packets, sum_below-suc (packets_of loads) m, own) in
+    let place : last ≡ first_packet loads m + (packets_of loads m - 1) =
+    omega (arith, is, schedule.packets, sum_below-suc (packets_of loads) m, own) in
     let slot : ℕ = get_or table.slots last 0 in
-    let same : get_or table.slots (first_packet loads m + (packets_of loads m - 1)) 0 ≡ slot = ap (λ (p : ℕ). get_or table.slots p 0) (sym place) in
+    let same : get_or table.slots (first_packet loads m + (packets_of loads m - 1)) 0 ≡ slot =
+    ap (λ (p : ℕ). get_or table.slots p 0) (sym place) in
     let done = schedule.dones m (omega arith) in
     let shown : ℕ = shown_before loads m in
     let tick : ℕ = tick_of pace (get_or table.slots (first_packet loads m + (packets_of loads m - 1)) 0) in
     let in_time : tick_of pace slot ≤ pace.origin + most =
-    subst (λ (s : ℕ). tick_of pace s ≤ pace.origin + most) same (omega (arith, le-max_left tick shown, done, on_time.ready m (omega arith), early m (omega arith))) in
+    subst (λ (s : ℕ). tick_of pace s ≤ pace.origin + most) same
+    (omega (arith, le-max_left tick shown, done, on_time.ready m (omega arith), early m (omega arith))) in
     let more : slot * 1 ≤ slot * pace.step = mul-le slot 1 slot pace.step (omega arith) step in
     let wide : slot ≤ slot * pace.step = omega (arith, more) in
     omega (arith, in_time, wide)
@@ -89,7 +101,8 @@ has_step Wide made = absurd (false≢true made)
 has_step Large made = omega arith
 
 -- how many packets a script is compiled to at most
-pub packets_few : (name : ProfileName) (pid page : ℕ) (script : Script) (bytes : List ℕ) → IsCompiledFor name → (compiled : IsCompiledTo name pid page script bytes)
+pub packets_few : (name : ProfileName) (pid page : ℕ) (script : Script) (bytes : List ℕ) → IsCompiledFor name
+    → (compiled : IsCompiledTo name pid page script bytes)
     → length (packets_in name pid page script bytes compiled) ≤ 3240000001
 packets_few name pid page script bytes made compiled =
     let loads = compiled.loads in
@@ -97,9 +110,11 @@ packets_few name pid page script bytes made compiled =
     let pieces = all_pieces (all_units compiled.units) in
     let pace = pace_of script.origin (profile_of name) in
     let ahead = slots_rise loads (length loads) pace compiled.table compiled.schedule in
-    let same : length pieces ≡ length slots = sym (count_pieces loads compiled.units compiled.sized) ∙ sym compiled.schedule.packets in
+    let same : length pieces ≡ length slots =
+    sym (count_pieces loads compiled.units compiled.sized) ∙ sym compiled.schedule.packets in
     let times = All-from_recursion (λ (load : WriteLoad). IsTick script.origin load.load.pts) loads
-    (load_times (IsTick script.origin) script compiled.sets loads compiled.planned.asked (times_in_span script (profile_of name) compiled.sets compiled.planned.plan)) in
+    (load_times (IsTick script.origin) script compiled.sets loads compiled.planned.asked
+    (times_in_span script (profile_of name) compiled.sets compiled.planned.plan)) in
     let step : 1 ≤ pace.step = has_step name made in
     let early = last_early loads (length loads) pace compiled.table 3240000000 compiled.schedule compiled.on_time step
     (λ i inside. some_packets loads i (some_bytes loads i compiled.each inside))

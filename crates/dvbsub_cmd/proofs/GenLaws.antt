@@ -1,5 +1,5 @@
--- The packets of a generated script, as they stand in memory: they are taken by a receiver, which shows what the script authors
--- from its entry set on.
+-- The packets of a generated script, as they stand in memory: they are taken by a receiver, which shows what the script
+-- authors from its entry set on.
 use Rattle.std.proofs.Common.{◌≡◌, ◌∙◌, ℕ, ◌+◌, ◌*◌, ◌/◌, ◌<◌, ◌≤◌, true, false, None, List, [], ◌∷◌, ◌++◌, length, reverse, take_all, All, refl, sym, ap, subst, arith}
 use Rattle.std.specs.List.{AllByRecursion, concat, filter, list_any}
 use Rattle.std.specs.Prelude.{codes, nat_le}
@@ -18,21 +18,21 @@ use Rattle.dvbsub_cmd.proofs.JoinedPackets.{whole_packets-concat}
 use Rattle.packet_source.specs.InHand.{whole_packets}
 use Rattle.page_epoch.specs.Plan.{IsPlan}
 use Rattle.page_epoch.specs.declared.planned_set.PlannedSet.{PlannedSet}
-use Rattle.readings.proofs.OneReading.{same_past}
+use Rattle.reading_laws.proofs.OneReading.{same_past}
 use Rattle.schedule.specs.Slots.{Timetable}
 use Rattle.set_coder.specs.SetSizes.{IsSetLoad}
-use Rattle.shown_stream.proofs.CompiledPackets.{ArePackets, are_packets, packets_in}
-use Rattle.shown_stream.proofs.CompiledShown.{compiled_entered}
-use Rattle.shown_stream.proofs.CompiledStays.{compiled_stays}
+use Rattle.shown_stream.proofs.Sent.CompiledPackets.{ArePackets, are_packets, packets_in}
+use Rattle.shown_stream.proofs.Shown.CompiledShown.{compiled_entered}
+use Rattle.shown_stream.proofs.Calls.CompiledStays.{compiled_stays}
 use Rattle.dvbsub_cmd.proofs.FewPackets.{packets_few}
-use Rattle.shown_stream.proofs.PlannedTimes.{pts_of, pts_rise, times_in_span}
+use Rattle.shown_stream.proofs.Sent.PlannedTimes.{pts_of, pts_rise, times_in_span}
 use Rattle.slot_stream.proofs.SentPieces.{IsFree, none_refused}
 use Rattle.slot_stream.proofs.SentStream.{pieces_are}
 use Rattle.shown_stream.specs.Compiled.{IsCompiledFor, IsCompiledTo, all_units}
 use Rattle.shown_stream.specs.SentSets.{sent_from, sent_sets, times_from}
 use Rattle.shown_stream.specs.Shows.{IsAnchorOf, ShowsFrom, authored_view}
 use Rattle.slot_stream.specs.SlotStream.{all_pieces}
-use Rattle.stream_calls.specs.StreamCalls.{AreCallsOf, calls_from, itself, set_calls}
+use Rattle.received_level_laws.specs.StreamCalls.{AreCallsOf, calls_from, itself, set_calls}
 use Rattle.stream_syntax.specs.TransportPackets.{packet_fault}
 use Rattle.sub_base.specs.Profile.{profile_of}
 use Rattle.sub_base.specs.declared.profile.Profile.{Profile}
@@ -56,36 +56,53 @@ sends Large is_for = absurd is_for
 -- ---- times
 
 -- the time of each set is that of its place
-times_early : (origin number : ℕ) (table : Timetable) (sets : List PlannedSet) → AllByRecursion (IsTick origin) (pts_of sets) → AllByRecursion (λ (set : SentSet). IsTick origin set.time) (sent_from table number sets)
+times_early : (origin number : ℕ) (table : Timetable) (sets : List PlannedSet)
+    → AllByRecursion (IsTick origin) (pts_of sets)
+    → AllByRecursion (λ (set : SentSet). IsTick origin set.time) (sent_from table number sets)
 times_early origin number table [] all = tt
 times_early origin number table (set ∷ sets) all = (all.0, times_early origin (number + 1) table sets all.1)
 
 -- where a script begins at the tick 0, lifted times may begin there
-pub from_zero : (name : ProfileName) (script : Script) (table : Timetable) (sets : List PlannedSet) (missed : ℕ) → IsPlan script (profile_of name) sets → script.origin ≡ 0 → IsAnchorOf (times_from missed (sent_sets table sets)) 0
+pub from_zero : (name : ProfileName) (script : Script) (table : Timetable) (sets : List PlannedSet) (missed : ℕ)
+    → IsPlan script (profile_of name) sets → script.origin ≡ 0
+    → IsAnchorOf (times_from missed (sent_sets table sets)) 0
 from_zero name script table sets missed plan zero_is =
     let own = λ (set : SentSet). (0 ≤ set.time) × (set.time < 0 + 8589934592) in
-    let all = All-from_recursion (λ (set : SentSet). IsTick script.origin set.time) (sent_sets table sets) (times_early script.origin 0 table sets (times_in_span script (profile_of name) sets plan)) in
-    All-map (λ time. (0 ≤ time) × (time < 0 + 8589934592)) (λ (set : SentSet). set.time) (filter (λ (set : SentSet). list_any (λ at. nat_le missed at) set.places) (sent_sets table sets))
-    (All-filter (λ (set : SentSet). list_any (λ at. nat_le missed at) set.places) own (sent_sets table sets) (λ k d inside. let early = (all k d inside).early in (omega arith, omega (arith, early, zero_is))))
+    let all =
+    All-from_recursion (λ (set : SentSet). IsTick script.origin set.time) (sent_sets table sets)
+    (times_early script.origin 0 table sets (times_in_span script (profile_of name) sets plan)) in
+    All-map (λ time. (0 ≤ time) × (time < 0 + 8589934592)) (λ (set : SentSet). set.time)
+    (filter (λ (set : SentSet). list_any (λ at. nat_le missed at) set.places) (sent_sets table sets))
+    (All-filter (λ (set : SentSet). list_any (λ at. nat_le missed at) set.places) own (sent_sets table sets)
+    (λ k d inside. let early = (all k d inside).early in (omega arith, omega (arith, early, zero_is))))
 
 -- the times of such a script are early
-early_times : (origin : ℕ) (times : List ℕ) → AllByRecursion (IsTick origin) times → origin ≡ 0 → All (λ time. time ≤ 4294967296) times
-early_times origin times all zero_is k d inside = let early = (All-from_recursion (IsTick origin) times all k d inside).early in omega (arith, early, zero_is)
+early_times : (origin : ℕ) (times : List ℕ) → AllByRecursion (IsTick origin) times → origin ≡ 0
+    → All (λ time. time ≤ 4294967296) times
+early_times origin times all zero_is k d inside =
+    let early = (All-from_recursion (IsTick origin) times all k d inside).early in omega (arith, early, zero_is)
 
 -- ---- calls
 
 -- the calls of packets by what was received of them
 abbrev calls_by : Profile → ℕ → ℕ → ℕ → List (List ℕ) → List (Delivery Reading) → List Call
-calls_by profile pid page anchor packets past = reverse (calls_from itself profile.coded pid (only page) 0 [] (packets_taken pid packets) (set_calls profile anchor (reverse past)))
+calls_by profile pid page anchor packets past =
+    reverse (calls_from itself profile.coded pid (only page) 0 [] (packets_taken pid packets)
+    (set_calls profile anchor (reverse past)))
 
 -- packets have one list of calls
-one_calls : (profile : Profile) (pid page anchor : ℕ) (packets : List (List ℕ)) (calls other : List Call) → AreCallsOf profile pid (only page) anchor 0 false packets calls → AreCallsOf profile pid (only page) anchor 0 false packets other → calls ≡ other
+one_calls : (profile : Profile) (pid page anchor : ℕ) (packets : List (List ℕ)) (calls other : List Call)
+    → AreCallsOf profile pid (only page) anchor 0 false packets calls
+    → AreCallsOf profile pid (only page) anchor 0 false packets other → calls ≡ other
 one_calls profile pid page anchor packets calls other is too =
-    is.are ∙ ap (calls_by profile pid page anchor packets) (same_past (reverse (sets_of profile.coded pid (only page) false packets)) is.past too.past is.received too.received) ∙ sym too.are
+    is.are ∙ ap (calls_by profile pid page anchor packets)
+    (same_past (reverse (sets_of profile.coded pid (only page) false packets)) is.past too.past is.received
+    too.received) ∙ sym too.are
 
 -- ---- the packets
 
-module _ (name : ProfileName) (script : Script) (bytes : List ℕ) (is_for : IsGeneratedFor name) (zero_is : script.origin ≡ 0) (compiled : IsCompiledTo name generated_pid generated_page script bytes) where
+module _ (name : ProfileName) (script : Script) (bytes : List ℕ) (is_for : IsGeneratedFor name)
+    (zero_is : script.origin ≡ 0) (compiled : IsCompiledTo name generated_pid generated_page script bytes) where
   free : IsFree generated_pid
   free = is_free generated_pid (omega arith)
 
@@ -98,8 +115,12 @@ module _ (name : ProfileName) (script : Script) (bytes : List ℕ) (is_for : IsG
   suits : (missed : ℕ) → IsAnchorOf (times_from missed (sent_sets compiled.table compiled.sets)) 0
   suits missed = from_zero name script compiled.table compiled.sets missed compiled.planned.plan zero_is
 
-  shows : (missed tick : ℕ) → ShowsFrom (profile_of name) generated_pid (only generated_page) 0 (entered_at missed packets_sent) (entry_set missed (sent_sets compiled.table compiled.sets)) tick (authored_view script tick)
-  shows missed tick = (compiled_entered name generated_pid generated_page script bytes free (sends name is_for) compiled missed).shown 0 (suits missed) tick
+  shows : (missed tick : ℕ)
+      → ShowsFrom (profile_of name) generated_pid (only generated_page) 0 (entered_at missed packets_sent)
+      (entry_set missed (sent_sets compiled.table compiled.sets)) tick (authored_view script tick)
+  shows missed tick =
+      (compiled_entered name generated_pid generated_page script bytes free (sends name is_for) compiled missed).shown 0
+      (suits missed) tick
 
   -- the packets in memory are these
   are_sent : (packets : List (List ℕ)) → packets ≡ whole_packets bytes → packets ≡ packets_sent
@@ -108,25 +129,33 @@ module _ (name : ProfileName) (script : Script) (bytes : List ℕ) (is_for : IsG
   -- a receiver takes them
   taken : All (λ packet. packet_fault generated_pid packet ≡ None) packets_sent
   taken = All-from_recursion (λ packet. packet_fault generated_pid packet ≡ None) packets_sent
-      (none_refused generated_pid 0 0 (all_pieces (all_units compiled.units)) compiled.table.slots free (pieces_are (profile_of name).coded (all_units compiled.units) known.units))
+      (none_refused generated_pid 0 0 (all_pieces (all_units compiled.units)) compiled.table.slots free
+      (pieces_are (profile_of name).coded (all_units compiled.units) known.units))
 
   count_few : length packets_sent ≤ 3240000001
   count_few = packets_few name generated_pid generated_page script bytes (sends name is_for) compiled
 
   -- the calls of the packets are those of the stream that ends with them
-  ended_calls : (peak : ℕ) (is : IsPeak (profile_of name) generated_pid (only generated_page) 0 packets_sent peak) → AreCallsOf (profile_of name) generated_pid (only generated_page) 0 0 true packets_sent is.calls
+  ended_calls : (peak : ℕ) (is : IsPeak (profile_of name) generated_pid (only generated_page) 0 packets_sent peak)
+      → AreCallsOf (profile_of name) generated_pid (only generated_page) 0 0 true packets_sent is.calls
   ended_calls peak is =
       let stays = compiled_stays name generated_pid generated_page script bytes free compiled known 0 0 (suits 0) in
       let view = (shows 0 0).is_shown in
       let calls : List Call = calls_by (profile_of name) generated_pid generated_page 0 packets_sent view.past in
-      let ended : AreCallsOf (profile_of name) generated_pid (only generated_page) 0 0 true packets_sent calls = record { past = view.past; received = view.received; are = refl } in
+      let ended : AreCallsOf (profile_of name) generated_pid (only generated_page) 0 0 true packets_sent calls =
+      record { past = view.past; received = view.received; are = refl } in
       let so_far : AreCallsOf (profile_of name) generated_pid (only generated_page) 0 0 false packets_sent calls =
-      subst (λ (packets : List (List ℕ)). AreCallsOf (profile_of name) generated_pid (only generated_page) 0 0 false packets calls) (take_all (length packets_sent) packets_sent (omega arith)) (stays.ended calls ended) in
-      subst (AreCallsOf (profile_of name) generated_pid (only generated_page) 0 0 true packets_sent) (one_calls (profile_of name) generated_pid generated_page 0 packets_sent calls is.calls so_far is.called) ended
+      subst (λ (packets : List (List ℕ)). AreCallsOf (profile_of name) generated_pid (only generated_page) 0 0 false
+      packets calls) (take_all (length packets_sent) packets_sent (omega arith)) (stays.ended calls ended) in
+      subst (AreCallsOf (profile_of name) generated_pid (only generated_page) 0 0 true packets_sent)
+      (one_calls (profile_of name) generated_pid generated_page 0 packets_sent calls is.calls so_far is.called)
+      ended
 
 -- ---- what is in memory
 
-pub are_of : (name : ProfileName) (made : Generated) (number : ℕ) → IsGeneratedFor name → IsCompiledFrom number name made → (packets : List (List ℕ)) (times : List ℕ) → packets ≡ whole_packets made.stream.written
+pub are_of : (name : ProfileName) (made : Generated) (number : ℕ) → IsGeneratedFor name
+    → IsCompiledFrom number name made → (packets : List (List ℕ)) (times : List ℕ)
+    → packets ≡ whole_packets made.stream.written
     → times ≡ pts_of made.sent.plan.sets → AreOf name made packets times
 are_of name made number is_for is packets times are times_are =
     let compiled = is.compiled in
@@ -136,18 +165,34 @@ are_of name made number is_for is packets times are times_are =
     record {
       takable = record {
         few = omega (arith, ap length same, count_few name made.script made.stream.written is_for zero_is compiled);
-        passed = subst (All (λ packet. packet_fault generated_pid packet ≡ None)) (sym same) (taken name made.script made.stream.written is_for zero_is compiled);
+        passed =
+            subst (All (λ packet. packet_fault generated_pid packet ≡ None)) (sym same)
+            (taken name made.script made.stream.written is_for zero_is compiled);
       };
-      paired = ap (λ (table : Timetable). length table.dones) (sym is.table) ∙ compiled.schedule.sets.1 ∙ sym (AllZip-length (IsSetLoad made.script) compiled.sets compiled.loads compiled.planned.asked) ∙ ap length is.sets;
+      paired =
+          ap (λ (table : Timetable). length table.dones) (sym is.table) ∙ compiled.schedule.sets.1
+          ∙ sym (AllZip-length (IsSetLoad made.script) compiled.sets compiled.loads compiled.planned.asked)
+          ∙ ap length is.sets;
       times_are = times_are;
       told = record {
-        rising = subst IsStrictlyIncreasing (sym times_is) (pts_rise made.script (profile_of name) compiled.sets compiled.planned.plan);
-        early = subst (All (λ tick. tick ≤ 4294967296)) (sym times_is) (early_times made.script.origin (pts_of compiled.sets) (times_in_span made.script (profile_of name) compiled.sets compiled.planned.plan) zero_is);
+        rising =
+            subst IsStrictlyIncreasing (sym times_is)
+            (pts_rise made.script (profile_of name) compiled.sets compiled.planned.plan);
+        early =
+            subst (All (λ tick. tick ≤ 4294967296)) (sym times_is)
+            (early_times made.script.origin (pts_of compiled.sets)
+            (times_in_span made.script (profile_of name) compiled.sets compiled.planned.plan) zero_is);
       };
       shown = λ missed tick.
-          subst (λ (sets : List PlannedSet). ShowsFrom (profile_of name) generated_pid (only generated_page) 0 (entered_at missed packets) (entry_set missed (sent_sets made.sent.schedule sets)) tick (authored_view made.script tick)) is.sets
-          (subst (λ (table : Timetable). ShowsFrom (profile_of name) generated_pid (only generated_page) 0 (entered_at missed packets) (entry_set missed (sent_sets table compiled.sets)) tick (authored_view made.script tick)) is.table
-          (subst (λ (all : List (List ℕ)). ShowsFrom (profile_of name) generated_pid (only generated_page) 0 (entered_at missed all) (entry_set missed (sent_sets compiled.table compiled.sets)) tick (authored_view made.script tick)) (sym same)
+          subst (λ (sets : List PlannedSet). ShowsFrom (profile_of name) generated_pid (only generated_page) 0
+          (entered_at missed packets) (entry_set missed (sent_sets made.sent.schedule sets)) tick
+          (authored_view made.script tick)) is.sets
+          (subst (λ (table : Timetable). ShowsFrom (profile_of name) generated_pid (only generated_page) 0
+          (entered_at missed packets) (entry_set missed (sent_sets table compiled.sets)) tick
+          (authored_view made.script tick)) is.table
+          (subst (λ (all : List (List ℕ)). ShowsFrom (profile_of name) generated_pid (only generated_page) 0
+          (entered_at missed all) (entry_set missed (sent_sets compiled.table compiled.sets)) tick
+          (authored_view made.script tick)) (sym same)
           (shows name made.script made.stream.written is_for zero_is compiled missed tick)));
     }
 
@@ -157,7 +202,9 @@ are_of name made number is_for is packets times are times_are =
 abbrev entry_of : Timetable → List PlannedSet → ℕ → Entry
 entry_of table sets missed = record { missed = missed; time = entry_time (entry_set missed (sent_sets table sets)) }
 
-pub gen_text_of : (name : ProfileName) (made : Generated) (number : ℕ) → IsGeneratedFor name → IsCompiledFrom number name made → (packets : List (List ℕ)) → packets ≡ whole_packets made.stream.written
+pub gen_text_of : (name : ProfileName) (made : Generated) (number : ℕ) → IsGeneratedFor name
+    → IsCompiledFrom number name made → (packets : List (List ℕ))
+    → packets ≡ whole_packets made.stream.written
     → (told : Told) → AreToldAs name made packets told → IsGenText number name (told_lines told)
 gen_text_of name made number is_for is packets are told is_told =
     let compiled = is.compiled in
@@ -165,21 +212,31 @@ gen_text_of name made number is_for is packets are told is_told =
     let all = packets_sent name made.script made.stream.written is_for zero_is compiled in
     let same = are_sent name made.script made.stream.written is_for zero_is compiled packets are in
     let its = known name made.script made.stream.written is_for zero_is compiled in
-    let own : IsPeak (profile_of name) generated_pid (only generated_page) 0 all told.peak = subst (λ (p : List (List ℕ)). IsPeak (profile_of name) generated_pid (only generated_page) 0 p told.peak) same is_told.peak_is in
-    let entry : (missed : ℕ) → entry_behind made missed ≡ entry_of compiled.table compiled.sets missed = λ missed i. entry_of (sym is.table i) (sym is.sets i) missed in
+    let own : IsPeak (profile_of name) generated_pid (only generated_page) 0 all told.peak =
+    subst (λ (p : List (List ℕ)). IsPeak (profile_of name) generated_pid (only generated_page) 0 p told.peak)
+    same is_told.peak_is in
+    let entry : (missed : ℕ) → entry_behind made missed ≡ entry_of compiled.table compiled.sets missed =
+    λ missed i. entry_of (sym is.table i) (sym is.sets i) missed in
     let sets_is : told.sets ≡ length compiled.sets = is_told.sets_are ∙ ap length (sym is.sets) in
     let packets_is : told.packets ≡ length all = is_told.packets_are ∙ ap length same in
     let first : told.whole ≡ entry_of compiled.table compiled.sets 0 = is_told.whole_is ∙ entry 0 in
-    let second : told.third ≡ entry_of compiled.table compiled.sets (length all / 3) = is_told.third_is ∙ entry (length packets / 3) ∙ ap (λ (p : List (List ℕ)). entry_of compiled.table compiled.sets (length p / 3)) same in
-    let last : told.two_thirds ≡ entry_of compiled.table compiled.sets (2 * length all / 3) = is_told.two_thirds_are ∙ entry (2 * length packets / 3) ∙ ap (λ (p : List (List ℕ)). entry_of compiled.table compiled.sets (2 * length p / 3)) same in
+    let second : told.third ≡ entry_of compiled.table compiled.sets (length all / 3) =
+    is_told.third_is ∙ entry (length packets / 3)
+    ∙ ap (λ (p : List (List ℕ)). entry_of compiled.table compiled.sets (length p / 3)) same in
+    let last : told.two_thirds ≡ entry_of compiled.table compiled.sets (2 * length all / 3) =
+    is_told.two_thirds_are ∙ entry (2 * length packets / 3)
+    ∙ ap (λ (p : List (List ℕ)). entry_of compiled.table compiled.sets (2 * length p / 3)) same in
     record {
       script = made.script;
       generated = is.generated;
       packets = all;
       whole = its.whole;
-      compiled = compiled_to name generated_pid generated_page made.script made.stream.written (concat all) its.joined compiled;
+      compiled =
+          compiled_to name generated_pid generated_page made.script made.stream.written (concat all) its.joined
+          compiled;
       calls = own.calls;
       called = ended_calls name made.script made.stream.written is_for zero_is compiled told.peak own;
       text_is = λ i. number_line (codes "sets") (sets_is i) ++ number_line (codes "packets") (packets_is i) ++ number_line (codes "peak") (own.peak_is i)
-          ++ entry_line (first i).missed (first i).time ++ entry_line (second i).missed (second i).time ++ entry_line (last i).missed (last i).time;
+          ++ entry_line (first i).missed (first i).time ++ entry_line (second i).missed (second i).time
+          ++ entry_line (last i).missed (last i).time;
     }

@@ -4,10 +4,10 @@ use Rattle.std.proofs.Common.{◌≡◌, ◌∙◌, ℕ, ◌<◌, Bool, List, Op
 use Rattle.std.specs.Io.KnownBytes.{Appends}
 use Rattle.cue_list.specs.declared.script.Script.{Script}
 use Rattle.shown_stream.specs.Compiled.{IsCompiledFor, IsCompiledTo}
-use Rattle.shown_stream.proofs.CompiledPackets.{packets_in, are_packets}
-use Rattle.shown_stream.proofs.CompiledShown.{compiled_entered}
-use Rattle.shown_stream.proofs.CompiledStays.{compiled_stays, compiled_scheduled}
-use Rattle.shown_stream.proofs.LostShown.{compiled_cut}
+use Rattle.shown_stream.proofs.Sent.CompiledPackets.{packets_in, are_packets}
+use Rattle.shown_stream.proofs.Shown.CompiledShown.{compiled_entered}
+use Rattle.shown_stream.proofs.Calls.CompiledStays.{compiled_stays, compiled_scheduled}
+use Rattle.shown_stream.proofs.Lost.LostShown.{compiled_cut}
 use Rattle.slot_stream.proofs.SentPieces.{IsFree}
 use Rattle.sub_base.specs.declared.profile.ProfileName.{ProfileName}
 use Rattle.dvbsub_cmd.specs.Headline.{ShowsScript, OnDone, IsShownBy}
@@ -25,7 +25,8 @@ pub is_free : (pid : ℕ) → pid < NULL_PID → IsFree pid
 is_free pid below = record { small = omega arith; no_null = λ same. omega (arith, same) }
 
 -- bytes that are the same are compiled from the same sets
-abbrev pub compiled_to : (profile : ProfileName) (pid page : ℕ) (script : Script) (bytes same : List ℕ) → bytes ≡ same → IsCompiledTo profile pid page script bytes → IsCompiledTo profile pid page script same
+abbrev pub compiled_to : (profile : ProfileName) (pid page : ℕ) (script : Script) (bytes same : List ℕ)
+    → bytes ≡ same → IsCompiledTo profile pid page script bytes → IsCompiledTo profile pid page script same
 compiled_to profile pid page script bytes same is compiled = record {
   sets = compiled.sets;
   loads = compiled.loads;
@@ -41,8 +42,10 @@ compiled_to profile pid page script bytes same is compiled = record {
 }
 
 -- the packets of a compiled script are shown
-pub shows_script : (profile : ProfileName) (pid page : ℕ) (has_font : Bool) (before now : Seen) (script : Script) (bytes : List ℕ) → pid < NULL_PID → IsCompiledFor profile
-    → ReadsScript has_font before.first now.first before.second now.second script → IsCompiledTo profile pid page script bytes → Appends before.out.written now.out.written bytes
+pub shows_script : (profile : ProfileName) (pid page : ℕ) (has_font : Bool) (before now : Seen) (script : Script)
+    (bytes : List ℕ) → pid < NULL_PID → IsCompiledFor profile
+    → ReadsScript has_font before.first now.first before.second now.second script
+    → IsCompiledTo profile pid page script bytes → Appends before.out.written now.out.written bytes
     → ShowsScript profile pid page has_font before now
 shows_script profile pid page has_font before now script bytes below made reads compiled written =
     let free = is_free pid below in
@@ -52,16 +55,20 @@ shows_script profile pid page has_font before now script bytes below made reads 
       reads = reads;
       packets = packets_in profile pid page script bytes compiled;
       whole = known.whole;
-      compiled = compiled_to profile pid page script bytes (concat (packets_in profile pid page script bytes compiled)) known.joined compiled;
+      compiled =
+          compiled_to profile pid page script bytes (concat (packets_in profile pid page script bytes compiled))
+          known.joined compiled;
       written = subst (λ (all : List ℕ). Appends before.out.written now.out.written all) known.joined written;
       entered = compiled_entered profile pid page script bytes free made compiled;
       cut = compiled_cut profile pid page script bytes free made compiled;
-      stays = λ missed anchor suits. compiled_stays profile pid page script bytes free compiled known missed anchor suits;
+      stays =
+          λ missed anchor suits. compiled_stays profile pid page script bytes free compiled known missed anchor suits;
       scheduled = λ anchor suits. compiled_scheduled profile pid page script bytes free compiled known anchor suits;
     }
 
 -- a status whose line could not be written is not that a command was done
-untold_is_not_done : (command : Option Command) (before now : Seen) (run : Status) → IsShownBy command before now (untold run)
+untold_is_not_done : (command : Option Command) (before now : Seen) (run : Status)
+    → IsShownBy command before now (untold run)
 untold_is_not_done None before now run = tt
 untold_is_not_done (Some (command.List pid)) before now run = tt
 untold_is_not_done (Some (command.Dump profile pid page bands)) before now run = tt
@@ -84,6 +91,10 @@ untold_is_not_done (Some (command.Compile profile pid page has_font)) before now
     by (status.InputTooLong which) = tt
 
 -- what was shown of a run is shown of the answer that tells it
-pub shown_as_told : (command : Option Command) (before now : Seen) (notes_before notes_now : Received) (run answer : Status) → IsShownBy command before now run → Tells notes_before notes_now run answer → IsShownBy command before now answer
-shown_as_told command before now notes_before notes_now run answer is (inl line) = subst (IsShownBy command before now) (sym line.1) is
-shown_as_told command before now notes_before notes_now run answer is (inr front) = subst (IsShownBy command before now) (sym front.2) (untold_is_not_done command before now run)
+pub shown_as_told : (command : Option Command) (before now : Seen) (notes_before notes_now : Received)
+    (run answer : Status) → IsShownBy command before now run → Tells notes_before notes_now run answer
+    → IsShownBy command before now answer
+shown_as_told command before now notes_before notes_now run answer is (inl line) =
+    subst (IsShownBy command before now) (sym line.1) is
+shown_as_told command before now notes_before notes_now run answer is (inr front) =
+    subst (IsShownBy command before now) (sym front.2) (untold_is_not_done command before now run)

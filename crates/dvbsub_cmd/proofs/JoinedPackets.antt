@@ -12,7 +12,8 @@ AreWhole packets = AllByRecursion (λ packet. length packet ≡ 188) packets
 
 joined_length : (packets : List (List ℕ)) → AreWhole packets → length (concat packets) ≡ 188 * length packets
 joined_length [] whole = refl
-joined_length (packet ∷ packets) whole = omega (arith, length-append packet (concat packets), whole.0, joined_length packets whole.1)
+joined_length (packet ∷ packets) whole =
+    omega (arith, length-append packet (concat packets), whole.0, joined_length packets whole.1)
 
 first_packet : (packet rest : List ℕ) → length packet ≡ 188 → take 188 (packet ++ rest) ≡ packet
 first_packet packet rest long = ap (λ (n : ℕ). take n (packet ++ rest)) (sym long) ∙ take-append_seam packet rest
@@ -20,14 +21,18 @@ first_packet packet rest long = ap (λ (n : ℕ). take n (packet ++ rest)) (sym 
 other_packets : (packet rest : List ℕ) → length packet ≡ 188 → drop 188 (packet ++ rest) ≡ rest
 other_packets packet rest long = ap (λ (n : ℕ). drop n (packet ++ rest)) (sym long) ∙ drop-append_seam packet rest
 
-joined_chunks : (packets : List (List ℕ)) → AreWhole packets → first_chunks 188 (length packets) (concat packets) ≡ packets
+joined_chunks : (packets : List (List ℕ)) → AreWhole packets
+    → first_chunks 188 (length packets) (concat packets) ≡ packets
 joined_chunks [] whole = refl
 joined_chunks (packet ∷ packets) whole =
-    (λ i. first_packet packet (concat packets) whole.0 i ∷ first_chunks 188 (length packets) (other_packets packet (concat packets) whole.0 i))
+    (λ i. first_packet packet (concat packets) whole.0 i
+    ∷ first_chunks 188 (length packets) (other_packets packet (concat packets) whole.0 i))
     ∙ ap (λ (rest : List (List ℕ)). packet ∷ rest) (joined_chunks packets whole.1)
 
 -- the whole packets of the bytes of packets are these
-pub whole_packets-concat : (packets : List (List ℕ)) → All (λ packet. length packet ≡ 188) packets → whole_packets (concat packets) ≡ packets
+pub whole_packets-concat : (packets : List (List ℕ)) → All (λ packet. length packet ≡ 188) packets
+    → whole_packets (concat packets) ≡ packets
 whole_packets-concat packets all =
     let whole : AreWhole packets = recursion_from_All (λ (packet : List ℕ). length packet ≡ 188) packets all in
-    ap (λ (k : ℕ). first_chunks 188 k (concat packets)) (omega (arith, joined_length packets whole)) ∙ joined_chunks packets whole
+    ap (λ (k : ℕ). first_chunks 188 k (concat packets)) (omega (arith, joined_length packets whole))
+    ∙ joined_chunks packets whole

@@ -22,24 +22,41 @@ below_next : (k n : ℕ) → k < n + 1 → (k < n) ⊎ (k ≡ n)
 below_next k n h = grind arith
 
 -- the text with the lines at one packet more
-pub IsListText-more : (pid : ℕ) (packets : List (List ℕ)) (packet text lines : List ℕ) → IsListText pid packets text → ArePacketLines pid packets packet lines → IsListText pid (packets ++ packet ∷ []) (text ++ lines)
+pub IsListText-more : (pid : ℕ) (packets : List (List ℕ)) (packet text lines : List ℕ)
+    → IsListText pid packets text → ArePacketLines pid packets packet lines
+    → IsListText pid (packets ++ packet ∷ []) (text ++ lines)
 IsListText-more pid packets packet text lines told at_last = record {
   lines = told.lines ++ lines ∷ [];
-  count = length-append told.lines (lines ∷ []) ∙ (ap (λ (n : ℕ). n + 1) told.count ∙ sym (length-append packets (packet ∷ [])));
+  count =
+      length-append told.lines (lines ∷ [])
+      ∙ (ap (λ (n : ℕ). n + 1) told.count ∙ sym (length-append packets (packet ∷ [])));
   each = λ k h. each_one k (below_next k (length packets) (omega (arith, length-append packets (packet ∷ []))));
-  whole = ap (λ (t : List ℕ). t ++ lines) told.whole ∙ (ap (λ (t : List ℕ). flat_map (λ (one : List ℕ). one) told.lines ++ t) (sym (append-nil lines)) ∙ sym (flat_map-append (λ (one : List ℕ). one) told.lines (lines ∷ [])));
+  whole =
+      ap (λ (t : List ℕ). t ++ lines) told.whole
+      ∙ (ap (λ (t : List ℕ). flat_map (λ (one : List ℕ). one) told.lines ++ t) (sym (append-nil lines))
+      ∙ sym (flat_map-append (λ (one : List ℕ). one) told.lines (lines ∷ [])));
 }
   where
     each_one : (k : ℕ) → (k < length packets) ⊎ (k ≡ length packets)
-        → ArePacketLines pid (take k (packets ++ packet ∷ [])) (get_or (packets ++ packet ∷ []) k []) (get_or (told.lines ++ lines ∷ []) k [])
+        → ArePacketLines pid (take k (packets ++ packet ∷ [])) (get_or (packets ++ packet ∷ []) k [])
+        (get_or (told.lines ++ lines ∷ []) k [])
     each_one k (inl h) =
         let below_lines : k < length told.lines = omega (arith, told.count) in
-        rw (take-append-le k packets (packet ∷ []) (omega arith), get_or-append packets (packet ∷ []) [] k h, get_or-append told.lines (lines ∷ []) [] k below_lines) (told.each k h)
+        rw (
+          take-append-le k packets (packet ∷ []) (omega arith),
+          get_or-append packets (packet ∷ []) [] k
+              h,
+          get_or-append told.lines (lines ∷ []) [] k below_lines,
+        ) (told.each k h)
     each_one k (inr e) =
         let last : k ≡ length told.lines = e ∙ sym told.count in
-        let front : take k (packets ++ packet ∷ []) ≡ packets = ap (λ (n : ℕ). take n (packets ++ packet ∷ [])) e ∙ take-append_seam packets (packet ∷ []) in
-        let here : get_or (packets ++ packet ∷ []) k [] ≡ packet = ap (λ (n : ℕ). get_or (packets ++ packet ∷ []) n []) e ∙ get_or-append_seam packets packet [] [] in
-        let its_lines : get_or (told.lines ++ lines ∷ []) k [] ≡ lines = ap (λ (n : ℕ). get_or (told.lines ++ lines ∷ []) n []) last ∙ get_or-append_seam told.lines lines [] [] in
+        let front : take k (packets ++ packet ∷ []) ≡ packets =
+        ap (λ (n : ℕ). take n (packets ++ packet ∷ [])) e ∙ take-append_seam packets (packet ∷ []) in
+        let here : get_or (packets ++ packet ∷ []) k [] ≡ packet =
+        ap (λ (n : ℕ). get_or (packets ++ packet ∷ []) n []) e ∙ get_or-append_seam packets packet [] [] in
+        let its_lines : get_or (told.lines ++ lines ∷ []) k [] ≡ lines =
+        ap (λ (n : ℕ). get_or (told.lines ++ lines ∷ []) n []) last
+        ∙ get_or-append_seam told.lines lines [] [] in
         rw (front, here, its_lines) at_last
 
 -- the text of no packets
@@ -47,7 +64,8 @@ pub IsListText-nothing : (pid : ℕ) → IsListText pid [] []
 IsListText-nothing pid = record { lines = []; count = refl; each = λ k h. absurd (omega arith); whole = refl }
 
 -- one packet more is listed
-pub packet_listed : (before mid next : Received) (old new : Demuxing) (was between is : Buffered) (place : ℕ) (packet : List ℕ) (event : Event) (unit : Option (List ℕ))
+pub packet_listed : (before mid next : Received) (old new : Demuxing) (was between is : Buffered) (place : ℕ)
+    (packet : List ℕ) (event : Event) (unit : Option (List ℕ))
     → GoesOn old new packet
     → ((packets : List (List ℕ)) → Stands old packets → event ≡ event_at old.pid old.size packets packet)
     → ((packets : List (List ℕ)) → Stands old packets → unit ≡ unit_at old.pid old.size packets packet)
@@ -56,21 +74,28 @@ pub packet_listed : (before mid next : Received) (old new : Demuxing) (was betwe
     → TellsOne IsListed before next old new was is place packet
 packet_listed before mid next old new was between is place packet event unit goes event_is unit_is loss end = record {
   goes = λ packets text. λ count listed.
-      let event_here : event ≡ event_at old.pid unit_limit packets packet = event_is packets listed.stands ∙ ap (λ (s : ℕ). event_at old.pid s packets packet) listed.size_is in
-      let unit_here : unit ≡ unit_at old.pid unit_limit packets packet = unit_is packets listed.stands ∙ ap (λ (s : ℕ). unit_at old.pid s packets packet) listed.size_is in
+      let event_here : event ≡ event_at old.pid unit_limit packets packet =
+      event_is packets listed.stands ∙ ap (λ (s : ℕ). event_at old.pid s packets packet) listed.size_is in
+      let unit_here : unit ≡ unit_at old.pid unit_limit packets packet =
+      unit_is packets listed.stands ∙ ap (λ (s : ℕ). unit_at old.pid s packets packet) listed.size_is in
       let ended : AreEndLines (length packets) (unit_at old.pid unit_limit packets packet) end.0 =
-      subst (λ (u : Option (List ℕ)). AreEndLines (length packets) u end.0) unit_here (subst (λ (n : ℕ). AreEndLines n unit end.0) (sym count) end.1) in
+      subst (λ (u : Option (List ℕ)). AreEndLines (length packets) u end.0) unit_here
+      (subst (λ (n : ℕ). AreEndLines n unit end.0) (sym count) end.1) in
       let lines = loss_line place event ++ end.0 in
       let lines_are : ArePacketLines old.pid packets packet lines = record {
         of_unit = end.0;
         ended = ended;
-        whole = ap (λ (n : ℕ). loss_line n event ++ end.0) (sym count) ∙ ap (λ (e : Event). loss_line (length packets) e ++ end.0) event_here;
+        whole =
+            ap (λ (n : ℕ). loss_line n event ++ end.0) (sym count)
+            ∙ ap (λ (e : Event). loss_line (length packets) e ++ end.0) event_here;
       } in (
         lines,
         record {
           size_is = goes.size ∙ listed.size_is;
           stands = goes.stands packets listed.stands;
-          told = subst (λ (pid : ℕ). IsListText pid (packets ++ packet ∷ []) (text ++ lines)) (sym goes.pid) (IsListText-more old.pid packets packet text lines listed.told lines_are);
+          told =
+              subst (λ (pid : ℕ). IsListText pid (packets ++ packet ∷ []) (text ++ lines)) (sym goes.pid)
+              (IsListText-more old.pid packets packet text lines listed.told lines_are);
         },
         PutsOut-both before mid next was between is (loss_line place event) end.0 loss end.2,
       );

@@ -13,7 +13,8 @@ kept : (written : Option (List ℕ)) → Keeps written written
 kept None = tt
 kept (Some bytes) = refl
 
-caused_by : (words : List (List ℕ)) (command : Option Command) (before : Seen) → is_some command ≡ true → IsCausedBy words command before before status.Memory
+caused_by : (words : List (List ℕ)) (command : Option Command) (before : Seen) → is_some command ≡ true
+    → IsCausedBy words command before before status.Memory
 caused_by words None before some = absurd (true≢false (sym some))
 caused_by words (Some (command.Compile profile pid page has_font)) before some = kept before.out.written
 caused_by words (Some (command.List pid)) before some = (refl, kept before.out.written)
@@ -23,7 +24,8 @@ caused_by words (Some (command.Expect has_font)) before some = kept before.out.w
 caused_by words (Some (command.Gen number profile)) before some = (kept before.out.written, refl)
 
 -- a command may end so
-pub memory_caused : (words : List (List ℕ)) (before : Seen) → is_some (command_of words) ≡ true → IsCaused words before before status.Memory
+pub memory_caused : (words : List (List ℕ)) (before : Seen) → is_some (command_of words) ≡ true
+    → IsCaused words before before status.Memory
 memory_caused words before some = caused_by words (command_of words) before some
 
 -- nothing was compiled then

@@ -9,7 +9,7 @@ use Rattle.decoder_model.specs.Streams.{SentSet, entry_set}
 use Rattle.generated_script.specs.Generated.{IsGenerated}
 use Rattle.shown_stream.specs.Compiled.{IsCompiledTo}
 use Rattle.shown_stream.specs.SentSets.{sent_sets}
-use Rattle.stream_calls.specs.StreamCalls.{AreCallsOf}
+use Rattle.received_level_laws.specs.StreamCalls.{AreCallsOf}
 use Rattle.sub_base.specs.Pace.{pace_of}
 use Rattle.sub_base.specs.Profile.{profile_of}
 use Rattle.sub_base.specs.declared.profile.ProfileName.{ProfileName}

@@ -10,7 +10,8 @@ use Rattle.generated_script.specs.Generated.{generated_row, generated_picture}
 use Rattle.generated_script.proofs.ListLaws.{all_pieces}
 
 -- pieces that are equally long
-pub equal_pieces : {X Y : Type 0} (f : X → List Y) (n : ℕ) → ((x : X) → length (f x) ≡ n) → (xs : List X) → length (flat_map f xs) ≡ length xs * n
+pub equal_pieces : {X Y : Type 0} (f : X → List Y) (n : ℕ) → ((x : X) → length (f x) ≡ n) → (xs : List X)
+    → length (flat_map f xs) ≡ length xs * n
 equal_pieces f n each [] = omega arith
 equal_pieces f n each (x ∷ xs) =
     let first = each x in
@@ -20,15 +21,21 @@ equal_pieces f n each (x ∷ xs) =
     omega arith
 
 pub row_length : (k y : ℕ) → length (generated_row k y) ≡ 64
-row_length k y = equal_pieces (λ run. replicate 8 ((run + y / 3 + k) % 16)) 8 (λ run. length-replicate 8 ((run + y / 3 + k) % 16)) (range_with_len 0 8)
+row_length k y =
+    equal_pieces (λ run. replicate 8 ((run + y / 3 + k) % 16)) 8 (λ run. length-replicate 8 ((run + y / 3 + k) % 16))
+    (range_with_len 0 8)
 
 pub row_codes : (k y : ℕ) → All (λ code. code < 16) (generated_row k y)
-row_codes k y = all_pieces (λ code. code < 16) (λ run. replicate 8 ((run + y / 3 + k) % 16)) (range_with_len 0 8) (λ i d h. All-replicate (λ code. code < 16) 8 ((get_or (range_with_len 0 8) i d + y / 3 + k) % 16) (omega arith))
+row_codes k y =
+    all_pieces (λ code. code < 16) (λ run. replicate 8 ((run + y / 3 + k) % 16)) (range_with_len 0 8)
+    (λ i d h. All-replicate (λ code. code < 16) 8 ((get_or (range_with_len 0 8) i d + y / 3 + k) % 16) (omega arith))
 
 pub picture_made : (k : ℕ) → IsPicture (generated_picture k)
 picture_made k = record {
   wide = (omega arith, omega arith);
   high = (omega arith, omega arith);
   full = equal_pieces (generated_row k) 64 (row_length k) (range_with_len 0 32);
-  each = all_pieces (λ code. code < 16) (generated_row k) (range_with_len 0 32) (λ i d h. row_codes k (get_or (range_with_len 0 32) i d));
+  each =
+      all_pieces (λ code. code < 16) (generated_row k) (range_with_len 0 32)
+      (λ i d h. row_codes k (get_or (range_with_len 0 32) i d));
 }

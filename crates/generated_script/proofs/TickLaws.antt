@@ -29,7 +29,8 @@ is_odd k h = grind (arith, nat_tests)
 is_inside : (k : ℕ) → (k % 16 == 15) ≡ false → k % 16 ≢ 15
 is_inside k h = λ e. grind (arith, nat_tests)
 
-length_by : (k : ℕ) (odd last : Bool) → (k % 2 == 1) ≡ odd → (k % 16 == 15) ≡ last → IsLong k ⊎ (generated_length k ≡ 63000)
+length_by : (k : ℕ) (odd last : Bool) → (k % 2 == 1) ≡ odd → (k % 16 == 15) ≡ last → IsLong k
+    ⊎ (generated_length k ≡ 63000)
 length_by k false last a b = inr (rw a refl)
 length_by k true true a b = inr (rw (a, b) refl)
 length_by k true false a b = inl (record { long = rw (a, b) refl; odd = is_odd k a; inside = is_inside k b })
@@ -38,10 +39,12 @@ pub length_of : (k : ℕ) → IsLong k ⊎ (generated_length k ≡ 63000)
 length_of k = length_by k (k % 2 == 1) (k % 16 == 15) refl refl
 
 -- an epoch's cues end before the next epoch starts
-pub end_within : (e p : ℕ) → p < 16 → generated_start (16 * e + p) + generated_length (16 * e + p) ≤ 180000 + 1440000 * (e + 1)
+pub end_within : (e p : ℕ) → p < 16
+    → generated_start (16 * e + p) + generated_length (16 * e + p) ≤ 180000 + 1440000 * (e + 1)
 end_within e p h = within (length_of (16 * e + p))
   where
-    within : IsLong (16 * e + p) ⊎ (generated_length (16 * e + p) ≡ 63000) → generated_start (16 * e + p) + generated_length (16 * e + p) ≤ 180000 + 1440000 * (e + 1)
+    within : IsLong (16 * e + p) ⊎ (generated_length (16 * e + p) ≡ 63000)
+        → generated_start (16 * e + p) + generated_length (16 * e + p) ≤ 180000 + 1440000 * (e + 1)
     within (inl long) =
         let size = long.long in
         let odd = long.odd in
@@ -52,7 +55,8 @@ end_within e p h = within (length_of (16 * e + p))
 pub lasts : (k : ℕ) → (1 ≤ generated_length k) × (generated_length k ≤ 216000)
 lasts k = within (length_of k)
   where
-    within : IsLong k ⊎ (generated_length k ≡ 63000) → (1 ≤ generated_length k) × (generated_length k ≤ 216000)
+    within : IsLong k ⊎ (generated_length k ≡ 63000) → (1 ≤ generated_length k)
+        × (generated_length k ≤ 216000)
     within (inl long) = let size = long.long in (omega arith, omega arith)
     within (inr short) = (omega arith, omega arith)
 
@@ -63,10 +67,13 @@ pub end_tick : (k : ℕ) → IsGeneratedTick (generated_start k + generated_leng
 end_tick k = tick (length_of k)
   where
     tick : IsLong k ⊎ (generated_length k ≡ 63000) → IsGeneratedTick (generated_start k + generated_length k)
-    tick (inl long) = let size = long.long in record { second = k + 2; rest = 36000; is = omega arith; one = inr (inl refl) }
+    tick (inl long) =
+        let size = long.long in record { second = k + 2; rest = 36000; is = omega arith; one = inr (inl refl) }
     tick (inr short) = record { second = k; rest = 63000; is = omega arith; one = inr (inr refl) }
 
-far : (q q' r r' : ℕ) → 180000 + 90000 * q + r < 180000 + 90000 * q' + r' → (r ≡ 0) ⊎ ((r ≡ 36000) ⊎ (r ≡ 63000)) → (r' ≡ 0) ⊎ ((r' ≡ 36000) ⊎ (r' ≡ 63000)) → 180000 + 90000 * q + r + 27000 ≤ 180000 + 90000 * q' + r'
+far : (q q' r r' : ℕ) → 180000 + 90000 * q + r < 180000 + 90000 * q' + r' → (r ≡ 0)
+    ⊎ ((r ≡ 36000) ⊎ (r ≡ 63000)) → (r' ≡ 0) ⊎ ((r' ≡ 36000) ⊎ (r' ≡ 63000))
+    → 180000 + 90000 * q + r + 27000 ≤ 180000 + 90000 * q' + r'
 far q q' r r' h (inl a) (inl b) = omega arith
 far q q' r r' h (inl a) (inr (inl b)) = omega arith
 far q q' r r' h (inl a) (inr (inr b)) = omega arith
@@ -99,23 +106,30 @@ ticks_apart a b p q = by_order (order a b)
 -- ---- the ticks of an epoch
 
 -- the cue at a place of an epoch
-pub cue_of : (number e : ℕ) (epoch : Epoch) → IsGeneratedEpoch number e epoch → (place : ℕ) (other : Cue) → place < length epoch.cues → IsGeneratedCue (16 * e + place) (get_or epoch.cues place other)
+pub cue_of : (number e : ℕ) (epoch : Epoch) → IsGeneratedEpoch number e epoch → (place : ℕ) (other : Cue)
+    → place < length epoch.cues → IsGeneratedCue (16 * e + place) (get_or epoch.cues place other)
 cue_of number e epoch is place other h =
     let count = item_count IsGeneratedCue (16 * e) (min number (16 * e + 16) - 16 * e) epoch.cues is.cues in
     item_at IsGeneratedCue (16 * e) (min number (16 * e + 16) - 16 * e) epoch.cues place other is.cues (omega arith)
 
-pub cue_count : (number e : ℕ) (epoch : Epoch) → IsGeneratedEpoch number e epoch → length epoch.cues ≡ min number (16 * e + 16) - 16 * e
+pub cue_count : (number e : ℕ) (epoch : Epoch) → IsGeneratedEpoch number e epoch
+    → length epoch.cues ≡ min number (16 * e + 16) - 16 * e
 cue_count number e epoch is = item_count IsGeneratedCue (16 * e) (min number (16 * e + 16) - 16 * e) epoch.cues is.cues
 
 -- what holds of an epoch's start, and of the start and the end of each cue, holds of all its ticks
-pub epoch_ticks : (P : ℕ → Type 0) (epoch : Epoch) → epoch.colours ≡ [] → P epoch.start → All (λ (cue : Cue). P cue.start × P cue.end) epoch.cues → All P (ticks_of epoch)
+pub epoch_ticks : (P : ℕ → Type 0) (epoch : Epoch) → epoch.colours ≡ [] → P epoch.start
+    → All (λ (cue : Cue). P cue.start × P cue.end) epoch.cues → All P (ticks_of epoch)
 epoch_ticks P epoch none start cues =
-    All-cons P epoch.start (map (λ (row : ColourRow). row.tick) epoch.colours ++ flat_map ticks_of_cue epoch.cues) start
+    All-cons P epoch.start (map (λ (row : ColourRow). row.tick) epoch.colours ++ flat_map ticks_of_cue epoch.cues)
+    start
     (All-append P (map (λ (row : ColourRow). row.tick) epoch.colours) (flat_map ticks_of_cue epoch.cues)
     (subst (λ (rows : List ColourRow). All P (map (λ (row : ColourRow). row.tick) rows)) (sym none) (All-nil P))
-    (all_pieces P ticks_of_cue epoch.cues (λ i d h. let here = cues i d h in All-cons P (get_or epoch.cues i d).start ((get_or epoch.cues i d).end ∷ []) here.0 (All-cons P (get_or epoch.cues i d).end [] here.1 (All-nil P)))))
+    (all_pieces P ticks_of_cue epoch.cues
+    (λ i d h. let here = cues i d h in All-cons P (get_or epoch.cues i d).start
+    ((get_or epoch.cues i d).end ∷ []) here.0 (All-cons P (get_or epoch.cues i d).end [] here.1 (All-nil P)))))
 
-pub epoch_generated : (number e : ℕ) (epoch : Epoch) → IsGeneratedEpoch number e epoch → All IsGeneratedTick (ticks_of epoch)
+pub epoch_generated : (number e : ℕ) (epoch : Epoch) → IsGeneratedEpoch number e epoch
+    → All IsGeneratedTick (ticks_of epoch)
 epoch_generated number e epoch is = epoch_ticks IsGeneratedTick epoch is.colours first each
   where
     first : IsGeneratedTick epoch.start
@@ -123,17 +137,26 @@ epoch_generated number e epoch is = epoch_ticks IsGeneratedTick epoch is.colours
 
     each : All (λ (cue : Cue). IsGeneratedTick cue.start × IsGeneratedTick cue.end) epoch.cues
     each i d h =
-        let cue = cue_of number e epoch is i d h in
-        (subst IsGeneratedTick (sym (ap (λ (c : Cue). c.start) cue)) (start_tick (16 * e + i)), subst IsGeneratedTick (sym (ap (λ (c : Cue). c.end) cue)) (end_tick (16 * e + i)))
+        let cue = cue_of number e epoch is i d h in (
+          subst IsGeneratedTick (sym (ap (λ (c : Cue). c.start) cue)) (start_tick (16 * e + i)),
+          subst IsGeneratedTick
+              (sym (ap (λ (c : Cue). c.end) cue)) (end_tick (16 * e + i)),
+        )
 
 -- the epoch at a place
-pub epoch_at : (number : ℕ) (epochs : List Epoch) (place : ℕ) (other : Epoch) → AllZip (IsGeneratedEpoch number) (range_with_len 0 ((number + 15) / 16)) epochs → place < length epochs → IsGeneratedEpoch number place (get_or epochs place other)
+pub epoch_at : (number : ℕ) (epochs : List Epoch) (place : ℕ) (other : Epoch)
+    → AllZip (IsGeneratedEpoch number) (range_with_len 0 ((number + 15) / 16)) epochs → place < length epochs
+    → IsGeneratedEpoch number place (get_or epochs place other)
 epoch_at number epochs place other are h =
     let count = item_count (IsGeneratedEpoch number) 0 ((number + 15) / 16) epochs are in
     let same : 0 + place ≡ place = omega arith in
-    subst (λ (e : ℕ). IsGeneratedEpoch number e (get_or epochs place other)) same (item_at (IsGeneratedEpoch number) 0 ((number + 15) / 16) epochs place other are (omega arith))
+    subst (λ (e : ℕ). IsGeneratedEpoch number e (get_or epochs place other)) same
+    (item_at (IsGeneratedEpoch number) 0 ((number + 15) / 16) epochs place other are (omega arith))
 
-pub ticks_generated : (number : ℕ) (epochs : List Epoch) → AllZip (IsGeneratedEpoch number) (range_with_len 0 ((number + 15) / 16)) epochs → All IsGeneratedTick (flat_map ticks_of epochs)
+pub ticks_generated : (number : ℕ) (epochs : List Epoch)
+    → AllZip (IsGeneratedEpoch number) (range_with_len 0 ((number + 15) / 16)) epochs
+    → All IsGeneratedTick (flat_map ticks_of epochs)
 ticks_generated number epochs are =
     let count = item_count (IsGeneratedEpoch number) 0 ((number + 15) / 16) epochs are in
-    all_pieces IsGeneratedTick ticks_of epochs (λ i d h. epoch_generated number i (get_or epochs i d) (epoch_at number epochs i d are h))
+    all_pieces IsGeneratedTick ticks_of epochs
+    (λ i d h. epoch_generated number i (get_or epochs i d) (epoch_at number epochs i d are h))

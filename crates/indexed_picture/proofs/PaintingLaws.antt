@@ -13,12 +13,14 @@ pub record RowsPainted (under over : Picture) (x y : ℕ) (see_through : Bool) (
   pub depth : new.depth ≡ under.depth
   pub is_picture : IsPicture new
   pub covered : (column row : ℕ) → column < over.width → row < n →
-      code_at new (x + column) (y + row) ≡ code_over see_through (code_at under (x + column) (y + row)) (code_at over column row)
+      code_at new (x + column) (y + row)
+      ≡ code_over see_through (code_at under (x + column) (y + row)) (code_at over column row)
   pub outside : (column row : ℕ) → column < under.width → row < under.height →
       (column < x) ⊎ (x + over.width ≤ column) ⊎ (row < y) ⊎ (y + n ≤ row) →
       code_at new column row ≡ code_at under column row
 
-pub RowsPainted-none : (under over : Picture) (x y : ℕ) (see_through : Bool) → IsPicture under → RowsPainted under over x y see_through 0 under
+pub RowsPainted-none : (under over : Picture) (x y : ℕ) (see_through : Bool) → IsPicture under
+    → RowsPainted under over x y see_through 0 under
 RowsPainted-none under over x y see_through is_picture = record {
   width = refl;
   height = refl;
@@ -71,13 +73,17 @@ beside width x across y column row fits inside where_it_lies =
     ]
 
 cond-below : (test : Bool) (m a b : ℕ) → a < m → b < m → (if test then a else b) < m
-cond-below test m a b below_a below_b = elim test as (λ t. (if t then a else b) < m) [ true ↦ below_a | false ↦ below_b ]
+cond-below test m a b below_a below_b =
+    elim test as (λ t. (if t then a else b) < m) [ true ↦ below_a | false ↦ below_b ]
 
 -- one more row painted, on the codes of a picture of these sides
-module _ (under over : Picture) (x y : ℕ) (see_through : Bool) (fits : LiesWithin over under x y) (is_over : IsPicture over)
+module _ (under over : Picture) (x y : ℕ) (see_through : Bool) (fits : LiesWithin over under x y)
+    (is_over : IsPicture over)
     (n : ℕ) (more : n < over.height) (width height : ℕ) (depth : Depth) (codes new_codes row : List ℕ)
-    (rows : RowsPainted under over x y see_through n (picture_of width height depth codes)) (is_row : row ≡ row_of over n)
-    (same_length : length new_codes ≡ length codes) (paints : PaintsRow row ((y + n) * width + x) see_through codes new_codes) where
+    (rows : RowsPainted under over x y see_through n (picture_of width height depth codes))
+    (is_row : row ≡ row_of over n)
+    (same_length : length new_codes ≡ length codes)
+    (paints : PaintsRow row ((y + n) * width + x) see_through codes new_codes) where
   length_row : length row ≡ over.width
   length_row = ap length is_row ∙ (IsRow-row_of over is_over n more).whole
 
@@ -98,9 +104,13 @@ module _ (under over : Picture) (x y : ℕ) (see_through : Bool) (fits : LiesWit
             let place : (y + n) * width + (x + column) ≡ (y + n) * width + x + column = omega arith in
             let beneath : get_or codes ((y + n) * width + x + column) 0 ≡ code_at under (x + column) (y + n) =
             ap (λ (p : ℕ). get_or codes p 0) (sym place)
-            ∙ rows.outside (x + column) (y + n) (omega (arith, fits.across)) (omega (arith, fits.down)) (inr (inr (inr (omega arith)))) in
-            let above : get_or row column 0 ≡ code_at over column n = ap (λ (l : List ℕ). get_or l column 0) is_row ∙ get_or-row_of over column n 0 across in
-            let P : ℕ → Type 0 = λ k. get_or new_codes ((y + k) * width + (x + column)) 0 ≡ code_over see_through (code_at under (x + column) (y + k)) (code_at over column k) in
+            ∙ rows.outside (x + column) (y + n) (omega (arith, fits.across)) (omega (arith, fits.down))
+            (inr (inr (inr (omega arith)))) in
+            let above : get_or row column 0 ≡ code_at over column n =
+            ap (λ (l : List ℕ). get_or l column 0) is_row ∙ get_or-row_of over column n 0 across in
+            let P : ℕ
+            → Type 0 = λ k. get_or new_codes ((y + k) * width + (x + column)) 0
+            ≡ code_over see_through (code_at under (x + column) (y + k)) (code_at over column k) in
             subst P (sym this)
             (ap (λ (p : ℕ). get_or new_codes p 0) place
             ∙ paints.covered column (omega (arith, length_row))
@@ -112,9 +122,12 @@ module _ (under over : Picture) (x y : ℕ) (see_through : Bool) (fits : LiesWit
       (column < x) ⊎ (x + over.width ≤ column) ⊎ (r < y) ⊎ (y + (n + 1) ≤ r) →
       get_or new_codes (r * width + column) 0 ≡ code_at under column r
   outside_then column r inside high where_it_lies =
-      let now : (column < x) ⊎ (x + over.width ≤ column) ⊎ (r < y + n) ⊎ (y + n + 1 ≤ r) = grind (arith, where_it_lies) in
-      let beside_all : (column < x) ⊎ (x + over.width ≤ column) ⊎ (r < y) ⊎ (y + n ≤ r) = grind (arith, where_it_lies) in
-      let apart : (r * width + column < (y + n) * width + x) ⊎ ((y + n) * width + x + length row ≤ r * width + column) =
+      let now : (column < x) ⊎ (x + over.width ≤ column) ⊎ (r < y + n) ⊎ (y + n + 1 ≤ r) =
+      grind (arith, where_it_lies) in
+      let beside_all : (column < x) ⊎ (x + over.width ≤ column) ⊎ (r < y) ⊎ (y + n ≤ r) =
+      grind (arith, where_it_lies) in
+      let apart : (r * width + column < (y + n) * width + x)
+      ⊎ ((y + n) * width + x + length row ≤ r * width + column) =
       rw length_row (beside width x over.width (y + n) column r within (omega (arith, rows.width)) now) in
       paints.outside (r * width + column) apart ∙ rows.outside column r inside high beside_all
 
@@ -131,14 +144,17 @@ module _ (under over : Picture) (x y : ℕ) (see_through : Bool) (fits : LiesWit
               let k = p - ((y + n) * width + x) in
               let place : (y + n) * width + x + k ≡ p = omega arith in
               let short : k < length row = omega arith in
-              let P : ℕ → Type 0 = λ q. get_or codes q 0 < code_count depth → get_or new_codes q 0 < code_count depth in
+              let P : ℕ → Type 0 =
+              λ q. get_or codes q 0 < code_count depth → get_or new_codes q 0 < code_count depth in
               let code : get_or row k 0 < code_count over.depth =
               All-get_or (λ code. code < code_count over.depth) row k 0 short
-              (subst (All (λ code. code < code_count over.depth)) (sym is_row) (IsRow-row_of over is_over n more).each) in
+              (subst (All (λ code. code < code_count over.depth)) (sym is_row) (IsRow-row_of over is_over n more).each)
+              in
               let not_deeper : code_count over.depth ≤ code_count depth =
               subst (λ (d : Depth). code_count over.depth ≤ code_count d) (sym rows.depth) fits.not_deeper in
               subst P place
-              (λ beneath. rw (paints.covered k short) (cond-below (see_through && get_or row k 0 == 1) (code_count depth) _ _ beneath (omega arith)))
+              (λ beneath. rw (paints.covered k short)
+              (cond-below (see_through && get_or row k 0 == 1) (code_count depth) _ _ beneath (omega arith)))
               old
         ]
       ])
@@ -162,4 +178,12 @@ module _ (under over : Picture) (x y : ℕ) (see_through : Bool) (fits : LiesWit
   pub row_ends : (y + n) * width + x + length row ≤ length codes
   row_ends =
       let last : y + n < height = omega (arith, rows.height, fits.down) in
-      omega (arith, length_row, within, rows.is_picture.full, mul_comm width height, row_before width (y + n) height last)
+      omega (
+        arith,
+        length_row,
+        within,
+        rows.is_picture.full,
+        mul_comm width height,
+        row_before width (y + n) height
+            last,
+      )

@@ -23,50 +23,62 @@ pub nothing_within : (hand : InHand) → hand ≡ nothing_read → read_count ha
 nothing_within hand nothing = subst (λ (h : InHand). read_count h ≤ STREAM_LIMIT) (sym nothing) (omega arith)
 
 -- the packets in hand, and those before them, are fewer than the limit has bytes
-pub few_in_hand : (hand : InHand) (first : ℕ) (packets : List (List ℕ)) → first ≡ hand.first → packets ≡ whole_packets hand.bytes → read_count hand ≤ STREAM_LIMIT → first + length packets ≤ STREAM_LIMIT
-few_in_hand hand first packets first_is are within = omega (arith, first_is, ap (λ (l : List (List ℕ)). length l) are, length-whole_packets hand.bytes, within)
+pub few_in_hand : (hand : InHand) (first : ℕ) (packets : List (List ℕ)) → first ≡ hand.first
+    → packets ≡ whole_packets hand.bytes → read_count hand ≤ STREAM_LIMIT
+    → first + length packets ≤ STREAM_LIMIT
+few_in_hand hand first packets first_is are within =
+    omega (arith, first_is, ap (λ (l : List (List ℕ)). length l) are, length-whole_packets hand.bytes, within)
 
 -- as many packets as were read before those in hand, and the bytes in hand, are within the limit
-within_hand : (before now : Supplied) (hand : InHand) (packets : List (List ℕ)) → Stands before now hand packets → read_count hand ≤ STREAM_LIMIT → IsWithin packets hand.bytes
-within_hand before now hand packets stands within = subst (λ (n : ℕ). 188 * n + length hand.bytes ≤ STREAM_LIMIT) (sym stands.count) within
+within_hand : (before now : Supplied) (hand : InHand) (packets : List (List ℕ)) → Stands before now hand packets
+    → read_count hand ≤ STREAM_LIMIT → IsWithin packets hand.bytes
+within_hand before now hand packets stands within =
+    subst (λ (n : ℕ). 188 * n + length hand.bytes ≤ STREAM_LIMIT) (sym stands.count) within
 
 module _ {Teller : Type 0} (stands : Teller → List (List ℕ) → List ℕ → Type 0) where
   -- the text of the packets before those in hand was put out
-  pub record HasCome (pid : ℕ) (before now : Supplied) (start out : Received) (teller : Teller) (buffer : Buffered) (hand : InHand) : Type 0 where
+  pub record HasCome (pid : ℕ) (before now : Supplied) (start out : Received) (teller : Teller) (buffer : Buffered)
+      (hand : InHand) : Type 0 where
     pub packets : List (List ℕ)
     pub source : Stands before now hand packets
     pub told : HasTold stands pid start out teller buffer packets
 
   -- the text of the packets in hand was put out, too
-  pub record HasWalked (pid : ℕ) (before now : Supplied) (start out : Received) (teller : Teller) (buffer : Buffered) (hand : InHand) : Type 0 where
+  pub record HasWalked (pid : ℕ) (before now : Supplied) (start out : Received) (teller : Teller) (buffer : Buffered)
+      (hand : InHand) : Type 0 where
     pub packets : List (List ℕ)
     pub source : Stands before now hand packets
     pub told : HasTold stands pid start out teller buffer (packets ++ whole_packets hand.bytes)
 
   -- before the first read
-  pub nothing_walked : (pid : ℕ) (before : Supplied) (start : Received) (teller : Teller) (buffer : Buffered) (hand : InHand) → stands teller [] []
-      → buffer ≡ record { waits = []; failed = false } → hand ≡ nothing_read → ((now : Supplied) → Stands now now hand [])
+  pub nothing_walked : (pid : ℕ) (before : Supplied) (start : Received) (teller : Teller) (buffer : Buffered)
+      (hand : InHand) → stands teller [] []
+      → buffer ≡ record { waits = []; failed = false } → hand ≡ nothing_read
+      → ((now : Supplied) → Stands now now hand [])
       → HasWalked pid before before start start teller buffer hand
   nothing_walked pid before start teller buffer hand told empty nothing source = record {
     packets = [];
     source = source before;
-    told = subst (λ (h : InHand). HasTold stands pid start start teller buffer (whole_packets h.bytes)) (sym nothing) (record {
-      passed = All-nil (λ (packet : List ℕ). packet_fault pid packet ≡ None);
-      text = [];
-      told = told;
-      out = subst (λ (b : Buffered). IsPutOut start start b []) (sym empty) (record {
-        sent = λ well. record { written = []; appended = Appends-nil start.written; whole = refl };
-        front = λ failed. absurd (clash failed);
-        kept = omega arith;
-      });
-    });
+    told =
+        subst (λ (h : InHand). HasTold stands pid start start teller buffer (whole_packets h.bytes)) (sym nothing)
+        (record {
+          passed = All-nil (λ (packet : List ℕ). packet_fault pid packet ≡ None);
+          text = [];
+          told = told;
+          out = subst (λ (b : Buffered). IsPutOut start start b []) (sym empty) (record {
+            sent = λ well. record { written = []; appended = Appends-nil start.written; whole = refl };
+            front = λ failed. absurd (clash failed);
+            kept = omega arith;
+          });
+        });
   }
     where
       clash : false ≡ true → ⊥
       clash e = cc
 
   -- the packets in hand were given up, and more was read
-  pub walked_on : (pid : ℕ) (before mid now : Supplied) (start out : Received) (teller : Teller) (buffer : Buffered) (old new : InHand) → HasWalked pid before mid start out teller buffer old
+  pub walked_on : (pid : ℕ) (before mid now : Supplied) (start out : Received) (teller : Teller) (buffer : Buffered)
+      (old new : InHand) → HasWalked pid before mid start out teller buffer old
       → GoesOn mid now old new → HasCome pid before now start out teller buffer new
   walked_on pid before mid now start out teller buffer old new walked goes = record {
     packets = walked.packets ++ whole_packets old.bytes;
@@ -75,8 +87,10 @@ module _ {Teller : Type 0} (stands : Teller → List (List ℕ) → List ℕ →
   }
 
   -- the text of the packets in hand was put out
-  pub come_told : (pid : ℕ) (before now : Supplied) (start out next : Received) (teller new : Teller) (buffer is : Buffered) (hand : InHand) (first : ℕ) (more : List (List ℕ))
-      → HasCome pid before now start out teller buffer hand → first ≡ hand.first → more ≡ whole_packets hand.bytes → Tells stands pid out next teller new buffer is first more
+  pub come_told : (pid : ℕ) (before now : Supplied) (start out next : Received) (teller new : Teller)
+      (buffer is : Buffered) (hand : InHand) (first : ℕ) (more : List (List ℕ))
+      → HasCome pid before now start out teller buffer hand → first ≡ hand.first
+      → more ≡ whole_packets hand.bytes → Tells stands pid out next teller new buffer is first more
       → HasWalked pid before now start next new is hand
   come_told pid before now start out next teller new buffer is hand first more come first_is more_is tells = record {
     packets = come.packets;
@@ -86,7 +100,8 @@ module _ {Teller : Type 0} (stands : Teller → List (List ℕ) → List ℕ →
   }
 
   -- what was told of the packets before those in hand
-  told_before : (pid : ℕ) (before now : Supplied) (start out : Received) (teller : Teller) (buffer : Buffered) (hand : InHand) (come : HasCome pid before now start out teller buffer hand)
+  told_before : (pid : ℕ) (before now : Supplied) (start out : Received) (teller : Teller) (buffer : Buffered)
+      (hand : InHand) (come : HasCome pid before now start out teller buffer hand)
       → IsTold (stands teller) pid before now start out buffer come.packets hand.bytes
   told_before pid before now start out teller buffer hand come = record {
     taken = record { gave = come.source.gave; passed = come.told.passed };
@@ -96,9 +111,11 @@ module _ {Teller : Type 0} (stands : Teller → List (List ℕ) → List ℕ →
   }
 
   -- the source gives no packet more
-  pub come_to_end : (pid : ℕ) (before mid now : Supplied) (start out : Received) (teller : Teller) (buffer : Buffered) (old new : InHand) (ended : StreamEnd) (walked : HasWalked pid before mid start out teller buffer old)
+  pub come_to_end : (pid : ℕ) (before mid now : Supplied) (start out : Received) (teller : Teller) (buffer : Buffered)
+      (old new : InHand) (ended : StreamEnd) (walked : HasWalked pid before mid start out teller buffer old)
       → GoesOn mid now old new → before.faults ≤ mid.faults → IsStreamEnd mid now new ended
-      → (ended ≡ stream.TooLong → (start : Supplied) (packets : List (List ℕ)) → Stands start mid old packets → HasRisenPast STREAM_LIMIT start.given now.given)
+      → (ended ≡ stream.TooLong → (start : Supplied) (packets : List (List ℕ))
+      → Stands start mid old packets → HasRisenPast STREAM_LIMIT start.given now.given)
       → IsEnd (stands teller) pid before now start out buffer (end.Stream ended)
   come_to_end pid before mid now start out teller buffer old new ended walked goes kept is long = by ended is long
     where
@@ -111,21 +128,39 @@ module _ {Teller : Type 0} (stands : Teller → List (List ℕ) → List ℕ →
       within : IsRest new → IsWithin come.packets new.bytes
       within rest = within_hand before now new come.packets come.source rest.within
 
-      by : (ended : StreamEnd) → IsStreamEnd mid now new ended → (ended ≡ stream.TooLong → (start : Supplied) (packets : List (List ℕ)) → Stands start mid old packets → HasRisenPast STREAM_LIMIT start.given now.given)
+      by : (ended : StreamEnd) → IsStreamEnd mid now new ended
+          → (ended ≡ stream.TooLong → (start : Supplied) (packets : List (List ℕ))
+          → Stands start mid old packets → HasRisenPast STREAM_LIMIT start.given now.given)
           → IsEnd (stands teller) pid before now start out buffer (end.Stream ended)
       by (stream.Whole cut) is long = (come.packets, new.bytes, told, within is.2, is.2.short, is.1, is.0)
-      by stream.Unread is long = (come.packets, new.bytes, told, within is.1, is.1.short, HasRisen-since before.faults mid.faults now.faults kept is.0)
+      by stream.Unread is long = (
+        come.packets,
+        new.bytes,
+        told,
+        within is.1,
+        is.1.short,
+        HasRisen-since before.faults mid.faults now.faults
+            kept is.0,
+      )
       by stream.TooLong is long = (come.packets, new.bytes, told, long refl before walked.packets walked.source)
 
   -- the output could not be written
-  pub walked_unwritten : (pid : ℕ) (before now : Supplied) (start out : Received) (teller : Teller) (buffer : Buffered) (hand : InHand) → HasWalked pid before now start out teller buffer hand
-      → read_count hand ≤ STREAM_LIMIT → buffer.failed ≡ true → IsEnd (stands teller) pid before now start out buffer end.Unwritten
+  pub walked_unwritten : (pid : ℕ) (before now : Supplied) (start out : Received) (teller : Teller)
+      (buffer : Buffered) (hand : InHand) → HasWalked pid before now start out teller buffer hand
+      → read_count hand ≤ STREAM_LIMIT → buffer.failed ≡ true
+      → IsEnd (stands teller) pid before now start out buffer end.Unwritten
   walked_unwritten pid before now start out teller buffer hand walked within failed =
-      let same = stream_length-more walked.packets (whole_packets hand.bytes) hand.bytes (rest_of hand.bytes) (whole_packets_long hand.bytes) (sym (whole_packets-rest_of hand.bytes)) in (
+      let same =
+      stream_length-more walked.packets (whole_packets hand.bytes) hand.bytes (rest_of hand.bytes)
+      (whole_packets_long hand.bytes) (sym (whole_packets-rest_of hand.bytes)) in (
         walked.packets ++ whole_packets hand.bytes,
         rest_of hand.bytes,
         record {
-          taken = record { gave = Gave-whole_packets before now walked.packets hand.bytes walked.source.gave; passed = walked.told.passed };
+          taken =
+              record {
+                gave = Gave-whole_packets before now walked.packets hand.bytes walked.source.gave;
+                passed = walked.told.passed;
+              };
           text = walked.told.text;
           told = walked.told.told;
           put_out = walked.told.out;
@@ -135,24 +170,40 @@ module _ {Teller : Type 0} (stands : Teller → List (List ℕ) → List ℕ →
       )
 
   -- the first packet in hand that cannot be taken, where the packets in hand are these
-  abbrev pub RefusesAt : ℕ → Received → Received → Teller → Teller → Buffered → Buffered → Refused → ℕ → List (List ℕ) → Type 0
+  abbrev pub RefusesAt : ℕ → Received → Received → Teller → Teller → Buffered → Buffered
+      → Refused → ℕ → List (List ℕ) → Type 0
   RefusesAt pid out next teller new buffer is refused first packets =
-      (k : ℕ) × (k < length packets) × (refused.packet ≡ first + k) × (packet_fault pid (get_or packets k []) ≡ Some refused.fault) × Tells stands pid out next teller new buffer is first (take k packets)
+      (k : ℕ) × (k < length packets) × (refused.packet ≡ first + k)
+      × (packet_fault pid (get_or packets k []) ≡ Some refused.fault)
+      × Tells stands pid out next teller new buffer is first (take k packets)
 
   -- a packet in hand cannot be taken
-  pub come_refused : (pid : ℕ) (before now : Supplied) (start out next : Received) (teller new : Teller) (buffer is : Buffered) (hand : InHand) (refused : Refused) (first : ℕ) (more : List (List ℕ))
-      → HasCome pid before now start out teller buffer hand → read_count hand ≤ STREAM_LIMIT → first ≡ hand.first → more ≡ whole_packets hand.bytes
-      → RefusesAt pid out next teller new buffer is refused first more → IsEnd (stands new) pid before now start next is (end.Refused refused)
-  come_refused pid before now start out next teller new buffer is hand refused first more come within first_is more_is refuses =
+  pub come_refused : (pid : ℕ) (before now : Supplied) (start out next : Received) (teller new : Teller)
+      (buffer is : Buffered) (hand : InHand) (refused : Refused) (first : ℕ) (more : List (List ℕ))
+      → HasCome pid before now start out teller buffer hand → read_count hand ≤ STREAM_LIMIT
+      → first ≡ hand.first → more ≡ whole_packets hand.bytes
+      → RefusesAt pid out next teller new buffer is refused first more
+      → IsEnd (stands new) pid before now start next is (end.Refused refused)
+  come_refused pid before now start out next teller new buffer is hand refused first more come within first_is more_is
+      refuses =
       let packets : List (List ℕ) = whole_packets hand.bytes in
       let found : RefusesAt pid out next teller new buffer is refused hand.first packets =
       subst (λ (l : List (List ℕ)). RefusesAt pid out next teller new buffer is refused hand.first l) more_is
       (subst (λ (n : ℕ). RefusesAt pid out next teller new buffer is refused n more) first_is refuses) in
       let k : ℕ = found.0 in
-      let told : HasTold stands pid start next new is (come.packets ++ take k packets) = found.4.extends start come.packets come.source.count come.told in
+      let told : HasTold stands pid start next new is (come.packets ++ take k packets) =
+      found.4.extends start come.packets come.source.count come.told in
       let cut = Gave-up_to before now come.packets hand.bytes k come.source.gave found.1 in
       let place_is : refused.packet ≡ length (come.packets ++ take k packets) =
-      omega (arith, found.1, found.2, come.source.count, length-append come.packets (take k packets), length-take-le k packets (omega (arith, found.1))) in (
+      omega (
+        arith,
+        found.1,
+        found.2,
+        come.source.count,
+        length-append come.packets (take k packets),
+        length-take-le k
+            packets (omega (arith, found.1)),
+      ) in (
         come.packets ++ take k packets,
         get_or packets k [],
         cut.rest,

@@ -12,7 +12,7 @@ use sub_base::{Profile, ProfileName};
 /// Lifted times go on where presentation times go round, and are kept by refused sets alone: a loss
 /// changes none.
 #[test]
-#[tactic(auto, using(crate::proofs::ProfileNodes::few_nodes))]
+#[tactic(auto, using(crate::proofs::Counts::ProfileNodes::few_nodes))]
 fn lifted_times(rt: HostRuntime) -> Result<(), Fail> {
     let sd = Profile::of(ProfileName::Sd);
     let long = SetFault::SetTooLong { size: 24_577 };
@@ -50,7 +50,7 @@ fn lifted_times(rt: HostRuntime) -> Result<(), Fail> {
 
 /// All memory is free before the first set, after a loss and after a broken set.
 #[test]
-#[tactic(auto, using(crate::proofs::ProfileNodes::few_nodes))]
+#[tactic(auto, using(crate::proofs::Counts::ProfileNodes::few_nodes))]
 fn free_memory(rt: HostRuntime) -> Result<(), Fail> {
     let rows = [
         (ProfileName::Sd, 512, 81_920),
@@ -242,7 +242,7 @@ fn nodes_of_sets(rt: HostRuntime) -> Result<(), Fail> {
 
 /// The nodes that CLUT segments leave free: one whose version is known takes none.
 #[test]
-#[tactic(auto, using(crate::proofs::ProfileNodes::few_nodes))]
+#[tactic(auto, using(crate::proofs::Counts::ProfileNodes::few_nodes))]
 fn nodes_of_cluts(rt: HostRuntime) -> Result<(), Fail> {
     let rows: [(&[&[u8]], u32); 5] = [
         (&[CLUT], 509),

@@ -63,7 +63,7 @@ fn head(depth: Depth) -> RegionHead
 }
 
 /// Places a region, and fills it.
-#[tactic(auto, using(crate::proofs::RegionHeads::fill_in_depth))]
+#[tactic(auto, using(crate::proofs::Regions::RegionHeads::fill_in_depth))]
 pub(crate) fn placed(store: &mut Store, depth: Depth) -> Result<RegionNode, StoreFull>
     requires { length store.old.regions < 256 }
     ensures region { IfOk result (λ region. HasRegion region.head region.slot store.new) }

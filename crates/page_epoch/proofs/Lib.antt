@@ -4,11 +4,13 @@ pub mod ClutLaws
 pub mod CountLaws
 pub mod WalkLaws
 pub mod InstantLaws
+pub mod LastInstants
 pub mod ListLaws
 pub mod PageVersions
 pub mod LiveLaws
 pub mod EventLaws
 pub mod PlanLaws
+pub mod PlanSteps
 pub mod RegionLaws
 pub mod RowLaws
 pub mod SendLaws

@@ -34,9 +34,11 @@ places_rise n k h =
 pub live_rise : (cues : List Cue) (region tick : ℕ) → IsStrictlyIncreasing (live_places cues region tick)
 live_rise cues region tick =
     IsStrictlyIncreasing-filter (λ place. is_live tick (cue_at cues place)) (own_places cues region)
-    (IsStrictlyIncreasing-filter (λ place. (cue_at cues place).region == region) (places_below (length cues)) (places_rise (length cues)))
+    (IsStrictlyIncreasing-filter (λ place. (cue_at cues place).region == region) (places_below (length cues))
+    (places_rise (length cues)))
 
-pub before_rise : (cues : List Cue) (region : ℕ) (seen : List ℕ) → IsStrictlyIncreasing (live_before cues region seen)
+pub before_rise : (cues : List Cue) (region : ℕ) (seen : List ℕ)
+    → IsStrictlyIncreasing (live_before cues region seen)
 before_rise cues region [] = λ k h. absurd (omega arith)
 before_rise cues region (before ∷ earlier) = live_rise cues region before
 
@@ -55,34 +57,53 @@ front P xs n all k d h =
     subst P (sym (get_or-take n xs k d short)) (all k d (omega arith) short)
 
 back : {X : Type 0} (P : X → Type 0) (xs : List X) (n : ℕ) → AllWithin P xs n (length xs) → All P (drop n xs)
-back P xs n all k d h = subst P (sym (get_or-drop n xs k d)) (all (n + k) d (omega arith) (let e = length-drop n xs in omega arith))
+back P xs n all k d h =
+    subst P (sym (get_or-drop n xs k d)) (all (n + k) d (omega arith) (let e = length-drop n xs in omega arith))
 
-middle : {X : Type 0} (P : X → Type 0) (xs : List X) (m n : ℕ) → AllWithin P xs m (length xs) → All P (slice_range xs m n)
+middle : {X : Type 0} (P : X → Type 0) (xs : List X) (m n : ℕ) → AllWithin P xs m (length xs)
+    → All P (slice_range xs m n)
 middle P xs m n all = All-take P (n - m) (drop m xs) (back P xs m all)
 
-starts_are : (cues : List Cue) (region : ℕ) (starts : List CueStart) → AreStarts cues region starts → All (λ (start : CueStart). (cue_at cues start.place).start ≡ start.tick) starts
+starts_are : (cues : List Cue) (region : ℕ) (starts : List CueStart) → AreStarts cues region starts
+    → All (λ (start : CueStart). (cue_at cues start.place).start ≡ start.tick) starts
 starts_are cues region starts are =
-    All-permutation (λ (start : CueStart). (cue_at cues start.place).start ≡ start.tick) (map (start_at cues) (own_places cues region)) starts are.same
-    (All-map (λ (start : CueStart). (cue_at cues start.place).start ≡ start.tick) (start_at cues) (own_places cues region) (λ k d h. refl))
+    All-permutation (λ (start : CueStart). (cue_at cues start.place).start ≡ start.tick)
+    (map (start_at cues) (own_places cues region)) starts are.same
+    (All-map (λ (start : CueStart). (cue_at cues start.place).start ≡ start.tick) (start_at cues)
+    (own_places cues region) (λ k d h. refl))
 
 -- what is counted of a region's cues is counted of them in any order
-count_starts : (cues : List Cue) (region : ℕ) (starts : List CueStart) (g : ℕ → Bool) → AreStarts cues region starts → count_by (λ (start : CueStart). g start.place) starts ≡ count_by g (own_places cues region)
+count_starts : (cues : List Cue) (region : ℕ) (starts : List CueStart) (g : ℕ → Bool)
+    → AreStarts cues region starts
+    → count_by (λ (start : CueStart). g start.place) starts ≡ count_by g (own_places cues region)
 count_starts cues region starts g are =
-    sum_by-IsPermutation (λ (start : CueStart). cond {A = ℕ} (g start.place) 1 0) (map (start_at cues) (own_places cues region)) starts are.same
+    sum_by-IsPermutation (λ (start : CueStart). cond {A = ℕ} (g start.place) 1 0)
+    (map (start_at cues) (own_places cues region)) starts are.same
     ∙ count_map (λ (start : CueStart). g start.place) (start_at cues) (own_places cues region)
 
-started_count : (cues : List Cue) (region : ℕ) (starts : List CueStart) (tick : ℕ) → AreStarts cues region starts → count_by (λ (start : CueStart). nat_le start.tick tick) starts ≡ started_by cues region tick
+started_count : (cues : List Cue) (region : ℕ) (starts : List CueStart) (tick : ℕ)
+    → AreStarts cues region starts
+    → count_by (λ (start : CueStart). nat_le start.tick tick) starts ≡ started_by cues region tick
 started_count cues region starts tick are =
-    count_agree (λ (start : CueStart). nat_le start.tick tick) (λ (start : CueStart). nat_le (cue_at cues start.place).start tick) starts
-    (All-weaker (λ (start : CueStart). (cue_at cues start.place).start ≡ start.tick) (λ (start : CueStart). nat_le start.tick tick ≡ nat_le (cue_at cues start.place).start tick) (λ start e. ap (λ (t : ℕ). nat_le t tick) (sym e)) starts (starts_are cues region starts are))
+    count_agree (λ (start : CueStart). nat_le start.tick tick)
+    (λ (start : CueStart). nat_le (cue_at cues start.place).start tick) starts
+    (All-weaker (λ (start : CueStart). (cue_at cues start.place).start ≡ start.tick)
+    (λ (start : CueStart). nat_le start.tick tick ≡ nat_le (cue_at cues start.place).start tick)
+    (λ start e. ap (λ (t : ℕ). nat_le t tick) (sym e)) starts (starts_are cues region starts are))
     ∙ count_starts cues region starts (λ place. nat_le (cue_at cues place).start tick) are
 
 -- so many cues of these have started by a tick
 abbrev pub HaveStarted : List CueStart → ℕ → ℕ → Type 0
-HaveStarted starts tick n = IsPartitionPoint (λ (start : CueStart). nat_le start.tick tick ≡ true) (λ (start : CueStart). nat_le start.tick tick ≡ false) starts n
+HaveStarted starts tick n =
+    IsPartitionPoint (λ (start : CueStart). nat_le start.tick tick ≡ true)
+    (λ (start : CueStart). nat_le start.tick tick ≡ false) starts n
 
-pub started_are : (cues : List Cue) (region : ℕ) (starts : List CueStart) (tick n : ℕ) → AreStarts cues region starts → n ≤ length starts → HaveStarted starts tick n → n ≡ started_by cues region tick
-started_are cues region starts tick n are few point = sym (counted (λ (start : CueStart). nat_le start.tick tick) starts n few point) ∙ started_count cues region starts tick are
+pub started_are : (cues : List Cue) (region : ℕ) (starts : List CueStart) (tick n : ℕ)
+    → AreStarts cues region starts → n ≤ length starts → HaveStarted starts tick n
+    → n ≡ started_by cues region tick
+started_are cues region starts tick n are few point =
+    sym (counted (λ (start : CueStart). nat_le start.tick tick) starts n few point)
+    ∙ started_count cues region starts tick are
 
 -- ---- what is live
 
@@ -92,7 +113,8 @@ record Parts (cues : List Cue) (starts : List CueStart) (tick from to : ℕ) (s 
   few : to ≤ length starts
   had : AllWithin (λ (start : CueStart). s start.place ≡ true) starts 0 from
   had_not : AllWithin (λ (start : CueStart). s start.place ≡ false) starts from (length starts)
-  not_yet : AllWithin (λ (start : CueStart). is_live tick (cue_at cues start.place) ≡ false) starts to (length starts)
+  not_yet : AllWithin (λ (start : CueStart). is_live tick (cue_at cues start.place) ≡ false) starts to
+      (length starts)
 
 not_had : (a b : Bool) → a ≡ true → (not a && b) ≡ false
 not_had true b e = refl
@@ -107,33 +129,59 @@ then_live : (a b : Bool) → a ≡ false → (not a && b) ≡ b
 then_live true b e = cc
 then_live false b e = refl
 
-since : (cues : List Cue) (region : ℕ) (starts : List CueStart) (tick from to v : ℕ) (s : ℕ → Bool) → AreStarts cues region starts → Parts cues starts tick from to s →
+since : (cues : List Cue) (region : ℕ) (starts : List CueStart) (tick from to v : ℕ) (s : ℕ → Bool)
+    → AreStarts cues region starts → Parts cues starts tick from to s →
     count_by (λ place. not (s place) && (is_live tick (cue_at cues place) && (place == v))) (own_places cues region)
-    ≡ times v (filter (λ place. is_live tick (cue_at cues place)) (map (λ (start : CueStart). start.place) (slice_range starts from to)))
+    ≡ times v
+    (filter (λ place. is_live tick (cue_at cues place))
+    (map (λ (start : CueStart). start.place) (slice_range starts from to)))
 since cues region starts tick from to v s are parts =
     let live = λ (place : ℕ). is_live tick (cue_at cues place) in
     let g = λ (place : ℕ). not (s place) && (live place && (place == v)) in
     let p = λ (start : CueStart). g start.place in
     let run = slice_range starts from to in
-    let whole : starts ≡ take from starts ++ (run ++ drop to starts) = sym (take-append-drop from starts) ∙ ap (λ xs. take from starts ++ xs) (drop_split starts from to parts.order) in
+    let whole : starts ≡ take from starts ++ (run ++ drop to starts) =
+    sym (take-append-drop from starts)
+    ∙ ap (λ xs. take from starts ++ xs) (drop_split starts from to parts.order) in
     let first : count_by p (take from starts) ≡ 0 = count_none p (take from starts)
-    (All-weaker (λ (start : CueStart). s start.place ≡ true) (λ (start : CueStart). p start ≡ false) (λ start e. not_had (s start.place) (live start.place && (start.place == v)) e) (take from starts) (front (λ (start : CueStart). s start.place ≡ true) starts from parts.had)) in
+    (All-weaker (λ (start : CueStart). s start.place ≡ true) (λ (start : CueStart). p start ≡ false)
+    (λ start e. not_had (s start.place) (live start.place && (start.place == v)) e) (take from starts)
+    (front (λ (start : CueStart). s start.place ≡ true) starts from parts.had)) in
     let last : count_by p (drop to starts) ≡ 0 = count_none p (drop to starts)
-    (All-weaker (λ (start : CueStart). live start.place ≡ false) (λ (start : CueStart). p start ≡ false) (λ start e. not_live (s start.place) (live start.place) (start.place == v) e) (drop to starts) (back (λ (start : CueStart). live start.place ≡ false) starts to parts.not_yet)) in
-    let inner : count_by p run ≡ count_by (λ (start : CueStart). live start.place && (start.place == v)) run = count_agree p (λ (start : CueStart). live start.place && (start.place == v)) run
-    (All-weaker (λ (start : CueStart). s start.place ≡ false) (λ (start : CueStart). p start ≡ (live start.place && (start.place == v))) (λ start e. then_live (s start.place) (live start.place && (start.place == v)) e) run (middle (λ (start : CueStart). s start.place ≡ false) starts from to parts.had_not)) in
+    (All-weaker (λ (start : CueStart). live start.place ≡ false) (λ (start : CueStart). p start ≡ false)
+    (λ start e. not_live (s start.place) (live start.place) (start.place == v) e) (drop to starts)
+    (back (λ (start : CueStart). live start.place ≡ false) starts to parts.not_yet)) in
+    let inner : count_by p run ≡ count_by (λ (start : CueStart). live start.place && (start.place == v)) run =
+    count_agree p (λ (start : CueStart). live start.place && (start.place == v)) run
+    (All-weaker (λ (start : CueStart). s start.place ≡ false)
+    (λ (start : CueStart). p start ≡ (live start.place && (start.place == v)))
+    (λ start e. then_live (s start.place) (live start.place && (start.place == v)) e) run
+    (middle (λ (start : CueStart). s start.place ≡ false) starts from to parts.had_not)) in
     let sum = count_append p (take from starts) (run ++ drop to starts) in
     let rest = count_append p run (drop to starts) in
-    let kept = count_filter (λ place. place == v) live (map (λ (start : CueStart). start.place) run) ∙ count_map (λ place. live place && (place == v)) (λ (start : CueStart). start.place) run in
-    sym (count_starts cues region starts g are) ∙ ap (count_by p) whole ∙ (let all : count_by p (take from starts ++ (run ++ drop to starts)) ≡ count_by (λ (start : CueStart). live start.place && (start.place == v)) run = omega arith in all) ∙ sym kept
+    let kept =
+    count_filter (λ place. place == v) live (map (λ (start : CueStart). start.place) run)
+    ∙ count_map (λ place. live place && (place == v)) (λ (start : CueStart). start.place) run in
+    sym (count_starts cues region starts g are) ∙ ap (count_by p) whole
+    ∙ (let all : count_by p (take from starts ++ (run ++ drop to starts))
+    ≡ count_by (λ (start : CueStart). live start.place && (start.place == v)) run = omega arith in all)
+    ∙ sym kept
 
-live_next : (cues : List Cue) (region : ℕ) (starts : List CueStart) (tick from to : ℕ) (s : ℕ → Bool) (old new : List ℕ) → AreStarts cues region starts → Parts cues starts tick from to s →
-    ((v : ℕ) → times v (filter (λ place. is_live tick (cue_at cues place)) old) ≡ count_by (λ place. s place && (is_live tick (cue_at cues place) && (place == v))) (own_places cues region)) →
+live_next : (cues : List Cue) (region : ℕ) (starts : List CueStart) (tick from to : ℕ) (s : ℕ → Bool)
+    (old new : List ℕ) → AreStarts cues region starts → Parts cues starts tick from to s →
+    ((v : ℕ) → times v (filter (λ place. is_live tick (cue_at cues place)) old)
+    ≡ count_by (λ place. s place && (is_live tick (cue_at cues place) && (place == v)))
+    (own_places cues region)) →
     IsNonDecreasing new →
-    ((v : ℕ) → times v new ≡ times v (filter (λ place. is_live tick (cue_at cues place)) old) + times v (filter (λ place. is_live tick (cue_at cues place)) (map (λ (start : CueStart). start.place) (slice_range starts from to)))) →
+    ((v : ℕ) → times v new
+    ≡ times v (filter (λ place. is_live tick (cue_at cues place)) old)
+    + times v
+    (filter (λ place. is_live tick (cue_at cues place))
+    (map (λ (start : CueStart). start.place) (slice_range starts from to)))) →
     new ≡ live_places cues region tick
 live_next cues region starts tick from to s old new are parts stay rise same =
-    same_sorted new (live_places cues region tick) rise (falls_not (live_places cues region tick) (live_rise cues region tick)) (λ v.
+    same_sorted new (live_places cues region tick) rise
+    (falls_not (live_places cues region tick) (live_rise cues region tick)) (λ v.
     let live = λ (place : ℕ). is_live tick (cue_at cues place) in
     let all = count_filter (λ place. place == v) live (own_places cues region) in
     let split = count_split s (λ place. live place && (place == v)) (own_places cues region) in
@@ -147,23 +195,30 @@ live_next cues region starts tick from to s old new are parts stay rise same =
 late_live : (start end tick : ℕ) → nat_le start tick ≡ false → (nat_le start tick && nat_lt tick end) ≡ false
 late_live start end tick h = ap (λ b. b && nat_lt tick end) h
 
-not_yet_live : (cues : List Cue) (region : ℕ) (starts : List CueStart) (tick to : ℕ) → AreStarts cues region starts → HaveStarted starts tick to → AllWithin (λ (start : CueStart). is_live tick (cue_at cues start.place) ≡ false) starts to (length starts)
+not_yet_live : (cues : List Cue) (region : ℕ) (starts : List CueStart) (tick to : ℕ)
+    → AreStarts cues region starts → HaveStarted starts tick to
+    → AllWithin (λ (start : CueStart). is_live tick (cue_at cues start.place) ≡ false) starts to (length starts)
 not_yet_live cues region starts tick to are point k d low high =
     let start = starts_are cues region starts are k d high in
     let cue = cue_at cues (get_or starts k d).place in
     late_live cue.start cue.end tick (ap (λ (t : ℕ). nat_le t tick) start ∙ point.1 k d low high)
 
-stays_by : (a b c d q : Bool) → (d ≡ true → b ≡ true) → ((a && b) && ((c && d) && q)) ≡ (a && ((c && d) && q))
+stays_by : (a b c d q : Bool) → (d ≡ true → b ≡ true)
+    → ((a && b) && ((c && d) && q)) ≡ (a && ((c && d) && q))
 stays_by false b c d q h = refl
 stays_by true true c d q h = refl
 stays_by true false false d q h = refl
 stays_by true false true true q h = absurd (false≢true (h refl))
 stays_by true false true false q h = refl
 
-still_live : (tick before : ℕ) (cue : Cue) (q : Bool) → before ≤ tick → (is_live before cue && (is_live tick cue && q)) ≡ (nat_le cue.start before && (is_live tick cue && q))
-still_live tick before cue q low = stays_by (nat_le cue.start before) (nat_lt before cue.end) (nat_le cue.start tick) (nat_lt tick cue.end) q (λ h. grind (arith, nat_tests))
+still_live : (tick before : ℕ) (cue : Cue) (q : Bool) → before ≤ tick
+    → (is_live before cue && (is_live tick cue && q)) ≡ (nat_le cue.start before && (is_live tick cue && q))
+still_live tick before cue q low =
+    stays_by (nat_le cue.start before) (nat_lt before cue.end) (nat_le cue.start tick) (nat_lt tick cue.end) q
+    (λ h. grind (arith, nat_tests))
 
-order_by : (starts : List CueStart) (before tick from to : ℕ) → before ≤ tick → from ≤ length starts → HaveStarted starts before from → HaveStarted starts tick to → (from ≤ to) ⊎ (to < from) → from ≤ to
+order_by : (starts : List CueStart) (before tick from to : ℕ) → before ≤ tick → from ≤ length starts
+    → HaveStarted starts before from → HaveStarted starts tick to → (from ≤ to) ⊎ (to < from) → from ≤ to
 order_by starts before tick from to low few first second (inl h) = h
 order_by starts before tick from to low few first second (inr h) =
     let d : CueStart = record { tick = 0; place = 0 } in
@@ -172,20 +227,34 @@ order_by starts before tick from to low few first second (inr h) =
     absurd (grind (arith, nat_tests))
 
 -- the new list is that of the tick
-pub live_on : (cues : List Cue) (region : ℕ) (starts : List CueStart) (tick to : ℕ) (seen new : List ℕ) → AreStarts cues region starts → to ≤ length starts → HaveStarted starts tick to → IsAfter seen tick → IsNonDecreasing new →
-    ((v : ℕ) → times v new ≡ times v (filter (λ place. is_live tick (cue_at cues place)) (live_before cues region seen))
-    + times v (filter (λ place. is_live tick (cue_at cues place)) (map (λ (start : CueStart). start.place) (slice_range starts (started_before cues region seen) to)))) →
+pub live_on : (cues : List Cue) (region : ℕ) (starts : List CueStart) (tick to : ℕ) (seen new : List ℕ)
+    → AreStarts cues region starts → to ≤ length starts → HaveStarted starts tick to → IsAfter seen tick
+    → IsNonDecreasing new →
+    ((v : ℕ) → times v new
+    ≡ times v (filter (λ place. is_live tick (cue_at cues place)) (live_before cues region seen))
+    + times v
+    (filter (λ place. is_live tick (cue_at cues place))
+    (map (λ (start : CueStart). start.place) (slice_range starts (started_before cues region seen) to)))) →
     new ≡ live_places cues region tick
 live_on cues region starts tick to [] new are few point after rise same =
     live_next cues region starts tick 0 to (λ place. false) [] new are
-    (record { order = omega arith; few = few; had = λ k d low high. absurd (omega arith); had_not = λ k d low high. refl; not_yet = not_yet_live cues region starts tick to are point })
+    (record {
+      order = omega arith;
+      few = few;
+      had = λ k d low high. absurd (omega arith);
+      had_not = λ k d low
+          high. refl;
+      not_yet = not_yet_live cues region starts tick to are point;
+    })
     (λ v. sym (count_none (λ place. false) (own_places cues region) (λ k d h. refl))) rise same
 live_on cues region starts tick to (before ∷ earlier) new are few point after rise same =
     let from = started_by cues region before in
     let s = λ (place : ℕ). nat_le (cue_at cues place).start before in
     let count = started_count cues region starts before are in
-    let had : HaveStarted starts before from = subst (HaveStarted starts before) count (point_of (λ (start : CueStart). start.tick) before starts are.rise) in
-    let short : from ≤ length starts = let most = count_by-le-length (λ (start : CueStart). nat_le start.tick before) starts in omega arith in
+    let had : HaveStarted starts before from =
+    subst (HaveStarted starts before) count (point_of (λ (start : CueStart). start.tick) before starts are.rise) in
+    let short : from ≤ length starts =
+    let most = count_by-le-length (λ (start : CueStart). nat_le start.tick before) starts in omega arith in
     let own_starts = starts_are cues region starts are in
     live_next cues region starts tick from to s (live_places cues region before) new are
     (record {
@@ -198,21 +267,28 @@ live_on cues region starts tick to (before ∷ earlier) new are few point after 
     (λ v.
     let live = λ (place : ℕ). is_live tick (cue_at cues place) in
     let old = λ (place : ℕ). is_live before (cue_at cues place) in
-    count_filter (λ place. place == v) live (live_places cues region before) ∙ count_filter (λ place. live place && (place == v)) old (own_places cues region)
-    ∙ count_agree (λ place. old place && (live place && (place == v))) (λ place. s place && (live place && (place == v))) (own_places cues region)
-    (λ k d h. still_live tick before (cue_at cues (get_or (own_places cues region) k d)) (get_or (own_places cues region) k d == v) after))
+    count_filter (λ place. place == v) live (live_places cues region before)
+    ∙ count_filter (λ place. live place && (place == v)) old (own_places cues region)
+    ∙ count_agree (λ place. old place && (live place && (place == v)))
+    (λ place. s place && (live place && (place == v))) (own_places cues region)
+    (λ k d h. still_live tick before (cue_at cues (get_or (own_places cues region) k d))
+    (get_or (own_places cues region) k d == v) after))
     rise same
 
 -- no fewer have started than at the instant before
-pub started_order : (cues : List Cue) (region : ℕ) (starts : List CueStart) (tick to : ℕ) (seen : List ℕ) → AreStarts cues region starts → to ≤ length starts → HaveStarted starts tick to → IsAfter seen tick → started_before cues region seen ≤ to
+pub started_order : (cues : List Cue) (region : ℕ) (starts : List CueStart) (tick to : ℕ) (seen : List ℕ)
+    → AreStarts cues region starts → to ≤ length starts → HaveStarted starts tick to → IsAfter seen tick
+    → started_before cues region seen ≤ to
 started_order cues region starts tick to [] are few point after = omega arith
 started_order cues region starts tick to (before ∷ earlier) are few point after =
     let count = started_count cues region starts before are in
-    let had : HaveStarted starts before (started_by cues region before) = subst (HaveStarted starts before) count (point_of (λ (start : CueStart). start.tick) before starts are.rise) in
+    let had : HaveStarted starts before (started_by cues region before) =
+    subst (HaveStarted starts before) count (point_of (λ (start : CueStart). start.tick) before starts are.rise) in
     let most = count_by-le-length (λ (start : CueStart). nat_le start.tick before) starts in
     order_by starts before tick (started_by cues region before) to after (omega arith) had point (grind arith)
 
-pub few_begins : (cues : List Cue) (region : ℕ) (starts : List CueStart) → AreStarts cues region starts → length starts ≤ length cues
+pub few_begins : (cues : List Cue) (region : ℕ) (starts : List CueStart) → AreStarts cues region starts
+    → length starts ≤ length cues
 few_begins cues region starts are =
     let moved = length_permutation (map (start_at cues) (own_places cues region)) starts are.same in
     let mapped = length-map (own_places cues region) (start_at cues) in

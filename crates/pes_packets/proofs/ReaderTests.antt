@@ -31,11 +31,13 @@ abbrev AllFalse : List (Test PesFault) → Type 0
 AllFalse [] = Unit {0}
 AllFalse (first ∷ tests) = (first.fails ≡ false) × AllFalse tests
 
-first_none : (failed : Bool) (fault : PesFault) (others : Option PesFault) → cond failed (Some fault) others ≡ None → (failed ≡ false) × (others ≡ None)
+first_none : (failed : Bool) (fault : PesFault) (others : Option PesFault)
+    → cond failed (Some fault) others ≡ None → (failed ≡ false) × (others ≡ None)
 first_none true fault others e = absurd cc
 first_none false fault others e = (refl, e)
 
-none_first : (failed : Bool) (fault : PesFault) (others : Option PesFault) → failed ≡ false → others ≡ None → cond failed (Some fault) others ≡ None
+none_first : (failed : Bool) (fault : PesFault) (others : Option PesFault) → failed ≡ false → others ≡ None
+    → cond failed (Some fault) others ≡ None
 none_first true fault others e f = absurd cc
 none_first false fault others e f = f
 
@@ -82,7 +84,8 @@ passes_is_faultless bytes p =
               (
                 or_false _ _ (le-ltb _ _ p.header) (le-ltb _ _ p.room),
                 (
-                  or_false _ _ (or_false _ _ (same_not_other _ _ p.first_marker) (same_not_other _ _ p.second_marker)) (same_not_other _ _ p.third_marker),
+                  or_false _ _ (or_false _ _ (same_not_other _ _ p.first_marker) (same_not_other _ _ p.second_marker))
+                      (same_not_other _ _ p.third_marker),
                   (or_false _ _ (same_not_other _ _ p.identifier) (same_not_other _ _ p.stream_number), tt),
                 ),
               ),

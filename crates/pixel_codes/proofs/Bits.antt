@@ -15,7 +15,8 @@ use Rattle.pixel_codes.specs.Private.Reading.{field_at}
 pub length-bits : (count v : ℕ) → length (bits count v) ≡ count
 unfolding bits
 length-bits zero v = refl
-length-bits (suc count) v = length-append (bits count (v / 2)) (v % 2 ∷ []) ∙ omega (arith, length-bits count (v / 2))
+length-bits (suc count) v =
+    length-append (bits count (v / 2)) (v % 2 ∷ []) ∙ omega (arith, length-bits count (v / 2))
 
 pub length-bits_of : (bytes : List ℕ) → length (bits_of bytes) ≡ 8 * length bytes
 unfolding bits_of
@@ -27,7 +28,8 @@ pub bits_of-append : (xs ys : List ℕ) → bits_of (xs ++ ys) ≡ bits_of xs ++
 unfolding bits_of
 bits_of-append [] ys = refl
 bits_of-append (x ∷ xs) ys =
-    ap (λ (t : List ℕ). bits 8 x ++ t) (bits_of-append xs ys) ∙ sym (append_assoc (bits 8 x) (flat_map (bits 8) xs) (flat_map (bits 8) ys))
+    ap (λ (t : List ℕ). bits 8 x ++ t) (bits_of-append xs ys)
+    ∙ sym (append_assoc (bits 8 x) (flat_map (bits 8) xs) (flat_map (bits 8) ys))
 
 half-pow : (v b : ℕ) → v / 2 / 2 ^ b ≡ v / 2 ^ suc b
 half-pow v b = let e = shr-shr v 1 b in let f : 1 + b ≡ suc b = omega arith in rw f at e
@@ -50,8 +52,11 @@ pub bits-mod : (count v : ℕ) → bits count (v % 2 ^ count) ≡ bits count v
 unfolding bits
 bits-mod zero v = refl
 bits-mod (suc count) v =
-    let e : v % 2 ^ suc count / 2 ≡ v / 2 % 2 ^ count = let f = field_of v count 1 in let g : count + 1 ≡ suc count = omega arith in rw g at f in
-    let m : v % 2 ^ suc count % 2 ≡ v % 2 = let f = mod-pow-add v count 1 in let g : count + 1 ≡ suc count = omega arith in let h = rw g at f in omega (arith, h) in
+    let e : v % 2 ^ suc count / 2 ≡ v / 2 % 2 ^ count =
+    let f = field_of v count 1 in let g : count + 1 ≡ suc count = omega arith in rw g at f in
+    let m : v % 2 ^ suc count % 2 ≡ v % 2 =
+    let f = mod-pow-add v count 1 in let g : count + 1
+    ≡ suc count = omega arith in let h = rw g at f in omega (arith, h) in
     rw (e, m) (ap (λ (t : List ℕ). t ++ v % 2 ∷ []) (bits-mod count (v / 2)))
 
 pub bits-join : (a b x y : ℕ) → y < 2 ^ b → bits (a + b) (x * 2 ^ b + y) ≡ bits a x ++ bits b y
@@ -105,12 +110,14 @@ IsBits-take (suc n) (x ∷ xs) h = (h.0, IsBits-take n xs h.1)
 IsBits-bits : (count v : ℕ) → IsBits (bits count v)
 unfolding IsBits bits
 IsBits-bits zero v = tt
-IsBits-bits (suc count) v = IsBits-append (bits count (v / 2)) (v % 2 ∷ []) (IsBits-bits count (v / 2)) (mod_below v 2 (omega arith), tt)
+IsBits-bits (suc count) v =
+    IsBits-append (bits count (v / 2)) (v % 2 ∷ []) (IsBits-bits count (v / 2)) (mod_below v 2 (omega arith), tt)
 
 pub IsBits-bits_of : (bytes : List ℕ) → IsBits (bits_of bytes)
 unfolding IsBits bits_of
 IsBits-bits_of [] = tt
-IsBits-bits_of (byte ∷ bytes) = IsBits-append (bits 8 byte) (flat_map (bits 8) bytes) (IsBits-bits 8 byte) (IsBits-bits_of bytes)
+IsBits-bits_of (byte ∷ bytes) =
+    IsBits-append (bits 8 byte) (flat_map (bits 8) bytes) (IsBits-bits 8 byte) (IsBits-bits_of bytes)
 
 two_halves : (x p n : ℕ) → x < 2 → n < p → x * p + n < 2 * p
 two_halves zero p n h k = omega arith
@@ -123,7 +130,8 @@ pow-more k = omega arith
 number_of-below : (xs : List ℕ) → IsBits xs → number_of xs < 2 ^ length xs
 unfolding IsBits number_of
 number_of-below [] h = omega arith
-number_of-below (x ∷ xs) h = rw (pow-more (length xs)) (two_halves x (2 ^ length xs) (number_of xs) h.0 (number_of-below xs h.1))
+number_of-below (x ∷ xs) h =
+    rw (pow-more (length xs)) (two_halves x (2 ^ length xs) (number_of xs) h.0 (number_of-below xs h.1))
 
 one_bit : (x : ℕ) → x < 2 → bits 1 x ≡ x ∷ []
 unfolding bits
@@ -141,17 +149,22 @@ bits-number_of (x ∷ xs) h =
 
 -- ---- fields
 
-pub drop-next : (xs front rest : List ℕ) (place width : ℕ) → drop place xs ≡ front ++ rest → length front ≡ width → drop (place + width) xs ≡ rest
+pub drop-next : (xs front rest : List ℕ) (place width : ℕ) → drop place xs ≡ front ++ rest
+    → length front ≡ width → drop (place + width) xs ≡ rest
 drop-next xs front rest place width e l =
     sym (drop-drop width place xs) ∙ ap (drop width) e ∙ drop_at front rest width l
 
 -- a number that stands at a place is the field there
-pub field_spelled : (xs rest : List ℕ) (place width v : ℕ) → 0 < width → v < 2 ^ width → drop place xs ≡ bits width v ++ rest → field_at xs place width ≡ Some v
+pub field_spelled : (xs rest : List ℕ) (place width v : ℕ) → 0 < width → v < 2 ^ width
+    → drop place xs ≡ bits width v ++ rest → field_at xs place width ≡ Some v
 unfolding field_at
 field_spelled xs rest place width v wide fits e =
-    let l : length xs - place ≡ width + length rest = sym (length-drop place xs) ∙ ap length e ∙ length-append (bits width v) rest ∙ omega (arith, length-bits width v) in
+    let l : length xs - place ≡ width + length rest =
+    sym (length-drop place xs) ∙ ap length e ∙ length-append (bits width v) rest
+    ∙ omega (arith, length-bits width v) in
     let enough : ltb (length xs) (place + width) ≡ false = le-ltb _ _ (omega arith) in
-    let t : take width (drop place xs) ≡ bits width v = ap (take width) e ∙ take_at (bits width v) rest width (length-bits width v) in
+    let t : take width (drop place xs) ≡ bits width v =
+    ap (take width) e ∙ take_at (bits width v) rest width (length-bits width v) in
     let m : v % 2 ^ width ≡ v = mod-eq_of_lt fits in
     rw (enough, t) (ap Some (number_of-bits width v ∙ m))
 
@@ -166,7 +179,8 @@ pub record Reads (xs : List ℕ) (place width v : ℕ) : Type 0 where
   pub text : drop place xs ≡ bits width v ++ drop (place + width) xs
 
 -- a field that is read stands at its place
-pub field_reads : (xs : List ℕ) (place width v : ℕ) → IsBits xs → field_at xs place width ≡ Some v → Reads xs place width v
+pub field_reads : (xs : List ℕ) (place width v : ℕ) → IsBits xs → field_at xs place width ≡ Some v
+    → Reads xs place width v
 unfolding field_at
 field_reads xs place width v h e = by_test (ltb (length xs) (place + width)) refl
   where
@@ -177,26 +191,38 @@ field_reads xs place width v h e = by_test (ltb (length xs) (place + width)) ref
     by_test true t = absurd (let f = rw t at e in cc)
     by_test false t =
         let within : place + width ≤ length xs = ltb-false _ _ t in
-        let l : length (take width (drop place xs)) ≡ width = omega (arith, length-take width (drop place xs), length-drop place xs) in
+        let l : length (take width (drop place xs)) ≡ width =
+        omega (arith, length-take width (drop place xs), length-drop place xs) in
         let f = rw t at e in
         let n : number_of (take width (drop place xs)) ≡ v = cc in
         let ok : IsBits (take width (drop place xs)) = IsBits-take width _ (IsBits-drop place xs h) in
-        let below : number_of (take width (drop place xs)) < 2 ^ length (take width (drop place xs)) = number_of-below _ ok in
-        let spelled : bits width v ≡ take width (drop place xs) = ap (λ (k : ℕ). bits k v) (sym l) ∙ ap (bits (length (take width (drop place xs)))) (sym n) ∙ bits-number_of _ ok in
+        let below : number_of (take width (drop place xs)) < 2 ^ length (take width (drop place xs)) =
+        number_of-below _ ok in
+        let spelled : bits width v ≡ take width (drop place xs) =
+        ap (λ (k : ℕ). bits k v) (sym l) ∙ ap (bits (length (take width (drop place xs)))) (sym n)
+        ∙ bits-number_of _ ok in
         record {
-          fits = subst (λ (k : ℕ). v < 2 ^ k) l (subst (λ (u : ℕ). u < 2 ^ length (take width (drop place xs))) n below);
+          fits =
+              subst (λ (k : ℕ). v < 2 ^ k) l
+              (subst (λ (u : ℕ). u < 2 ^ length (take width (drop place xs))) n below);
           within = within;
-          text = sym (take-append-drop width (drop place xs)) ∙ ap (λ (s : List ℕ). s ++ drop width (drop place xs)) (sym spelled) ∙ ap (λ (s : List ℕ). bits width v ++ s) (drop-drop width place xs);
+          text =
+              sym (take-append-drop width (drop place xs))
+              ∙ ap (λ (s : List ℕ). s ++ drop width (drop place xs)) (sym spelled)
+              ∙ ap (λ (s : List ℕ). bits width v ++ s) (drop-drop width place xs);
         }
 
 -- the bits from a byte on
-bits_of-drop : (bytes : List ℕ) (i : ℕ) → i < length bytes → drop (8 * i) (bits_of bytes) ≡ bits 8 (get_or bytes i 0) ++ bits_of (drop (suc i) bytes)
+bits_of-drop : (bytes : List ℕ) (i : ℕ) → i < length bytes
+    → drop (8 * i) (bits_of bytes) ≡ bits 8 (get_or bytes i 0) ++ bits_of (drop (suc i) bytes)
 unfolding bits_of
 bits_of-drop [] i h = absurd (omega arith)
 bits_of-drop (byte ∷ bytes) zero h = refl
 bits_of-drop (byte ∷ bytes) (suc i) h =
     let e : 8 * suc i ≡ 8 + 8 * i = omega arith in
-    rw e (sym (drop-drop (8 * i) 8 (bits 8 byte ++ flat_map (bits 8) bytes)) ∙ ap (drop (8 * i)) (drop_at (bits 8 byte) (flat_map (bits 8) bytes) 8 (length-bits 8 byte)) ∙ bits_of-drop bytes i (omega arith))
+    rw e (sym (drop-drop (8 * i) 8 (bits 8 byte ++ flat_map (bits 8) bytes))
+    ∙ ap (drop (8 * i)) (drop_at (bits 8 byte) (flat_map (bits 8) bytes) 8 (length-bits 8 byte))
+    ∙ bits_of-drop bytes i (omega arith))
 
 -- the same for whole bytes
 pub bits_of-drop_bytes : (bytes : List ℕ) (i : ℕ) → drop (8 * i) (bits_of bytes) ≡ bits_of (drop i bytes)
@@ -205,31 +231,45 @@ bits_of-drop_bytes bytes zero = refl
 bits_of-drop_bytes [] (suc i) = drop_all (8 * suc i) [] (omega arith)
 bits_of-drop_bytes (byte ∷ bytes) (suc i) =
     let e : 8 * suc i ≡ 8 + 8 * i = omega arith in
-    rw e (sym (drop-drop (8 * i) 8 (bits 8 byte ++ flat_map (bits 8) bytes)) ∙ ap (drop (8 * i)) (drop_at (bits 8 byte) (flat_map (bits 8) bytes) 8 (length-bits 8 byte)) ∙ bits_of-drop_bytes bytes i)
+    rw e (sym (drop-drop (8 * i) 8 (bits 8 byte ++ flat_map (bits 8) bytes))
+    ∙ ap (drop (8 * i)) (drop_at (bits 8 byte) (flat_map (bits 8) bytes) 8 (length-bits 8 byte))
+    ∙ bits_of-drop_bytes bytes i)
 
 -- a field of a window of sixteen bits
-in_window : (w s width r : ℕ) (more : List ℕ) → s + (width + r) ≡ 16 → drop s (bits 16 w ++ more) ≡ bits width (w / 2 ^ r % 2 ^ width) ++ (bits r w ++ more)
+in_window : (w s width r : ℕ) (more : List ℕ) → s + (width + r) ≡ 16
+    → drop s (bits 16 w ++ more) ≡ bits width (w / 2 ^ r % 2 ^ width) ++ (bits r w ++ more)
 in_window w s width r more e =
     let split : bits 16 w ≡ bits s (w / 2 ^ (width + r)) ++ (bits width (w / 2 ^ r % 2 ^ width) ++ bits r w) =
-    ap (λ (n : ℕ). bits n w) (sym e) ∙ bits-add s (width + r) w ∙ ap (λ (t : List ℕ). bits s (w / 2 ^ (width + r)) ++ t) (bits-add width r w ∙ ap (λ (t : List ℕ). t ++ bits r w) (sym (bits-mod width (w / 2 ^ r)))) in
+    ap (λ (n : ℕ). bits n w) (sym e) ∙ bits-add s (width + r) w
+    ∙ ap (λ (t : List ℕ). bits s (w / 2 ^ (width + r)) ++ t)
+    (bits-add width r w ∙ ap (λ (t : List ℕ). t ++ bits r w) (sym (bits-mod width (w / 2 ^ r)))) in
     ap (λ (t : List ℕ). drop s (t ++ more)) split
     ∙ ap (drop s) (append_assoc (bits s (w / 2 ^ (width + r))) (bits width (w / 2 ^ r % 2 ^ width) ++ bits r w) more)
-    ∙ drop_at (bits s (w / 2 ^ (width + r))) ((bits width (w / 2 ^ r % 2 ^ width) ++ bits r w) ++ more) s (length-bits s _)
+    ∙ drop_at (bits s (w / 2 ^ (width + r))) ((bits width (w / 2 ^ r % 2 ^ width) ++ bits r w) ++ more) s
+    (length-bits s _)
     ∙ append_assoc (bits width (w / 2 ^ r % 2 ^ width)) (bits r w) more
 
 -- two bytes that stand behind one another are a window
-window : (bytes : List ℕ) (i : ℕ) → suc i < length bytes → get_or bytes (suc i) 0 < 256 → drop (8 * i) (bits_of bytes) ≡ bits 16 (get_or bytes i 0 * 256 + get_or bytes (suc i) 0) ++ bits_of (drop (suc (suc i)) bytes)
+window : (bytes : List ℕ) (i : ℕ) → suc i < length bytes → get_or bytes (suc i) 0 < 256
+    → drop (8 * i) (bits_of bytes) ≡ bits 16 (get_or bytes i 0 * 256 + get_or bytes (suc i) 0)
+    ++ bits_of (drop (suc (suc i)) bytes)
 window bytes i h small =
     let first = bits_of-drop bytes i (omega arith) in
-    let second : bits_of (drop (suc i) bytes) ≡ bits 8 (get_or bytes (suc i) 0) ++ bits_of (drop (suc (suc i)) bytes) = sym (bits_of-drop_bytes bytes (suc i)) ∙ bits_of-drop bytes (suc i) h in
+    let second : bits_of (drop (suc i) bytes) ≡ bits 8 (get_or bytes (suc i) 0)
+    ++ bits_of (drop (suc (suc i)) bytes) =
+    sym (bits_of-drop_bytes bytes (suc i)) ∙ bits_of-drop bytes (suc i) h in
     let joined = bits-join 8 8 (get_or bytes i 0) (get_or bytes (suc i) 0) small in
     first ∙ ap (λ (t : List ℕ). bits 8 (get_or bytes i 0) ++ t) second
-    ∙ sym (append_assoc (bits 8 (get_or bytes i 0)) (bits 8 (get_or bytes (suc i) 0)) (bits_of (drop (suc (suc i)) bytes)))
+    ∙ sym (append_assoc (bits 8 (get_or bytes i 0)) (bits 8 (get_or bytes (suc i) 0))
+    (bits_of (drop (suc (suc i)) bytes)))
     ∙ ap (λ (t : List ℕ). t ++ bits_of (drop (suc (suc i)) bytes)) (sym joined)
 
 -- a field of bytes, of which one more follows, by the two bytes at its place
-in_two : (bytes : List ℕ) (place width : ℕ) → 1 ≤ width → width ≤ 8 → suc (place / 8) < length bytes → get_or bytes (suc (place / 8)) 0 < 256 →
-    field_at (bits_of bytes) place width ≡ Some ((get_or bytes (place / 8) 0 * 256 + get_or bytes (suc (place / 8)) 0) / 2 ^ (16 - place % 8 - width) % 2 ^ width)
+in_two : (bytes : List ℕ) (place width : ℕ) → 1 ≤ width → width ≤ 8 → suc (place / 8) < length bytes
+    → get_or bytes (suc (place / 8)) 0 < 256 →
+    field_at (bits_of bytes) place width
+    ≡ Some ((get_or bytes (place / 8) 0 * 256 + get_or bytes (suc (place / 8)) 0) / 2 ^ (16 - place % 8 - width) %
+    2 ^ width)
 in_two bytes place width wide narrow inside small =
     let w = get_or bytes (place / 8) 0 * 256 + get_or bytes (suc (place / 8)) 0 in
     let r = 16 - place % 8 - width in
@@ -237,17 +277,22 @@ in_two bytes place width wide narrow inside small =
     let e : 8 * (place / 8) + place % 8 ≡ place = omega arith in
     let s : place % 8 + (width + r) ≡ 16 = omega arith in
     let at : drop place (bits_of bytes) ≡ bits width (w / 2 ^ r % 2 ^ width) ++ (bits r w ++ more) =
-    ap (λ (n : ℕ). drop n (bits_of bytes)) (sym e) ∙ sym (drop-drop (place % 8) (8 * (place / 8)) (bits_of bytes)) ∙ ap (drop (place % 8)) (window bytes (place / 8) inside small) ∙ in_window w (place % 8) width r more s in
-    field_spelled (bits_of bytes) (bits r w ++ more) place width (w / 2 ^ r % 2 ^ width) (omega arith) (mod_below _ _ (pow_pos width)) at
+    ap (λ (n : ℕ). drop n (bits_of bytes)) (sym e)
+    ∙ sym (drop-drop (place % 8) (8 * (place / 8)) (bits_of bytes))
+    ∙ ap (drop (place % 8)) (window bytes (place / 8) inside small) ∙ in_window w (place % 8) width r more s in
+    field_spelled (bits_of bytes) (bits r w ++ more) place width (w / 2 ^ r % 2 ^ width) (omega arith)
+    (mod_below _ _ (pow_pos width)) at
 
 -- a field does not see what follows the bytes
-field_before : (xs ys : List ℕ) (place width : ℕ) → place + width ≤ length xs → field_at (xs ++ ys) place width ≡ field_at xs place width
+field_before : (xs ys : List ℕ) (place width : ℕ) → place + width ≤ length xs
+    → field_at (xs ++ ys) place width ≡ field_at xs place width
 unfolding field_at
 field_before xs ys place width h =
     let a : ltb (length xs) (place + width) ≡ false = le-ltb _ _ h in
     let b : ltb (length (xs ++ ys)) (place + width) ≡ false = le-ltb _ _ (omega (arith, length-append xs ys)) in
     let d : drop place (xs ++ ys) ≡ drop place xs ++ ys = drop-append-le place xs ys (omega arith) in
-    let t : take width (drop place xs ++ ys) ≡ take width (drop place xs) = take-append-le width (drop place xs) ys (omega (arith, length-drop place xs)) in
+    let t : take width (drop place xs ++ ys) ≡ take width (drop place xs) =
+    take-append-le width (drop place xs) ys (omega (arith, length-drop place xs)) in
     rw (a, b, d, t) refl
 
 get_or-left : (xs : List ℕ) (i : ℕ) → get_or (xs ++ 0 ∷ []) i 0 ≡ get_or xs i 0
@@ -257,8 +302,11 @@ get_or-left (x ∷ xs) zero = refl
 get_or-left (x ∷ xs) (suc i) = get_or-left xs i
 
 -- a field by the byte at its place and the byte behind it, or 0 at the end
-pub field_is : (bytes : List ℕ) (place width : ℕ) → 1 ≤ width → width ≤ 8 → place + width ≤ 8 * length bytes → get_or bytes (place / 8 + 1) 0 < 256 →
-    field_at (bits_of bytes) place width ≡ Some ((get_or bytes (place / 8) 0 * 256 + get_or bytes (place / 8 + 1) 0) / 2 ^ (16 - place % 8 - width) % 2 ^ width)
+pub field_is : (bytes : List ℕ) (place width : ℕ) → 1 ≤ width → width ≤ 8
+    → place + width ≤ 8 * length bytes → get_or bytes (place / 8 + 1) 0 < 256 →
+    field_at (bits_of bytes) place width
+    ≡ Some ((get_or bytes (place / 8) 0 * 256 + get_or bytes (place / 8 + 1) 0) / 2 ^ (16 - place % 8 - width) % 2
+    ^ width)
 field_is bytes place width wide narrow inside small =
     let next : place / 8 + 1 ≡ suc (place / 8) = omega arith in
     let small' = rw next at small in
@@ -269,5 +317,6 @@ field_is bytes place width wide narrow inside small =
     let whole = in_two (bytes ++ 0 ∷ []) place width wide narrow longer less in
     let room : place + width ≤ length (bits_of bytes) = omega (arith, length-bits_of bytes) in
     let front : field_at (bits_of (bytes ++ 0 ∷ [])) place width ≡ field_at (bits_of bytes) place width =
-    ap (λ (t : List ℕ). field_at t place width) (bits_of-append bytes (0 ∷ [])) ∙ field_before (bits_of bytes) (bits_of (0 ∷ [])) place width room in
+    ap (λ (t : List ℕ). field_at t place width) (bits_of-append bytes (0 ∷ []))
+    ∙ field_before (bits_of bytes) (bits_of (0 ∷ [])) place width room in
     rw next (sym front ∙ (rw (one, two) at whole))

@@ -17,7 +17,8 @@ use Rattle.pixel_codes.specs.declared.token.Token.TheVariants.{Pixels, End}
 use Rattle.pixel_codes.specs.Private.Parts.{head_of}
 use Rattle.pixel_codes.specs.Private.Reading.{token_at}
 use Rattle.pixel_codes.proofs.Bits.{IsBits-bits_of}
-use Rattle.pixel_codes.proofs.Tokens.{StandsAt, token_reads}
+use Rattle.pixel_codes.proofs.Tokens.{StandsAt}
+use Rattle.pixel_codes.proofs.NarrowTokens.{token_reads}
 use Rattle.pixel_codes.proofs.Strings.{Reached, reached_none, reached_more, string_found, no_string, read_further}
 use Rattle.pixel_codes.proofs.Parts.{Begins, begins}
 
@@ -25,21 +26,25 @@ use Rattle.pixel_codes.proofs.Parts.{Begins, begins}
 
 -- the bytes begin with a string of a depth
 abbrev HasString : Depth → List ℕ → Type 0
-HasString depth body = (size : ℕ) × (size ≤ length body) × (codes : List Code) × IsString depth codes (take size body)
+HasString depth body =
+    (size : ℕ) × (size ≤ length body) × (codes : List Code) × IsString depth codes (take size body)
 
 -- no front of the bytes is one
 abbrev HasNone : Depth → List ℕ → Type 0
 HasNone depth body =
-    (codes : List Code) (front : List ℕ) (rest : List ℕ) → body ≡ front ++ rest → IsString depth codes front → ⊥
+    (codes : List Code) (front : List ℕ) (rest : List ℕ) → body ≡ front ++ rest
+    → IsString depth codes front → ⊥
 
 -- how a walk over the bytes of a string ends
 abbrev Walks : Depth → List ℕ → Type 0
 Walks depth body = HasString depth body ⊎ HasNone depth body
 
 -- a walk that has reached a place goes on behind the code there
-at_token : (depth : Depth) (body : List ℕ) (place : ℕ) (token : Token) (next : ℕ) → Reached depth (bits_of body) place
+at_token : (depth : Depth) (body : List ℕ) (place : ℕ) (token : Token) (next : ℕ)
+    → Reached depth (bits_of body) place
     → StandsAt depth (bits_of body) place token next
-    → ((next : ℕ) → place < next → next ≤ 8 * length body → Reached depth (bits_of body) next → Walks depth body)
+    → ((next : ℕ) → place < next → next ≤ 8 * length body → Reached depth (bits_of body) next
+    → Walks depth body)
     → Walks depth body
 at_token depth body place End next reached stands further =
     let found = string_found depth body place next reached stands in
@@ -50,7 +55,8 @@ at_token depth body place (Pixels count colour) next reached stands further =
 
 at_place : (depth : Depth) (body : List ℕ) (place : ℕ) (found : Option (Token × ℕ))
     → token_at depth (bits_of body) place ≡ found → Reached depth (bits_of body) place
-    → ((next : ℕ) → place < next → next ≤ 8 * length body → Reached depth (bits_of body) next → Walks depth body)
+    → ((next : ℕ) → place < next → next ≤ 8 * length body → Reached depth (bits_of body) next
+    → Walks depth body)
     → Walks depth body
 at_place depth body place None is reached further = inr (no_string depth body place reached is)
 at_place depth body place (Some found) is reached further =
@@ -199,5 +205,6 @@ block_within region (suc most) (first ∷ body) few =
 
 -- all bytes are a block or have a fault
 pub parts_or_fault : (region : Depth) (bytes : List ℕ)
-    → ((parts : List Part) × AreParts region parts bytes) ⊎ ((fault : CodeFault) × IsBlockFault region bytes fault)
+    → ((parts : List Part) × AreParts region parts bytes)
+    ⊎ ((fault : CodeFault) × IsBlockFault region bytes fault)
 parts_or_fault region bytes = block_within region (length bytes) bytes (omega arith)

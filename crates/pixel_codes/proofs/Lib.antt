@@ -1,11 +1,13 @@
 pub mod Bits
 pub mod Table
 pub mod First
+pub mod DeepFirst
 pub mod Chosen
 pub mod Writing
 pub mod Rows
 pub mod RowStrings
 pub mod Tokens
+pub mod NarrowTokens
 pub mod Strings
 pub mod Parts
 pub mod Walk

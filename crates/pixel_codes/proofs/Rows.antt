@@ -13,35 +13,44 @@ use Rattle.pixel_codes.specs.Private.Least.{first_code, chosen_within, chosen}
 use Rattle.pixel_codes.specs.Private.Rows.{span_of, extended, runs_of, codes_of}
 use Rattle.pixel_codes.specs.Private.Spelling.{width_of, value_of}
 use Rattle.pixel_codes.proofs.Bits.{bits-join}
-use Rattle.pixel_codes.proofs.First.{first_is}
+use Rattle.pixel_codes.proofs.DeepFirst.{first_is}
 
 -- ---- the bits of a code as a number
 
-code_text : (h form w field v code : ℕ) → field < 2 ^ w → code < 2 ^ v → bits (h + w + v) ((form * 2 ^ w + field) * 2 ^ v + code) ≡ bits h form ++ (bits w field ++ bits v code)
+code_text : (h form w field v code : ℕ) → field < 2 ^ w → code < 2 ^ v
+    → bits (h + w + v) ((form * 2 ^ w + field) * 2 ^ v + code) ≡ bits h form ++ (bits w field ++ bits v code)
 code_text h form w field v code k l =
-    bits-join (h + w) v (form * 2 ^ w + field) code l ∙ ap (λ (t : List ℕ). t ++ bits v code) (bits-join h w form field k) ∙ append_assoc (bits h form) (bits w field) (bits v code)
+    bits-join (h + w) v (form * 2 ^ w + field) code l
+    ∙ ap (λ (t : List ℕ). t ++ bits v code) (bits-join h w form field k)
+    ∙ append_assoc (bits h form) (bits w field) (bits v code)
 
-pub bits-value : (depth : Depth) (code : Code) → IsCode depth code → bits (width_of depth code) (value_of depth code) ≡ spelled depth code
+pub bits-value : (depth : Depth) (code : Code) → IsCode depth code
+    → bits (width_of depth code) (value_of depth code) ≡ spelled depth code
 unfolding spelled
 bits-value Two (pixel code) h = refl
 bits-value Two one_zero h = bits-join 2 2 0 1 (omega arith)
-bits-value Two two_zeros h = bits-join 2 4 0 1 (omega arith) ∙ ap (λ (t : List ℕ). bits 2 0 ++ t) (bits-join 2 2 0 1 (omega arith))
+bits-value Two two_zeros h =
+    bits-join 2 4 0 1 (omega arith) ∙ ap (λ (t : List ℕ). bits 2 0 ++ t) (bits-join 2 2 0 1 (omega arith))
 bits-value Two (zeros field) h = absurd h
 bits-value Two (short_run field code) h =
     let e : (1 * 2 ^ 3 + field) * 2 ^ 2 + code ≡ 32 + 4 * field + code = omega arith in
-    ap (bits 8) (sym e) ∙ code_text 3 1 3 field 2 code h.0 h.1 ∙ ap (λ (t : List ℕ). t ++ (bits 3 field ++ bits 2 code)) front ∙ append_assoc (bits 2 0) (bits 1 1) (bits 3 field ++ bits 2 code)
+    ap (bits 8) (sym e) ∙ code_text 3 1 3 field 2 code h.0 h.1
+    ∙ ap (λ (t : List ℕ). t ++ (bits 3 field ++ bits 2 code)) front
+    ∙ append_assoc (bits 2 0) (bits 1 1) (bits 3 field ++ bits 2 code)
   where
     front : bits 3 1 ≡ bits 2 0 ++ bits 1 1
     front = bits-join 2 1 0 1 (omega arith)
 bits-value Two (middle_run field code) h =
     let e : (2 * 2 ^ 4 + field) * 2 ^ 2 + code ≡ 128 + 4 * field + code = omega arith in
-    ap (bits 12) (sym e) ∙ code_text 6 2 4 field 2 code h.0 h.1 ∙ ap (λ (t : List ℕ). t ++ (bits 4 field ++ bits 2 code)) front ∙ simp append_assoc
+    ap (bits 12) (sym e) ∙ code_text 6 2 4 field 2 code h.0 h.1
+    ∙ ap (λ (t : List ℕ). t ++ (bits 4 field ++ bits 2 code)) front ∙ simp append_assoc
   where
     front : bits 6 2 ≡ bits 2 0 ++ (bits 2 0 ++ bits 2 2)
     front = bits-join 2 4 0 2 (omega arith) ∙ ap (λ (t : List ℕ). bits 2 0 ++ t) (bits-join 2 2 0 2 (omega arith))
 bits-value Two (long_run field code) h =
     let e : (3 * 2 ^ 8 + field) * 2 ^ 2 + code ≡ 3072 + 4 * field + code = omega arith in
-    ap (bits 16) (sym e) ∙ code_text 6 3 8 field 2 code h.0 h.1 ∙ ap (λ (t : List ℕ). t ++ (bits 8 field ++ bits 2 code)) front ∙ simp append_assoc
+    ap (bits 16) (sym e) ∙ code_text 6 3 8 field 2 code h.0 h.1
+    ∙ ap (λ (t : List ℕ). t ++ (bits 8 field ++ bits 2 code)) front ∙ simp append_assoc
   where
     front : bits 6 3 ≡ bits 2 0 ++ (bits 2 0 ++ bits 2 3)
     front = bits-join 2 4 0 3 (omega arith) ∙ ap (λ (t : List ℕ). bits 2 0 ++ t) (bits-join 2 2 0 3 (omega arith))
@@ -50,25 +59,32 @@ bits-value Four one_zero h = bits-join 4 4 0 12 (omega arith)
 bits-value Four two_zeros h = bits-join 4 4 0 13 (omega arith)
 bits-value Four (zeros field) h =
     let e : 0 * 2 ^ 3 + field ≡ field = omega arith in
-    ap (bits 8) (sym e) ∙ bits-join 5 3 0 field h.1 ∙ ap (λ (t : List ℕ). t ++ bits 3 field) front ∙ append_assoc (bits 4 0) (bits 1 0) (bits 3 field)
+    ap (bits 8) (sym e) ∙ bits-join 5 3 0 field h.1 ∙ ap (λ (t : List ℕ). t ++ bits 3 field) front
+    ∙ append_assoc (bits 4 0) (bits 1 0) (bits 3 field)
   where
     front : bits 5 0 ≡ bits 4 0 ++ bits 1 0
     front = bits-join 4 1 0 0 (omega arith)
 bits-value Four (short_run field code) h =
     let e : (2 * 2 ^ 2 + field) * 2 ^ 4 + code ≡ 128 + 16 * field + code = omega arith in
-    ap (bits 12) (sym e) ∙ code_text 6 2 2 field 4 code h.0 h.1 ∙ ap (λ (t : List ℕ). t ++ (bits 2 field ++ bits 4 code)) front ∙ append_assoc (bits 4 0) (bits 2 2) (bits 2 field ++ bits 4 code)
+    ap (bits 12) (sym e) ∙ code_text 6 2 2 field 4 code h.0 h.1
+    ∙ ap (λ (t : List ℕ). t ++ (bits 2 field ++ bits 4 code)) front
+    ∙ append_assoc (bits 4 0) (bits 2 2) (bits 2 field ++ bits 4 code)
   where
     front : bits 6 2 ≡ bits 4 0 ++ bits 2 2
     front = bits-join 4 2 0 2 (omega arith)
 bits-value Four (middle_run field code) h =
     let e : (14 * 2 ^ 4 + field) * 2 ^ 4 + code ≡ 3584 + 16 * field + code = omega arith in
-    ap (bits 16) (sym e) ∙ code_text 8 14 4 field 4 code h.0 h.1 ∙ ap (λ (t : List ℕ). t ++ (bits 4 field ++ bits 4 code)) front ∙ append_assoc (bits 4 0) (bits 4 14) (bits 4 field ++ bits 4 code)
+    ap (bits 16) (sym e) ∙ code_text 8 14 4 field 4 code h.0 h.1
+    ∙ ap (λ (t : List ℕ). t ++ (bits 4 field ++ bits 4 code)) front
+    ∙ append_assoc (bits 4 0) (bits 4 14) (bits 4 field ++ bits 4 code)
   where
     front : bits 8 14 ≡ bits 4 0 ++ bits 4 14
     front = bits-join 4 4 0 14 (omega arith)
 bits-value Four (long_run field code) h =
     let e : (15 * 2 ^ 8 + field) * 2 ^ 4 + code ≡ 61440 + 16 * field + code = omega arith in
-    ap (bits 20) (sym e) ∙ code_text 8 15 8 field 4 code h.0 h.1 ∙ ap (λ (t : List ℕ). t ++ (bits 8 field ++ bits 4 code)) front ∙ append_assoc (bits 4 0) (bits 4 15) (bits 8 field ++ bits 4 code)
+    ap (bits 20) (sym e) ∙ code_text 8 15 8 field 4 code h.0 h.1
+    ∙ ap (λ (t : List ℕ). t ++ (bits 8 field ++ bits 4 code)) front
+    ∙ append_assoc (bits 4 0) (bits 4 15) (bits 8 field ++ bits 4 code)
   where
     front : bits 8 15 ≡ bits 4 0 ++ bits 4 15
     front = bits-join 4 4 0 15 (omega arith)
@@ -77,13 +93,16 @@ bits-value Eight one_zero h = absurd h
 bits-value Eight two_zeros h = absurd h
 bits-value Eight (zeros field) h =
     let e : 0 * 2 ^ 7 + field ≡ field = omega arith in
-    ap (bits 16) (sym e) ∙ bits-join 9 7 0 field h.1 ∙ ap (λ (t : List ℕ). t ++ bits 7 field) front ∙ append_assoc (bits 8 0) (bits 1 0) (bits 7 field)
+    ap (bits 16) (sym e) ∙ bits-join 9 7 0 field h.1 ∙ ap (λ (t : List ℕ). t ++ bits 7 field) front
+    ∙ append_assoc (bits 8 0) (bits 1 0) (bits 7 field)
   where
     front : bits 9 0 ≡ bits 8 0 ++ bits 1 0
     front = bits-join 8 1 0 0 (omega arith)
 bits-value Eight (short_run field code) h =
     let e : (1 * 2 ^ 7 + field) * 2 ^ 8 + code ≡ 32768 + 256 * field + code = omega arith in
-    ap (bits 24) (sym e) ∙ code_text 9 1 7 field 8 code h.0 h.1 ∙ ap (λ (t : List ℕ). t ++ (bits 7 field ++ bits 8 code)) front ∙ append_assoc (bits 8 0) (bits 1 1) (bits 7 field ++ bits 8 code)
+    ap (bits 24) (sym e) ∙ code_text 9 1 7 field 8 code h.0 h.1
+    ∙ ap (λ (t : List ℕ). t ++ (bits 7 field ++ bits 8 code)) front
+    ∙ append_assoc (bits 8 0) (bits 1 1) (bits 7 field ++ bits 8 code)
   where
     front : bits 9 1 ≡ bits 8 0 ++ bits 1 1
     front = bits-join 8 1 0 1 (omega arith)
@@ -104,7 +123,8 @@ eight_ending = bits-join 8 8 0 0 (omega arith)
 
 -- ---- the codes of a run, one after another
 
-enough : (steps more : ℕ) (depth : Depth) (code count : ℕ) → code < code_count depth → count ≤ steps → count ≤ more → chosen_within steps depth code count ≡ chosen_within more depth code count
+enough : (steps more : ℕ) (depth : Depth) (code count : ℕ) → code < code_count depth → count ≤ steps
+    → count ≤ more → chosen_within steps depth code count ≡ chosen_within more depth code count
 unfolding chosen_within
 enough zero zero depth code count k h l = refl
 enough zero (suc more) depth code zero k h l = refl
@@ -114,14 +134,20 @@ enough (suc steps) zero depth code (suc count) k h l = absurd (omega arith)
 enough (suc steps) (suc more) depth code zero k h l = refl
 enough (suc steps) (suc more) depth code (suc count) k h l =
     let f = first_is depth code (suc count) (omega arith) k in
-    ap (λ (t : List Code). first_code depth code (suc count) ∷ t) (enough steps more depth code (suc count - pixel_count depth (first_code depth code (suc count))) k (omega (arith, f.some)) (omega (arith, f.some)))
+    ap (λ (t : List Code). first_code depth code (suc count) ∷ t)
+    (enough steps more depth code (suc count - pixel_count depth (first_code depth code (suc count))) k
+    (omega (arith, f.some)) (omega (arith, f.some)))
 
-pub chosen_step : (depth : Depth) (code count : ℕ) → code < code_count depth → 1 ≤ count → chosen depth code count ≡ first_code depth code count ∷ chosen depth code (count - pixel_count depth (first_code depth code count))
+pub chosen_step : (depth : Depth) (code count : ℕ) → code < code_count depth → 1 ≤ count
+    → chosen depth code count ≡ first_code depth code count
+    ∷ chosen depth code (count - pixel_count depth (first_code depth code count))
 unfolding chosen_within
 chosen_step depth code zero k h = absurd (omega arith)
 chosen_step depth code (suc count) k h =
     let f = first_is depth code (suc count) (omega arith) k in
-    ap (λ (t : List Code). first_code depth code (suc count) ∷ t) (enough count (suc count - pixel_count depth (first_code depth code (suc count))) depth code (suc count - pixel_count depth (first_code depth code (suc count))) k (omega (arith, f.some)) (omega arith))
+    ap (λ (t : List Code). first_code depth code (suc count) ∷ t)
+    (enough count (suc count - pixel_count depth (first_code depth code (suc count))) depth code
+    (suc count - pixel_count depth (first_code depth code (suc count))) k (omega (arith, f.some)) (omega arith))
 
 pub chosen_none : (depth : Depth) (code : ℕ) → chosen depth code 0 ≡ []
 unfolding chosen_within
@@ -144,30 +170,38 @@ front-le c (x ∷ xs) = by (eqb x c) (front-le c xs)
 pub taken_front : (c : ℕ) (xs : List ℕ) → length (take_while (λ x. eqb x c) xs) ≡ front c xs
 taken_front c xs = omega (arith, length-take (front c xs) xs, front-le c xs)
 
-front_by : (c x : ℕ) (xs : List ℕ) (b : Bool) → eqb x c ≡ b → runs_of (c ∷ xs) ≡ span_of (suc (front c xs)) c ∷ runs_of (drop (front c xs) xs) → runs_of (x ∷ xs) ≡ span_of (suc (front x xs)) x ∷ runs_of (drop (front x xs) xs) →
+front_by : (c x : ℕ) (xs : List ℕ) (b : Bool) → eqb x c ≡ b
+    → runs_of (c ∷ xs) ≡ span_of (suc (front c xs)) c ∷ runs_of (drop (front c xs) xs)
+    → runs_of (x ∷ xs) ≡ span_of (suc (front x xs)) x ∷ runs_of (drop (front x xs) xs) →
     runs_of (c ∷ x ∷ xs) ≡ span_of (suc (front c (x ∷ xs))) c ∷ runs_of (drop (front c (x ∷ xs)) (x ∷ xs))
 unfolding runs_of
 front_by c x xs true e h k =
     let same : x ≡ c = eqb-true x c e in
     let here : eqb c c ≡ true = eq-eqb c c refl in
     let n : suc (front c xs) + 1 ≡ suc (suc (front c xs)) = omega arith in
-    let left : runs_of (c ∷ x ∷ xs) ≡ extended c (span_of (suc (front c xs)) c ∷ runs_of (drop (front c xs) xs)) = ap (extended c) (ap (λ (y : ℕ). runs_of (y ∷ xs)) same ∙ h) in
+    let left : runs_of (c ∷ x ∷ xs)
+    ≡ extended c (span_of (suc (front c xs)) c ∷ runs_of (drop (front c xs) xs)) = ap (extended c)
+    (ap (λ (y : ℕ). runs_of (y ∷ xs)) same ∙ h) in
     let m : 1 + front c xs ≡ suc (front c xs) = omega arith in
     left ∙ rw (here, e, m, n) refl
 front_by c x xs false e h k =
     let other : eqb c x ≡ false = ne_eqb c x (λ f. eqb-false x c e (sym f)) in
-    let left : runs_of (c ∷ x ∷ xs) ≡ extended c (span_of (suc (front x xs)) x ∷ runs_of (drop (front x xs) xs)) = ap (extended c) k in
+    let left : runs_of (c ∷ x ∷ xs)
+    ≡ extended c (span_of (suc (front x xs)) x ∷ runs_of (drop (front x xs) xs)) = ap (extended c) k in
     left ∙ rw (other, e) (ap (λ (t : List Span). span_of 1 c ∷ t) (sym k))
 
 -- the run at the front
-front_run : (c : ℕ) (xs : List ℕ) → runs_of (c ∷ xs) ≡ span_of (suc (front c xs)) c ∷ runs_of (drop (front c xs) xs)
+front_run : (c : ℕ) (xs : List ℕ)
+    → runs_of (c ∷ xs) ≡ span_of (suc (front c xs)) c ∷ runs_of (drop (front c xs) xs)
 unfolding runs_of
 front_run c [] = refl
 front_run c (x ∷ xs) = front_by c x xs (eqb x c) refl (front_run c xs) (front_run x xs)
 
 -- the run at a place of a row
-pub next_run : (row : List ℕ) (place count : ℕ) → place < length row → count ≡ front (get_or row place 0) (drop place row) →
-    (1 ≤ count) × (place + count ≤ length row) × (runs_of (drop place row) ≡ span_of count (get_or row place 0) ∷ runs_of (drop (place + count) row))
+pub next_run : (row : List ℕ) (place count : ℕ) → place < length row
+    → count ≡ front (get_or row place 0) (drop place row) →
+    (1 ≤ count) × (place + count ≤ length row)
+    × (runs_of (drop place row) ≡ span_of count (get_or row place 0) ∷ runs_of (drop (place + count) row))
 unfolding runs_of
 next_run row place count h e =
     let c = get_or row place 0 in
@@ -176,12 +210,19 @@ next_run row place count h e =
     let same : eqb c c ≡ true = eq-eqb c c refl in
     let n : count ≡ suc (front c xs) = e ∙ ap (front c) at ∙ rw same (omega arith) in
     let short : front c xs ≤ length xs = front-le c xs in
-    let on : place + count ≡ place + 1 + front c xs = omega (arith, n) in
-    (omega (arith, n), omega (arith, n, short, length-drop (place + 1) row), ap runs_of at ∙ front_run c xs ∙ ap (λ (k : ℕ). span_of k c ∷ runs_of (drop (front c xs) xs)) (sym n) ∙ ap (λ (t : List ℕ). span_of count c ∷ runs_of t) (drop-drop (front c xs) (place + 1) row ∙ ap (λ (k : ℕ). drop k row) (sym on)))
+    let on : place + count ≡ place + 1 + front c xs = omega (arith, n) in (
+      omega (arith, n),
+      omega (arith, n, short, length-drop (place + 1) row),
+      ap runs_of at ∙ front_run c xs
+          ∙ ap (λ (k : ℕ). span_of k c ∷ runs_of (drop (front c xs) xs)) (sym n)
+          ∙ ap (λ (t : List ℕ). span_of count c ∷ runs_of t)
+          (drop-drop (front c xs) (place + 1) row ∙ ap (λ (k : ℕ). drop k row) (sym on)),
+    )
 
 -- ---- the codes of a row
 
-pub codes_of-cons : (depth : Depth) (span : Span) (spans : List Span) → codes_of depth (span ∷ spans) ≡ chosen depth span.code span.count ++ codes_of depth spans
+pub codes_of-cons : (depth : Depth) (span : Span) (spans : List Span)
+    → codes_of depth (span ∷ spans) ≡ chosen depth span.code span.count ++ codes_of depth spans
 unfolding codes_of
 codes_of-cons depth span spans = refl
 
@@ -192,15 +233,20 @@ codes_of-nil depth = refl
 -- ---- what the writer puts
 
 -- one code of a run
-pub one_code : (depth : Depth) (code left width value pixels : ℕ) (before after whole : List ℕ) → code < code_count depth → 1 ≤ left →
-    value ≡ value_of depth (first_code depth code left) → width ≡ width_of depth (first_code depth code left) → pixels ≡ pixel_count depth (first_code depth code left) →
-    after ≡ before ++ bits width value → before ++ flat_map (spelled depth) (chosen depth code left) ≡ whole → after ++ flat_map (spelled depth) (chosen depth code (left - pixels)) ≡ whole
+pub one_code : (depth : Depth) (code left width value pixels : ℕ) (before after whole : List ℕ)
+    → code < code_count depth → 1 ≤ left →
+    value ≡ value_of depth (first_code depth code left) → width ≡ width_of depth (first_code depth code left)
+    → pixels ≡ pixel_count depth (first_code depth code left) →
+    after ≡ before ++ bits width value → before ++ flat_map (spelled depth) (chosen depth code left) ≡ whole
+    → after ++ flat_map (spelled depth) (chosen depth code (left - pixels)) ≡ whole
 one_code depth code left width value pixels before after whole k h v w p e t =
     let first = first_code depth code left in
     let f = first_is depth code left h k in
-    let text : bits width value ≡ spelled depth first = ap (λ (n : ℕ). bits n value) w ∙ ap (bits (width_of depth first)) v ∙ bits-value depth first f.is_code in
+    let text : bits width value ≡ spelled depth first =
+    ap (λ (n : ℕ). bits n value) w ∙ ap (bits (width_of depth first)) v ∙ bits-value depth first f.is_code in
     let rest = flat_map (spelled depth) (chosen depth code (left - pixel_count depth first)) in
-    let on : flat_map (spelled depth) (chosen depth code (left - pixels)) ≡ rest = ap (λ (n : ℕ). flat_map (spelled depth) (chosen depth code (left - n))) p in
+    let on : flat_map (spelled depth) (chosen depth code (left - pixels)) ≡ rest =
+    ap (λ (n : ℕ). flat_map (spelled depth) (chosen depth code (left - n))) p in
     ap (λ (s : List ℕ). after ++ s) on
     ∙ ap (λ (s : List ℕ). s ++ rest) (e ∙ ap (λ (s : List ℕ). before ++ s) text)
     ∙ append_assoc before (spelled depth first) rest
@@ -208,36 +254,60 @@ one_code depth code left width value pixels before after whole k h v w p e t =
     ∙ t
 
 -- at the end of a run
-pub no_code : (depth : Depth) (code left : ℕ) (before whole : List ℕ) → left ≤ 0 → before ++ flat_map (spelled depth) (chosen depth code left) ≡ whole → before ≡ whole
+pub no_code : (depth : Depth) (code left : ℕ) (before whole : List ℕ) → left ≤ 0
+    → before ++ flat_map (spelled depth) (chosen depth code left) ≡ whole → before ≡ whole
 no_code depth code left before whole h t =
     let z : left ≡ 0 = omega arith in
-    sym (append-nil before) ∙ ap (λ (s : List Code). before ++ flat_map (spelled depth) s) (sym (ap (chosen depth code) z ∙ chosen_none depth code)) ∙ t
+    sym (append-nil before)
+    ∙ ap (λ (s : List Code). before ++ flat_map (spelled depth) s)
+    (sym (ap (chosen depth code) z ∙ chosen_none depth code)) ∙ t
 
 -- one run of a row
-pub one_run : (depth : Depth) (row : List ℕ) (place count : ℕ) (before after whole : List ℕ) → place < length row → count ≡ length (take_while (λ x. eqb x (get_or (take (length row - place) (drop place row)) 0 0)) (take (length row - place) (drop place row))) →
-    after ≡ before ++ flat_map (spelled depth) (chosen depth (get_or row place 0) count) → before ++ flat_map (spelled depth) (codes_of depth (runs_of (drop place row))) ≡ whole →
-    (1 ≤ count) × (place + count ≤ length row) × (after ++ flat_map (spelled depth) (codes_of depth (runs_of (drop (place + count) row))) ≡ whole)
+pub one_run : (depth : Depth) (row : List ℕ) (place count : ℕ) (before after whole : List ℕ)
+    → place < length row
+    → count ≡ length
+    (take_while (λ x. eqb x (get_or (take (length row - place) (drop place row)) 0 0))
+    (take (length row - place) (drop place row))) →
+    after ≡ before ++ flat_map (spelled depth) (chosen depth (get_or row place 0) count)
+    → before ++ flat_map (spelled depth) (codes_of depth (runs_of (drop place row))) ≡ whole →
+    (1 ≤ count) × (place + count ≤ length row)
+    × (after ++ flat_map (spelled depth) (codes_of depth (runs_of (drop (place + count) row))) ≡ whole)
 one_run depth row place count before after whole h n e t =
     let c = get_or row place 0 in
     let cut : take (length row - place) (drop place row) ≡ drop place row = take_rest row place in
     let same : get_or (drop place row) 0 0 ≡ c = ap (λ (s : List ℕ). get_or s 0 0) (drop_more row place 0 h) in
-    let m : count ≡ front c (drop place row) = n ∙ ap (λ (s : List ℕ). length (take_while (λ x. eqb x (get_or s 0 0)) s)) cut ∙ ap (λ (y : ℕ). length (take_while (λ x. eqb x y) (drop place row))) same ∙ taken_front c (drop place row) in
+    let m : count ≡ front c (drop place row) =
+    n ∙ ap (λ (s : List ℕ). length (take_while (λ x. eqb x (get_or s 0 0)) s)) cut
+    ∙ ap (λ (y : ℕ). length (take_while (λ x. eqb x y) (drop place row))) same
+    ∙ taken_front c (drop place row) in
     let r = next_run row place count h m in
     let rest = codes_of depth (runs_of (drop (place + count) row)) in (
       r.0,
       r.1,
       ap (λ (s : List ℕ). s ++ flat_map (spelled depth) rest) e
           ∙ append_assoc before (flat_map (spelled depth) (chosen depth c count)) (flat_map (spelled depth) rest)
-          ∙ ap (λ (s : List ℕ). before ++ s) (sym (flat_map-append (spelled depth) (chosen depth c count) rest) ∙ ap (flat_map (spelled depth)) (sym (ap (codes_of depth) r.2 ∙ codes_of-cons depth (span_of count c) (runs_of (drop (place + count) row)))))
+          ∙ ap (λ (s : List ℕ). before ++ s)
+          (sym (flat_map-append (spelled depth) (chosen depth c count) rest)
+          ∙ ap (flat_map (spelled depth))
+          (sym (ap (codes_of depth) r.2
+          ∙ codes_of-cons depth (span_of count c) (runs_of (drop (place + count) row)))))
           ∙ t,
     )
 
 -- at the end of a row
-pub no_run : (depth : Depth) (row : List ℕ) (place : ℕ) (before whole : List ℕ) → length row ≤ place → before ++ flat_map (spelled depth) (codes_of depth (runs_of (drop place row))) ≡ whole → before ≡ whole
+pub no_run : (depth : Depth) (row : List ℕ) (place : ℕ) (before whole : List ℕ) → length row ≤ place
+    → before ++ flat_map (spelled depth) (codes_of depth (runs_of (drop place row))) ≡ whole → before ≡ whole
 no_run depth row place before whole h t =
-    sym (append-nil before) ∙ ap (λ (s : List Code). before ++ flat_map (spelled depth) s) (sym (ap (λ (s : List ℕ). codes_of depth (runs_of s)) (drop_all place row h) ∙ codes_of-nil depth)) ∙ t
+    sym (append-nil before)
+    ∙ ap (λ (s : List Code). before ++ flat_map (spelled depth) s)
+    (sym (ap (λ (s : List ℕ). codes_of depth (runs_of s)) (drop_all place row h) ∙ codes_of-nil depth)) ∙ t
 
 -- the end and the fill
-pub whole_string : (depth : Depth) (codes : List Code) (out loop ended last : List ℕ) (fill : ℕ) → loop ≡ out ++ flat_map (spelled depth) codes → ended ≡ loop ++ ending depth → last ≡ ended ++ replicate fill 0 → last ≡ out ++ (string_of depth codes ++ replicate fill 0)
+pub whole_string : (depth : Depth) (codes : List Code) (out loop ended last : List ℕ) (fill : ℕ)
+    → loop ≡ out ++ flat_map (spelled depth) codes → ended ≡ loop ++ ending depth
+    → last ≡ ended ++ replicate fill 0 → last ≡ out ++ (string_of depth codes ++ replicate fill 0)
 whole_string depth codes out loop ended last fill e f g =
-    g ∙ ap (λ (s : List ℕ). s ++ replicate fill 0) (f ∙ ap (λ (s : List ℕ). s ++ ending depth) e ∙ append_assoc out (flat_map (spelled depth) codes) (ending depth)) ∙ append_assoc out (string_of depth codes) (replicate fill 0)
+    g ∙ ap (λ (s : List ℕ). s ++ replicate fill 0)
+    (f ∙ ap (λ (s : List ℕ). s ++ ending depth) e
+    ∙ append_assoc out (flat_map (spelled depth) codes) (ending depth))
+    ∙ append_assoc out (string_of depth codes) (replicate fill 0)

@@ -49,22 +49,32 @@ length-ending Eight = refl
 -- ---- what is spelled is read
 
 -- one field on
-with_field : {R : Type 0} (xs rest : List ℕ) (place width v next : ℕ) → drop place xs ≡ bits width v ++ rest → 0 < width → v < 2 ^ width → place + width ≡ next → (field_at xs place width ≡ Some v → drop next xs ≡ rest → R) → R
+with_field : {R : Type 0} (xs rest : List ℕ) (place width v next : ℕ) → drop place xs ≡ bits width v ++ rest
+    → 0 < width → v < 2 ^ width → place + width ≡ next
+    → (field_at xs place width ≡ Some v → drop next xs ≡ rest → R) → R
 with_field xs rest place width v next e wide fits n k =
-    k (field_spelled xs rest place width v wide fits e) (ap (λ (i : ℕ). drop i xs) (sym n) ∙ drop-next xs (bits width v) rest place width e (length-bits width v))
+    k (field_spelled xs rest place width v wide fits e)
+    (ap (λ (i : ℕ). drop i xs) (sym n) ∙ drop-next xs (bits width v) rest place width e (length-bits width v))
 
 -- the bits of a short run of two bits, as they are read
-short_two : (field : ℕ) → field < 8 → bits 1 1 ++ bits 3 field ≡ bits 2 (field / 4 + 2) ++ bits 2 (field % 4)
+pub short_two : (field : ℕ) → field < 8
+    → bits 1 1 ++ bits 3 field ≡ bits 2 (field / 4 + 2) ++ bits 2 (field % 4)
 short_two field h =
     let four : (8 + field) / 2 ^ 2 ≡ field / 4 + 2 = omega arith in
     let low : (8 + field) % 2 ^ 2 ≡ field % 4 = omega arith in
-    sym (bits-join 1 3 1 field h) ∙ bits-add 2 2 (8 + field) ∙ ap (λ (n : ℕ). bits 2 n ++ bits 2 (8 + field)) four ∙ ap (λ (t : List ℕ). bits 2 (field / 4 + 2) ++ t) (sym (bits-mod 2 (8 + field)) ∙ ap (bits 2) low)
+    sym (bits-join 1 3 1 field h) ∙ bits-add 2 2 (8 + field)
+    ∙ ap (λ (n : ℕ). bits 2 n ++ bits 2 (8 + field)) four
+    ∙ ap (λ (t : List ℕ). bits 2 (field / 4 + 2) ++ t) (sym (bits-mod 2 (8 + field)) ∙ ap (bits 2) low)
 
-two_short : (xs rest : List ℕ) (place field code : ℕ) → field < 8 → code < 4 → drop place xs ≡ spelled Two (short_run field code) ++ rest → two_at xs place ≡ Some (Pixels (field + 3) code, place + 8)
+two_short : (xs rest : List ℕ) (place field code : ℕ) → field < 8 → code < 4
+    → drop place xs ≡ spelled Two (short_run field code) ++ rest
+    → two_at xs place ≡ Some (Pixels (field + 3) code, place + 8)
 unfolding spelled two_at
 two_short xs rest place field code h k e =
     let e' : drop place xs ≡ bits 2 0 ++ (bits 2 (field / 4 + 2) ++ (bits 2 (field % 4) ++ (bits 2 code ++ rest))) =
-    e ∙ ap (λ (t : List ℕ). (bits 2 0 ++ t) ++ rest) (sym (append_assoc (bits 1 1) (bits 3 field) (bits 2 code)) ∙ ap (λ (t : List ℕ). t ++ bits 2 code) (short_two field h)) ∙ simp append_assoc in
+    e ∙ ap (λ (t : List ℕ). (bits 2 0 ++ t) ++ rest)
+    (sym (append_assoc (bits 1 1) (bits 3 field) (bits 2 code))
+    ∙ ap (λ (t : List ℕ). t ++ bits 2 code) (short_two field h)) ∙ simp append_assoc in
     with_field xs _ place 2 0 (place + 2) e' (omega arith) (omega arith) refl λ f1 e1.
     with_field xs _ (place + 2) 2 (field / 4 + 2) (place + 4) e1 (omega arith) (omega arith) (omega arith) λ f2 e2.
     with_field xs _ (place + 4) 2 (field % 4) (place + 6) e2 (omega arith) (omega arith) (omega arith) λ f3 e3.
@@ -74,20 +84,23 @@ two_short xs rest place field code h k e =
     let n : (field / 4 + 2 - 2) * 4 + field % 4 + 3 ≡ field + 3 = omega arith in
     simp (f1, f2, f3, f4, t1, t2, n)
 
-moved : (count code a b : ℕ) → a ≡ b → ◌≡◌ {A = Option (Token × ℕ)} (Some (Pixels count code, a)) (Some (Pixels count code, b))
+moved : (count code a b : ℕ) → a ≡ b
+    → ◌≡◌ {A = Option (Token × ℕ)} (Some (Pixels count code, a)) (Some (Pixels count code, b))
 moved count code a b e = ap (λ (i : ℕ). Some (Pixels count code, i)) e
 
 ended : (a b : ℕ) → a ≡ b → ◌≡◌ {A = Option (Token × ℕ)} (Some (End, a)) (Some (End, b))
 ended a b e = ap (λ (i : ℕ). Some (End, i)) e
 
-two_pixel : (xs rest : List ℕ) (place code : ℕ) → 0 < code → code < 4 → drop place xs ≡ spelled Two (pixel code) ++ rest → two_at xs place ≡ Some (Pixels 1 code, place + 2)
+two_pixel : (xs rest : List ℕ) (place code : ℕ) → 0 < code → code < 4
+    → drop place xs ≡ spelled Two (pixel code) ++ rest → two_at xs place ≡ Some (Pixels 1 code, place + 2)
 unfolding spelled two_at
 two_pixel xs rest place code h k e =
     with_field xs _ place 2 code (place + 2) e (omega arith) k refl λ f1 e1.
     let t1 : eqb code 0 ≡ false = grind (arith, nat_tests) in
     simp (f1, t1)
 
-two_one_zero : (xs rest : List ℕ) (place : ℕ) → drop place xs ≡ spelled Two one_zero ++ rest → two_at xs place ≡ Some (Pixels 1 0, place + 4)
+two_one_zero : (xs rest : List ℕ) (place : ℕ) → drop place xs ≡ spelled Two one_zero ++ rest
+    → two_at xs place ≡ Some (Pixels 1 0, place + 4)
 unfolding spelled two_at
 two_one_zero xs rest place e =
     let e' : drop place xs ≡ bits 2 0 ++ (bits 2 1 ++ rest) = e ∙ simp append_assoc in
@@ -96,7 +109,8 @@ two_one_zero xs rest place e =
     simp (f1, f2)
 
 -- behind four bits 0
-two_far : (xs rest more : List ℕ) (place : ℕ) → drop place xs ≡ (bits 2 0 ++ (bits 2 0 ++ more)) ++ rest → (two_at xs place ≡ two_long_at xs (place + 4)) × (drop (place + 4) xs ≡ more ++ rest)
+two_far : (xs rest more : List ℕ) (place : ℕ) → drop place xs ≡ (bits 2 0 ++ (bits 2 0 ++ more)) ++ rest
+    → (two_at xs place ≡ two_long_at xs (place + 4)) × (drop (place + 4) xs ≡ more ++ rest)
 unfolding two_at
 two_far xs rest more place e =
     let e' : drop place xs ≡ bits 2 0 ++ (bits 2 0 ++ (more ++ rest)) = e ∙ simp append_assoc in
@@ -104,17 +118,21 @@ two_far xs rest more place e =
     with_field xs _ (place + 2) 2 0 (place + 4) e1 (omega arith) (omega arith) (omega arith) λ f2 e2.
     (simp (f1, f2), e2)
 
-two_two_zeros : (xs rest : List ℕ) (place : ℕ) → drop place xs ≡ bits 2 1 ++ rest → two_long_at xs place ≡ Some (Pixels 2 0, place + 2)
+two_two_zeros : (xs rest : List ℕ) (place : ℕ) → drop place xs ≡ bits 2 1 ++ rest
+    → two_long_at xs place ≡ Some (Pixels 2 0, place + 2)
 unfolding two_long_at
 two_two_zeros xs rest place e =
     with_field xs _ place 2 1 (place + 2) e (omega arith) (omega arith) refl λ f1 e1. simp f1
 
-two_end : (xs rest : List ℕ) (place : ℕ) → drop place xs ≡ bits 2 0 ++ rest → two_long_at xs place ≡ Some (End, place + 2)
+two_end : (xs rest : List ℕ) (place : ℕ) → drop place xs ≡ bits 2 0 ++ rest
+    → two_long_at xs place ≡ Some (End, place + 2)
 unfolding two_long_at
 two_end xs rest place e =
     with_field xs _ place 2 0 (place + 2) e (omega arith) (omega arith) refl λ f1 e1. simp f1
 
-two_middle : (xs rest : List ℕ) (place field code : ℕ) → field < 16 → code < 4 → drop place xs ≡ (bits 2 2 ++ (bits 4 field ++ bits 2 code)) ++ rest → two_long_at xs place ≡ Some (Pixels (field + 12) code, place + 8)
+two_middle : (xs rest : List ℕ) (place field code : ℕ) → field < 16 → code < 4
+    → drop place xs ≡ (bits 2 2 ++ (bits 4 field ++ bits 2 code)) ++ rest
+    → two_long_at xs place ≡ Some (Pixels (field + 12) code, place + 8)
 unfolding two_long_at
 two_middle xs rest place field code h k e =
     let e' : drop place xs ≡ bits 2 2 ++ (bits 4 field ++ (bits 2 code ++ rest)) = e ∙ simp append_assoc in
@@ -123,7 +141,9 @@ two_middle xs rest place field code h k e =
     with_field xs _ (place + 6) 2 code (place + 8) e2 (omega arith) k (omega arith) λ f3 e3.
     simp (f1, f2, f3)
 
-two_long : (xs rest : List ℕ) (place field code : ℕ) → field < 256 → code < 4 → drop place xs ≡ (bits 2 3 ++ (bits 8 field ++ bits 2 code)) ++ rest → two_long_at xs place ≡ Some (Pixels (field + 29) code, place + 12)
+two_long : (xs rest : List ℕ) (place field code : ℕ) → field < 256 → code < 4
+    → drop place xs ≡ (bits 2 3 ++ (bits 8 field ++ bits 2 code)) ++ rest
+    → two_long_at xs place ≡ Some (Pixels (field + 29) code, place + 12)
 unfolding two_long_at
 two_long xs rest place field code h k e =
     let e' : drop place xs ≡ bits 2 3 ++ (bits 8 field ++ (bits 2 code ++ rest)) = e ∙ simp append_assoc in
@@ -132,33 +152,44 @@ two_long xs rest place field code h k e =
     with_field xs _ (place + 10) 2 code (place + 12) e2 (omega arith) k (omega arith) λ f3 e3.
     simp (f1, f2, f3)
 
-two_spelled : (code : Code) → IsCode Two code → (xs rest : List ℕ) (place : ℕ) → drop place xs ≡ spelled Two code ++ rest → two_at xs place ≡ Some (Pixels (pixel_count Two code) (colour_of code), place + width_of Two code)
+two_spelled : (code : Code) → IsCode Two code → (xs rest : List ℕ) (place : ℕ)
+    → drop place xs ≡ spelled Two code ++ rest
+    → two_at xs place ≡ Some (Pixels (pixel_count Two code) (colour_of code), place + width_of Two code)
 unfolding spelled
 two_spelled (pixel code) h xs rest place e = two_pixel xs rest place code h.0 h.1 e
 two_spelled one_zero h xs rest place e = two_one_zero xs rest place e
 two_spelled two_zeros h xs rest place e =
-    let f = two_far xs rest (bits 2 1) place e in f.0 ∙ two_two_zeros xs rest (place + 4) f.1 ∙ moved 2 0 _ _ (omega arith)
+    let f =
+    two_far xs rest (bits 2 1) place e in f.0 ∙ two_two_zeros xs rest (place + 4) f.1
+    ∙ moved 2 0 _ _ (omega arith)
 two_spelled (zeros field) h xs rest place e = absurd h
 two_spelled (short_run field code) h xs rest place e = two_short xs rest place field code h.0 h.1 e
 two_spelled (middle_run field code) h xs rest place e =
-    let f = two_far xs rest (bits 2 2 ++ (bits 4 field ++ bits 2 code)) place e in f.0 ∙ two_middle xs rest (place + 4) field code h.0 h.1 f.1 ∙ moved (field + 12) code _ _ (omega arith)
+    let f =
+    two_far xs rest (bits 2 2 ++ (bits 4 field ++ bits 2 code)) place e in f.0
+    ∙ two_middle xs rest (place + 4) field code h.0 h.1 f.1 ∙ moved (field + 12) code _ _ (omega arith)
 two_spelled (long_run field code) h xs rest place e =
-    let f = two_far xs rest (bits 2 3 ++ (bits 8 field ++ bits 2 code)) place e in f.0 ∙ two_long xs rest (place + 4) field code h.0 h.1 f.1 ∙ moved (field + 29) code _ _ (omega arith)
+    let f =
+    two_far xs rest (bits 2 3 ++ (bits 8 field ++ bits 2 code)) place e in f.0
+    ∙ two_long xs rest (place + 4) field code h.0 h.1 f.1 ∙ moved (field + 29) code _ _ (omega arith)
 
-two_ending : (xs rest : List ℕ) (place : ℕ) → drop place xs ≡ ending Two ++ rest → two_at xs place ≡ Some (End, place + 6)
+two_ending : (xs rest : List ℕ) (place : ℕ) → drop place xs ≡ ending Two ++ rest
+    → two_at xs place ≡ Some (End, place + 6)
 unfolding ending
 two_ending xs rest place e =
     let f = two_far xs rest (bits 2 0) place e in f.0 ∙ two_end xs rest (place + 4) f.1 ∙ ended _ _ (omega arith)
 
 -- four bits
-four_pixel : (xs rest : List ℕ) (place code : ℕ) → 0 < code → code < 16 → drop place xs ≡ bits 4 code ++ rest → four_at xs place ≡ Some (Pixels 1 code, place + 4)
+four_pixel : (xs rest : List ℕ) (place code : ℕ) → 0 < code → code < 16
+    → drop place xs ≡ bits 4 code ++ rest → four_at xs place ≡ Some (Pixels 1 code, place + 4)
 unfolding four_at
 four_pixel xs rest place code h k e =
     with_field xs _ place 4 code (place + 4) e (omega arith) k refl λ f1 e1.
     let t1 : eqb code 0 ≡ false = grind (arith, nat_tests) in
     simp (f1, t1)
 
-four_ending : (xs rest : List ℕ) (place : ℕ) → drop place xs ≡ ending Four ++ rest → four_at xs place ≡ Some (End, place + 8)
+four_ending : (xs rest : List ℕ) (place : ℕ) → drop place xs ≡ ending Four ++ rest
+    → four_at xs place ≡ Some (End, place + 8)
 unfolding ending four_at
 four_ending xs rest place e =
     let e' : drop place xs ≡ bits 4 0 ++ (bits 4 0 ++ rest) = e ∙ simp append_assoc in
@@ -166,13 +197,18 @@ four_ending xs rest place e =
     with_field xs _ (place + 4) 4 0 (place + 8) e1 (omega arith) (omega arith) (omega arith) λ f2 e2.
     simp (f1, f2)
 
-zero_ahead : (count field : ℕ) → field < 2 ^ count → bits 1 0 ++ bits count field ≡ bits (1 + count) field
-zero_ahead count field h = let e : 0 * 2 ^ count + field ≡ field = omega arith in sym (bits-join 1 count 0 field h) ∙ ap (bits (1 + count)) e
+pub zero_ahead : (count field : ℕ) → field < 2 ^ count → bits 1 0 ++ bits count field ≡ bits (1 + count) field
+zero_ahead count field h =
+    let e : 0 * 2 ^ count + field ≡ field = omega arith in sym (bits-join 1 count 0 field h)
+    ∙ ap (bits (1 + count)) e
 
-four_zeros : (xs rest : List ℕ) (place field : ℕ) → 0 < field → field < 8 → drop place xs ≡ spelled Four (zeros field) ++ rest → four_at xs place ≡ Some (Pixels (field + 2) 0, place + 8)
+four_zeros : (xs rest : List ℕ) (place field : ℕ) → 0 < field → field < 8
+    → drop place xs ≡ spelled Four (zeros field) ++ rest
+    → four_at xs place ≡ Some (Pixels (field + 2) 0, place + 8)
 unfolding spelled four_at
 four_zeros xs rest place field h k e =
-    let e' : drop place xs ≡ bits 4 0 ++ (bits 4 field ++ rest) = e ∙ ap (λ (t : List ℕ). (bits 4 0 ++ t) ++ rest) (zero_ahead 3 field k) ∙ simp append_assoc in
+    let e' : drop place xs ≡ bits 4 0 ++ (bits 4 field ++ rest) =
+    e ∙ ap (λ (t : List ℕ). (bits 4 0 ++ t) ++ rest) (zero_ahead 3 field k) ∙ simp append_assoc in
     with_field xs _ place 4 0 (place + 4) e' (omega arith) (omega arith) refl λ f1 e1.
     with_field xs _ (place + 4) 4 field (place + 8) e1 (omega arith) (omega arith) (omega arith) λ f2 e2.
     let t1 : eqb field 0 ≡ false = grind (arith, nat_tests) in
@@ -180,7 +216,9 @@ four_zeros xs rest place field h k e =
     simp (f1, f2, t1, t2)
 
 -- behind four bits 0 and four bits that are at least 8
-four_far : (xs rest more : List ℕ) (place form : ℕ) → form < 8 → drop place xs ≡ (bits 4 0 ++ (bits 4 (8 + form) ++ more)) ++ rest → (four_at xs place ≡ four_run_at xs (place + 8) form) × (drop (place + 8) xs ≡ more ++ rest)
+four_far : (xs rest more : List ℕ) (place form : ℕ) → form < 8
+    → drop place xs ≡ (bits 4 0 ++ (bits 4 (8 + form) ++ more)) ++ rest
+    → (four_at xs place ≡ four_run_at xs (place + 8) form) × (drop (place + 8) xs ≡ more ++ rest)
 unfolding four_at
 four_far xs rest more place form h e =
     let e' : drop place xs ≡ bits 4 0 ++ (bits 4 (8 + form) ++ (more ++ rest)) = e ∙ simp append_assoc in
@@ -191,14 +229,18 @@ four_far xs rest more place form h e =
     let n : 8 + form - 8 ≡ form = omega arith in
     (simp (f1, f2, t1, t2, n), e2)
 
-four_short : (xs rest : List ℕ) (place field code : ℕ) → field < 4 → code < 16 → drop place xs ≡ bits 4 code ++ rest → four_run_at xs place field ≡ Some (Pixels (field + 4) code, place + 4)
+four_short : (xs rest : List ℕ) (place field code : ℕ) → field < 4 → code < 16
+    → drop place xs ≡ bits 4 code ++ rest
+    → four_run_at xs place field ≡ Some (Pixels (field + 4) code, place + 4)
 unfolding four_run_at
 four_short xs rest place field code h k e =
     with_field xs _ place 4 code (place + 4) e (omega arith) k refl λ f1 e1.
     let t1 : ltb field 4 ≡ true = lt-ltb _ _ h in
     simp (f1, t1)
 
-four_middle : (xs rest : List ℕ) (place field code : ℕ) → field < 16 → code < 16 → drop place xs ≡ (bits 4 field ++ bits 4 code) ++ rest → four_run_at xs place 6 ≡ Some (Pixels (field + 9) code, place + 8)
+four_middle : (xs rest : List ℕ) (place field code : ℕ) → field < 16 → code < 16
+    → drop place xs ≡ (bits 4 field ++ bits 4 code) ++ rest
+    → four_run_at xs place 6 ≡ Some (Pixels (field + 9) code, place + 8)
 unfolding four_run_at
 four_middle xs rest place field code h k e =
     let e' : drop place xs ≡ bits 4 field ++ (bits 4 code ++ rest) = e ∙ simp append_assoc in
@@ -206,7 +248,9 @@ four_middle xs rest place field code h k e =
     with_field xs _ (place + 4) 4 code (place + 8) e1 (omega arith) k (omega arith) λ f2 e2.
     simp (f1, f2)
 
-four_long : (xs rest : List ℕ) (place field code : ℕ) → field < 256 → code < 16 → drop place xs ≡ (bits 8 field ++ bits 4 code) ++ rest → four_run_at xs place 7 ≡ Some (Pixels (field + 25) code, place + 12)
+four_long : (xs rest : List ℕ) (place field code : ℕ) → field < 256 → code < 16
+    → drop place xs ≡ (bits 8 field ++ bits 4 code) ++ rest
+    → four_run_at xs place 7 ≡ Some (Pixels (field + 25) code, place + 12)
 unfolding four_run_at
 four_long xs rest place field code h k e =
     let e' : drop place xs ≡ bits 8 field ++ (bits 4 code ++ rest) = e ∙ simp append_assoc in
@@ -222,7 +266,9 @@ four_two : (xs : List ℕ) (place : ℕ) → four_run_at xs place 5 ≡ Some (Pi
 unfolding four_run_at
 four_two xs place = refl
 
-four_spelled : (code : Code) → IsCode Four code → (xs rest : List ℕ) (place : ℕ) → drop place xs ≡ spelled Four code ++ rest → four_at xs place ≡ Some (Pixels (pixel_count Four code) (colour_of code), place + width_of Four code)
+four_spelled : (code : Code) → IsCode Four code → (xs rest : List ℕ) (place : ℕ)
+    → drop place xs ≡ spelled Four code ++ rest
+    → four_at xs place ≡ Some (Pixels (pixel_count Four code) (colour_of code), place + width_of Four code)
 unfolding spelled
 four_spelled (pixel code) h xs rest place e = four_pixel xs rest place code h.0 h.1 e
 four_spelled one_zero h xs rest place e =
@@ -232,8 +278,12 @@ four_spelled two_zeros h xs rest place e =
 four_spelled (zeros field) h xs rest place e = four_zeros xs rest place field h.0 h.1 e
 four_spelled (short_run field code) h xs rest place e =
     let small : field < 4 = h.0 in
-    let joined : bits 2 2 ++ (bits 2 field ++ bits 4 code) ≡ bits 4 (8 + field) ++ bits 4 code = sym (append_assoc (bits 2 2) (bits 2 field) (bits 4 code)) ∙ ap (λ (t : List ℕ). t ++ bits 4 code) (sym (bits-join 2 2 2 field h.0)) in
-    let f = four_far xs rest (bits 4 code) place field (omega arith) (e ∙ ap (λ (t : List ℕ). (bits 4 0 ++ t) ++ rest) joined) in
+    let joined : bits 2 2 ++ (bits 2 field ++ bits 4 code) ≡ bits 4 (8 + field) ++ bits 4 code =
+    sym (append_assoc (bits 2 2) (bits 2 field) (bits 4 code))
+    ∙ ap (λ (t : List ℕ). t ++ bits 4 code) (sym (bits-join 2 2 2 field h.0)) in
+    let f =
+    four_far xs rest (bits 4 code) place field (omega arith)
+    (e ∙ ap (λ (t : List ℕ). (bits 4 0 ++ t) ++ rest) joined) in
     f.0 ∙ four_short xs rest (place + 8) field code h.0 h.1 f.1 ∙ moved (field + 4) code _ _ (omega arith)
 four_spelled (middle_run field code) h xs rest place e =
     let f = four_far xs rest (bits 4 field ++ bits 4 code) place 6 (omega arith) e in
@@ -243,14 +293,16 @@ four_spelled (long_run field code) h xs rest place e =
     f.0 ∙ four_long xs rest (place + 8) field code h.0 h.1 f.1 ∙ moved (field + 25) code _ _ (omega arith)
 
 -- eight bits
-eight_pixel : (xs rest : List ℕ) (place code : ℕ) → 0 < code → code < 256 → drop place xs ≡ bits 8 code ++ rest → eight_at xs place ≡ Some (Pixels 1 code, place + 8)
+eight_pixel : (xs rest : List ℕ) (place code : ℕ) → 0 < code → code < 256
+    → drop place xs ≡ bits 8 code ++ rest → eight_at xs place ≡ Some (Pixels 1 code, place + 8)
 unfolding eight_at
 eight_pixel xs rest place code h k e =
     with_field xs _ place 8 code (place + 8) e (omega arith) k refl λ f1 e1.
     let t1 : eqb code 0 ≡ false = grind (arith, nat_tests) in
     simp (f1, t1)
 
-eight_ending : (xs rest : List ℕ) (place : ℕ) → drop place xs ≡ ending Eight ++ rest → eight_at xs place ≡ Some (End, place + 16)
+eight_ending : (xs rest : List ℕ) (place : ℕ) → drop place xs ≡ ending Eight ++ rest
+    → eight_at xs place ≡ Some (End, place + 16)
 unfolding ending eight_at
 eight_ending xs rest place e =
     let e' : drop place xs ≡ bits 8 0 ++ (bits 8 0 ++ rest) = e ∙ simp append_assoc in
@@ -258,21 +310,29 @@ eight_ending xs rest place e =
     with_field xs _ (place + 8) 8 0 (place + 16) e1 (omega arith) (omega arith) (omega arith) λ f2 e2.
     simp (f1, f2)
 
-eight_zeros : (xs rest : List ℕ) (place field : ℕ) → 0 < field → field < 128 → drop place xs ≡ spelled Eight (zeros field) ++ rest → eight_at xs place ≡ Some (Pixels field 0, place + 16)
+eight_zeros : (xs rest : List ℕ) (place field : ℕ) → 0 < field → field < 128
+    → drop place xs ≡ spelled Eight (zeros field) ++ rest
+    → eight_at xs place ≡ Some (Pixels field 0, place + 16)
 unfolding spelled eight_at
 eight_zeros xs rest place field h k e =
-    let e' : drop place xs ≡ bits 8 0 ++ (bits 8 field ++ rest) = e ∙ ap (λ (t : List ℕ). (bits 8 0 ++ t) ++ rest) (zero_ahead 7 field k) ∙ simp append_assoc in
+    let e' : drop place xs ≡ bits 8 0 ++ (bits 8 field ++ rest) =
+    e ∙ ap (λ (t : List ℕ). (bits 8 0 ++ t) ++ rest) (zero_ahead 7 field k) ∙ simp append_assoc in
     with_field xs _ place 8 0 (place + 8) e' (omega arith) (omega arith) refl λ f1 e1.
     with_field xs _ (place + 8) 8 field (place + 16) e1 (omega arith) (omega arith) (omega arith) λ f2 e2.
     let t1 : eqb field 0 ≡ false = grind (arith, nat_tests) in
     let t2 : ltb field 128 ≡ true = lt-ltb _ _ k in
     simp (f1, f2, t1, t2)
 
-eight_run : (xs rest : List ℕ) (place field code : ℕ) → field < 128 → code < 256 → drop place xs ≡ spelled Eight (short_run field code) ++ rest → eight_at xs place ≡ Some (Pixels field code, place + 24)
+eight_run : (xs rest : List ℕ) (place field code : ℕ) → field < 128 → code < 256
+    → drop place xs ≡ spelled Eight (short_run field code) ++ rest
+    → eight_at xs place ≡ Some (Pixels field code, place + 24)
 unfolding spelled eight_at
 eight_run xs rest place field code h k e =
-    let joined : bits 1 1 ++ (bits 7 field ++ bits 8 code) ≡ bits 8 (128 + field) ++ bits 8 code = sym (append_assoc (bits 1 1) (bits 7 field) (bits 8 code)) ∙ ap (λ (t : List ℕ). t ++ bits 8 code) (sym (bits-join 1 7 1 field h)) in
-    let e' : drop place xs ≡ bits 8 0 ++ (bits 8 (128 + field) ++ (bits 8 code ++ rest)) = e ∙ ap (λ (t : List ℕ). (bits 8 0 ++ t) ++ rest) joined ∙ simp append_assoc in
+    let joined : bits 1 1 ++ (bits 7 field ++ bits 8 code) ≡ bits 8 (128 + field) ++ bits 8 code =
+    sym (append_assoc (bits 1 1) (bits 7 field) (bits 8 code))
+    ∙ ap (λ (t : List ℕ). t ++ bits 8 code) (sym (bits-join 1 7 1 field h)) in
+    let e' : drop place xs ≡ bits 8 0 ++ (bits 8 (128 + field) ++ (bits 8 code ++ rest)) =
+    e ∙ ap (λ (t : List ℕ). (bits 8 0 ++ t) ++ rest) joined ∙ simp append_assoc in
     with_field xs _ place 8 0 (place + 8) e' (omega arith) (omega arith) refl λ f1 e1.
     with_field xs _ (place + 8) 8 (128 + field) (place + 16) e1 (omega arith) (omega arith) (omega arith) λ f2 e2.
     with_field xs _ (place + 16) 8 code (place + 24) e2 (omega arith) k (omega arith) λ f3 e3.
@@ -281,7 +341,9 @@ eight_run xs rest place field code h k e =
     let n : 128 + field - 128 ≡ field = omega arith in
     simp (f1, f2, f3, t1, t2, n)
 
-eight_spelled : (code : Code) → IsCode Eight code → (xs rest : List ℕ) (place : ℕ) → drop place xs ≡ spelled Eight code ++ rest → eight_at xs place ≡ Some (Pixels (pixel_count Eight code) (colour_of code), place + width_of Eight code)
+eight_spelled : (code : Code) → IsCode Eight code → (xs rest : List ℕ) (place : ℕ)
+    → drop place xs ≡ spelled Eight code ++ rest
+    → eight_at xs place ≡ Some (Pixels (pixel_count Eight code) (colour_of code), place + width_of Eight code)
 unfolding spelled
 eight_spelled (pixel code) h xs rest place e = eight_pixel xs rest place code h.0 h.1 e
 eight_spelled one_zero h xs rest place e = absurd h
@@ -292,12 +354,15 @@ eight_spelled (middle_run field code) h xs rest place e = absurd h
 eight_spelled (long_run field code) h xs rest place e = absurd h
 
 -- a code that stands at a place is read there
-pub token_spelled : (depth : Depth) (code : Code) → IsCode depth code → (xs rest : List ℕ) (place : ℕ) → drop place xs ≡ spelled depth code ++ rest → token_at depth xs place ≡ Some (Pixels (pixel_count depth code) (colour_of code), place + width_of depth code)
+pub token_spelled : (depth : Depth) (code : Code) → IsCode depth code → (xs rest : List ℕ) (place : ℕ)
+    → drop place xs ≡ spelled depth code ++ rest
+    → token_at depth xs place ≡ Some (Pixels (pixel_count depth code) (colour_of code), place + width_of depth code)
 token_spelled Two = two_spelled
 token_spelled Four = four_spelled
 token_spelled Eight = eight_spelled
 
-pub token_ending : (depth : Depth) (xs rest : List ℕ) (place : ℕ) → drop place xs ≡ ending depth ++ rest → token_at depth xs place ≡ Some (End, place + end_width depth)
+pub token_ending : (depth : Depth) (xs rest : List ℕ) (place : ℕ) → drop place xs ≡ ending depth ++ rest
+    → token_at depth xs place ≡ Some (End, place + end_width depth)
 token_ending Two = two_ending
 token_ending Four = four_ending
 token_ending Eight = eight_ending
@@ -306,43 +371,56 @@ token_ending Eight = eight_ending
 
 -- what stands between two places of a string
 abbrev pub StandsAt : Depth → List ℕ → ℕ → Token → ℕ → Type 0
-StandsAt depth xs place (Pixels count colour) next = (code : Code) × IsCode depth code × (pixel_count depth code ≡ count) × (colour_of code ≡ colour) × (drop place xs ≡ spelled depth code ++ drop next xs) × (next ≡ place + width_of depth code) × (next ≤ length xs)
-StandsAt depth xs place End next = (drop place xs ≡ ending depth ++ drop next xs) × (next ≡ place + end_width depth) × (next ≤ length xs)
+StandsAt depth xs place (Pixels count colour) next = (code : Code) × IsCode depth code
+    × (pixel_count depth code ≡ count) × (colour_of code ≡ colour)
+    × (drop place xs ≡ spelled depth code ++ drop next xs) × (next ≡ place + width_of depth code)
+    × (next ≤ length xs)
+StandsAt depth xs place End next =
+    (drop place xs ≡ ending depth ++ drop next xs) × (next ≡ place + end_width depth) × (next ≤ length xs)
 
-cases_option : {A R : Type 0} (o : Option A) → (o ≡ None → R) → ((x : A) → o ≡ Some x → R) → R
+pub cases_option : {A R : Type 0} (o : Option A) → (o ≡ None → R) → ((x : A) → o ≡ Some x → R) → R
 cases_option None none some = none refl
 cases_option (Some x) none some = some x refl
 
-cases_bool : {R : Type 0} (b : Bool) → (b ≡ true → R) → (b ≡ false → R) → R
+pub cases_bool : {R : Type 0} (b : Bool) → (b ≡ true → R) → (b ≡ false → R) → R
 cases_bool true left right = left refl
 cases_bool false left right = right refl
 
-keep : {P R : Type 0} → P → (P → R) → R
+pub keep : {P R : Type 0} → P → (P → R) → R
 keep p k = k p
 
-nothing : {A R : Type 0} (x : A) → None ≡ Some x → R
+pub nothing : {A R : Type 0} (x : A) → None ≡ Some x → R
 nothing x e = absurd cc
 
-leaf : (depth : Depth) (xs : List ℕ) (place : ℕ) (token : Token) (next : ℕ) (found : Token × ℕ) → ◌≡◌ {A = Option (Token × ℕ)} (Some (token, next)) (Some found) → StandsAt depth xs place token next → StandsAt depth xs place found.0 found.1
-leaf depth xs place token next found e h = let f : ◌≡◌ {A = Token × ℕ} (token, next) found = cc in subst (λ (p : Token × ℕ). StandsAt depth xs place p.0 p.1) f h
+pub leaf : (depth : Depth) (xs : List ℕ) (place : ℕ) (token : Token) (next : ℕ) (found : Token × ℕ)
+    → ◌≡◌ {A = Option (Token × ℕ)} (Some (token, next)) (Some found) → StandsAt depth xs place token next
+    → StandsAt depth xs place found.0 found.1
+leaf depth xs place token next found e h =
+    let f : ◌≡◌ {A = Token × ℕ} (token, next) found = cc in subst
+    (λ (p : Token × ℕ). StandsAt depth xs place p.0 p.1) f h
 
 -- the bits so far and one field more
-grow : (xs bits_so_far : List ℕ) (place p width v q : ℕ) → drop place xs ≡ bits_so_far ++ drop p xs → Reads xs p width v → p + width ≡ q → drop place xs ≡ (bits_so_far ++ bits width v) ++ drop q xs
+pub grow : (xs bits_so_far : List ℕ) (place p width v q : ℕ) → drop place xs ≡ bits_so_far ++ drop p xs
+    → Reads xs p width v → p + width ≡ q → drop place xs ≡ (bits_so_far ++ bits width v) ++ drop q xs
 grow xs text place p width v q e r n =
-    e ∙ ap (λ (t : List ℕ). text ++ t) (r.text ∙ ap (λ (i : ℕ). bits width v ++ drop i xs) n) ∙ sym (append_assoc text (bits width v) (drop q xs))
+    e ∙ ap (λ (t : List ℕ). text ++ t) (r.text ∙ ap (λ (i : ℕ). bits width v ++ drop i xs) n)
+    ∙ sym (append_assoc text (bits width v) (drop q xs))
 
 -- the bits so far, as they are spelled
-as_spelled : (xs text other : List ℕ) (place q : ℕ) → text ≡ other → drop place xs ≡ text ++ drop q xs → drop place xs ≡ other ++ drop q xs
+pub as_spelled : (xs text other : List ℕ) (place q : ℕ) → text ≡ other → drop place xs ≡ text ++ drop q xs
+    → drop place xs ≡ other ++ drop q xs
 as_spelled xs text other place q e h = h ∙ ap (λ (t : List ℕ). t ++ drop q xs) e
 
-within_to : (xs : List ℕ) (p width v q : ℕ) → Reads xs p width v → p + width ≡ q → q ≤ length xs
+pub within_to : (xs : List ℕ) (p width v q : ℕ) → Reads xs p width v → p + width ≡ q → q ≤ length xs
 within_to xs p width v q r e = subst (λ (i : ℕ). i ≤ length xs) e r.within
 
-eight_run_text : (second code : ℕ) → 128 ≤ second → second < 256 → (bits 8 0 ++ bits 8 second) ++ bits 8 code ≡ spelled Eight (short_run (second - 128) code)
+eight_run_text : (second code : ℕ) → 128 ≤ second → second < 256
+    → (bits 8 0 ++ bits 8 second) ++ bits 8 code ≡ spelled Eight (short_run (second - 128) code)
 unfolding spelled
 eight_run_text second code h k =
     let e : 1 * 2 ^ 7 + (second - 128) ≡ second = omega arith in
-    let j : bits 8 second ≡ bits 1 1 ++ bits 7 (second - 128) = ap (bits 8) (sym e) ∙ bits-join 1 7 1 (second - 128) (omega arith) in
+    let j : bits 8 second ≡ bits 1 1 ++ bits 7 (second - 128) =
+    ap (bits 8) (sym e) ∙ bits-join 1 7 1 (second - 128) (omega arith) in
     ap (λ (t : List ℕ). (bits 8 0 ++ t) ++ bits 8 code) j ∙ simp append_assoc
 
 eight_zeros_text : (second : ℕ) → second < 128 → bits 8 0 ++ bits 8 second ≡ spelled Eight (zeros second)
@@ -353,7 +431,9 @@ eight_end_text : bits 8 0 ++ bits 8 0 ≡ ending Eight
 unfolding ending
 eight_end_text = refl
 
-eight_reads : (xs : List ℕ) (place : ℕ) (found : Token × ℕ) → IsBits xs → eight_at xs place ≡ Some found → StandsAt Eight xs place found.0 found.1
+pub eight_reads : (xs : List ℕ) (place : ℕ) (found : Token × ℕ) → IsBits xs
+    → eight_at xs place ≡ Some found
+    → StandsAt Eight xs place found.0 found.1
 unfolding eight_at spelled
 eight_reads xs place found h e =
     cases_option (field_at xs place 8) (λ f. nothing found (rw f at e)) λ first f1.
@@ -369,248 +449,39 @@ eight_reads xs place found h e =
     keep (within_to xs (place + 8) 8 second (place + 16) r2 (omega arith)) λ w2.
     keep (grow xs (bits 8 0) place (place + 8) 8 second (place + 16) t1 r2 (omega arith)) λ t2.
     cases_bool (eqb second 0)
-    (λ u. leaf Eight xs place End (place + 16) found (rw u at e3) (as_spelled xs _ _ place (place + 16) (ap (λ (n : ℕ). bits 8 0 ++ bits 8 n) (eqb-true second 0 u) ∙ eight_end_text) t2, refl, w2))
+    (λ u. leaf Eight xs place End (place + 16) found (rw u at e3) (
+      as_spelled xs _ _ place (place + 16)
+          (ap (λ (n : ℕ). bits 8 0 ++ bits 8 n) (eqb-true second 0 u) ∙ eight_end_text) t2,
+      refl,
+      w2,
+    ))
     (λ u. keep (rw u at e3) λ e4.
     cases_bool (ltb second 128)
-    (λ v. leaf Eight xs place (Pixels second 0) (place + 16) found (rw v at e4) (zeros second, (omega (arith, eqb-false second 0 u), ltb-true second 128 v), refl, refl, as_spelled xs _ _ place (place + 16) (eight_zeros_text second (ltb-true second 128 v)) t2, refl, w2))
+    (λ v. leaf Eight xs place (Pixels second 0) (place + 16) found (rw v at e4) (
+      zeros second,
+      (omega (arith, eqb-false second 0 u), ltb-true second 128 v),
+      refl,
+      refl,
+      as_spelled xs _ _ place
+          (place + 16) (eight_zeros_text second (ltb-true second 128 v)) t2,
+      refl,
+      w2,
+    ))
     (λ v. keep (rw v at e4) λ e5.
     cases_option (field_at xs (place + 16) 8) (λ f. nothing found (rw f at e5)) λ code f3.
     keep (field_reads xs (place + 16) 8 code h f3) λ r3.
     keep (grow xs _ place (place + 16) 8 code (place + 24) t2 r3 (omega arith)) λ t3.
     keep (ltb-false second 128 v) λ high.
-    leaf Eight xs place (Pixels (second - 128) code) (place + 24) found (rw f3 at e5) (short_run (second - 128) code, (omega (arith, r2.fits), r3.fits), refl, refl, as_spelled xs _ _ place (place + 24) (eight_run_text second code high r2.fits) t3, refl, within_to xs (place + 16) 8 code (place + 24) r3 (omega arith)))))
-    (λ t. leaf Eight xs place (Pixels 1 first) (place + 8) found (rw t at e1) (pixel first, (omega (arith, eqb-false first 0 t), r1.fits), refl, refl, r1.text, refl, r1.within))
-
--- ---- four bits
-four_end_text : bits 4 0 ++ bits 4 0 ≡ ending Four
-unfolding ending
-four_end_text = refl
-
-four_zeros_text : (second : ℕ) → second < 8 → bits 4 0 ++ bits 4 second ≡ spelled Four (zeros second)
-unfolding spelled
-four_zeros_text second h = ap (λ (t : List ℕ). bits 4 0 ++ t) (sym (zero_ahead 3 second h))
-
-four_short_text : (form code : ℕ) → form < 4 → (bits 4 0 ++ bits 4 (8 + form)) ++ bits 4 code ≡ spelled Four (short_run form code)
-unfolding spelled
-four_short_text form code h = ap (λ (t : List ℕ). (bits 4 0 ++ t) ++ bits 4 code) (bits-join 2 2 2 form h) ∙ simp append_assoc
-
-four_middle_text : (field code : ℕ) → ((bits 4 0 ++ bits 4 14) ++ bits 4 field) ++ bits 4 code ≡ spelled Four (middle_run field code)
-unfolding spelled
-four_middle_text field code = simp append_assoc
-
-four_long_text : (field code : ℕ) → ((bits 4 0 ++ bits 4 15) ++ bits 8 field) ++ bits 4 code ≡ spelled Four (long_run field code)
-unfolding spelled
-four_long_text field code = simp append_assoc
-
-four_one_text : bits 4 0 ++ bits 4 12 ≡ spelled Four one_zero
-unfolding spelled
-four_one_text = refl
-
-four_two_text : bits 4 0 ++ bits 4 13 ≡ spelled Four two_zeros
-unfolding spelled
-four_two_text = refl
-
-four_run_reads : (xs : List ℕ) (place p form : ℕ) (found : Token × ℕ) → IsBits xs → place + 8 ≡ p → p ≤ length xs → form < 8 → drop place xs ≡ (bits 4 0 ++ bits 4 (8 + form)) ++ drop p xs → four_run_at xs p form ≡ Some found → StandsAt Four xs place found.0 found.1
-unfolding four_run_at
-four_run_reads xs place p form found h at within small t e =
-    cases_bool (ltb form 4)
-    (λ c. keep (rw c at e) λ e1.
-    cases_option (field_at xs p 4) (λ f. nothing found (rw f at e1)) λ code f1.
-    keep (field_reads xs p 4 code h f1) λ r1.
-    keep (ltb-true form 4 c) λ low.
-    keep (grow xs _ place p 4 code (p + 4) t r1 refl) λ t1.
-    leaf Four xs place (Pixels (form + 4) code) (p + 4) found (rw f1 at e1) (short_run form code, (low, r1.fits), refl, refl, as_spelled xs _ _ place (p + 4) (four_short_text form code low) t1, omega arith, r1.within))
-    (λ c. keep (rw c at e) λ e1.
-    keep (ltb-false form 4 c) λ high.
-    cases_bool (eqb form 4)
-    (λ d. keep (eqb-true form 4 d) λ is.
-    leaf Four xs place (Pixels 1 0) p found (rw d at e1) (one_zero, tt, refl, refl, as_spelled xs _ _ place p (ap (λ (n : ℕ). bits 4 0 ++ bits 4 (8 + n)) is ∙ four_one_text) t, omega arith, within))
-    (λ d. keep (rw d at e1) λ e2.
-    keep (eqb-false form 4 d) λ not4.
-    cases_bool (eqb form 5)
-    (λ i. keep (eqb-true form 5 i) λ is.
-    leaf Four xs place (Pixels 2 0) p found (rw i at e2) (two_zeros, tt, refl, refl, as_spelled xs _ _ place p (ap (λ (n : ℕ). bits 4 0 ++ bits 4 (8 + n)) is ∙ four_two_text) t, omega arith, within))
-    (λ i. keep (rw i at e2) λ e3.
-    keep (eqb-false form 5 i) λ not5.
-    cases_bool (eqb form 6)
-    (λ j. keep (rw j at e3) λ e4.
-    keep (eqb-true form 6 j) λ is.
-    keep (as_spelled xs _ _ place p (ap (λ (n : ℕ). bits 4 0 ++ bits 4 (8 + n)) is) t) λ t0.
-    cases_option (field_at xs p 4) (λ f. nothing found (rw f at e4)) λ field f1.
-    keep (rw f1 at e4) λ e5.
-    keep (field_reads xs p 4 field h f1) λ r1.
-    keep (grow xs _ place p 4 field (p + 4) t0 r1 refl) λ t1.
-    cases_option (field_at xs (p + 4) 4) (λ f. nothing found (rw f at e5)) λ code f2.
-    keep (field_reads xs (p + 4) 4 code h f2) λ r2.
-    keep (grow xs _ place (p + 4) 4 code (p + 8) t1 r2 (omega arith)) λ t2.
-    leaf Four xs place (Pixels (field + 9) code) (p + 8) found (rw f2 at e5) (middle_run field code, (r1.fits, r2.fits), refl, refl, as_spelled xs _ _ place (p + 8) (four_middle_text field code) t2, omega arith, within_to xs (p + 4) 4 code (p + 8) r2 (omega arith)))
-    (λ j. keep (rw j at e3) λ e4.
-    keep (eqb-false form 6 j) λ not6.
-    keep (omega (arith, not4, not5, not6)) λ (is : form ≡ 7).
-    keep (as_spelled xs _ _ place p (ap (λ (n : ℕ). bits 4 0 ++ bits 4 (8 + n)) is) t) λ t0.
-    cases_option (field_at xs p 8) (λ f. nothing found (rw f at e4)) λ field f1.
-    keep (rw f1 at e4) λ e5.
-    keep (field_reads xs p 8 field h f1) λ r1.
-    keep (grow xs _ place p 8 field (p + 8) t0 r1 refl) λ t1.
-    cases_option (field_at xs (p + 8) 4) (λ f. nothing found (rw f at e5)) λ code f2.
-    keep (field_reads xs (p + 8) 4 code h f2) λ r2.
-    keep (grow xs _ place (p + 8) 4 code (p + 12) t1 r2 (omega arith)) λ t2.
-    leaf Four xs place (Pixels (field + 25) code) (p + 12) found (rw f2 at e5) (long_run field code, (r1.fits, r2.fits), refl, refl, as_spelled xs _ _ place (p + 12) (four_long_text field code) t2, omega arith, within_to xs (p + 8) 4 code (p + 12) r2 (omega arith))))))
-
-four_reads : (xs : List ℕ) (place : ℕ) (found : Token × ℕ) → IsBits xs → four_at xs place ≡ Some found → StandsAt Four xs place found.0 found.1
-unfolding four_at spelled
-four_reads xs place found h e =
-    cases_option (field_at xs place 4) (λ f. nothing found (rw f at e)) λ first f1.
-    keep (rw f1 at e) λ e1.
-    keep (field_reads xs place 4 first h f1) λ r1.
-    cases_bool (eqb first 0)
-    (λ t. keep (rw t at e1) λ e2.
-    keep (eqb-true first 0 t) λ zero1.
-    keep (r1.text ∙ ap (λ (n : ℕ). bits 4 n ++ drop (place + 4) xs) zero1) λ t1.
-    cases_option (field_at xs (place + 4) 4) (λ f. nothing found (rw f at e2)) λ second f2.
-    keep (rw f2 at e2) λ e3.
-    keep (field_reads xs (place + 4) 4 second h f2) λ r2.
-    keep (within_to xs (place + 4) 4 second (place + 8) r2 (omega arith)) λ w2.
-    keep (grow xs (bits 4 0) place (place + 4) 4 second (place + 8) t1 r2 (omega arith)) λ t2.
-    cases_bool (eqb second 0)
-    (λ u. leaf Four xs place End (place + 8) found (rw u at e3) (as_spelled xs _ _ place (place + 8) (ap (λ (n : ℕ). bits 4 0 ++ bits 4 n) (eqb-true second 0 u) ∙ four_end_text) t2, refl, w2))
-    (λ u. keep (rw u at e3) λ e4.
-    cases_bool (ltb second 8)
-    (λ v. leaf Four xs place (Pixels (second + 2) 0) (place + 8) found (rw v at e4) (zeros second, (omega (arith, eqb-false second 0 u), ltb-true second 8 v), refl, refl, as_spelled xs _ _ place (place + 8) (four_zeros_text second (ltb-true second 8 v)) t2, refl, w2))
-    (λ v. keep (ltb-false second 8 v) λ high.
-    keep (omega (arith, high)) λ (back : second ≡ 8 + (second - 8)).
-    four_run_reads xs place (place + 8) (second - 8) found h refl w2 (omega (arith, r2.fits)) (as_spelled xs _ _ place (place + 8) (ap (λ (n : ℕ). bits 4 0 ++ bits 4 n) back) t2) (rw v at e4))))
-    (λ t. leaf Four xs place (Pixels 1 first) (place + 4) found (rw t at e1) (pixel first, (omega (arith, eqb-false first 0 t), r1.fits), refl, refl, r1.text, refl, r1.within))
-
--- ---- two bits
-two_end_text : (bits 2 0 ++ bits 2 0) ++ bits 2 0 ≡ ending Two
-unfolding ending
-two_end_text = simp append_assoc
-
-two_one_text : bits 2 0 ++ bits 2 1 ≡ spelled Two one_zero
-unfolding spelled
-two_one_text = refl
-
-two_two_text : (bits 2 0 ++ bits 2 0) ++ bits 2 1 ≡ spelled Two two_zeros
-unfolding spelled
-two_two_text = simp append_assoc
-
-two_middle_text : (field code : ℕ) → (((bits 2 0 ++ bits 2 0) ++ bits 2 2) ++ bits 4 field) ++ bits 2 code ≡ spelled Two (middle_run field code)
-unfolding spelled
-two_middle_text field code = simp append_assoc
-
-two_long_text : (field code : ℕ) → (((bits 2 0 ++ bits 2 0) ++ bits 2 3) ++ bits 8 field) ++ bits 2 code ≡ spelled Two (long_run field code)
-unfolding spelled
-two_long_text field code = simp append_assoc
-
-two_short_text : (second low code : ℕ) → 2 ≤ second → second < 4 → low < 4 → ((bits 2 0 ++ bits 2 second) ++ bits 2 low) ++ bits 2 code ≡ spelled Two (short_run ((second - 2) * 4 + low) code)
-unfolding spelled
-two_short_text second low code h k l =
-    let field = (second - 2) * 4 + low in
-    let high : field / 4 + 2 ≡ second = omega arith in
-    let rest : field % 4 ≡ low = omega arith in
-    let j : bits 2 second ++ bits 2 low ≡ bits 1 1 ++ bits 3 field =
-    ap (λ (n : ℕ). bits 2 n ++ bits 2 low) (sym high) ∙ ap (λ (n : ℕ). bits 2 (field / 4 + 2) ++ bits 2 n) (sym rest) ∙ sym (short_two field (omega arith)) in
-    simp append_assoc (ap (λ (t : List ℕ). bits 2 0 ++ t) (sym (append_assoc (bits 2 second) (bits 2 low) (bits 2 code)) ∙ ap (λ (t : List ℕ). t ++ bits 2 code) j ∙ append_assoc (bits 1 1) (bits 3 field) (bits 2 code)))
-
-two_long_reads : (xs : List ℕ) (place p : ℕ) (found : Token × ℕ) → IsBits xs → place + 4 ≡ p → drop place xs ≡ (bits 2 0 ++ bits 2 0) ++ drop p xs → two_long_at xs p ≡ Some found → StandsAt Two xs place found.0 found.1
-unfolding two_long_at
-two_long_reads xs place p found h at t e =
-    cases_option (field_at xs p 2) (λ f. nothing found (rw f at e)) λ form f1.
-    keep (rw f1 at e) λ e1.
-    keep (field_reads xs p 2 form h f1) λ r1.
-    keep (grow xs _ place p 2 form (p + 2) t r1 refl) λ t1.
-    cases_bool (eqb form 0)
-    (λ c. leaf Two xs place End (p + 2) found (rw c at e1) (as_spelled xs _ _ place (p + 2) (ap (λ (n : ℕ). (bits 2 0 ++ bits 2 0) ++ bits 2 n) (eqb-true form 0 c) ∙ two_end_text) t1, omega arith, r1.within))
-    (λ c. keep (rw c at e1) λ e2.
-    keep (eqb-false form 0 c) λ not0.
-    cases_bool (eqb form 1)
-    (λ d. leaf Two xs place (Pixels 2 0) (p + 2) found (rw d at e2) (two_zeros, tt, refl, refl, as_spelled xs _ _ place (p + 2) (ap (λ (n : ℕ). (bits 2 0 ++ bits 2 0) ++ bits 2 n) (eqb-true form 1 d) ∙ two_two_text) t1, omega arith, r1.within))
-    (λ d. keep (rw d at e2) λ e3.
-    keep (eqb-false form 1 d) λ not1.
-    cases_bool (eqb form 2)
-    (λ j. keep (rw j at e3) λ e4.
-    keep (as_spelled xs _ _ place (p + 2) (ap (λ (n : ℕ). (bits 2 0 ++ bits 2 0) ++ bits 2 n) (eqb-true form 2 j)) t1) λ t2.
-    cases_option (field_at xs (p + 2) 4) (λ f. nothing found (rw f at e4)) λ field f2.
-    keep (rw f2 at e4) λ e5.
-    keep (field_reads xs (p + 2) 4 field h f2) λ r2.
-    keep (grow xs _ place (p + 2) 4 field (p + 6) t2 r2 (omega arith)) λ t3.
-    cases_option (field_at xs (p + 6) 2) (λ f. nothing found (rw f at e5)) λ code f3.
-    keep (field_reads xs (p + 6) 2 code h f3) λ r3.
-    keep (grow xs _ place (p + 6) 2 code (p + 8) t3 r3 (omega arith)) λ t4.
-    leaf Two xs place (Pixels (field + 12) code) (p + 8) found (rw f3 at e5) (middle_run field code, (r2.fits, r3.fits), refl, refl, as_spelled xs _ _ place (p + 8) (two_middle_text field code) t4, omega arith, within_to xs (p + 6) 2 code (p + 8) r3 (omega arith)))
-    (λ j. keep (rw j at e3) λ e4.
-    keep (eqb-false form 2 j) λ not2.
-    keep (omega (arith, not0, not1, not2, r1.fits)) λ (is : form ≡ 3).
-    keep (as_spelled xs _ _ place (p + 2) (ap (λ (n : ℕ). (bits 2 0 ++ bits 2 0) ++ bits 2 n) is) t1) λ t2.
-    cases_option (field_at xs (p + 2) 8) (λ f. nothing found (rw f at e4)) λ field f2.
-    keep (rw f2 at e4) λ e5.
-    keep (field_reads xs (p + 2) 8 field h f2) λ r2.
-    keep (grow xs _ place (p + 2) 8 field (p + 10) t2 r2 (omega arith)) λ t3.
-    cases_option (field_at xs (p + 10) 2) (λ f. nothing found (rw f at e5)) λ code f3.
-    keep (field_reads xs (p + 10) 2 code h f3) λ r3.
-    keep (grow xs _ place (p + 10) 2 code (p + 12) t3 r3 (omega arith)) λ t4.
-    leaf Two xs place (Pixels (field + 29) code) (p + 12) found (rw f3 at e5) (long_run field code, (r2.fits, r3.fits), refl, refl, as_spelled xs _ _ place (p + 12) (two_long_text field code) t4, omega arith, within_to xs (p + 10) 2 code (p + 12) r3 (omega arith)))))
-
-two_reads : (xs : List ℕ) (place : ℕ) (found : Token × ℕ) → IsBits xs → two_at xs place ≡ Some found → StandsAt Two xs place found.0 found.1
-unfolding two_at spelled
-two_reads xs place found h e =
-    cases_option (field_at xs place 2) (λ f. nothing found (rw f at e)) λ first f1.
-    keep (rw f1 at e) λ e1.
-    keep (field_reads xs place 2 first h f1) λ r1.
-    cases_bool (eqb first 0)
-    (λ t. keep (rw t at e1) λ e2.
-    keep (eqb-true first 0 t) λ zero1.
-    keep (r1.text ∙ ap (λ (n : ℕ). bits 2 n ++ drop (place + 2) xs) zero1) λ t1.
-    cases_option (field_at xs (place + 2) 2) (λ f. nothing found (rw f at e2)) λ second f2.
-    keep (rw f2 at e2) λ e3.
-    keep (field_reads xs (place + 2) 2 second h f2) λ r2.
-    keep (within_to xs (place + 2) 2 second (place + 4) r2 (omega arith)) λ w2.
-    keep (grow xs (bits 2 0) place (place + 2) 2 second (place + 4) t1 r2 (omega arith)) λ t2.
-    cases_bool (eqb second 0)
-    (λ u. two_long_reads xs place (place + 4) found h refl (as_spelled xs _ _ place (place + 4) (ap (λ (n : ℕ). bits 2 0 ++ bits 2 n) (eqb-true second 0 u)) t2) (rw u at e3))
-    (λ u. keep (rw u at e3) λ e4.
-    keep (eqb-false second 0 u) λ not0.
-    cases_bool (eqb second 1)
-    (λ v. leaf Two xs place (Pixels 1 0) (place + 4) found (rw v at e4) (one_zero, tt, refl, refl, as_spelled xs _ _ place (place + 4) (ap (λ (n : ℕ). bits 2 0 ++ bits 2 n) (eqb-true second 1 v) ∙ two_one_text) t2, refl, w2))
-    (λ v. keep (rw v at e4) λ e5.
-    keep (eqb-false second 1 v) λ not1.
-    keep (omega (arith, not0, not1)) λ (high : 2 ≤ second).
-    cases_option (field_at xs (place + 4) 2) (λ f. nothing found (rw f at e5)) λ low f3.
-    keep (rw f3 at e5) λ e6.
-    keep (field_reads xs (place + 4) 2 low h f3) λ r3.
-    keep (grow xs _ place (place + 4) 2 low (place + 6) t2 r3 (omega arith)) λ t3.
-    cases_option (field_at xs (place + 6) 2) (λ f. nothing found (rw f at e6)) λ code f4.
-    keep (field_reads xs (place + 6) 2 code h f4) λ r4.
-    keep (grow xs _ place (place + 6) 2 code (place + 8) t3 r4 (omega arith)) λ t4.
-    leaf Two xs place (Pixels ((second - 2) * 4 + low + 3) code) (place + 8) found (rw f4 at e6) (short_run ((second - 2) * 4 + low) code, (omega (arith, r2.fits, r3.fits), r4.fits), refl, refl, as_spelled xs _ _ place (place + 8) (two_short_text second low code high r2.fits r3.fits) t4, refl, within_to xs (place + 6) 2 code (place + 8) r4 (omega arith)))))
-    (λ t. leaf Two xs place (Pixels 1 first) (place + 2) found (rw t at e1) (pixel first, (omega (arith, eqb-false first 0 t), r1.fits), refl, refl, r1.text, refl, r1.within))
-
--- a code that is read stands at its place
-pub token_reads : (depth : Depth) (xs : List ℕ) (place : ℕ) (found : Token × ℕ) → IsBits xs → token_at depth xs place ≡ Some found → StandsAt depth xs place found.0 found.1
-token_reads Two = two_reads
-token_reads Four = four_reads
-token_reads Eight = eight_reads
-
-pub width_some : (depth : Depth) (code : Code) → IsCode depth code → 2 ≤ width_of depth code
-width_some Two (pixel code) h = omega arith
-width_some Two one_zero h = omega arith
-width_some Two two_zeros h = omega arith
-width_some Two (zeros field) h = absurd h
-width_some Two (short_run field code) h = omega arith
-width_some Two (middle_run field code) h = omega arith
-width_some Two (long_run field code) h = omega arith
-width_some Four (pixel code) h = omega arith
-width_some Four one_zero h = omega arith
-width_some Four two_zeros h = omega arith
-width_some Four (zeros field) h = omega arith
-width_some Four (short_run field code) h = omega arith
-width_some Four (middle_run field code) h = omega arith
-width_some Four (long_run field code) h = omega arith
-width_some Eight (pixel code) h = omega arith
-width_some Eight one_zero h = absurd h
-width_some Eight two_zeros h = absurd h
-width_some Eight (zeros field) h = omega arith
-width_some Eight (short_run field code) h = omega arith
-width_some Eight (middle_run field code) h = absurd h
-width_some Eight (long_run field code) h = absurd h
+    leaf Eight xs place (Pixels (second - 128) code) (place + 24) found (rw f3 at e5) (
+      short_run (second - 128) code,
+      (omega (arith, r2.fits), r3.fits),
+      refl,
+      refl,
+      as_spelled xs _ _ place
+          (place + 24) (eight_run_text second code high r2.fits) t3,
+      refl,
+      within_to xs (place + 16) 8 code (place + 24)
+          r3 (omega arith),
+    ))))
+    (λ t. leaf Eight xs place (Pixels 1 first) (place + 8) found (rw t at e1)
+    (pixel first, (omega (arith, eqb-false first 0 t), r1.fits), refl, refl, r1.text, refl, r1.within))

@@ -19,32 +19,46 @@ pub extends_push : (a b c : List ℕ) (x : ℕ) → Extends a b → c ≡ b ++ x
 extends_push a b c x p e = extends_trans a b c p (x ∷ [], e)
 
 -- a number moved up makes room for another
-pub shifted : (v count width : ℕ) → v < 2 ^ count → count + width ≤ 64 → v * 2 ^ width % 18446744073709551616 ≡ v * 2 ^ width
+pub shifted : (v count width : ℕ) → v < 2 ^ count → count + width ≤ 64
+    → v * 2 ^ width % 18446744073709551616 ≡ v * 2 ^ width
 shifted v count width h k = shl_whole v count width 64 h k
 
-pub joined_below : (v x count width : ℕ) → v < 2 ^ count → x < 2 ^ width → v * 2 ^ width + x < 2 ^ (count + width)
+pub joined_below : (v x count width : ℕ) → v < 2 ^ count → x < 2 ^ width
+    → v * 2 ^ width + x < 2 ^ (count + width)
 joined_below v x count width h k =
     let product = mul-le (v + 1) (2 ^ width) (2 ^ count) (2 ^ width) (omega arith) (omega arith) in
     let one : (v + 1) * 2 ^ width ≡ v * 2 ^ width + 2 ^ width = omega arith in
     omega (arith, product, one, pow-add 2 count width)
 
 -- both fit a word
-pub fits_word : (v x count width : ℕ) → v < 2 ^ count → x < 2 ^ width → count + width ≤ 63 → v * 2 ^ width + x < 18446744073709551616
-fits_word v x count width h k l = let p : 2 ^ (count + width) ≤ 2 ^ 63 = pow_mono {i = count + width} {j = 63} l in omega (arith, joined_below v x count width h k, p)
+pub fits_word : (v x count width : ℕ) → v < 2 ^ count → x < 2 ^ width → count + width ≤ 63
+    → v * 2 ^ width + x < 18446744073709551616
+fits_word v x count width h k l =
+    let p : 2 ^ (count + width)
+    ≤ 2 ^ 63 = pow_mono {i = count + width} {j = 63} l in omega (arith, joined_below v x count width h k, p)
 
-pub begun : (text : List ℕ) (v x count width : ℕ) → x < 2 ^ width → text ++ bits (count + width) (v * 2 ^ width + x) ≡ (text ++ bits count v) ++ bits width x
-begun text v x count width h = ap (λ (t : List ℕ). text ++ t) (bits-join count width v x h) ∙ sym (append_assoc text (bits count v) (bits width x))
+pub begun : (text : List ℕ) (v x count width : ℕ) → x < 2 ^ width
+    → text ++ bits (count + width) (v * 2 ^ width + x) ≡ (text ++ bits count v) ++ bits width x
+begun text v x count width h =
+    ap (λ (t : List ℕ). text ++ t) (bits-join count width v x h)
+    ∙ sym (append_assoc text (bits count v) (bits width x))
 
 -- a byte of a number in more bits
 pub high_byte : (all count : ℕ) → 8 ≤ count → all < 2 ^ count → all / 2 ^ (count - 8) < 256
-high_byte all count h k = let e : 8 + (count - 8) ≡ count = omega arith in let f : all < 2 ^ (8 + (count - 8)) = subst (λ (n : ℕ). all < 2 ^ n) (sym e) k in shr_below all 8 (count - 8) f
+high_byte all count h k =
+    let e : 8 + (count - 8) ≡ count = omega arith in let f : all
+    < 2 ^ (8 + (count - 8)) = subst (λ (n : ℕ). all < 2 ^ n) (sym e) k in shr_below all 8 (count - 8) f
 
-pub byte_out : (out after : List ℕ) (all count : ℕ) → 8 ≤ count → after ≡ out ++ all / 2 ^ (count - 8) ∷ [] → bits_of after ++ bits (count - 8) (all % 2 ^ (count - 8)) ≡ bits_of out ++ bits count all
+pub byte_out : (out after : List ℕ) (all count : ℕ) → 8 ≤ count
+    → after ≡ out ++ all / 2 ^ (count - 8) ∷ []
+    → bits_of after ++ bits (count - 8) (all % 2 ^ (count - 8)) ≡ bits_of out ++ bits count all
 unfolding bits_of
 byte_out out after all count h e =
     let c : 8 + (count - 8) ≡ count = omega arith in
     ap (λ (t : List ℕ). bits_of t ++ bits (count - 8) (all % 2 ^ (count - 8))) e
-    ∙ ap (λ (t : List ℕ). t ++ bits (count - 8) (all % 2 ^ (count - 8))) (bits_of-append out (all / 2 ^ (count - 8) ∷ []) ∙ ap (λ (t : List ℕ). bits_of out ++ t) (append-nil (bits 8 (all / 2 ^ (count - 8)))))
+    ∙ ap (λ (t : List ℕ). t ++ bits (count - 8) (all % 2 ^ (count - 8)))
+    (bits_of-append out (all / 2 ^ (count - 8) ∷ [])
+    ∙ ap (λ (t : List ℕ). bits_of out ++ t) (append-nil (bits 8 (all / 2 ^ (count - 8)))))
     ∙ ap (λ (t : List ℕ). (bits_of out ++ bits 8 (all / 2 ^ (count - 8))) ++ t) (bits-mod (count - 8) all)
     ∙ append_assoc (bits_of out) (bits 8 (all / 2 ^ (count - 8))) (bits (count - 8) all)
     ∙ ap (λ (t : List ℕ). bits_of out ++ t) (sym (bits-add 8 (count - 8) all) ∙ ap (λ (n : ℕ). bits n all) c)
@@ -56,10 +70,13 @@ turned (suc n) = let front : ℕ = 0 in ap (λ (t : List ℕ). front ∷ t) (tur
 bits-zero : (count : ℕ) → bits count 0 ≡ replicate count 0
 unfolding bits
 bits-zero zero = refl
-bits-zero (suc count) = let one : List ℕ = 0 ∷ [] in ap (λ (t : List ℕ). t ++ one) (bits-zero count) ∙ turned count
+bits-zero (suc count) =
+    let one : List ℕ = 0 ∷ [] in ap (λ (t : List ℕ). t ++ one) (bits-zero count) ∙ turned count
 
 -- the last byte, filled with bits 0
-pub filled : (out after : List ℕ) (value count : ℕ) → count ≤ 8 → after ≡ out ++ value * 2 ^ (8 - count) ∷ [] → bits_of after ≡ (bits_of out ++ bits count value) ++ replicate (8 - count) 0
+pub filled : (out after : List ℕ) (value count : ℕ) → count ≤ 8
+    → after ≡ out ++ value * 2 ^ (8 - count) ∷ []
+    → bits_of after ≡ (bits_of out ++ bits count value) ++ replicate (8 - count) 0
 unfolding bits_of
 filled out after value count h e =
     let c : count + (8 - count) ≡ 8 = omega arith in
@@ -73,18 +90,25 @@ filled out after value count h e =
     ∙ sym (append_assoc (bits_of out) (bits count value) (replicate (8 - count) 0))
 
 -- nothing to fill
-pub unfilled : (out : List ℕ) (value count : ℕ) → count ≡ 0 → bits_of out ≡ (bits_of out ++ bits count value) ++ replicate 0 0
+pub unfilled : (out : List ℕ) (value count : ℕ) → count ≡ 0
+    → bits_of out ≡ (bits_of out ++ bits count value) ++ replicate 0 0
 unfolding bits
 unfilled out value count e =
     let z : bits count value ≡ [] = ap (λ (n : ℕ). bits n value) e in
-    sym (append-nil (bits_of out)) ∙ ap (λ (t : List ℕ). bits_of out ++ t) (sym z) ∙ sym (append-nil (bits_of out ++ bits count value))
+    sym (append-nil (bits_of out)) ∙ ap (λ (t : List ℕ). bits_of out ++ t) (sym z)
+    ∙ sym (append-nil (bits_of out ++ bits count value))
 
 pub fits_byte : (value count : ℕ) → value < 2 ^ count → count < 8 → value * 2 ^ (8 - count) < 256
-fits_byte value count h k = let e : count + (8 - count) ≡ 8 = omega arith in let f = joined_below value 0 count (8 - count) h (pow_pos (8 - count)) in let g = rw e at f in omega (arith, g)
+fits_byte value count h k =
+    let e : count + (8 - count)
+    ≡ 8 = omega arith in let f = joined_below value 0 count (8 - count) h (pow_pos (8 - count)) in let g = rw e at f
+    in omega (arith, g)
 
 pub no_bits : (out : List ℕ) (value count : ℕ) → count ≡ 0 → bits_of out ++ bits count value ≡ bits_of out
 unfolding bits
-no_bits out value count e = let z : bits count value ≡ [] = ap (λ (n : ℕ). bits n value) e in ap (λ (t : List ℕ). bits_of out ++ t) z ∙ append-nil (bits_of out)
+no_bits out value count e =
+    let z : bits count value ≡ [] = ap (λ (n : ℕ). bits n value) e in ap (λ (t : List ℕ). bits_of out ++ t) z
+    ∙ append-nil (bits_of out)
 
 -- the bits of four bytes, the highest first
 word_bits : (w : ℕ) → bits_of (to_be_bytes w32 w) ≡ bits 32 w
@@ -94,19 +118,26 @@ word_bits w =
     let b2 = bits-mod 8 (w / 2 ^ 16) in
     let b1 = bits-mod 8 (w / 2 ^ 8) in
     let b0 = bits-mod 8 w in
-    ap (λ (t : List ℕ). t ++ (bits 8 (w / 2 ^ 16 % 2 ^ 8) ++ (bits 8 (w / 2 ^ 8 % 2 ^ 8) ++ (bits 8 (w % 2 ^ 8) ++ [])))) b3
-    ∙ ap (λ (t : List ℕ). bits 8 (w / 2 ^ 24) ++ (t ++ (bits 8 (w / 2 ^ 8 % 2 ^ 8) ++ (bits 8 (w % 2 ^ 8) ++ [])))) b2
+    ap (λ (t : List ℕ). t
+    ++ (bits 8 (w / 2 ^ 16 % 2 ^ 8) ++ (bits 8 (w / 2 ^ 8 % 2 ^ 8) ++ (bits 8 (w % 2 ^ 8) ++ [])))) b3
+    ∙ ap (λ (t : List ℕ). bits 8 (w / 2 ^ 24) ++ (t ++ (bits 8 (w / 2 ^ 8 % 2 ^ 8) ++ (bits 8 (w % 2 ^ 8) ++ []))))
+    b2
     ∙ ap (λ (t : List ℕ). bits 8 (w / 2 ^ 24) ++ (bits 8 (w / 2 ^ 16) ++ (t ++ (bits 8 (w % 2 ^ 8) ++ [])))) b1
-    ∙ ap (λ (t : List ℕ). bits 8 (w / 2 ^ 24) ++ (bits 8 (w / 2 ^ 16) ++ (bits 8 (w / 2 ^ 8) ++ t))) (append-nil (bits 8 (w % 2 ^ 8)) ∙ b0)
+    ∙ ap (λ (t : List ℕ). bits 8 (w / 2 ^ 24) ++ (bits 8 (w / 2 ^ 16) ++ (bits 8 (w / 2 ^ 8) ++ t)))
+    (append-nil (bits 8 (w % 2 ^ 8)) ∙ b0)
     ∙ ap (λ (t : List ℕ). bits 8 (w / 2 ^ 24) ++ (bits 8 (w / 2 ^ 16) ++ t)) (sym (bits-add 8 8 w))
     ∙ ap (λ (t : List ℕ). bits 8 (w / 2 ^ 24) ++ t) (sym (bits-add 8 16 w))
     ∙ sym (bits-add 8 24 w)
 
 -- four bytes of a number in more bits
-pub word_out : (out after : List ℕ) (all count rest : ℕ) → 32 + rest ≡ count → after ≡ out ++ to_be_bytes w32 (all / 2 ^ rest) → bits_of after ++ bits rest (all % 2 ^ rest) ≡ bits_of out ++ bits count all
+pub word_out : (out after : List ℕ) (all count rest : ℕ) → 32 + rest ≡ count
+    → after ≡ out ++ to_be_bytes w32 (all / 2 ^ rest)
+    → bits_of after ++ bits rest (all % 2 ^ rest) ≡ bits_of out ++ bits count all
 word_out out after all count rest c e =
     ap (λ (t : List ℕ). bits_of t ++ bits rest (all % 2 ^ rest)) e
-    ∙ ap (λ (t : List ℕ). t ++ bits rest (all % 2 ^ rest)) (bits_of-append out (to_be_bytes w32 (all / 2 ^ rest)) ∙ ap (λ (t : List ℕ). bits_of out ++ t) (word_bits (all / 2 ^ rest)))
+    ∙ ap (λ (t : List ℕ). t ++ bits rest (all % 2 ^ rest))
+    (bits_of-append out (to_be_bytes w32 (all / 2 ^ rest))
+    ∙ ap (λ (t : List ℕ). bits_of out ++ t) (word_bits (all / 2 ^ rest)))
     ∙ ap (λ (t : List ℕ). (bits_of out ++ bits 32 (all / 2 ^ rest)) ++ t) (bits-mod rest all)
     ∙ append_assoc (bits_of out) (bits 32 (all / 2 ^ rest)) (bits rest all)
     ∙ ap (λ (t : List ℕ). bits_of out ++ t) (sym (bits-add 32 rest all) ∙ ap (λ (n : ℕ). bits n all) c)

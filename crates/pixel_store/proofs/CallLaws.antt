@@ -6,26 +6,32 @@ use Rattle.sub_base.specs.declared.depth.Depth.{Depth}
 use Rattle.pixel_store.specs.Regions.{Region, Regions, IsPlaced, region_at, code_of, PlacesOne, KeepsOthers, IsFilled, IsRunPainted}
 use Rattle.pixel_store.specs.Calls.{Call, Place, Fill, PaintRun, covers, code_given, last_write, is_place, is_place_of, bytes_taken, placing, IsAfter}
 
-found : (p : Call → Bool) (call : Call) (past : List Call) → p call ≡ true → find p (call ∷ past) ≡ Some call
+found : (p : Call → Bool) (call : Call) (past : List Call) → p call ≡ true
+    → find p (call ∷ past) ≡ Some call
 found p call past hit = ap (λ (b : Bool). cond b (Some call) (find p past)) hit
 
-passed : (p : Call → Bool) (call : Call) (past : List Call) → p call ≡ false → find p (call ∷ past) ≡ find p past
+passed : (p : Call → Bool) (call : Call) (past : List Call) → p call ≡ false
+    → find p (call ∷ past) ≡ find p past
 passed p call past miss = ap (λ (b : Bool). cond b (Some call) (find p past)) miss
 
 -- the last write is that of the call, or that of the calls before
-written : (slot x y : ℕ) (call : Call) (past : List Call) → covers slot x y call ≡ true → last_write slot x y (call ∷ past) ≡ code_given (Some call)
+written : (slot x y : ℕ) (call : Call) (past : List Call) → covers slot x y call ≡ true
+    → last_write slot x y (call ∷ past) ≡ code_given (Some call)
 written slot x y call past hit = ap code_given (found (covers slot x y) call past hit)
 
-unwritten : (slot x y : ℕ) (call : Call) (past : List Call) → covers slot x y call ≡ false → last_write slot x y (call ∷ past) ≡ last_write slot x y past
+unwritten : (slot x y : ℕ) (call : Call) (past : List Call) → covers slot x y call ≡ false
+    → last_write slot x y (call ∷ past) ≡ last_write slot x y past
 unwritten slot x y call past miss = ap code_given (passed (covers slot x y) call past miss)
 
 -- the sides of each region are kept
 sides : (slot : ℕ) (old new : Regions) → KeepsOthers slot old new → (k : ℕ) →
-    ((region_at new k).width ≡ (region_at old k).width) × ((region_at new k).height ≡ (region_at old k).height) × ((region_at new k).depth ≡ (region_at old k).depth)
+    ((region_at new k).width ≡ (region_at old k).width) × ((region_at new k).height ≡ (region_at old k).height)
+    × ((region_at new k).depth ≡ (region_at old k).depth)
 sides slot old new keeps k = elim (cases_eq k slot) [
   | inl e ↦
       let Same : ℕ → Type 0 = λ m.
-      ((region_at new m).width ≡ (region_at old m).width) × ((region_at new m).height ≡ (region_at old m).height) × ((region_at new m).depth ≡ (region_at old m).depth) in
+      ((region_at new m).width ≡ (region_at old m).width) × ((region_at new m).height ≡ (region_at old m).height)
+      × ((region_at new m).depth ≡ (region_at old m).depth) in
       subst Same (sym e) (keeps.width, keeps.height, keeps.depth)
   | inr ne ↦
       let same = keeps.others k ne in
@@ -33,17 +39,22 @@ sides slot old new keeps k = elim (cases_eq k slot) [
 ]
 
 -- a call that changes the codes of one region
-module _ (slot : ℕ) (old new : Regions) (keeps : KeepsOthers slot old new) (call : Call) (past : List Call) (after : IsAfter past old)
-    (no_place : is_place call ≡ false) (no_place_of : (k : ℕ) → is_place_of k call ≡ false) (no_bytes : bytes_taken call ≡ 0)
+module _ (slot : ℕ) (old new : Regions) (keeps : KeepsOthers slot old new) (call : Call) (past : List Call)
+    (after : IsAfter past old)
+    (no_place : is_place call ≡ false) (no_place_of : (k : ℕ) → is_place_of k call ≡ false)
+    (no_bytes : bytes_taken call ≡ 0)
     (elsewhere : (k x y : ℕ) → k ≢ slot → covers k x y call ≡ false)
     (here : (x y : ℕ) → IsPlaced old slot → x < (region_at old slot).width → y < (region_at old slot).height →
     code_of (region_at new slot) x y ≡ last_write slot x y (call ∷ past)) where
   changed_after : IsAfter (call ∷ past) new
   changed_after = record {
-    count = keeps.count ∙ after.count ∙ sym (ap (λ (b : Bool). length (cond b (call ∷ filter is_place past) (filter is_place past))) no_place);
+    count =
+        keeps.count ∙ after.count
+        ∙ sym (ap (λ (b : Bool). length (cond b (call ∷ filter is_place past) (filter is_place past))) no_place);
     placed = λ k is_in.
         let s = sides slot old new keeps k in
-        passed (is_place_of k) call past (no_place_of k) ∙ after.placed k (subst (λ (n : ℕ). k < n) keeps.count is_in)
+        passed (is_place_of k) call past (no_place_of k)
+        ∙ after.placed k (subst (λ (n : ℕ). k < n) keeps.count is_in)
         ∙ (λ i. Some (Place k (sym s.0 i) (sym s.1 i) (sym s.2 i)));
     codes = λ k x y is_in column row.
         let s = sides slot old new keeps k in
@@ -52,7 +63,8 @@ module _ (slot : ℕ) (old new : Regions) (keeps : KeepsOthers slot old new) (ca
         let old_row : y < (region_at old k).height = subst (λ (n : ℕ). y < n) s.1 row in
         elim (cases_eq k slot) [
           | inl e ↦
-              let Same : ℕ → Type 0 = λ m. IsPlaced old m → x < (region_at old m).width → y < (region_at old m).height →
+              let Same : ℕ → Type 0 =
+              λ m. IsPlaced old m → x < (region_at old m).width → y < (region_at old m).height →
               code_of (region_at new m) x y ≡ last_write m x y (call ∷ past) in
               subst Same (sym e) (here x y) old_in old_column old_row
           | inr ne ↦
@@ -62,13 +74,15 @@ module _ (slot : ℕ) (old new : Regions) (keeps : KeepsOthers slot old new) (ca
     bytes = omega (arith, sum_by-cons bytes_taken call past, no_bytes, keeps.free, keeps.size, after.bytes);
   }
 
-pub fill_after : (slot code : ℕ) (old new : Regions) → KeepsOthers slot old new → IsFilled code (region_at new slot) →
+pub fill_after : (slot code : ℕ) (old new : Regions) → KeepsOthers slot old new
+    → IsFilled code (region_at new slot) →
     (past : List Call) → IsAfter past old → IsAfter (Fill slot code ∷ past) new
 fill_after slot code old new keeps filled past after =
     changed_after slot old new keeps (Fill slot code) past after refl (λ k. refl) refl
     (λ k x y ne. ne_eqb slot k (λ e. ne (sym e)))
     (λ x y is_in column row.
-    filled x y (subst (λ (n : ℕ). x < n) (sym keeps.width) column) (subst (λ (n : ℕ). y < n) (sym keeps.height) row)
+    filled x y (subst (λ (n : ℕ). x < n) (sym keeps.width) column)
+    (subst (λ (n : ℕ). y < n) (sym keeps.height) row)
     ∙ sym (written slot x y (Fill slot code) past (eq-eqb slot slot refl)))
 
 pub run_after : (slot left row count code : ℕ) (old new : Regions) → KeepsOthers slot old new →
@@ -79,26 +93,34 @@ run_after slot left row count code old new keeps painted past after =
     (λ k x y ne. rw (ne_eqb slot k (λ e. ne (sym e))) refl)
     (λ x y is_in column below. elim (cases_eq y row) [
       | inl e ↦ elim (cases_lt x left) [
-        | inl before ↦ other x y is_in column below (inr (inl before)) (rw (eq-eqb slot slot refl, eq-eqb row y (sym e), lt-leb left x before) refl)
+        | inl before ↦ other x y is_in column below (inr (inl before))
+            (rw (eq-eqb slot slot refl, eq-eqb row y (sym e), lt-leb left x before) refl)
         | inr from ↦ elim (cases_lt x (left + count)) [
           | inl inside ↦
-              subst (λ (m : ℕ). code_of (region_at new slot) x m ≡ code) (sym e) (painted.covered x column (subst (λ (m : ℕ). m < (region_at old slot).height) e below) from inside)
+              subst (λ (m : ℕ). code_of (region_at new slot) x m ≡ code) (sym e)
+              (painted.covered x column (subst (λ (m : ℕ). m < (region_at old slot).height) e below) from inside)
               ∙ sym (written slot x y (PaintRun slot left row count code) past
-              (rw (eq-eqb slot slot refl, eq-eqb row y (sym e), le-leb left x from, lt-ltb x (left + count) inside) refl))
+              (rw (eq-eqb slot slot refl, eq-eqb row y (sym e), le-leb left x from, lt-ltb x (left + count) inside)
+              refl))
           | inr behind ↦ other x y is_in column below (inr (inr behind))
-              (rw (eq-eqb slot slot refl, eq-eqb row y (sym e), le-leb left x from, le-ltb x (left + count) behind) refl)
+              (rw (eq-eqb slot slot refl, eq-eqb row y (sym e), le-leb left x from, le-ltb x (left + count) behind)
+              refl)
         ]
       ]
-      | inr ne ↦ other x y is_in column below (inl ne) (rw (eq-eqb slot slot refl, ne_eqb row y (λ e. ne (sym e))) refl)
+      | inr ne ↦ other x y is_in column below (inl ne)
+          (rw (eq-eqb slot slot refl, ne_eqb row y (λ e. ne (sym e))) refl)
     ]) where
-      other : (x y : ℕ) → IsPlaced old slot → x < (region_at old slot).width → y < (region_at old slot).height →
-          (y ≢ row) ⊎ ((x < left) ⊎ (left + count ≤ x)) → covers slot x y (PaintRun slot left row count code) ≡ false →
+      other : (x y : ℕ) → IsPlaced old slot → x < (region_at old slot).width
+          → y < (region_at old slot).height →
+          (y ≢ row) ⊎ ((x < left) ⊎ (left + count ≤ x))
+          → covers slot x y (PaintRun slot left row count code) ≡ false →
           code_of (region_at new slot) x y ≡ last_write slot x y (PaintRun slot left row count code ∷ past)
       other x y is_in column below where_it_is miss =
           painted.outside x y column below where_it_is ∙ after.codes slot x y is_in column below
           ∙ sym (unwritten slot x y (PaintRun slot left row count code) past miss)
 
-pub place_after : (width height : ℕ) (depth : Depth) (slot : ℕ) (old new : Regions) → PlacesOne width height depth slot old new →
+pub place_after : (width height : ℕ) (depth : Depth) (slot : ℕ) (old new : Regions)
+    → PlacesOne width height depth slot old new →
     (past : List Call) → IsAfter past old → IsAfter (Place slot width height depth ∷ past) new
 place_after width height depth slot old new places past after = record {
   count = omega (arith, places.count, after.count, length-more);
@@ -110,21 +132,33 @@ place_after width height depth slot old new places past after = record {
         (ap (λ (r : Region). Some (placing slot r)) (sym places.placed))
     | inr ne ↦
         passed (is_place_of k) (Place slot width height depth) past (ne_eqb slot k (λ e. ne (sym e)))
-        ∙ after.placed k (earlier k is_in ne) ∙ ap (λ (r : Region). Some (placing k r)) (sym (places.kept k (earlier k is_in ne)))
+        ∙ after.placed k (earlier k is_in ne)
+        ∙ ap (λ (r : Region). Some (placing k r)) (sym (places.kept k (earlier k is_in ne)))
   ];
   codes = λ k x y is_in column row. elim (cases_eq k slot) [
     | inl e ↦
-        let Zero : ℕ → Type 0 = λ m. x < (region_at new m).width → y < (region_at new m).height → code_of (region_at new m) x y ≡ 0 in
+        let Zero : ℕ → Type 0 = λ m. x < (region_at new m).width → y < (region_at new m).height
+        → code_of (region_at new m) x y ≡ 0 in
         subst Zero (sym e) (λ column row.
-        places.zeros x y (subst (λ (r : Region). x < r.width) places.placed column) (subst (λ (r : Region). y < r.height) places.placed row)) column row
+        places.zeros x y (subst (λ (r : Region). x < r.width) places.placed column)
+        (subst (λ (r : Region). y < r.height) places.placed row)) column row
         ∙ sym (written k x y (Place slot width height depth) past (eq-eqb slot k (sym e)))
     | inr ne ↦
         let same = places.kept k (earlier k is_in ne) in
         ap (λ (r : Region). code_of r x y) same
-        ∙ after.codes k x y (earlier k is_in ne) (subst (λ (r : Region). x < r.width) same column) (subst (λ (r : Region). y < r.height) same row)
+        ∙ after.codes k x y (earlier k is_in ne) (subst (λ (r : Region). x < r.width) same column)
+        (subst (λ (r : Region). y < r.height) same row)
         ∙ sym (unwritten k x y (Place slot width height depth) past (ne_eqb slot k (λ e. ne (sym e))))
   ];
-  bytes = omega (arith, sum_by-cons bytes_taken (Place slot width height depth) past, places.free, places.size, after.bytes);
+  bytes =
+      omega (
+        arith,
+        sum_by-cons bytes_taken (Place slot width height depth)
+            past,
+        places.free,
+        places.size,
+        after.bytes,
+      );
 } where
   earlier : (k : ℕ) → IsPlaced new k → k ≢ slot → IsPlaced old k
   earlier k is_in ne = elim (cases_lt k (length old.regions)) [
@@ -140,5 +174,17 @@ pub outside_after : (slot left row count code : ℕ) (store : Regions) → (regi
     (past : List Call) → IsAfter past store → IsAfter (PaintRun slot left row count code ∷ past) store
 outside_after slot left row count code store below =
     run_after slot left row count code store store
-    (record { count = refl; others = λ other ne. refl; width = refl; height = refl; depth = refl; size = refl; free = refl })
-    (record { covered = λ x column inside from to. absurd (omega arith); outside = λ x y column inside where_it_is. refl })
+    (record {
+      count = refl;
+      others = λ other ne. refl;
+      width = refl;
+      height = refl;
+      depth = refl;
+      size = refl;
+      free = refl;
+    })
+    (record {
+      covered = λ x column inside from to. absurd (omega arith);
+      outside = λ x y column inside
+          where_it_is. refl;
+    })

@@ -51,7 +51,15 @@ module _ (l m p b : ℕ) where
   in_parts : splice (l + m) l p b ≡ (A * 2 ^ m + M) * 2 ^ l + B
   in_parts = in_two ∙ regroup A (2 ^ (l + m)) (2 ^ l) (2 ^ m) M B (pow-add 2 l m) where
     regroup : (a x y z c d : ℕ) → x ≡ y * z → a * x + (c * y + d) ≡ (a * z + c) * y + d
-    regroup a x y z c d e = omega (arith, ap (λ (n : ℕ). a * n) e, add-mul (a * z) c y, mul_assoc a z y, ap (λ (n : ℕ). a * n) (mul_comm y z))
+    regroup a x y z c d e =
+        omega (
+          arith,
+          ap (λ (n : ℕ). a * n) e,
+          add-mul (a * z) c y,
+          mul_assoc a z y,
+          ap (λ (n : ℕ). a * n)
+              (mul_comm y z),
+        )
 
   pub splice-below : (e : ℕ) → b < 2 ^ (e + (l + m)) → splice (l + m) l p b < 2 ^ (e + (l + m))
   unfolding A
@@ -75,7 +83,8 @@ module _ (l m p b : ℕ) where
       ∙ ap (λ (k : ℕ). bits_at w s (b % 2 ^ k)) is
       ∙ low w s more b
 
-  pub middle_bits : (w t more : ℕ) → m ≡ more + w + t → bits_at w (l + t) (splice (l + m) l p b) ≡ bits_at w (l + t) p
+  pub middle_bits : (w t more : ℕ) → m ≡ more + w + t
+      → bits_at w (l + t) (splice (l + m) l p b) ≡ bits_at w (l + t) p
   middle_bits w t more is =
       sym (shifted w t l (splice (l + m) l p b))
       ∙ ap (bits_at w t) (ap (λ (v : ℕ). v / 2 ^ l) in_parts ∙ shr_high (A * 2 ^ m + M) l B B_below)

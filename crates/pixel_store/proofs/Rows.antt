@@ -10,7 +10,9 @@ use Rattle.pixel_store.specs.Private.Painting.{ones_of, code_number, Paints, Pai
 use Rattle.sub_base.specs.Depth.{code_count, packed_length}
 use Rattle.pixel_store.proofs.Bytes.{each_digit}
 
-spot : (depth : Depth) (start x : ℕ) → code_number depth (start + x / codes_in_byte depth) (x % codes_in_byte depth) ≡ start * codes_in_byte depth + x
+spot : (depth : Depth) (start x : ℕ)
+    → code_number depth (start + x / codes_in_byte depth) (x % codes_in_byte depth)
+    ≡ start * codes_in_byte depth + x
 spot Two start x = omega arith
 spot Four start x = omega arith
 spot Eight start x = omega arith
@@ -30,12 +32,14 @@ enough Two width = omega arith
 enough Four width = omega arith
 enough Eight width = omega arith
 
-before_row : (depth : Depth) (i start from : ℕ) → i < start → i * codes_in_byte depth + codes_in_byte depth ≤ start * codes_in_byte depth + from
+before_row : (depth : Depth) (i start from : ℕ) → i < start
+    → i * codes_in_byte depth + codes_in_byte depth ≤ start * codes_in_byte depth + from
 before_row Two i start from lt = omega arith
 before_row Four i start from lt = omega arith
 before_row Eight i start from lt = omega arith
 
-behind_row : (depth : Depth) (i start stride to : ℕ) → start + stride ≤ i → to ≤ stride * codes_in_byte depth → start * codes_in_byte depth + to ≤ i * codes_in_byte depth
+behind_row : (depth : Depth) (i start stride to : ℕ) → start + stride ≤ i
+    → to ≤ stride * codes_in_byte depth → start * codes_in_byte depth + to ≤ i * codes_in_byte depth
 behind_row Two i start stride to le short = omega arith
 behind_row Four i start stride to le short = omega arith
 behind_row Eight i start stride to le short = omega arith
@@ -43,25 +47,33 @@ behind_row Eight i start stride to le short = omega arith
 pub wide_enough : (extent : Extent) → extent.width ≤ room_of extent
 wide_enough extent = enough extent.depth extent.width
 
-pub column-below : (extent : Extent) (x : ℕ) → x < room_of extent → x / codes_in_byte extent.depth < stride_of extent
+pub column-below : (extent : Extent) (x : ℕ) → x < room_of extent
+    → x / codes_in_byte extent.depth < stride_of extent
 column-below extent x lt = in_stride extent.depth x (stride_of extent) lt
 
 -- a row ends within the bytes
-pub row_inside : (bytes : List ℕ) (extent : Extent) (y : ℕ) → Fits bytes extent → y < extent.height → row_start extent y + stride_of extent ≤ length bytes
-row_inside bytes extent y fits lt = omega (arith, fits.inside, row_fits_turned y (stride_of extent) (stride_of extent) extent.height lt (omega arith))
+pub row_inside : (bytes : List ℕ) (extent : Extent) (y : ℕ) → Fits bytes extent → y < extent.height
+    → row_start extent y + stride_of extent ≤ length bytes
+row_inside bytes extent y fits lt =
+    omega (arith, fits.inside, row_fits_turned y (stride_of extent) (stride_of extent) extent.height lt (omega arith))
 
-pub byte_inside : (bytes : List ℕ) (extent : Extent) (x y : ℕ) → Fits bytes extent → x < room_of extent → y < extent.height →
+pub byte_inside : (bytes : List ℕ) (extent : Extent) (x y : ℕ) → Fits bytes extent → x < room_of extent
+    → y < extent.height →
     row_start extent y + x / codes_in_byte extent.depth < length bytes
-byte_inside bytes extent x y fits column row = omega (arith, row_inside bytes extent y fits row, column-below extent x column)
+byte_inside bytes extent x y fits column row =
+    omega (arith, row_inside bytes extent y fits row, column-below extent x column)
 
-pub PaintsRow-from : (extent : Extent) (y from to code : ℕ) (xs ys : List ℕ) → Fits xs extent → y < extent.height → to ≤ room_of extent →
-    Paints extent.depth (row_start extent y * codes_in_byte extent.depth + from) (row_start extent y * codes_in_byte extent.depth + to) code xs ys →
+pub PaintsRow-from : (extent : Extent) (y from to code : ℕ) (xs ys : List ℕ) → Fits xs extent
+    → y < extent.height → to ≤ room_of extent →
+    Paints extent.depth (row_start extent y * codes_in_byte extent.depth + from)
+    (row_start extent y * codes_in_byte extent.depth + to) code xs ys →
     PaintsRow extent y from to code xs ys
 PaintsRow-from extent y from to code xs ys fits row short p = record {
   covered = λ x after before.
       let at = spot extent.depth (row_start extent y) x in
       p.covered (row_start extent y + x / codes_in_byte extent.depth) (x % codes_in_byte extent.depth)
-      (byte_inside xs extent x y fits (omega (arith, before, short)) row) (in_byte extent.depth x) (omega (arith, at, after)) (omega (arith, at, before));
+      (byte_inside xs extent x y fits (omega (arith, before, short)) row) (in_byte extent.depth x)
+      (omega (arith, at, after)) (omega (arith, at, before));
   beside = λ x column where_it_is.
       let at = spot extent.depth (row_start extent y) x in
       p.outside (row_start extent y + x / codes_in_byte extent.depth) (x % codes_in_byte extent.depth)
@@ -81,7 +93,8 @@ row_before stride row later lt =
     subst (λ (n : ℕ). row * stride + stride ≤ n * stride) split (grind arith)
 
 -- a painted row leaves the other rows
-pub other_row : (extent : Extent) (y from to code x row : ℕ) (xs ys : List ℕ) → PaintsRow extent y from to code xs ys → x < room_of extent →
+pub other_row : (extent : Extent) (y from to code x row : ℕ) (xs ys : List ℕ)
+    → PaintsRow extent y from to code xs ys → x < room_of extent →
     (row < y) ⊎ (y < row) → pixel ys extent x row ≡ pixel xs extent x row
 other_row extent y from to code x row xs ys p column where_it_is =
     ap (code_in extent.depth (x % codes_in_byte extent.depth))
@@ -98,46 +111,59 @@ Fills-none extent code xs = record {
   untouched = λ i where_it_is. refl;
 }
 
-pub Fills-more : (extent : Extent) (n code : ℕ) (xs ys zs : List ℕ) → n < extent.height → Fills extent n code xs ys →
+pub Fills-more : (extent : Extent) (n code : ℕ) (xs ys zs : List ℕ) → n < extent.height
+    → Fills extent n code xs ys →
     PaintsRow extent n 0 extent.width code ys zs → Fills extent (n + 1) code xs zs
 Fills-more extent n code xs ys zs more f p = record {
   covered = λ x y column row. elim (cases_lt y n) [
-    | inl above ↦ other_row extent n 0 extent.width code x y ys zs p (omega (arith, column, wide_enough extent)) (inl above) ∙ f.covered x y column above
+    | inl above ↦ other_row extent n 0 extent.width code x y ys zs p (omega (arith, column, wide_enough extent))
+        (inl above) ∙ f.covered x y column above
     | inr not_above ↦
         let same : n ≡ y = omega arith in
         subst (λ (k : ℕ). pixel zs extent x k ≡ code) same (p.covered x (omega arith) column)
   ];
   beside = λ x y column right row. elim (cases_order y n) [
     | inl same ↦
-        subst (λ (k : ℕ). pixel zs extent x k ≡ pixel ys extent x k) (sym same) (p.beside x column (inr right)) ∙ f.beside x y column right row
+        subst (λ (k : ℕ). pixel zs extent x k ≡ pixel ys extent x k) (sym same) (p.beside x column (inr right))
+        ∙ f.beside x y column right row
     | inr differ ↦ other_row extent n 0 extent.width code x y ys zs p column differ ∙ f.beside x y column right row
   ];
   below = λ x y column under row.
-      other_row extent n 0 extent.width code x y ys zs p column (inr (omega arith)) ∙ f.below x y column (omega arith) row;
+      other_row extent n 0 extent.width code x y ys zs p column (inr (omega arith))
+      ∙ f.below x y column (omega arith) row;
   untouched = λ i where_it_is.
       p.untouched i (elim where_it_is [
         | inl l ↦ inl (omega (arith, l))
-        | inr r ↦ inr (omega (arith, r, row_fits_turned n (stride_of extent) (stride_of extent) extent.height more (omega arith)))
+        | inr r ↦ inr
+            (omega (arith, r, row_fits_turned n (stride_of extent) (stride_of extent) extent.height more (omega arith)))
       ]) ∙ f.untouched i where_it_is;
 }
 
-no_padding : (depth : Depth) (width : ℕ) → width % codes_in_byte depth ≡ 0 → packed_length depth width * codes_in_byte depth ≡ width
+no_padding : (depth : Depth) (width : ℕ) → width % codes_in_byte depth ≡ 0
+    → packed_length depth width * codes_in_byte depth ≡ width
 no_padding Two width full = omega arith
 no_padding Four width full = omega arith
 no_padding Eight width full = omega arith
 
 -- equal bytes fill all rows that have no bits behind their last pixels
-pub Fills-whole : (extent : Extent) (code value : ℕ) (xs ys : List ℕ) → extent.width % codes_in_byte extent.depth ≡ 0 → code < code_count extent.depth →
+pub Fills-whole : (extent : Extent) (code value : ℕ) (xs ys : List ℕ)
+    → extent.width % codes_in_byte extent.depth ≡ 0 → code < code_count extent.depth →
     value ≡ code * ones_of extent.depth →
     ((i : ℕ) → extent.offset ≤ i → i < extent.offset + size_of extent → get_or ys i 0 ≡ value) →
-    ((i : ℕ) → (i < extent.offset) ⊎ (extent.offset + size_of extent ≤ i) → get_or ys i 0 ≡ get_or xs i 0) →
+    ((i : ℕ) → (i < extent.offset) ⊎ (extent.offset + size_of extent ≤ i)
+    → get_or ys i 0 ≡ get_or xs i 0) →
     Fills extent extent.height code xs ys
 Fills-whole extent code value xs ys full small is inside outside = record {
   covered = λ x y column row.
       let here : x < room_of extent = omega (arith, column, wide_enough extent) in
       ap (code_in extent.depth (x % codes_in_byte extent.depth))
       (inside (row_start extent y + x / codes_in_byte extent.depth) (omega arith)
-      (omega (arith, column-below extent x here, row_fits_turned y (stride_of extent) (stride_of extent) extent.height row (omega arith))) ∙ is)
+      (omega (
+        arith,
+        column-below extent x here,
+        row_fits_turned y (stride_of extent) (stride_of extent) extent.height
+            row (omega arith),
+      )) ∙ is)
       ∙ each_digit extent.depth (x % codes_in_byte extent.depth) code (in_byte extent.depth x) small;
   beside = λ x y column right row. absurd (omega (arith, column, right, no_padding extent.depth extent.width full));
   below = λ x y column under row. absurd (omega arith);

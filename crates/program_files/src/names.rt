@@ -14,8 +14,8 @@ pub(crate) fn new_path(alloc: Global, path: &str, number: u64) -> Result<PathBuf
     Path::new(path).with_file_name(alloc, name.as_str())
 }
 
-/// The name of a new file of that number. It is short whatever the output is called, so that it fits
-/// where the output's name does, and begins with a dot, so that it is not listed.
+/// The name of a new file of that number. It is short whatever the output is called, so that it
+/// fits where the output's name does, and begins with a dot, so that it is not listed.
 fn part_name(alloc: Global, number: u64) -> Result<String, AllocError>
     ensures { IfOk result (λ name. string_bytes name ≡ part_name_of number) }
 {
@@ -28,7 +28,8 @@ fn part_name(alloc: Global, number: u64) -> Result<String, AllocError>
 
 /// The path that a symbolic link at that path leads to.
 pub(crate) fn behind_link(alloc: Global, path: &str, link: &str) -> Result<PathBuf, AllocError>
-    ensures { IfOk result (λ behind. path_buf_bytes behind ≡ path_behind_link path.now link.now) }
+    ensures { IfOk result
+        (λ behind. path_buf_bytes behind ≡ path_behind_link path.now link.now) }
 {
     let folder = match Path::new(path).parent() {
         Some(folder) => folder,

@@ -8,9 +8,9 @@ use std::io::{self, ErrorKind, Write};
 /// The file of a command's output. It is made only as the first bytes are written or as the command
 /// has ended, so that a command that is refused touches nothing.
 ///
-/// Where the output is missing or a regular file, what is written goes to a new file beside it, which
-/// is flushed and renamed at the end: whatever ends the program before, what was there stays whole. A
-/// pipe, a device and standard output are written as it comes.
+/// Where the output is missing or a regular file, what is written goes to a new file beside it,
+/// which is flushed and renamed at the end: whatever ends the program before, what was there stays
+/// whole. A pipe, a device and standard output are written as it comes.
 #[derive(Drop)]
 pub struct Output<'a> {
     rt: &'a HostRuntime,

@@ -15,7 +15,8 @@ use Rattle.psi_tables.specs.declared.loops.StreamEntry.{StreamEntry}
 -- ---- descriptors
 
 -- more than enough is enough
-descriptors-enough : (m n : ℕ) (bytes : List ℕ) → length bytes ≤ m → length bytes ≤ n → descriptors_within m bytes ≡ descriptors_within n bytes
+descriptors-enough : (m n : ℕ) (bytes : List ℕ) → length bytes ≤ m → length bytes ≤ n
+    → descriptors_within m bytes ≡ descriptors_within n bytes
 descriptors-enough zero zero bytes few few_too = refl
 descriptors-enough zero (suc n) [] few few_too = refl
 descriptors-enough zero (suc n) (byte ∷ bytes) few few_too = absurd (omega arith)
@@ -24,12 +25,14 @@ descriptors-enough (suc m) zero (byte ∷ bytes) few few_too = absurd (omega ari
 descriptors-enough (suc m) (suc n) bytes few few_too =
     let size : ℕ = 2 + byte_at 1 bytes in
     let less = length-drop size bytes in
-    ap (λ rest. if ltb (length bytes) 2 || ltb (length bytes) (2 + byte_at 1 bytes) then [] else record { tag = byte_at 0 bytes; content = take (byte_at 1 bytes) (drop 2 bytes) } ∷ rest)
+    ap (λ rest. if ltb (length bytes) 2 || ltb (length bytes) (2 + byte_at 1 bytes) then []
+    else record { tag = byte_at 0 bytes; content = take (byte_at 1 bytes) (drop 2 bytes) } ∷ rest)
     (descriptors-enough m n (drop size bytes) (omega (arith, less)) (omega (arith, less)))
 
 -- the first one, and those behind it
 pub descriptors_more : (bytes : List ℕ) → 2 ≤ length bytes → 2 + byte_at 1 bytes ≤ length bytes
-    → descriptors_of bytes ≡ record { tag = byte_at 0 bytes; content = take (byte_at 1 bytes) (drop 2 bytes) } ∷ descriptors_of (drop (2 + byte_at 1 bytes) bytes)
+    → descriptors_of bytes ≡ record { tag = byte_at 0 bytes; content = take (byte_at 1 bytes) (drop 2 bytes) }
+    ∷ descriptors_of (drop (2 + byte_at 1 bytes) bytes)
 unfolding descriptors_of
 descriptors_more [] head whole = absurd (omega arith)
 descriptors_more (byte ∷ bytes) head whole =
@@ -37,17 +40,25 @@ descriptors_more (byte ∷ bytes) head whole =
     let less = length-drop size (byte ∷ bytes) in
     let a : ltb (length (byte ∷ bytes)) 2 ≡ false = le-ltb _ _ head in
     let b : ltb (length (byte ∷ bytes)) (2 + byte_at 1 (byte ∷ bytes)) ≡ false = le-ltb _ _ whole in
-    rw (a, b) (ap (λ rest. record { tag = byte; content = take (byte_at 1 (byte ∷ bytes)) (drop 2 (byte ∷ bytes)) } ∷ rest)
-    (descriptors-enough (length bytes) (length (drop size (byte ∷ bytes))) (drop size (byte ∷ bytes)) (omega (arith, less)) (omega arith)))
+    rw (a, b)
+    (ap (λ rest. record { tag = byte; content = take (byte_at 1 (byte ∷ bytes)) (drop 2 (byte ∷ bytes)) }
+    ∷ rest)
+    (descriptors-enough (length bytes) (length (drop size (byte ∷ bytes))) (drop size (byte ∷ bytes))
+    (omega (arith, less)) (omega arith)))
 
 pub descriptor_first : (bytes behind : List ℕ) → 2 ≤ length bytes → 2 + byte_at 1 bytes ≤ length bytes
-    → behind ≡ take (length bytes - (2 + byte_at 1 bytes)) (drop (2 + byte_at 1 bytes) bytes) → IsFirstDescriptor bytes (byte_at 0 bytes) behind
+    → behind ≡ take (length bytes - (2 + byte_at 1 bytes)) (drop (2 + byte_at 1 bytes) bytes)
+    → IsFirstDescriptor bytes (byte_at 0 bytes) behind
 descriptor_first bytes behind head whole is =
     let rest : behind ≡ drop (2 + byte_at 1 bytes) bytes = is ∙ take_rest bytes (2 + byte_at 1 bytes) in
-    let long : length (take (byte_at 1 bytes) (drop 2 bytes)) ≡ byte_at 1 bytes = length-take-le (byte_at 1 bytes) (drop 2 bytes) (omega (arith, length-drop 2 bytes)) in
+    let long : length (take (byte_at 1 bytes) (drop 2 bytes)) ≡ byte_at 1 bytes =
+    length-take-le (byte_at 1 bytes) (drop 2 bytes) (omega (arith, length-drop 2 bytes)) in
     record {
       content = take (byte_at 1 bytes) (drop 2 bytes);
-      first = descriptors_more bytes head whole ∙ ap (λ more. record { tag = byte_at 0 bytes; content = take (byte_at 1 bytes) (drop 2 bytes) } ∷ descriptors_of more) (sym rest);
+      first =
+          descriptors_more bytes head whole
+          ∙ ap (λ more. record { tag = byte_at 0 bytes; content = take (byte_at 1 bytes) (drop 2 bytes) }
+          ∷ descriptors_of more) (sym rest);
       size = omega (arith, long, ap length rest, length-drop (2 + byte_at 1 bytes) bytes);
     }
 
@@ -55,9 +66,11 @@ descriptor_first bytes behind head whole is =
 pub descriptor_short : (bytes : List ℕ) → length bytes < 2 → descriptors_of bytes ≡ []
 unfolding descriptors_of
 descriptor_short [] short = refl
-descriptor_short (byte ∷ bytes) short = let a : ltb (length (byte ∷ bytes)) 2 ≡ true = lt-ltb _ _ short in rw a refl
+descriptor_short (byte ∷ bytes) short =
+    let a : ltb (length (byte ∷ bytes)) 2 ≡ true = lt-ltb _ _ short in rw a refl
 
-pub descriptor_cut : (bytes : List ℕ) → 2 ≤ length bytes → length bytes < 2 + byte_at 1 bytes → descriptors_of bytes ≡ []
+pub descriptor_cut : (bytes : List ℕ) → 2 ≤ length bytes → length bytes < 2 + byte_at 1 bytes
+    → descriptors_of bytes ≡ []
 unfolding descriptors_of
 descriptor_cut [] head cut = refl
 descriptor_cut (byte ∷ bytes) head cut =
@@ -68,31 +81,39 @@ descriptor_cut (byte ∷ bytes) head cut =
 same-sum : (a b c : ℕ) → (a + b == a + c) ≡ (b == c)
 same-sum a b c = grind (arith, nat_tests)
 
-pub are_descriptors-more : (bytes behind : List ℕ) (tag : ℕ) (content : List ℕ) → descriptors_of bytes ≡ record { tag = tag; content = content } ∷ descriptors_of behind
+pub are_descriptors-more : (bytes behind : List ℕ) (tag : ℕ) (content : List ℕ)
+    → descriptors_of bytes ≡ record { tag = tag; content = content } ∷ descriptors_of behind
     → length bytes ≡ 2 + length content + length behind → are_descriptors bytes ≡ are_descriptors behind
 are_descriptors-more bytes behind tag content first all =
     let size : ℕ = 2 + length content in
-    let total : sum_by descriptor_size (descriptors_of bytes) ≡ size + sum_by descriptor_size (descriptors_of behind) =
-    ap (sum_by descriptor_size) first ∙ sum_by-cons descriptor_size (record { tag = tag; content = content }) (descriptors_of behind) in
+    let total : sum_by descriptor_size (descriptors_of bytes)
+    ≡ size + sum_by descriptor_size (descriptors_of behind) =
+    ap (sum_by descriptor_size) first
+    ∙ sum_by-cons descriptor_size (record { tag = tag; content = content }) (descriptors_of behind) in
     let long : length bytes ≡ size + length behind = omega (arith, all) in
     rw (total, long) (same-sum size (sum_by descriptor_size (descriptors_of behind)) (length behind))
 
-pub are_descriptors_next : (bytes behind : List ℕ) (tag : ℕ) → IsFirstDescriptor bytes tag behind → are_descriptors bytes ≡ are_descriptors behind
+pub are_descriptors_next : (bytes behind : List ℕ) (tag : ℕ) → IsFirstDescriptor bytes tag behind
+    → are_descriptors bytes ≡ are_descriptors behind
 are_descriptors_next bytes behind tag is = are_descriptors-more bytes behind tag is.content is.first is.size
 
-pub are_descriptors_end : (bytes : List ℕ) → descriptors_of bytes ≡ [] → are_descriptors bytes ≡ (length bytes == 0)
+pub are_descriptors_end : (bytes : List ℕ) → descriptors_of bytes ≡ []
+    → are_descriptors bytes ≡ (length bytes == 0)
 are_descriptors_end bytes none = rw none (grind (arith, nat_tests))
 
 pub any_descriptor_next : (bytes behind : List ℕ) (tag : ℕ) → IsFirstDescriptor bytes tag behind
-    → list_any is_subtitling (descriptors_of bytes) ≡ (tag == 0x59 || list_any is_subtitling (descriptors_of behind))
+    → list_any is_subtitling (descriptors_of bytes)
+    ≡ (tag == 0x59 || list_any is_subtitling (descriptors_of behind))
 any_descriptor_next bytes behind tag is = rw is.first refl
 
-pub any_descriptor_end : (bytes : List ℕ) → descriptors_of bytes ≡ [] → list_any is_subtitling (descriptors_of bytes) ≡ false
+pub any_descriptor_end : (bytes : List ℕ) → descriptors_of bytes ≡ []
+    → list_any is_subtitling (descriptors_of bytes) ≡ false
 any_descriptor_end bytes none = rw none refl
 
 -- ---- streams
 
-streams-enough : (m n : ℕ) (bytes : List ℕ) → length bytes ≤ m → length bytes ≤ n → streams_within m bytes ≡ streams_within n bytes
+streams-enough : (m n : ℕ) (bytes : List ℕ) → length bytes ≤ m → length bytes ≤ n
+    → streams_within m bytes ≡ streams_within n bytes
 streams-enough zero zero bytes few few_too = refl
 streams-enough zero (suc n) [] few few_too = refl
 streams-enough zero (suc n) (byte ∷ bytes) few few_too = absurd (omega arith)
@@ -100,37 +121,53 @@ streams-enough (suc m) zero [] few few_too = refl
 streams-enough (suc m) zero (byte ∷ bytes) few few_too = absurd (omega arith)
 streams-enough (suc m) (suc n) bytes few few_too =
     let less = length-drop (first_size bytes) bytes in
-    ap (λ rest. if ltb (length bytes) 5 || ltb (length bytes) (first_size bytes) then [] else record { kind = byte_at 0 bytes; pid = thirteen_at 1 bytes; descriptors = first_descriptors bytes } ∷ rest)
+    ap (λ rest. if ltb (length bytes) 5 || ltb (length bytes) (first_size bytes) then []
+    else record { kind = byte_at 0 bytes; pid = thirteen_at 1 bytes; descriptors = first_descriptors bytes }
+    ∷ rest)
     (streams-enough m n (drop (first_size bytes) bytes) (omega (arith, less)) (omega (arith, less)))
 
 pub streams_more : (bytes : List ℕ) → 5 ≤ length bytes → first_size bytes ≤ length bytes
-    → streams_of bytes ≡ record { kind = byte_at 0 bytes; pid = thirteen_at 1 bytes; descriptors = first_descriptors bytes } ∷ streams_of (drop (first_size bytes) bytes)
+    → streams_of bytes
+    ≡ record { kind = byte_at 0 bytes; pid = thirteen_at 1 bytes; descriptors = first_descriptors bytes }
+    ∷ streams_of (drop (first_size bytes) bytes)
 unfolding streams_of
 streams_more [] head whole = absurd (omega arith)
 streams_more (byte ∷ bytes) head whole =
     let less = length-drop (first_size (byte ∷ bytes)) (byte ∷ bytes) in
     let a : ltb (length (byte ∷ bytes)) 5 ≡ false = le-ltb _ _ head in
     let b : ltb (length (byte ∷ bytes)) (first_size (byte ∷ bytes)) ≡ false = le-ltb _ _ whole in
-    rw (a, b) (ap (λ rest. record { kind = byte; pid = thirteen_at 1 (byte ∷ bytes); descriptors = first_descriptors (byte ∷ bytes) } ∷ rest)
-    (streams-enough (length bytes) (length (drop (first_size (byte ∷ bytes)) (byte ∷ bytes))) (drop (first_size (byte ∷ bytes)) (byte ∷ bytes)) (omega (arith, less)) (omega arith)))
+    rw (a, b)
+    (ap (λ rest. record {
+      kind = byte;
+      pid = thirteen_at 1 (byte ∷ bytes);
+      descriptors = first_descriptors
+          (byte ∷ bytes);
+    } ∷ rest)
+    (streams-enough (length bytes) (length (drop (first_size (byte ∷ bytes)) (byte ∷ bytes)))
+    (drop (first_size (byte ∷ bytes)) (byte ∷ bytes)) (omega (arith, less)) (omega arith)))
 
 stream-at : (bytes behind : List ℕ) (entry : StreamEntry) → 5 ≤ length bytes → first_size bytes ≤ length bytes
-    → (entry.kind ≡ byte_at 0 bytes) × (entry.pid ≡ thirteen_at 1 bytes) × (entry.descriptors.now ≡ first_descriptors bytes)
+    → (entry.kind ≡ byte_at 0 bytes) × (entry.pid ≡ thirteen_at 1 bytes)
+    × (entry.descriptors.now ≡ first_descriptors bytes)
     → behind ≡ drop (first_size bytes) bytes → IsFirstStream bytes entry behind
 stream-at bytes behind entry head whole says is =
-    let long : length (first_descriptors bytes) ≡ twelve_at 3 bytes = length-take-le (twelve_at 3 bytes) (drop 5 bytes) (omega (arith, length-drop 5 bytes)) in
+    let long : length (first_descriptors bytes) ≡ twelve_at 3 bytes =
+    length-take-le (twelve_at 3 bytes) (drop 5 bytes) (omega (arith, length-drop 5 bytes)) in
     record {
       first = streams_more bytes head whole ∙ rw (is, says.0, says.1, says.2) refl;
       size = omega (arith, long, ap length says.2, ap length is, length-drop (first_size bytes) bytes);
     }
 
-pub stream_first : (bytes : List ℕ) (entry : StreamEntry) (info : ℕ) → info ≡ twelve_at 3 bytes → 5 ≤ length bytes → 5 + info ≤ length bytes
-    → (entry.kind ≡ byte_at 0 bytes) × (entry.pid ≡ thirteen_at 1 bytes) × (entry.descriptors.now ≡ take (5 + info - 5) (drop 5 bytes))
+pub stream_first : (bytes : List ℕ) (entry : StreamEntry) (info : ℕ) → info ≡ twelve_at 3 bytes
+    → 5 ≤ length bytes → 5 + info ≤ length bytes
+    → (entry.kind ≡ byte_at 0 bytes) × (entry.pid ≡ thirteen_at 1 bytes)
+    × (entry.descriptors.now ≡ take (5 + info - 5) (drop 5 bytes))
     → IsFirstStream bytes entry (take (length bytes - (5 + info)) (drop (5 + info) bytes))
 stream_first bytes entry info is head whole says =
     let size : 5 + info ≡ first_size bytes = ap (λ n. 5 + n) is in
     let less : 5 + info - 5 ≡ twelve_at 3 bytes = omega (arith, is) in
-    stream-at bytes (take (length bytes - (5 + info)) (drop (5 + info) bytes)) entry head (subst (λ n. n ≤ length bytes) size whole)
+    stream-at bytes (take (length bytes - (5 + info)) (drop (5 + info) bytes)) entry head
+    (subst (λ n. n ≤ length bytes) size whole)
     (says.0, says.1, says.2 ∙ ap (λ n. take n (drop 5 bytes)) less)
     (take_rest bytes (5 + info) ∙ ap (λ n. drop n bytes) size)
 
@@ -139,7 +176,8 @@ unfolding streams_of
 stream_short [] short = refl
 stream_short (byte ∷ bytes) short = let a : ltb (length (byte ∷ bytes)) 5 ≡ true = lt-ltb _ _ short in rw a refl
 
-pub stream_cut : (bytes : List ℕ) → 5 ≤ length bytes → length bytes < first_size bytes → streams_of bytes ≡ []
+pub stream_cut : (bytes : List ℕ) → 5 ≤ length bytes → length bytes < first_size bytes
+    → streams_of bytes ≡ []
 unfolding streams_of
 stream_cut [] head cut = refl
 stream_cut (byte ∷ bytes) head cut =
@@ -154,15 +192,21 @@ swapped false true c = refl
 swapped false false c = refl
 
 pub are_streams-more : (bytes behind : List ℕ) (stream : Stream) → streams_of bytes ≡ stream ∷ streams_of behind
-    → length bytes ≡ 5 + length stream.descriptors + length behind → are_streams bytes ≡ (are_descriptors stream.descriptors && are_streams behind)
+    → length bytes ≡ 5 + length stream.descriptors + length behind
+    → are_streams bytes ≡ (are_descriptors stream.descriptors && are_streams behind)
 are_streams-more bytes behind first_one first all =
     let size : ℕ = 5 + length first_one.descriptors in
     let total : sum_by stream_size (streams_of bytes) ≡ size + sum_by stream_size (streams_of behind) =
     ap (sum_by stream_size) first ∙ sum_by-cons stream_size first_one (streams_of behind) in
     let long : length bytes ≡ size + length behind = omega (arith, all) in
-    rw (total, long) (rw first (ap (λ whole. whole && (are_descriptors first_one.descriptors && list_all (λ stream. are_descriptors stream.descriptors) (streams_of behind)))
+    rw (total, long)
+    (rw first
+    (ap (λ whole. whole
+    && (are_descriptors first_one.descriptors
+    && list_all (λ stream. are_descriptors stream.descriptors) (streams_of behind)))
     (same-sum size (sum_by stream_size (streams_of behind)) (length behind))
-    ∙ swapped (sum_by stream_size (streams_of behind) == length behind) (are_descriptors first_one.descriptors) (list_all (λ stream. are_descriptors stream.descriptors) (streams_of behind))))
+    ∙ swapped (sum_by stream_size (streams_of behind) == length behind) (are_descriptors first_one.descriptors)
+    (list_all (λ stream. are_descriptors stream.descriptors) (streams_of behind))))
 
 pub are_streams_next : (bytes behind : List ℕ) (entry : StreamEntry) → IsFirstStream bytes entry behind
     → are_streams bytes ≡ (are_descriptors entry.descriptors.now && are_streams behind)
@@ -176,7 +220,8 @@ pub subtitle_pid_next : (bytes behind : List ℕ) (entry : StreamEntry) → IsFi
 subtitle_pid_next bytes behind entry is = rw is.first (by_test (is_subtitles (stream_value entry)) refl)
   where
     by_test : (found : Bool) → is_subtitles (stream_value entry) ≡ found
-        → option_map (λ stream. stream.pid) (find is_subtitles (stream_value entry ∷ streams_of behind)) ≡ (if is_subtitles (stream_value entry) then Some entry.pid else subtitle_pid behind)
+        → option_map (λ stream. stream.pid) (find is_subtitles (stream_value entry ∷ streams_of behind))
+        ≡ (if is_subtitles (stream_value entry) then Some entry.pid else subtitle_pid behind)
     by_test true e = rw e refl
     by_test false e = rw e refl
 
@@ -186,11 +231,15 @@ subtitle_pid_end bytes none = rw none refl
 -- ---- entries
 
 pub pid_listed_next : (service : ℕ) (bytes : List ℕ) → 4 ≤ length bytes
-    → pid_listed service bytes ≡ (if get_or bytes 0 0 * 256 + get_or bytes 1 0 == service then Some (thirteen_at 2 bytes) else pid_listed service (drop 4 bytes))
+    → pid_listed service bytes
+    ≡ (if get_or bytes 0 0 * 256 + get_or bytes 1 0 == service then Some (thirteen_at 2 bytes)
+    else pid_listed service (drop 4 bytes))
 pid_listed_next service (a ∷ b ∷ c ∷ d ∷ bytes) long = by_test (a * 256 + b == service) refl
   where
     by_test : (found : Bool) → (a * 256 + b == service) ≡ found
-        → pid_listed service (a ∷ b ∷ c ∷ d ∷ bytes) ≡ (if a * 256 + b == service then Some (thirteen_at 2 (a ∷ b ∷ c ∷ d ∷ bytes)) else pid_listed service bytes)
+        → pid_listed service (a ∷ b ∷ c ∷ d ∷ bytes)
+        ≡ (if a * 256 + b == service then Some (thirteen_at 2 (a ∷ b ∷ c ∷ d ∷ bytes))
+        else pid_listed service bytes)
     by_test true e = rw e refl
     by_test false e = rw e refl
 pid_listed_next service [] long = absurd (omega arith)

@@ -19,7 +19,8 @@ same_bit high low bit small =
     let top : (high * 2 ^ 31 + low) / 2 ^ 31 ≡ high = shr_high high 31 low small in
     let same : (high == high) ≡ true = grind (arith, nat_tests) in
     let twice : (high * 2 ^ 31 + low) * 2 ≡ high * 2 ^ 32 + low * 2 = omega arith in
-    let rest : (high * 2 ^ 31 + low) * 2 % 2 ^ 32 ≡ low * 2 = ap (λ n. n % 2 ^ 32) twice ∙ mod_low high 32 (low * 2) (omega arith) in
+    let rest : (high * 2 ^ 31 + low) * 2 % 2 ^ 32 ≡ low * 2 =
+    ap (λ n. n % 2 ^ 32) twice ∙ mod_low high 32 (low * 2) (omega arith) in
     rw (top, same) rest
 
 one_bit : (n : ℕ) → n < 2 → bits 1 n ≡ n ∷ []
@@ -27,9 +28,11 @@ unfolding bits
 one_bit n small = let e : n % 2 ≡ n = omega arith in rw e refl
 
 -- the highest bit, and the others
-bits-first : (count high low : ℕ) → high < 2 → low < 2 ^ count → bits (suc count) (high * 2 ^ count + low) ≡ high ∷ bits count low
+bits-first : (count high low : ℕ) → high < 2 → low < 2 ^ count
+    → bits (suc count) (high * 2 ^ count + low) ≡ high ∷ bits count low
 bits-first count high low bit small =
-    ap (λ k. bits k (high * 2 ^ count + low)) (sym (one-add count)) ∙ bits-join 1 count high low small ∙ ap (λ xs. xs ++ bits count low) (one_bit high bit)
+    ap (λ k. bits k (high * 2 ^ count + low)) (sym (one-add count)) ∙ bits-join 1 count high low small
+    ∙ ap (λ xs. xs ++ bits count low) (one_bit high bit)
 
 -- bits that fill the register from its top on, and zeros below, are gone once they come again
 fed : (count p v : ℕ) → 2 ^ count * p ≡ 2 ^ 32 → v < 2 ^ count → crc_behind (v * p) (bits count v) ≡ 0
@@ -43,11 +46,16 @@ fed (suc count) p v whole small =
     let twice : 2 ^ suc count ≡ 2 * q = omega arith in
     let half : q * p ≡ 2 ^ 31 = halved q p (ap (λ n. n * p) (sym twice) ∙ whole) in
     let less : low < q = mod_below v q (pow_pos count) in
-    let bit : high < 2 = (div-lt_iff_lt-mul {k = q} {x = v} {y = 2} (pow_pos count)).1 (subst (λ n. v < n) twice small) in
-    let start : v * p ≡ high * 2 ^ 31 + low * p = ap (λ n. n * p) (sym is) ∙ shared high q low p ∙ ap (λ n. high * n + low * p) half in
+    let bit : high < 2 =
+    (div-lt_iff_lt-mul {k = q} {x = v} {y = 2} (pow_pos count)).1 (subst (λ n. v < n) twice small) in
+    let start : v * p ≡ high * 2 ^ 31 + low * p =
+    ap (λ n. n * p) (sym is) ∙ shared high q low p ∙ ap (λ n. high * n + low * p) half in
     let room : low * p < 2 ^ 31 = below q p low half less in
-    let order : bits (suc count) v ≡ high ∷ bits count low = ap (bits (suc count)) (sym is) ∙ bits-first count high low bit less in
-    ap (λ xs. crc_behind (v * p) xs) order ∙ ap (λ r. crc_behind r (bits count low)) (ap (λ r. crc_step r high) start ∙ same_bit high (low * p) bit room ∙ mul_assoc low p 2)
+    let order : bits (suc count) v ≡ high ∷ bits count low =
+    ap (bits (suc count)) (sym is) ∙ bits-first count high low bit less in
+    ap (λ xs. crc_behind (v * p) xs) order
+    ∙ ap (λ r. crc_behind r (bits count low))
+    (ap (λ r. crc_step r high) start ∙ same_bit high (low * p) bit room ∙ mul_assoc low p 2)
     ∙ fed count (p * 2) low (sym (mul_assoc q p 2) ∙ omega (arith, half)) less
   where
     halved : (q p : ℕ) → 2 * q * p ≡ 2 ^ 32 → q * p ≡ 2 ^ 31
@@ -58,11 +66,14 @@ fed (suc count) p v whole small =
 
     below : (q p low : ℕ) → q * p ≡ 2 ^ 31 → low < q → low * p < 2 ^ 31
     below q zero low half less = absurd (omega (arith, half))
-    below q (suc p) low half less = omega (arith, half, mul-lt-mul_of_pos_right {m = low} {n = q} {k = suc p} less (omega arith))
+    below q (suc p) low half less =
+        omega (arith, half, mul-lt-mul_of_pos_right {m = low} {n = q} {k = suc p} less (omega arith))
 
 -- the register is all zeros behind its own bits
 crc_out : (register : ℕ) → register < 2 ^ 32 → crc_behind register (bits 32 register) ≡ 0
-crc_out register small = let one : register * 1 ≡ register = omega arith in subst (λ r. crc_behind r (bits 32 register) ≡ 0) one (fed 32 1 register refl small)
+crc_out register small =
+    let one : register * 1
+    ≡ register = omega arith in subst (λ r. crc_behind r (bits 32 register) ≡ 0) one (fed 32 1 register refl small)
 
 crc_step-below : (register bit : ℕ) → crc_step register bit < 2 ^ 32
 crc_step-below register bit = by_test (register / 2 ^ 31 == bit)
@@ -70,7 +81,8 @@ crc_step-below register bit = by_test (register / 2 ^ 31 == bit)
     shifted : register * 2 % 2 ^ 32 < 2 ^ 32
     shifted = mod_below (register * 2) (2 ^ 32) (omega arith)
 
-    by_test : (same : Bool) → (if same then register * 2 % 2 ^ 32 else bit_xor (register * 2 % 2 ^ 32) polynomial) < 2 ^ 32
+    by_test : (same : Bool)
+        → (if same then register * 2 % 2 ^ 32 else bit_xor (register * 2 % 2 ^ 32) polynomial) < 2 ^ 32
     by_test true = shifted
     by_test false = xor_lt 32 (register * 2 % 2 ^ 32) polynomial shifted (omega arith)
 
@@ -88,7 +100,8 @@ no_more xs = append-nil xs
 
 four : (a b d e : ℕ) → bits_of (a ∷ b ∷ d ∷ e ∷ []) ≡ bits 8 a ++ (bits 8 b ++ (bits 8 d ++ bits 8 e))
 four a b d e =
-    bits_of-cons a (b ∷ d ∷ e ∷ []) ∙ ap (λ xs. bits 8 a ++ xs) (bits_of-cons b (d ∷ e ∷ [])) ∙ ap (λ xs. bits 8 a ++ (bits 8 b ++ xs)) (bits_of-cons d (e ∷ []))
+    bits_of-cons a (b ∷ d ∷ e ∷ []) ∙ ap (λ xs. bits 8 a ++ xs) (bits_of-cons b (d ∷ e ∷ []))
+    ∙ ap (λ xs. bits 8 a ++ (bits 8 b ++ xs)) (bits_of-cons d (e ∷ []))
     ∙ ap (λ xs. bits 8 a ++ (bits 8 b ++ (bits 8 d ++ xs))) (bits_of-cons e [] ∙ no_more (bits 8 e))
 
 -- four bytes are the bits of their number
@@ -97,8 +110,11 @@ four_bytes n =
     let a : bits 32 n ≡ bits 8 (n / 2 ^ 24) ++ bits 24 n = bits-add 8 24 n in
     let b : bits 24 n ≡ bits 8 (n / 2 ^ 16) ++ bits 16 n = bits-add 8 16 n in
     let d : bits 16 n ≡ bits 8 (n / 2 ^ 8) ++ bits 8 n = bits-add 8 8 n in
-    let e : bits_of (big_bytes 4 n) ≡ bits 8 (n / 2 ^ 24 % 2 ^ 8) ++ (bits 8 (n / 2 ^ 16 % 2 ^ 8) ++ (bits 8 (n / 2 ^ 8 % 2 ^ 8) ++ bits 8 (n % 2 ^ 8))) = four (n / 2 ^ 24 % 2 ^ 8) (n / 2 ^ 16 % 2 ^ 8) (n / 2 ^ 8 % 2 ^ 8) (n % 2 ^ 8) in
-    e ∙ rw (bits-mod 8 (n / 2 ^ 24), bits-mod 8 (n / 2 ^ 16), bits-mod 8 (n / 2 ^ 8), bits-mod 8 n) (rw (a, b, d) refl)
+    let e : bits_of (big_bytes 4 n) ≡ bits 8 (n / 2 ^ 24 % 2 ^ 8)
+    ++ (bits 8 (n / 2 ^ 16 % 2 ^ 8) ++ (bits 8 (n / 2 ^ 8 % 2 ^ 8) ++ bits 8 (n % 2 ^ 8))) = four
+    (n / 2 ^ 24 % 2 ^ 8) (n / 2 ^ 16 % 2 ^ 8) (n / 2 ^ 8 % 2 ^ 8) (n % 2 ^ 8) in
+    e ∙ rw (bits-mod 8 (n / 2 ^ 24), bits-mod 8 (n / 2 ^ 16), bits-mod 8 (n / 2 ^ 8), bits-mod 8 n)
+    (rw (a, b, d) refl)
 
 pub written_crc : (bytes : List ℕ) → crc_of (bytes ++ big_bytes 4 (crc_of bytes)) ≡ 0
 written_crc bytes =

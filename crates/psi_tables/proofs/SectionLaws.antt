@@ -23,21 +23,27 @@ by_body : (bytes : List ℕ) (size : ℕ) → PassesHead bytes size
     → section_fault bytes ≡ (if not (is_body (byte_at 0 bytes) (body_of bytes)) then Some BadLoop else None)
 by_body bytes size passes =
     let short : ltb (twelve_at 1 bytes) 9 ≡ false = le-ltb _ _ (subst (λ n. 9 ≤ n) passes.size_is passes.fits.0) in
-    let long : ltb 1021 (twelve_at 1 bytes) ≡ false = le-ltb _ _ (subst (λ n. n ≤ 1021) passes.size_is passes.fits.1) in
-    let check : crc_of (take (section_size bytes) bytes) ≡ 0 = ap (λ n. crc_of (take (3 + n) bytes)) (sym passes.size_is) ∙ passes.right_crc in
+    let long : ltb 1021 (twelve_at 1 bytes) ≡ false =
+    le-ltb _ _ (subst (λ n. n ≤ 1021) passes.size_is passes.fits.1) in
+    let check : crc_of (take (section_size bytes) bytes) ≡ 0 =
+    ap (λ n. crc_of (take (3 + n) bytes)) (sym passes.size_is) ∙ passes.right_crc in
     rw (passes.whole, short, long, check, passes.table, passes.current) refl
 
 -- the slice that is the body
-body_at : (bytes : List ℕ) (size : ℕ) → size ≡ twelve_at 1 bytes → take (3 + size - 4 - 8) (drop 8 bytes) ≡ body_of bytes
+body_at : (bytes : List ℕ) (size : ℕ) → size ≡ twelve_at 1 bytes
+    → take (3 + size - 4 - 8) (drop 8 bytes) ≡ body_of bytes
 body_at bytes size is = ap (λ n. take n (drop 8 bytes)) (omega (arith, is))
 
-pub bad_loop : (bytes : List ℕ) (size : ℕ) → PassesHead bytes size → is_body (byte_at 0 bytes) (take (3 + size - 4 - 8) (drop 8 bytes)) ≡ false
+pub bad_loop : (bytes : List ℕ) (size : ℕ) → PassesHead bytes size
+    → is_body (byte_at 0 bytes) (take (3 + size - 4 - 8) (drop 8 bytes)) ≡ false
     → section_fault bytes ≡ Some BadLoop
 bad_loop bytes size passes faulty =
-    let body : is_body (byte_at 0 bytes) (body_of bytes) ≡ false = ap (is_body (byte_at 0 bytes)) (sym (body_at bytes size passes.size_is)) ∙ faulty in
+    let body : is_body (byte_at 0 bytes) (body_of bytes) ≡ false =
+    ap (is_body (byte_at 0 bytes)) (sym (body_at bytes size passes.size_is)) ∙ faulty in
     by_body bytes size passes ∙ ap (λ whole. if not whole then Some BadLoop else None) body
 
-pub right_by : (bytes : List ℕ) → section_fault bytes ≡ None → right_section bytes ≡ Some (section_value bytes)
+pub right_by : (bytes : List ℕ) → section_fault bytes ≡ None
+    → right_section bytes ≡ Some (section_value bytes)
 right_by bytes none = ap (value_by bytes) none
 
 pub right_value : (bytes : List ℕ) (size : ℕ) (value : SectionValue) → PassesHead bytes size
@@ -47,34 +53,45 @@ pub right_value : (bytes : List ℕ) (size : ℕ) (value : SectionValue) → Pas
     → right_section bytes ≡ Some value
 right_value bytes size value passes whole is =
     let same = body_at bytes size passes.size_is in
-    let body : is_body (byte_at 0 bytes) (body_of bytes) ≡ true = ap (is_body (byte_at 0 bytes)) (sym same) ∙ whole in
+    let body : is_body (byte_at 0 bytes) (body_of bytes) ≡ true =
+    ap (is_body (byte_at 0 bytes)) (sym same) ∙ whole in
     right_by bytes (by_body bytes size passes ∙ ap (λ whole. if not whole then Some BadLoop else None) body)
-    ∙ ap Some (sym (is ∙ ap (λ body. if byte_at 0 bytes == 0 then Pat (word_at 3 bytes) body else Pmt (word_at 3 bytes) (streams_in body)) same))
+    ∙ ap Some
+    (sym (is ∙ ap
+    (λ body. if byte_at 0 bytes == 0 then Pat (word_at 3 bytes) body else Pmt (word_at 3 bytes) (streams_in body))
+    same))
 
 some_is : {X : Type 0} {a b : X} → Some a ≡ Some b → a ≡ b
 some_is e = cc
 
 -- a value is that of a section without a fault
-pub by_value : (bytes : List ℕ) (value : SectionValue) → right_section bytes ≡ Some value → (section_fault bytes ≡ None) × (section_value bytes ≡ value)
+pub by_value : (bytes : List ℕ) (value : SectionValue) → right_section bytes ≡ Some value
+    → (section_fault bytes ≡ None) × (section_value bytes ≡ value)
 by_value bytes value right = by_fault (section_fault bytes) refl
   where
-    by_fault : (fault : Option SectionFault) → section_fault bytes ≡ fault → (section_fault bytes ≡ None) × (section_value bytes ≡ value)
+    by_fault : (fault : Option SectionFault) → section_fault bytes ≡ fault → (section_fault bytes ≡ None)
+        × (section_value bytes ≡ value)
     by_fault None e = (e, some_is (sym (ap (value_by bytes) e) ∙ right))
     by_fault (Some fault) e = let none : None ≡ Some value = sym (ap (value_by bytes) e) ∙ right in absurd cc
 
 -- ---- the only right answer
 
-right_or_faulty : (bytes : List ℕ) (value : SectionValue) (fault : SectionFault) → right_section bytes ≡ Some value → section_fault bytes ≡ Some fault → ⊥
-right_or_faulty bytes value fault right faulty = let e : None ≡ Some value = sym (ap (value_by bytes) faulty) ∙ right in absurd cc
+right_or_faulty : (bytes : List ℕ) (value : SectionValue) (fault : SectionFault)
+    → right_section bytes ≡ Some value → section_fault bytes ≡ Some fault → ⊥
+right_or_faulty bytes value fault right faulty =
+    let e : None ≡ Some value = sym (ap (value_by bytes) faulty) ∙ right in absurd cc
 
 pub every_section : (bytes : List ℕ) (result : Result Section SectionFault)
-    → MatchResult result (λ section. right_section bytes ≡ Some (contents section)) (λ fault. section_fault bytes ≡ Some fault)
-    → (value : SectionValue) → right_section bytes ≡ Some value → IsOkAnd result (λ section. contents section ≡ value)
+    → MatchResult result (λ section. right_section bytes ≡ Some (contents section))
+    (λ fault. section_fault bytes ≡ Some fault)
+    → (value : SectionValue) → right_section bytes ≡ Some value
+    → IsOkAnd result (λ section. contents section ≡ value)
 every_section bytes (Ok section) exact value right = some_is (sym exact ∙ right)
 every_section bytes (Err fault) exact value right = absurd (right_or_faulty bytes value fault right exact)
 
 pub every_fault : (bytes : List ℕ) (result : Result Section SectionFault)
-    → MatchResult result (λ section. right_section bytes ≡ Some (contents section)) (λ fault. section_fault bytes ≡ Some fault)
+    → MatchResult result (λ section. right_section bytes ≡ Some (contents section))
+    (λ fault. section_fault bytes ≡ Some fault)
     → (fault : SectionFault) → section_fault bytes ≡ Some fault → result ≡ Err fault
 every_fault bytes (Ok section) exact fault faulty = absurd (right_or_faulty bytes (contents section) fault exact faulty)
 every_fault bytes (Err other) exact fault faulty = ap Err (some_is (sym exact ∙ faulty))

@@ -50,7 +50,8 @@ entry-count (a ∷ []) whole = absurd (omega (arith, whole))
 entry-count (a ∷ b ∷ []) whole = absurd (omega (arith, whole))
 entry-count (a ∷ b ∷ c ∷ []) whole = absurd (omega (arith, whole))
 
-pat-laid : (id : ℕ) (body more : List ℕ) (fields : List Field) → AreBytes body → are_entries body ≡ true → Laid fields more → LaidBody id 0 body more fields
+pat-laid : (id : ℕ) (body more : List ℕ) (fields : List Field) → AreBytes body → are_entries body ≡ true
+    → Laid fields more → LaidBody id 0 body more fields
 pat-laid id body more fields small whole has =
     let fours : length body % 4 ≡ 0 = eqb-true _ _ whole in
     record {
@@ -88,7 +89,8 @@ pmt-whole body passes =
     let room : ltb (length body) (4 + twelve_at 2 body) ≡ false = le-ltb _ _ passes.room in
     rw (head, room, passes.descriptors, passes.streams) refl
 
-pmt-laid : (id : ℕ) (body more : List ℕ) (fields : List Field) → AreBytes body → PassesPmt body → Laid fields more → LaidBody id 2 body more fields
+pmt-laid : (id : ℕ) (body more : List ℕ) (fields : List Field) → AreBytes body → PassesPmt body
+    → Laid fields more → LaidBody id 2 body more fields
 pmt-laid id [] more fields small passes has = absurd (omega (arith, passes.head))
 pmt-laid id (a ∷ []) more fields small passes has = absurd (omega (arith, passes.head))
 pmt-laid id (a ∷ b ∷ []) more fields small passes has = absurd (omega (arith, passes.head))
@@ -101,14 +103,21 @@ pmt-laid id (a ∷ b ∷ c ∷ d ∷ rest) more fields small passes has =
     let loop_is : streams_in body ≡ loop = sym (drop-drop size 4 body) in
     let small_rest : AreBytes rest = λ i. small (suc (suc (suc (suc i)))) in
     let long : length info ≡ size = length-take-le size rest (omega (arith, passes.room)) in
-    let streams = streams_laid loop more fields (AreBytes-drop size rest small_rest) (ap are_streams (sym loop_is) ∙ passes.streams) has in
+    let streams =
+    streams_laid loop more fields (AreBytes-drop size rest small_rest)
+    (ap are_streams (sym loop_is) ∙ passes.streams) has in
     let loop_rows : List Field = flat_map stream_rows (streams_of loop) in
-    let info_part = bytes_laid info (loop ++ more) (loop_rows ++ fields) (AreBytes-take size rest small_rest) streams.rows in
-    let rest_is : info ++ (loop ++ more) ≡ rest ++ more = sym (append_assoc info loop more) ∙ ap (λ bytes. bytes ++ more) (take-append-drop size rest) in
+    let info_part =
+    bytes_laid info (loop ++ more) (loop_rows ++ fields) (AreBytes-take size rest small_rest) streams.rows in
+    let rest_is : info ++ (loop ++ more) ≡ rest ++ more =
+    sym (append_assoc info loop more) ∙ ap (λ bytes. bytes ++ more) (take-append-drop size rest) in
     let part : Laid ((bytes_fields info ++ loop_rows) ++ fields) (rest ++ more) =
-    subst (λ rows. Laid rows (rest ++ more)) (sym (append_assoc (bytes_fields info) loop_rows fields)) (subst (λ bytes. Laid (bytes_fields info ++ (loop_rows ++ fields)) bytes) rest_is info_part) in
-    let sized : Laid (reserved 4 ∷ number 12 (length info) ∷ ((bytes_fields info ++ loop_rows) ++ fields)) (c ∷ d ∷ (rest ++ more)) =
-    subst (λ n. Laid (reserved 4 ∷ number 12 n ∷ ((bytes_fields info ++ loop_rows) ++ fields)) (c ∷ d ∷ (rest ++ more))) (sym long)
+    subst (λ rows. Laid rows (rest ++ more)) (sym (append_assoc (bytes_fields info) loop_rows fields))
+    (subst (λ bytes. Laid (bytes_fields info ++ (loop_rows ++ fields)) bytes) rest_is info_part) in
+    let sized : Laid (reserved 4 ∷ number 12 (length info) ∷ ((bytes_fields info ++ loop_rows) ++ fields))
+    (c ∷ d ∷ (rest ++ more)) =
+    subst (λ n. Laid (reserved 4 ∷ number 12 n ∷ ((bytes_fields info ++ loop_rows) ++ fields))
+    (c ∷ d ∷ (rest ++ more))) (sym long)
     (size_laid c d ((bytes_fields info ++ loop_rows) ++ fields) (rest ++ more) (small 2) (small 3) part) in
     record {
       laid = pmt_table id ((a * 256 + b) % 8192) info (streams_of loop);
@@ -127,7 +136,8 @@ crc_laid c four =
     let ones = IsBits-bits_of c in
     let size : length (bits_of c) ≡ 32 = omega (arith, length-bits_of c, four) in
     let check : ℕ = number_of (bits_of c) in
-    let row : bits_of c ≡ bits 32 check = sym (subst (λ n. bits n check ≡ bits_of c) size (bits-number_of (bits_of c) ones)) in
+    let row : bits_of c ≡ bits 32 check =
+    sym (subst (λ n. bits n check ≡ bits_of c) size (bits-number_of (bits_of c) ones)) in
     let same : check ≡ check % 2 ^ 32 = ap number_of row ∙ number_of-bits 32 check in
     let fits : check < 2 ^ 32 = omega (arith, same, mod_below check (2 ^ 32) (pow_pos 32)) in
     (row_first (bits_of c) [] row no_row (sym (append-nil (bits_of c))), (fits, tt))
@@ -135,7 +145,8 @@ crc_laid c four =
 -- ---- from the tests to the layout
 
 -- a first row of so many tests that none fails
-none_of : {Fault : Type 0} → (fails : Bool) (fault : Fault) (rest : Option Fault) → (if fails then Some fault else rest) ≡ None → (fails ≡ false) × (rest ≡ None)
+none_of : {Fault : Type 0} → (fails : Bool) (fault : Fault) (rest : Option Fault)
+    → (if fails then Some fault else rest) ≡ None → (fails ≡ false) × (rest ≡ None)
 none_of true fault rest e = absurd cc
 none_of false fault rest e = (refl, e)
 
@@ -183,15 +194,19 @@ passes bytes none =
 zero_or_two : (table : ℕ) → (table == 0 || table == 2) ≡ true → (table ≡ 0) ⊎ (table ≡ 2)
 zero_or_two table e = grind (arith, nat_tests)
 
-body-laid : (id table : ℕ) (body more : List ℕ) (fields : List Field) → (table ≡ 0) ⊎ (table ≡ 2) → AreBytes body → is_body table body ≡ true → Laid fields more
+body-laid : (id table : ℕ) (body more : List ℕ) (fields : List Field) → (table ≡ 0) ⊎ (table ≡ 2)
+    → AreBytes body → is_body table body ≡ true → Laid fields more
     → LaidBody id table body more fields
 body-laid id table body more fields kind small whole has =
     elim kind [
-      | inl pat ↦ subst (λ t. LaidBody id t body more fields) (sym pat) (pat-laid id body more fields small (subst (λ t. is_body t body ≡ true) pat whole) has)
-      | inr pmt ↦ subst (λ t. LaidBody id t body more fields) (sym pmt) (pmt-laid id body more fields small (passes-pmt body (subst (λ t. is_body t body ≡ true) pmt whole)) has)
+      | inl pat ↦ subst (λ t. LaidBody id t body more fields) (sym pat)
+          (pat-laid id body more fields small (subst (λ t. is_body t body ≡ true) pat whole) has)
+      | inr pmt ↦ subst (λ t. LaidBody id t body more fields) (sym pmt)
+          (pmt-laid id body more fields small (passes-pmt body (subst (λ t. is_body t body ≡ true) pmt whole)) has)
     ]
 
-section_laid : (bytes : List ℕ) → AreBytes bytes → Passes bytes → (table : Table) × IsSection (take (section_size bytes) bytes) table × Says (section_value bytes) table
+section_laid : (bytes : List ℕ) → AreBytes bytes → Passes bytes → (table : Table)
+    × IsSection (take (section_size bytes) bytes) table × Says (section_value bytes) table
 section_laid (a ∷ b ∷ c ∷ d ∷ e ∷ f ∷ g ∷ h ∷ rest) small p =
     let bytes : List ℕ = a ∷ b ∷ c ∷ d ∷ e ∷ f ∷ g ∷ h ∷ rest in
     let length_field : ℕ = (b * 256 + c) % 4096 in
@@ -205,21 +220,37 @@ section_laid (a ∷ b ∷ c ∷ d ∷ e ∷ f ∷ g ∷ h ∷ rest) small p =
     ∙ ap (λ tail. a ∷ b ∷ c ∷ d ∷ e ∷ f ∷ g ∷ h ∷ tail) (take-add n 4 rest) in
     let small_rest : AreBytes rest = λ i. small (suc (suc (suc (suc (suc (suc (suc (suc i)))))))) in
     let long : length body ≡ n = length-take-le n rest (omega (arith, p.whole, p.fits.0)) in
-    let four : length crc ≡ 4 = length-take-le 4 (drop n rest) (omega (arith, length-drop n rest, p.whole, p.fits.0)) in
-    let laid = body-laid (d * 256 + e) a body crc (number 32 check ∷ []) (zero_or_two a p.table) (AreBytes-take n rest small_rest) p.body (crc_laid crc four) in
+    let four : length crc ≡ 4 =
+    length-take-le 4 (drop n rest) (omega (arith, length-drop n rest, p.whole, p.fits.0)) in
+    let laid =
+    body-laid (d * 256 + e) a body crc (number 32 check ∷ []) (zero_or_two a p.table)
+    (AreBytes-take n rest small_rest) p.body (crc_laid crc four) in
     let table : Table = laid.laid in
-    let tail : List Field = reserved 2 ∷ number 5 (f / 2 % 32) ∷ number 1 1 ∷ number 8 g ∷ number 8 h ∷ (body_rows table ++ number 32 check ∷ []) in
+    let tail : List Field =
+    reserved 2 ∷ number 5 (f / 2 % 32) ∷ number 1 1 ∷ number 8 g ∷ number 8 h
+    ∷ (body_rows table ++ number 32 check ∷ []) in
     let section : List ℕ = a ∷ b ∷ c ∷ d ∷ e ∷ f ∷ g ∷ h ∷ (body ++ crc) in
-    let rows : Laid (number 8 a ∷ reserved 4 ∷ number 12 length_field ∷ number 16 (d * 256 + e) ∷ tail) section =
+    let rows : Laid (number 8 a ∷ reserved 4 ∷ number 12 length_field ∷ number 16 (d * 256 + e) ∷ tail)
+    section =
     byte_laid a _ _ (small 0) (size_laid b c _ _ (small 1) (small 2) (word_laid d e _ _ (small 3) (small 4)
     (version_laid f _ _ (small 5) p.current (byte_laid g _ _ (small 6) (byte_laid h _ _ (small 7) laid.rows))))) in
     let size_is : length_field ≡ 9 + body_size table = omega (arith, laid.size, long, p.fits.0) in
-    let named : Laid (number 8 (table_id table) ∷ reserved 4 ∷ number 12 (9 + body_size table) ∷ number 16 (table_number table) ∷ tail) section =
-    subst (λ k. Laid (number 8 (table_id table) ∷ reserved 4 ∷ number 12 (9 + body_size table) ∷ number 16 k ∷ tail) section) (sym laid.number_is)
-    (subst (λ k. Laid (number 8 (table_id table) ∷ reserved 4 ∷ number 12 k ∷ number 16 (d * 256 + e) ∷ tail) section) size_is
-    (subst (λ k. Laid (number 8 k ∷ reserved 4 ∷ number 12 length_field ∷ number 16 (d * 256 + e) ∷ tail) section) (sym laid.id_is) rows)) in
-    let placed : Laid (number 8 (table_id table) ∷ reserved 4 ∷ number 12 (9 + body_size table) ∷ number 16 (table_number table) ∷ tail) (take (3 + length_field) bytes) =
-    subst (λ bytes. Laid (number 8 (table_id table) ∷ reserved 4 ∷ number 12 (9 + body_size table) ∷ number 16 (table_number table) ∷ tail) bytes) (sym all) named in (
+    let named : Laid
+    (number 8 (table_id table) ∷ reserved 4 ∷ number 12 (9 + body_size table)
+    ∷ number 16 (table_number table) ∷ tail) section =
+    subst (λ k. Laid
+    (number 8 (table_id table) ∷ reserved 4 ∷ number 12 (9 + body_size table) ∷ number 16 k ∷ tail) section)
+    (sym laid.number_is)
+    (subst (λ k. Laid (number 8 (table_id table) ∷ reserved 4 ∷ number 12 k ∷ number 16 (d * 256 + e) ∷ tail)
+    section) size_is
+    (subst (λ k. Laid (number 8 k ∷ reserved 4 ∷ number 12 length_field ∷ number 16 (d * 256 + e) ∷ tail)
+    section) (sym laid.id_is) rows)) in
+    let placed : Laid
+    (number 8 (table_id table) ∷ reserved 4 ∷ number 12 (9 + body_size table)
+    ∷ number 16 (table_number table) ∷ tail) (take (3 + length_field) bytes) =
+    subst (λ bytes. Laid
+    (number 8 (table_id table) ∷ reserved 4 ∷ number 12 (9 + body_size table)
+    ∷ number 16 (table_number table) ∷ tail) bytes) (sym all) named in (
       table,
       record {
         marks = record { version = f / 2 % 32; section = g; last = h; check = check };
@@ -248,10 +279,12 @@ record BodyAgain (table : Table) (all : List ℕ) (fields : List Field) : Type 0
   parts : all ≡ body ++ more
   size : length body ≡ body_size table
   whole : is_body (table_id table) body ≡ true
-  says : Says (if table_id table == 0 then Pat (table_number table) body else Pmt (table_number table) (streams_in body)) table
+  says : Says
+      (if table_id table == 0 then Pat (table_number table) body else Pmt (table_number table) (streams_in body)) table
   has : Laid fields more
 
-body_again : (table : Table) (all : List ℕ) (fields : List Field) → AreBytes all → HasDescriptors table → Laid (body_rows table ++ fields) all → BodyAgain table all fields
+body_again : (table : Table) (all : List ℕ) (fields : List Field) → AreBytes all → HasDescriptors table
+    → Laid (body_rows table ++ fields) all → BodyAgain table all fields
 body_again (pat_table id entries) all fields small whole has =
     let found = entries_again entries all fields small has in
     record {
@@ -263,31 +296,42 @@ body_again (pat_table id entries) all fields small whole has =
       says = (refl, found.listed);
       has = found.has;
     }
-body_again (pmt_table service pcr info streams) [] fields small whole has = absurd (omega (arith, fields_bytes _ [] has.0))
-body_again (pmt_table service pcr info streams) (a ∷ []) fields small whole has = absurd (omega (arith, fields_bytes _ (a ∷ []) has.0))
-body_again (pmt_table service pcr info streams) (a ∷ b ∷ []) fields small whole has = absurd (omega (arith, fields_bytes _ (a ∷ b ∷ []) has.0))
-body_again (pmt_table service pcr info streams) (a ∷ b ∷ c ∷ []) fields small whole has = absurd (omega (arith, fields_bytes _ (a ∷ b ∷ c ∷ []) has.0))
+body_again (pmt_table service pcr info streams) [] fields small whole has =
+    absurd (omega (arith, fields_bytes _ [] has.0))
+body_again (pmt_table service pcr info streams) (a ∷ []) fields small whole has =
+    absurd (omega (arith, fields_bytes _ (a ∷ []) has.0))
+body_again (pmt_table service pcr info streams) (a ∷ b ∷ []) fields small whole has =
+    absurd (omega (arith, fields_bytes _ (a ∷ b ∷ []) has.0))
+body_again (pmt_table service pcr info streams) (a ∷ b ∷ c ∷ []) fields small whole has =
+    absurd (omega (arith, fields_bytes _ (a ∷ b ∷ c ∷ []) has.0))
 body_again (pmt_table service pcr info streams) (a ∷ b ∷ c ∷ d ∷ tail) fields small whole has =
     let loop_rows : List Field = flat_map stream_rows streams in
     let clock = take_r3_13 a b pcr _ _ (small 0) (small 1) has.1.1.0 has.0 in
-    let size = take_r4_12 c d (length info) ((bytes_fields info ++ loop_rows) ++ fields) tail (small 2) (small 3) has.1.1.1.1.0 clock.1 in
+    let size =
+    take_r4_12 c d (length info) ((bytes_fields info ++ loop_rows) ++ fields) tail (small 2) (small 3) has.1.1.1.1.0
+    clock.1 in
     let small_tail : AreBytes tail = λ i. small (suc (suc (suc (suc i)))) in
     let rows : Laid (bytes_fields info ++ (loop_rows ++ fields)) tail =
     subst (λ rows. Laid rows tail) (append_assoc (bytes_fields info) loop_rows fields) (size.1, has.1.1.1.1.1) in
     with-split (bytes_again info tail (loop_rows ++ fields) small_tail rows.1 rows.0) small_tail size.0
   where
-    with-loop : (split : Split info tail (flat_map stream_rows streams ++ fields)) → (c * 256 + d) % 4096 ≡ length info → StreamsAgain streams split.more fields
+    with-loop : (split : Split info tail (flat_map stream_rows streams ++ fields))
+        → (c * 256 + d) % 4096 ≡ length info → StreamsAgain streams split.more fields
         → BodyAgain (pmt_table service pcr info streams) (a ∷ b ∷ c ∷ d ∷ tail) fields
     with-loop split size_is found =
         let body : List ℕ = a ∷ b ∷ c ∷ d ∷ (info ++ found.body) in
         let size : ℕ = (c * 256 + d) % 4096 in
         let all_size = length-append info found.body in
         let descriptors : take size (info ++ found.body) ≡ info = take_at info found.body size (sym size_is) in
-        let loop : streams_in body ≡ found.body = ap (λ n. drop (4 + n) body) size_is ∙ behind_is info found.body (a ∷ b ∷ c ∷ d ∷ []) in
+        let loop : streams_in body ≡ found.body =
+        ap (λ n. drop (4 + n) body) size_is ∙ behind_is info found.body (a ∷ b ∷ c ∷ d ∷ []) in
         record {
           body = body;
           more = found.more;
-          parts = ap (λ bytes. a ∷ b ∷ c ∷ d ∷ bytes) (split.parts ∙ ap (λ bytes. info ++ bytes) found.parts ∙ sym (append_assoc info found.body found.more));
+          parts =
+              ap (λ bytes. a ∷ b ∷ c ∷ d ∷ bytes)
+              (split.parts ∙ ap (λ bytes. info ++ bytes) found.parts
+              ∙ sym (append_assoc info found.body found.more));
           size = omega (arith, all_size, found.size);
           whole = pmt-whole body (record {
             head = omega arith;
@@ -299,10 +343,13 @@ body_again (pmt_table service pcr info streams) (a ∷ b ∷ c ∷ d ∷ tail) f
           has = found.has;
         }
 
-    with-split : Split info tail (flat_map stream_rows streams ++ fields) → AreBytes tail → (c * 256 + d) % 4096 ≡ length info
+    with-split : Split info tail (flat_map stream_rows streams ++ fields) → AreBytes tail
+        → (c * 256 + d) % 4096 ≡ length info
         → BodyAgain (pmt_table service pcr info streams) (a ∷ b ∷ c ∷ d ∷ tail) fields
     with-split split small_tail size_is =
-        with-loop split size_is (streams_again streams split.more fields (AreBytes_behind info split.more tail split.parts small_tail) whole.1 (split.has, split.fit))
+        with-loop split size_is
+        (streams_again streams split.more fields (AreBytes_behind info split.more tail split.parts small_tail)
+        whole.1 (split.has, split.fit))
 
 -- the bytes of a section of a table, the head one by one
 record Cells (table : Table) : Type 0 where
@@ -324,16 +371,19 @@ record Cells (table : Table) : Type 0 where
 
 abbrev bytes_in : (table : Table) → Cells table → List ℕ
 bytes_in table cells =
-    table_id table ∷ cells.size_high ∷ cells.size_low ∷ cells.id_high ∷ cells.id_low ∷ cells.version ∷ cells.section ∷ cells.last
+    table_id table ∷ cells.size_high ∷ cells.size_low ∷ cells.id_high ∷ cells.id_low ∷ cells.version
+    ∷ cells.section ∷ cells.last
     ∷ (cells.body ++ cells.crc)
 
 known_table : (table : Table) → (table_id table == 0 || table_id table == 2) ≡ true
 known_table (pat_table id entries) = refl
 known_table (pmt_table service pcr info streams) = refl
 
-cells_right : (table : Table) (cells : Cells table) (more : List ℕ) → 9 + body_size table ≤ 1021 → crc_of (bytes_in table cells) ≡ 0
+cells_right : (table : Table) (cells : Cells table) (more : List ℕ) → 9 + body_size table ≤ 1021
+    → crc_of (bytes_in table cells) ≡ 0
     → right_section (bytes_in table cells ++ more)
-    ≡ Some (if table_id table == 0 then Pat (table_number table) cells.body else Pmt (table_number table) (streams_in cells.body))
+    ≡ Some (if table_id table == 0 then Pat (table_number table) cells.body
+    else Pmt (table_number table) (streams_in cells.body))
 cells_right table cells more short check =
     let bytes : List ℕ = bytes_in table cells in
     let size : ℕ = 9 + body_size table in
@@ -356,8 +406,11 @@ cells_right table cells more short check =
     } in
     let count : 3 + size - 4 - 8 ≡ length body = omega (arith, cells.long) in
     let same : take (3 + size - 4 - 8) ((body ++ cells.crc) ++ more) ≡ body =
-    ap (take (3 + size - 4 - 8)) (append_assoc body cells.crc more) ∙ take_at body (cells.crc ++ more) (3 + size - 4 - 8) (sym count) in
-    right_value (bytes ++ more) size (if table_id table == 0 then Pat (table_number table) body else Pmt (table_number table) (streams_in body)) passes
+    ap (take (3 + size - 4 - 8)) (append_assoc body cells.crc more)
+    ∙ take_at body (cells.crc ++ more) (3 + size - 4 - 8) (sym count) in
+    right_value (bytes ++ more) size
+    (if table_id table == 0 then Pat (table_number table) body else Pmt (table_number table) (streams_in body))
+    passes
     (ap (is_body (table_id table)) same ∙ cells.whole) (rw (same, cells.id) refl)
 
 section_again : (bytes more : List ℕ) (table : Table) → AreBytes bytes → IsSection bytes table
@@ -365,11 +418,16 @@ section_again : (bytes more : List ℕ) (table : Table) → AreBytes bytes → I
 section_again ([]) more table small is = absurd (omega (arith, fields_bytes _ ([]) is.layout))
 section_again (a ∷ []) more table small is = absurd (omega (arith, fields_bytes _ (a ∷ []) is.layout))
 section_again (a ∷ b ∷ []) more table small is = absurd (omega (arith, fields_bytes _ (a ∷ b ∷ []) is.layout))
-section_again (a ∷ b ∷ c ∷ []) more table small is = absurd (omega (arith, fields_bytes _ (a ∷ b ∷ c ∷ []) is.layout))
-section_again (a ∷ b ∷ c ∷ d ∷ []) more table small is = absurd (omega (arith, fields_bytes _ (a ∷ b ∷ c ∷ d ∷ []) is.layout))
-section_again (a ∷ b ∷ c ∷ d ∷ e ∷ []) more table small is = absurd (omega (arith, fields_bytes _ (a ∷ b ∷ c ∷ d ∷ e ∷ []) is.layout))
-section_again (a ∷ b ∷ c ∷ d ∷ e ∷ f ∷ []) more table small is = absurd (omega (arith, fields_bytes _ (a ∷ b ∷ c ∷ d ∷ e ∷ f ∷ []) is.layout))
-section_again (a ∷ b ∷ c ∷ d ∷ e ∷ f ∷ g ∷ []) more table small is = absurd (omega (arith, fields_bytes _ (a ∷ b ∷ c ∷ d ∷ e ∷ f ∷ g ∷ []) is.layout))
+section_again (a ∷ b ∷ c ∷ []) more table small is =
+    absurd (omega (arith, fields_bytes _ (a ∷ b ∷ c ∷ []) is.layout))
+section_again (a ∷ b ∷ c ∷ d ∷ []) more table small is =
+    absurd (omega (arith, fields_bytes _ (a ∷ b ∷ c ∷ d ∷ []) is.layout))
+section_again (a ∷ b ∷ c ∷ d ∷ e ∷ []) more table small is =
+    absurd (omega (arith, fields_bytes _ (a ∷ b ∷ c ∷ d ∷ e ∷ []) is.layout))
+section_again (a ∷ b ∷ c ∷ d ∷ e ∷ f ∷ []) more table small is =
+    absurd (omega (arith, fields_bytes _ (a ∷ b ∷ c ∷ d ∷ e ∷ f ∷ []) is.layout))
+section_again (a ∷ b ∷ c ∷ d ∷ e ∷ f ∷ g ∷ []) more table small is =
+    absurd (omega (arith, fields_bytes _ (a ∷ b ∷ c ∷ d ∷ e ∷ f ∷ g ∷ []) is.layout))
 section_again (a ∷ b ∷ c ∷ d ∷ e ∷ f ∷ g ∷ h ∷ rest) more table small is =
     let tail : List Field = body_rows table ++ number 32 is.marks.check ∷ [] in
     let kind = take_byte (table_id table) a _ _ is.fits.0 (small 0) is.layout in
@@ -379,11 +437,15 @@ section_again (a ∷ b ∷ c ∷ d ∷ e ∷ f ∷ g ∷ h ∷ rest) more table 
     let section = take_byte is.marks.section g _ _ is.fits.1.1.1.1.1.1.1.0 (small 6) version.1 in
     let last = take_byte is.marks.last h tail rest is.fits.1.1.1.1.1.1.1.1.0 (small 7) section.1 in
     let small_rest : AreBytes rest = λ i. small (suc (suc (suc (suc (suc (suc (suc (suc i)))))))) in
-    with-body (body_again table rest (number 32 is.marks.check ∷ []) small_rest is.descriptors (last.1, is.fits.1.1.1.1.1.1.1.1.1)) kind.0 (size.0, named.0, version.0)
+    with-body
+    (body_again table rest (number 32 is.marks.check ∷ []) small_rest is.descriptors
+    (last.1, is.fits.1.1.1.1.1.1.1.1.1)) kind.0 (size.0, named.0, version.0)
   where
     with-body : BodyAgain table rest (number 32 is.marks.check ∷ []) → a ≡ table_id table
         → ((b * 256 + c) % 4096 ≡ 9 + body_size table) × (d * 256 + e ≡ table_number table) × (f % 2 ≡ 1)
-        → (value : SectionValue) × (right_section ((a ∷ b ∷ c ∷ d ∷ e ∷ f ∷ g ∷ h ∷ rest) ++ more) ≡ Some value) × Says value table
+        → (value : SectionValue)
+        × (right_section ((a ∷ b ∷ c ∷ d ∷ e ∷ f ∷ g ∷ h ∷ rest) ++ more) ≡ Some value)
+        × Says value table
     with-body body kind says =
         let cells : Cells table = record {
           version = f;
@@ -403,15 +465,19 @@ section_again (a ∷ b ∷ c ∷ d ∷ e ∷ f ∷ g ∷ h ∷ rest) more table 
           whole = body.whole;
         } in
         let parts : a ∷ b ∷ c ∷ d ∷ e ∷ f ∷ g ∷ h ∷ rest ≡ bytes_in table cells =
-        ap (λ n. n ∷ b ∷ c ∷ d ∷ e ∷ f ∷ g ∷ h ∷ rest) kind ∙ ap (λ tail. table_id table ∷ b ∷ c ∷ d ∷ e ∷ f ∷ g ∷ h ∷ tail) body.parts in (
-          if table_id table == 0 then Pat (table_number table) body.body else Pmt (table_number table) (streams_in body.body),
-          ap (λ bytes. right_section (bytes ++ more)) parts ∙ cells_right table cells more is.short (ap crc_of (sym parts) ∙ is.right_crc),
+        ap (λ n. n ∷ b ∷ c ∷ d ∷ e ∷ f ∷ g ∷ h ∷ rest) kind
+        ∙ ap (λ tail. table_id table ∷ b ∷ c ∷ d ∷ e ∷ f ∷ g ∷ h ∷ tail) body.parts in (
+          if table_id table == 0 then Pat (table_number table) body.body
+              else Pmt (table_number table) (streams_in body.body),
+          ap (λ bytes. right_section (bytes ++ more)) parts
+              ∙ cells_right table cells more is.short (ap crc_of (sym parts) ∙ is.right_crc),
           body.says,
         )
 
 -- ---- the laws
 
-pub laid_out : (bytes : List ℕ) (value : SectionValue) → All (λ byte. byte < 256) bytes → right_section bytes ≡ Some value
+pub laid_out : (bytes : List ℕ) (value : SectionValue) → All (λ byte. byte < 256) bytes
+    → right_section bytes ≡ Some value
     → (table : Table) × IsSection (take (section_size bytes) bytes) table × Says value table
 laid_out bytes value small right =
     let found = by_value bytes value right in

@@ -23,12 +23,17 @@ pub record Pieces (old body new : List ℕ) (table id : ℕ) : Type 0 where
   pub bodied_is : bodied ≡ headed ++ body
   pub new_is : new ≡ bodied ++ big_bytes 4 (crc_of (drop start bodied))
 
-pub appended : (old body new : List ℕ) (table id : ℕ) → Pieces old body new table id → new ≡ old ++ written_section table id body
+pub appended : (old body new : List ℕ) (table id : ℕ) → Pieces old body new table id
+    → new ≡ old ++ written_section table id body
 appended old body new table id pieces =
     let section : List ℕ = before_crc table id body in
     let all : pieces.bodied ≡ old ++ section =
-    pieces.bodied_is ∙ ap (λ headed. headed ++ body) (pieces.headed_is ∙ ap (λ n. old ++ head_bytes table id n) pieces.size_is) ∙ append_assoc old (head_bytes table id (length body)) body in
-    let behind : drop pieces.start (old ++ section) ≡ section = ap (λ n. drop n (old ++ section)) pieces.start_is ∙ drop_at old section (length old) refl in
+    pieces.bodied_is
+    ∙ ap (λ headed. headed ++ body)
+    (pieces.headed_is ∙ ap (λ n. old ++ head_bytes table id n) pieces.size_is)
+    ∙ append_assoc old (head_bytes table id (length body)) body in
+    let behind : drop pieces.start (old ++ section) ≡ section =
+    ap (λ n. drop n (old ++ section)) pieces.start_is ∙ drop_at old section (length old) refl in
     pieces.new_is ∙ ap (λ bytes. bytes ++ big_bytes 4 (crc_of (drop pieces.start bytes))) all
     ∙ ap (λ bytes. (old ++ section) ++ big_bytes 4 (crc_of bytes)) behind
     ∙ append_assoc old section (big_bytes 4 (crc_of section))

@@ -8,13 +8,20 @@ use Rattle.page_core.specs.Memory.{IsDisplayOf}
 use Rattle.receiver.specs.Showing.{places_of}
 
 -- each picture of a profile has room in its plane
-pub display_fits : (profile : Profile) (display : Display) → IsDisplayOf profile display → display.width * display.height ≤ places_of profile
+pub display_fits : (profile : Profile) (display : Display) → IsDisplayOf profile display
+    → display.width * display.height ≤ places_of profile
 display_fits profile display (inl both) =
-    (let first : display.width * display.height ≤ display.width * profile.height = mul-le-mul_left display.width both.1 in
-    let second : profile.height * display.width ≤ profile.height * profile.width = mul-le-mul_left profile.height both.0 in
+    (let first : display.width * display.height
+    ≤ display.width * profile.height = mul-le-mul_left display.width both.1 in
+    let second : profile.height * display.width ≤ profile.height * profile.width =
+    mul-le-mul_left profile.height both.0 in
     omega (arith, first, second, mul_comm display.width profile.height, mul_comm profile.height profile.width))
-display_fits profile display (inr usual) = (let same : display.width * display.height ≡ 720 * 576 = ap (λ (d : Display). d.width * d.height) usual in omega (arith, same))
+display_fits profile display (inr usual) =
+    (let same : display.width * display.height
+    ≡ 720 * 576 = ap (λ (d : Display). d.width * d.height) usual in omega (arith, same))
 
 -- what was written through a slice of the front of a list
-pub written_front : {A : Type 0} (n : ℕ) (old new : List A) → length new ≡ n → take n (new ++ drop (length new) old) ≡ new
-written_front n old new is = ap (λ k. take k (new ++ drop (length new) old)) (sym is) ∙ take-append_seam new (drop (length new) old)
+pub written_front : {A : Type 0} (n : ℕ) (old new : List A) → length new ≡ n
+    → take n (new ++ drop (length new) old) ≡ new
+written_front n old new is =
+    ap (λ k. take k (new ++ drop (length new) old)) (sym is) ∙ take-append_seam new (drop (length new) old)

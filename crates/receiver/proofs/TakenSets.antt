@@ -27,7 +27,13 @@ split_read [] behind past are = record { first = []; rest = past; joined = refl;
 split_read (delivery ∷ front) behind [] are = absurd are
 split_read (delivery ∷ front) behind (one ∷ past) are =
     let more = split_read front behind past are.1 in
-    record { first = one ∷ more.first; rest = more.rest; joined = ap (λ (all : List (Delivery Reading)). one ∷ all) more.joined; are_rest = more.are_rest }
+    record {
+      first = one
+          ∷ more.first;
+      rest = more.rest;
+      joined = ap (λ (all : List (Delivery Reading)). one ∷ all) more.joined;
+      are_rest = more.are_rest;
+    }
 
 first_read : (delivery : Delivery (List ℕ)) (behind : List (Delivery (List ℕ))) (past : List (Delivery Reading))
     → AreDeliveriesRead (delivery ∷ behind) past → (one : Delivery Reading) × IsDeliveryRead delivery one
@@ -60,13 +66,20 @@ read_more given delivery past one are read =
 -- ---- the same receiver
 
 pub same_itself : (receiving : Receiving) → IsSame receiving receiving
-same_itself receiving = record { pid = refl; pages = refl; core = record { profile = refl; page = refl; anchor = refl } }
+same_itself receiving =
+    record { pid = refl; pages = refl; core = record { profile = refl; page = refl; anchor = refl } }
 
 pub same_both : (a b c : Receiving) → IsSame a b → IsSame b c → IsSame a c
 same_both a b c one other = record {
   pid = other.pid ∙ one.pid;
   pages = other.pages ∙ one.pages;
-  core = record { profile = other.core.profile ∙ one.core.profile; page = other.core.page ∙ one.core.page; anchor = other.core.anchor ∙ one.core.anchor };
+  core =
+      record {
+        profile = other.core.profile ∙ one.core.profile;
+        page = other.core.page
+            ∙ one.core.page;
+        anchor = other.core.anchor ∙ one.core.anchor;
+      };
 }
 
 -- ---- before the first packet
@@ -79,7 +92,8 @@ no_sets (set ∷ sets) are = absurd are
 pub none_at_first : (receiving : Receiving) → Stands false [] [] receiving → ready_sets receiving.sets ≡ []
 none_at_first receiving stands =
     let coded = receiving.showing.core.profile.coded in
-    let none : sets_in receiving.sets.coded false (runs_of (arrivals_of coded receiving.demux.pid receiving.sets.pages [])) ≡ [] =
+    let none : sets_in receiving.sets.coded false
+    (runs_of (arrivals_of coded receiving.demux.pid receiving.sets.pages [])) ≡ [] =
     ap (λ (arrivals : List Arrival). sets_in receiving.sets.coded false (runs_of arrivals))
     (none_arrived coded receiving.demux.pid receiving.sets.pages) in
     no_sets (ready_sets receiving.sets)

@@ -20,28 +20,35 @@ use Rattle.receiver.proofs.Feeds.{arrived_at}
 use Rattle.receiver.proofs.Gatherings.{more_shows}
 
 -- the sets of the packets are those that were gathered
-pub sets_gathered : (ended : Bool) (fed : List (List ℕ)) (given : List (Delivery (List ℕ))) (receiving : Receiving) → IsReceiver receiving
+pub sets_gathered : (ended : Bool) (fed : List (List ℕ)) (given : List (Delivery (List ℕ)))
+    (receiving : Receiving) → IsReceiver receiving
     → Stands ended fed given receiving
     → sets_of receiving.showing.core.profile.coded receiving.demux.pid receiving.sets.pages ended fed
     ≡ sets_in receiving.sets.coded ended (runs_of (arrived_at receiving fed))
 sets_gathered ended fed given receiving is stands =
     let coded = receiving.showing.core.profile.coded in
     sets_of_packets coded receiving.demux.pid receiving.sets.pages ended fed
-    ∙ ap (λ (all : Bool). sets_in coded all (runs_of (arrived_at receiving fed))) (ended_packets ended receiving.demux.pid fed stands.taken)
+    ∙ ap (λ (all : Bool). sets_in coded all (runs_of (arrived_at receiving fed)))
+    (ended_packets ended receiving.demux.pid fed stands.taken)
     ∙ ap (λ (n : ℕ). sets_in n ended (runs_of (arrived_at receiving fed))) (sym is.coded)
 
-pub next_gathered : (ended : Bool) (fed : List (List ℕ)) (given : List (Delivery (List ℕ))) (delivery : Delivery (List ℕ)) (rest : List (Delivery (List ℕ))) (old : Receiving) → IsReceiver old → IsNext ended fed given delivery rest old
+pub next_gathered : (ended : Bool) (fed : List (List ℕ)) (given : List (Delivery (List ℕ)))
+    (delivery : Delivery (List ℕ)) (rest : List (Delivery (List ℕ))) (old : Receiving) → IsReceiver old
+    → IsNext ended fed given delivery rest old
     → sets_in old.sets.coded ended (runs_of (arrived_at old fed)) ≡ given ++ delivery ∷ rest
-next_gathered ended fed given delivery rest old is next = sym (sets_gathered ended fed given old is next.stands) ∙ next.all
+next_gathered ended fed given delivery rest old is next =
+    sym (sets_gathered ended fed given old is next.stands) ∙ next.all
 
 -- the time of a set that is ready is that of its delivery
-ready_time : (delivery : Delivery (List ℕ)) (set : ReadySet) → IsReady delivery set → time_of delivery ≡ Some set.time
+ready_time : (delivery : Delivery (List ℕ)) (set : ReadySet) → IsReady delivery set
+    → time_of delivery ≡ Some set.time
 ready_time lost set ready = absurd ready
 ready_time (whole time size segments) set (time_is, size_is, content) = ap Some (sym time_is)
 ready_time (refused time size fault) set (time_is, size_is, content) = ap Some (sym time_is)
 
 -- where a set is ready, it comes next
-pub some_ready : (ended : Bool) (fed : List (List ℕ)) (given : List (Delivery (List ℕ))) (receiving : Receiving) (set : ReadySet)
+pub some_ready : (ended : Bool) (fed : List (List ℕ)) (given : List (Delivery (List ℕ))) (receiving : Receiving)
+    (set : ReadySet)
     → IsReceiver receiving → Stands ended fed given receiving
     → IsFirst (sets_in receiving.sets.coded ended (runs_of (arrived_at receiving fed))) given (Some set)
     → (delivery : Delivery (List ℕ)) × (rest : List (Delivery (List ℕ)))
@@ -58,39 +65,53 @@ pub none_next : {X : Type 0} (given rest : List X) (next : X) → given ≡ give
 none_next given rest next is = (let same = ap length is ∙ length-append given (next ∷ rest) in omega (arith, same))
 
 -- what is read has the time that it had
-read_time : (delivery : Delivery (List ℕ)) (one : Delivery Reading) → IsDeliveryRead delivery one → time_of one ≡ time_of delivery
+read_time : (delivery : Delivery (List ℕ)) (one : Delivery Reading) → IsDeliveryRead delivery one
+    → time_of one ≡ time_of delivery
 read_time lost one read = ap time_of read
 read_time (whole time size segments) one (readings, are, is) = ap time_of is
 read_time (refused time size fault) one read = ap time_of read
 
 -- the lifted time of a set that comes next
-pub next_lifted : (anchor : ℕ) (past : List (Delivery Reading)) (delivery : Delivery (List ℕ)) (one : Delivery Reading) (set : ReadySet) (lifted : Option ℕ)
-    → IsReady delivery set → IsDeliveryRead delivery one → lifted ≡ lifted_time {S = Reading} anchor past (whole set.time 0 [])
+pub next_lifted : (anchor : ℕ) (past : List (Delivery Reading)) (delivery : Delivery (List ℕ))
+    (one : Delivery Reading) (set : ReadySet) (lifted : Option ℕ)
+    → IsReady delivery set → IsDeliveryRead delivery one
+    → lifted ≡ lifted_time {S = Reading} anchor past (whole set.time 0 [])
     → lifted ≡ lifted_time anchor past one
 next_lifted anchor past delivery one set lifted ready read is =
     is ∙ ap (λ (time : Option ℕ). option_and_then (lifted_behind anchor (last_time anchor past)) time)
     (sym (read_time delivery one read ∙ ready_time delivery set ready))
 
 -- what stands behind equal fronts is the same
-same_next : {X : Type 0} (front : List X) (a b : X) (more rest : List X) → front ++ a ∷ more ≡ front ++ b ∷ rest → a ≡ b
+same_next : {X : Type 0} (front : List X) (a b : X) (more rest : List X)
+    → front ++ a ∷ more ≡ front ++ b ∷ rest → a ≡ b
 same_next [] a b more rest is = (let same : a ≡ b = cc in same)
-same_next {X} (x ∷ front) a b more rest is = same_next front a b more rest (let tail : front ++ a ∷ more ≡ front ++ b ∷ rest = cc in tail)
+same_next {X} (x ∷ front) a b more rest is =
+    same_next front a b more rest (let tail : front ++ a ∷ more ≡ front ++ b ∷ rest = cc in tail)
 
 -- the first set that is ready is the next one
-pub next_ready : (all given : List (Delivery (List ℕ))) (delivery : Delivery (List ℕ)) (rest : List (Delivery (List ℕ))) (set : ReadySet) → all ≡ given ++ delivery ∷ rest → IsFirst all given (Some set) → IsReady delivery set
+pub next_ready : (all given : List (Delivery (List ℕ))) (delivery : Delivery (List ℕ))
+    (rest : List (Delivery (List ℕ))) (set : ReadySet) → all ≡ given ++ delivery ∷ rest
+    → IsFirst all given (Some set) → IsReady delivery set
 next_ready all given delivery rest set is (other, more, split, ready) =
-    subst (λ (d : Delivery (List ℕ)). IsReady d set) (same_next given other delivery more rest (sym split ∙ is)) ready
+    subst (λ (d : Delivery (List ℕ)). IsReady d set) (same_next given other delivery more rest (sym split ∙ is))
+    ready
 
 -- it was taken
-pub taken_stands : (ended : Bool) (fed : List (List ℕ)) (given : List (Delivery (List ℕ))) (delivery : Delivery (List ℕ)) (rest : List (Delivery (List ℕ))) (old new : Receiving) → IsNext ended fed given delivery rest old
-    → new.demux ≡ old.demux → IsSame old new → sets.Stands (arrived_at old fed) ended (given ++ delivery ∷ []) new.sets
-    → ((past : List (Delivery Reading)) (one : Delivery Reading) → IsDeliveryRead delivery one → pictures.Stands past old.showing → pictures.Stands (one ∷ past) new.showing)
+pub taken_stands : (ended : Bool) (fed : List (List ℕ)) (given : List (Delivery (List ℕ)))
+    (delivery : Delivery (List ℕ)) (rest : List (Delivery (List ℕ))) (old new : Receiving)
+    → IsNext ended fed given delivery rest old
+    → new.demux ≡ old.demux → IsSame old new
+    → sets.Stands (arrived_at old fed) ended (given ++ delivery ∷ []) new.sets
+    → ((past : List (Delivery Reading)) (one : Delivery Reading) → IsDeliveryRead delivery one
+    → pictures.Stands past old.showing → pictures.Stands (one ∷ past) new.showing)
     → Stands ended fed (given ++ delivery ∷ []) new
 taken_stands ended fed given delivery rest old new next demux same gathered step = record {
   taken = ap (λ (d : Demuxing). packets_taken d.pid fed) demux ∙ next.stands.taken;
   demux = subst (λ (d : Demuxing). packets.Stands d fed) (sym demux) next.stands.demux;
   gathers = record {
-    sets = subst (λ (arrivals : List Arrival). sets.Stands arrivals ended (given ++ delivery ∷ []) new.sets) arrived gathered;
+    sets =
+        subst (λ (arrivals : List Arrival). sets.Stands arrivals ended (given ++ delivery ∷ []) new.sets) arrived
+        gathered;
     shows = more_shows given delivery old.showing new.showing next.stands.gathers.shows step;
   };
 }
@@ -102,6 +123,11 @@ taken_stands ended fed given delivery rest old new next demux same gathered step
         ∙ ap (λ (pages : Pages). arrivals_of new.showing.core.profile.coded new.demux.pid pages fed) (sym same.pages)
 
 -- the lifted time of the set that is ready
-pub ready_lifted : (anchor : ℕ) (past : List (Delivery Reading)) (gathered : Gathered) (set : ReadySet) (lifted : Option ℕ) → Some set ≡ first_ready (ready_sets gathered) → lifted ≡ lifted_time anchor past (whole set.time 0 [])
-    → lifted ≡ option_and_then (lifted_behind anchor (last_time anchor past)) (option_map set_time (first_ready (ready_sets gathered)))
-ready_lifted anchor past gathered set lifted first is = is ∙ ap (λ (found : Option ReadySet). option_and_then (lifted_behind anchor (last_time anchor past)) (option_map set_time found)) first
+pub ready_lifted : (anchor : ℕ) (past : List (Delivery Reading)) (gathered : Gathered) (set : ReadySet)
+    (lifted : Option ℕ) → Some set ≡ first_ready (ready_sets gathered)
+    → lifted ≡ lifted_time anchor past (whole set.time 0 [])
+    → lifted ≡ option_and_then (lifted_behind anchor (last_time anchor past))
+    (option_map set_time (first_ready (ready_sets gathered)))
+ready_lifted anchor past gathered set lifted first is =
+    is ∙ ap (λ (found : Option ReadySet). option_and_then (lifted_behind anchor (last_time anchor past))
+    (option_map set_time found)) first

@@ -16,17 +16,21 @@ use Rattle.receiver.proofs.Takes.{sets_gathered}
 
 -- ---- all sets are taken
 
-none_waiting : (waiting : List (Delivery (List ℕ))) (sets : List ReadySet) → AreReady waiting sets → sets ≡ [] → waiting ≡ []
+none_waiting : (waiting : List (Delivery (List ℕ))) (sets : List ReadySet) → AreReady waiting sets → sets ≡ []
+    → waiting ≡ []
 none_waiting [] sets are none = refl
 none_waiting (delivery ∷ waiting) [] are none = absurd are
 none_waiting (delivery ∷ waiting) (set ∷ sets) are none = absurd (cc)
 
 -- where nothing is ready, the sets of the packets are those that were taken
-pub all_taken : (ended : Bool) (fed : List (List ℕ)) (given : List (Delivery (List ℕ))) (receiving : Receiving) → IsReceiver receiving → Stands ended fed given receiving → ready_sets receiving.sets ≡ []
+pub all_taken : (ended : Bool) (fed : List (List ℕ)) (given : List (Delivery (List ℕ))) (receiving : Receiving)
+    → IsReceiver receiving → Stands ended fed given receiving → ready_sets receiving.sets ≡ []
     → sets_of receiving.showing.core.profile.coded receiving.demux.pid receiving.sets.pages ended fed ≡ given
 all_taken ended fed given receiving is stands none =
     let sets = stands.gathers.sets in
-    sets_gathered ended fed given receiving is stands ∙ sets.sets ∙ ap (λ (waiting : List (Delivery (List ℕ))). given ++ waiting) (none_waiting sets.waiting (ready_sets receiving.sets) sets.are_ready none) ∙ append-nil given
+    sets_gathered ended fed given receiving is stands ∙ sets.sets
+    ∙ ap (λ (waiting : List (Delivery (List ℕ))). given ++ waiting)
+    (none_waiting sets.waiting (ready_sets receiving.sets) sets.are_ready none) ∙ append-nil given
 
 -- ---- a set is ready
 
@@ -38,37 +42,63 @@ pub record AreSplit (front behind : List (Delivery (List ℕ))) (past : List (De
   pub are_first : AreDeliveriesRead front first
   pub are_rest : AreDeliveriesRead behind rest
 
-pub read_split : (front behind : List (Delivery (List ℕ))) (past : List (Delivery Reading)) → AreDeliveriesRead (front ++ behind) past → AreSplit front behind past
+pub read_split : (front behind : List (Delivery (List ℕ))) (past : List (Delivery Reading))
+    → AreDeliveriesRead (front ++ behind) past → AreSplit front behind past
 read_split [] behind past are = record { first = []; rest = past; joined = refl; are_first = tt; are_rest = are }
 read_split (delivery ∷ front) behind [] are = absurd are
 read_split (delivery ∷ front) behind (one ∷ past) are =
     let more = read_split front behind past are.1 in
-    record { first = one ∷ more.first; rest = more.rest; joined = ap (λ (all : List (Delivery Reading)). one ∷ all) more.joined; are_first = (are.0, more.are_first); are_rest = more.are_rest }
+    record {
+      first = one
+          ∷ more.first;
+      rest = more.rest;
+      joined = ap (λ (all : List (Delivery Reading)). one ∷ all) more.joined;
+      are_first = (are.0, more.are_first);
+      are_rest = more.are_rest;
+    }
 
 -- before the lifted time of the next set what is shown is what was
-pub shown_before : (profile : Profile) (anchor tick lifted : ℕ) (given rest : List (Delivery (List ℕ))) (next : Delivery (List ℕ)) (past : List (Delivery Reading))
-    → ((before : List (Delivery Reading)) (one : Delivery Reading) → AreDeliveriesRead (reverse given) before → IsDeliveryRead next one → lifted_time anchor before one ≡ Some lifted) → tick < lifted
+pub shown_before : (profile : Profile) (anchor tick lifted : ℕ) (given rest : List (Delivery (List ℕ)))
+    (next : Delivery (List ℕ)) (past : List (Delivery Reading))
+    → ((before : List (Delivery Reading)) (one : Delivery Reading) → AreDeliveriesRead (reverse given) before
+    → IsDeliveryRead next one → lifted_time anchor before one ≡ Some lifted) → tick < lifted
     → AreDeliveriesRead (reverse (given ++ next ∷ rest)) past
-    → (before : List (Delivery Reading)) × AreDeliveriesRead (reverse given) before × (view_at profile anchor tick past ≡ view_at profile anchor tick before)
+    → (before : List (Delivery Reading)) × AreDeliveriesRead (reverse given) before
+    × (view_at profile anchor tick past ≡ view_at profile anchor tick before)
 unfolding last_time
 shown_before profile anchor tick lifted given rest next past at early are =
     by (read_split (reverse rest) (next ∷ reverse given) past
-    (subst (λ (all : List (Delivery (List ℕ))). AreDeliveriesRead all past) (ap reverse (sym (append_assoc given (next ∷ []) rest)) ∙ reverse-append (given ++ next ∷ []) rest ∙ ap (λ (front : List (Delivery (List ℕ))). reverse rest ++ front) (reverse-append given (next ∷ []))) are))
+    (subst (λ (all : List (Delivery (List ℕ))). AreDeliveriesRead all past)
+    (ap reverse (sym (append_assoc given (next ∷ []) rest)) ∙ reverse-append (given ++ next ∷ []) rest
+    ∙ ap (λ (front : List (Delivery (List ℕ))). reverse rest ++ front) (reverse-append given (next ∷ [])))
+    are))
   where
-    within : (first before : List (Delivery Reading)) (one : Delivery Reading) → past ≡ first ++ one ∷ before → IsDeliveryRead next one → AreDeliveriesRead (reverse given) before
-        → (before : List (Delivery Reading)) × AreDeliveriesRead (reverse given) before × (view_at profile anchor tick past ≡ view_at profile anchor tick before)
+    within : (first before : List (Delivery Reading)) (one : Delivery Reading) → past ≡ first ++ one ∷ before
+        → IsDeliveryRead next one → AreDeliveriesRead (reverse given) before
+        → (before : List (Delivery Reading)) × AreDeliveriesRead (reverse given) before
+        × (view_at profile anchor tick past ≡ view_at profile anchor tick before)
     within first before one is read reads =
         let time : lifted_time anchor before one ≡ Some lifted = at before one reads read in
-        let later : IsPast anchor tick (one ∷ before) = record { last = lifted; is_last = ap (λ found. option_or found (last_time anchor before)) time; early = early } in (
+        let later : IsPast anchor tick (one ∷ before) =
+        record {
+          last = lifted;
+          is_last = ap (λ found. option_or found (last_time anchor before)) time;
+          early = early;
+        } in (
           before,
           reads,
-          ap (view_at profile anchor tick) is ∙ (view_stays profile anchor tick first (one ∷ before) later).1 ∙ view_before profile anchor tick lifted before one time early,
+          ap (view_at profile anchor tick) is ∙ (view_stays profile anchor tick first (one ∷ before) later).1
+              ∙ view_before profile anchor tick lifted before one time early,
         )
 
-    by : AreSplit (reverse rest) (next ∷ reverse given) past → (before : List (Delivery Reading)) × AreDeliveriesRead (reverse given) before × (view_at profile anchor tick past ≡ view_at profile anchor tick before)
+    by : AreSplit (reverse rest) (next ∷ reverse given) past → (before : List (Delivery Reading))
+        × AreDeliveriesRead (reverse given) before
+        × (view_at profile anchor tick past ≡ view_at profile anchor tick before)
     by split = cases split.rest split.joined split.are_rest
       where
-        cases : (found : List (Delivery Reading)) → past ≡ split.first ++ found → AreDeliveriesRead (next ∷ reverse given) found
-            → (before : List (Delivery Reading)) × AreDeliveriesRead (reverse given) before × (view_at profile anchor tick past ≡ view_at profile anchor tick before)
+        cases : (found : List (Delivery Reading)) → past ≡ split.first ++ found
+            → AreDeliveriesRead (next ∷ reverse given) found
+            → (before : List (Delivery Reading)) × AreDeliveriesRead (reverse given) before
+            × (view_at profile anchor tick past ≡ view_at profile anchor tick before)
         cases [] joined are = absurd are
         cases (one ∷ before) joined are = within split.first before one joined are.0 are.1

@@ -5,8 +5,8 @@ use crate::script_facts::Case;
 use crate::text::Text;
 use sub_base::NoMemory;
 
-/// Puts what the first cell holds that is no number or lies outside its range. Answers whether there
-/// is one.
+/// Puts what the first cell holds that is no number or lies outside its range. Answers whether
+/// there is one.
 pub(crate) fn put_cell_facts(told: &mut Text, case: &Case<'_>) -> Result<bool, NoMemory> {
     for place in 1..case.record.cells.len() {
         let Some(rule) = cell_rule(case.word, place) else {

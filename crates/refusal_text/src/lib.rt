@@ -1,6 +1,6 @@
-//! Sentences on refusals: what a command that was refused is told on standard error, beside the line
-//! of its status. A sentence quotes the record, line or word as it stands, says in words what is
-//! asked of it, and tells the numbers that there are.
+//! Sentences on refusals: what a command that was refused is told on standard error, beside the
+//! line of its status. A sentence quotes the record, line or word as it stands, says in words what
+//! is asked of it, and tells the numbers that there are.
 #![tactic(auto)]
 
 // A sentence, its parts, and what it quotes.

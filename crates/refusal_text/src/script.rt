@@ -9,8 +9,8 @@ use cue_list::{Script, ScriptKind};
 use std::alloc::Global;
 use sub_base::NoMemory;
 
-/// The sentence on a script that is refused at that record, from 1. Without the text of the script it
-/// has no quotation, and no numbers; without that of the font none of a text's picture.
+/// The sentence on a script that is refused at that record, from 1. Without the text of the script
+/// it has no quotation, and no numbers; without that of the font none of a text's picture.
 pub fn script_refusal(
     alloc: Global,
     text: Option<&[u8]>,

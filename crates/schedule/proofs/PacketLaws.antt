@@ -40,7 +40,8 @@ all_sum : (units : List ℕ) → sum (payloads_of units) ≡ sum units
 unfolding payloads_of
 all_sum [] = refl
 all_sum (size ∷ units) =
-    let joined : sum (unit_payloads size ++ flat_map unit_payloads units) ≡ sum (unit_payloads size) + sum (flat_map unit_payloads units) =
+    let joined : sum (unit_payloads size ++ flat_map unit_payloads units)
+    ≡ sum (unit_payloads size) + sum (flat_map unit_payloads units) =
     sum_by-append (λ (x : ℕ). x) (unit_payloads size) (flat_map unit_payloads units) in
     let own = sum_by-cons (λ (x : ℕ). x) size units in
     omega (arith, joined, own, unit_sum size, all_sum units)
@@ -50,7 +51,8 @@ all_count : (units : List ℕ) → length (payloads_of units) ≤ sum units
 unfolding payloads_of
 all_count [] = omega arith
 all_count (size ∷ units) =
-    let joined : length (unit_payloads size ++ flat_map unit_payloads units) ≡ length (unit_payloads size) + length (flat_map unit_payloads units) =
+    let joined : length (unit_payloads size ++ flat_map unit_payloads units)
+    ≡ length (unit_payloads size) + length (flat_map unit_payloads units) =
     length-append (unit_payloads size) (flat_map unit_payloads units) in
     let own = sum_by-cons (λ (x : ℕ). x) size units in
     omega (arith, joined, own, unit_count size, all_count units)
@@ -61,12 +63,15 @@ unfolding sum_below
 sum_places xs = ap sum (sym (fill_by_all (slice_index xs) xs (length xs) 0 refl (λ k below. refl)))
 
 -- the payloads of all packets of a set are its bytes
-pub payloads : (loads : List WriteLoad) (i : ℕ) → sum_below (payload_of loads i) (packets_of loads i) ≡ size_of loads i
+pub payloads : (loads : List WriteLoad) (i : ℕ)
+    → sum_below (payload_of loads i) (packets_of loads i) ≡ size_of loads i
 payloads loads i = sum_places (payloads_of (units_of loads i)) ∙ all_sum (units_of loads i)
 
 -- those of the first of them are no more
-pub payloads-most : (loads : List WriteLoad) (i k : ℕ) → k ≤ packets_of loads i → sum_below (payload_of loads i) k ≤ size_of loads i
-payloads-most loads i k within = omega (arith, payloads loads i, sum_below-rises (payload_of loads i) k (packets_of loads i) within)
+pub payloads-most : (loads : List WriteLoad) (i k : ℕ) → k ≤ packets_of loads i
+    → sum_below (payload_of loads i) k ≤ size_of loads i
+payloads-most loads i k within =
+    omega (arith, payloads loads i, sum_below-rises (payload_of loads i) k (packets_of loads i) within)
 
 -- a set has no more packets than bytes
 pub packets-most : (loads : List WriteLoad) (i : ℕ) → packets_of loads i ≤ size_of loads i
@@ -79,7 +84,8 @@ some_packets loads i some =
       | inl any ↦ any
       | inr none ↦
           let no : packets_of loads i ≡ 0 = omega arith in
-          absurd (omega (arith, payloads loads i, ap (sum_below (payload_of loads i)) no, sum_below-zero (payload_of loads i)))
+          absurd (omega
+          (arith, payloads loads i, ap (sum_below (payload_of loads i)) no, sum_below-zero (payload_of loads i)))
     ]
 
 -- the packets of the first so many units
@@ -101,17 +107,20 @@ packets_before-more units count below =
     let one = length-append (unit_payloads size) [] in
     omega (arith, grown, split, joined, one, unit_count size)
 
-pub packets_before-all : (units : List ℕ) (count : ℕ) → length units ≤ count → packets_before units count ≡ length (payloads_of units)
+pub packets_before-all : (units : List ℕ) (count : ℕ) → length units ≤ count
+    → packets_before units count ≡ length (payloads_of units)
 packets_before-all units count all = ap (λ front. length (payloads_of front)) (take_all count units all)
 
 -- with one unit more there are no more than in all
 pub packets_before-within : (units : List ℕ) (count : ℕ) → count < length units →
     packets_before units count + packet_count (slice_index units count) ≤ length (payloads_of units)
 unfolding payloads_of
-packets_before-within units count below = omega (arith, length-flat_map-take unit_payloads units count 0 below, unit_count (slice_index units count))
+packets_before-within units count below =
+    omega (arith, length-flat_map-take unit_payloads units count 0 below, unit_count (slice_index units count))
 
 -- the packets of a unit stand behind those of the units before
-pub payload_at : (units : List ℕ) (count k : ℕ) → count < length units → k < packet_count (slice_index units count) →
+pub payload_at : (units : List ℕ) (count k : ℕ) → count < length units
+    → k < packet_count (slice_index units count) →
     slice_index (payloads_of units) (packets_before units count + k) ≡ payload_in (slice_index units count) k
 unfolding payloads_of
 payload_at units count k below within =
@@ -119,7 +128,8 @@ payload_at units count k below within =
     ∙ unit_at (slice_index units count) k within
 
 -- each of the loads can be scheduled
-pub load_at : (loads : List WriteLoad) (i : ℕ) → All IsLoad loads → i < length loads → IsLoad (slice_index_or loads i no_load)
+pub load_at : (loads : List WriteLoad) (i : ℕ) → All IsLoad loads → i < length loads
+    → IsLoad (slice_index_or loads i no_load)
 load_at loads i each below = All-get_or IsLoad loads i no_load below each
 
 -- each set has bytes
@@ -127,10 +137,13 @@ pub some_bytes : (loads : List WriteLoad) (i : ℕ) → All IsLoad loads → i <
 some_bytes loads i each below = let load = load_at loads i each below in omega (arith, load.some, load.size)
 
 -- the bytes of a set are those that its load says
-pub bytes_at : (loads : List WriteLoad) (i : ℕ) (other : WriteLoad) → All IsLoad loads → i < length loads → (slice_index_or loads i other).load.size ≡ size_of loads i
+pub bytes_at : (loads : List WriteLoad) (i : ℕ) (other : WriteLoad) → All IsLoad loads → i < length loads
+    → (slice_index_or loads i other).load.size ≡ size_of loads i
 bytes_at loads i other each below =
-    ap (λ (load : WriteLoad). load.load.size) (get_or_default loads i other no_load below) ∙ (load_at loads i each below).size
+    ap (λ (load : WriteLoad). load.load.size) (get_or_default loads i other no_load below)
+    ∙ (load_at loads i each below).size
 
 -- what is read of a list within it is one of the loads
-pub read_at : (loads : List WriteLoad) (i : ℕ) (load : WriteLoad) → i < length loads → load ≡ slice_index_or loads i load → load ≡ slice_index_or loads i no_load
+pub read_at : (loads : List WriteLoad) (i : ℕ) (load : WriteLoad) → i < length loads
+    → load ≡ slice_index_or loads i load → load ≡ slice_index_or loads i no_load
 read_at loads i load below is = is ∙ get_or_default loads i load no_load below

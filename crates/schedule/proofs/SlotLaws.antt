@@ -9,10 +9,12 @@ use Rattle.schedule.specs.Slots.{CanStand, left_of}
 use Rattle.schedule.proofs.SumLaws.{sum_below-same}
 
 -- what has left the buffer depends on the done ticks of the sets before alone
-pub left-same : (loads : List WriteLoad) (dones others : List ℕ) (tick i : ℕ) → ((j : ℕ) → j < i → slice_index others j ≡ slice_index dones j) →
+pub left-same : (loads : List WriteLoad) (dones others : List ℕ) (tick i : ℕ)
+    → ((j : ℕ) → j < i → slice_index others j ≡ slice_index dones j) →
     sum_below (left_of loads others tick) i ≡ sum_below (left_of loads dones tick) i
 left-same loads dones others tick i same =
-    sum_below-same (left_of loads others tick) (left_of loads dones tick) i (λ j below. ap (λ (done : ℕ). left_by tick done (size_of loads j)) (same j below))
+    sum_below-same (left_of loads others tick) (left_of loads dones tick) i
+    (λ j below. ap (λ (done : ℕ). left_by tick done (size_of loads j)) (same j below))
 
 -- whether a packet can stand in a slot depends on the slots of the packets before it and the done ticks of the sets
 -- before alone

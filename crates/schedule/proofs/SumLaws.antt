@@ -14,7 +14,8 @@ unfolding sum_below
 sum_below-more f n =
     let grown : sum (map f (range_with_len 0 n) ++ f n ∷ []) ≡ sum (map f (range_with_len 0 n)) + sum (f n ∷ []) =
     sum_by-append (λ (x : ℕ). x) (map f (range_with_len 0 n)) (f n ∷ []) in
-    ap sum (map-range_with_len_more f 0 n n (omega arith)) ∙ grown ∙ ap (λ (x : ℕ). sum (map f (range_with_len 0 n)) + x) (omega arith)
+    ap sum (map-range_with_len_more f 0 n n (omega arith)) ∙ grown
+    ∙ ap (λ (x : ℕ). sum (map f (range_with_len 0 n)) + x) (omega arith)
 
 pub sum_below-suc : (f : ℕ → ℕ) (n : ℕ) → sum_below f (suc n) ≡ sum_below f n + f n
 sum_below-suc f n = ap (sum_below f) (sym (add-one n)) ∙ sum_below-more f n
@@ -29,19 +30,36 @@ sum_below-rises f m (suc n) h =
     ]
 
 -- sums of functions, the one not above the other
-pub sum_below-le : (f g : ℕ → ℕ) (n : ℕ) → ((j : ℕ) → j < n → f j ≤ g j) → sum_below f n ≤ sum_below g n
+pub sum_below-le : (f g : ℕ → ℕ) (n : ℕ) → ((j : ℕ) → j < n → f j ≤ g j)
+    → sum_below f n ≤ sum_below g n
 sum_below-le f g zero h = omega (arith, sum_below-zero f, sum_below-zero g)
 sum_below-le f g (suc n) h =
-    omega (arith, sum_below-le f g n (λ j below. h j (omega arith)), h n (omega arith), sum_below-suc f n, sum_below-suc g n)
+    omega (
+      arith,
+      sum_below-le f g n (λ j below. h j (omega arith)),
+      h n (omega arith),
+      sum_below-suc f
+          n,
+      sum_below-suc g n,
+    )
 
 -- sums of functions that agree
-pub sum_below-same : (f g : ℕ → ℕ) (n : ℕ) → ((j : ℕ) → j < n → f j ≡ g j) → sum_below f n ≡ sum_below g n
+pub sum_below-same : (f g : ℕ → ℕ) (n : ℕ) → ((j : ℕ) → j < n → f j ≡ g j)
+    → sum_below f n ≡ sum_below g n
 sum_below-same f g zero h = omega (arith, sum_below-zero f, sum_below-zero g)
 sum_below-same f g (suc n) h =
-    omega (arith, sum_below-same f g n (λ j below. h j (omega arith)), h n (omega arith), sum_below-suc f n, sum_below-suc g n)
+    omega (
+      arith,
+      sum_below-same f g n (λ j below. h j (omega arith)),
+      h n (omega arith),
+      sum_below-suc f
+          n,
+      sum_below-suc g n,
+    )
 
 -- from m on the function is 0
-pub sum_below-ends : (f : ℕ → ℕ) (m n : ℕ) → m ≤ n → ((j : ℕ) → m ≤ j → j < n → f j ≡ 0) → sum_below f n ≡ sum_below f m
+pub sum_below-ends : (f : ℕ → ℕ) (m n : ℕ) → m ≤ n → ((j : ℕ) → m ≤ j → j < n → f j ≡ 0)
+    → sum_below f n ≡ sum_below f m
 sum_below-ends f m zero h none = let e : m ≡ 0 = omega arith in rw e refl
 sum_below-ends f m (suc n) h none =
     elim (eq-or-lt_of_le h) [

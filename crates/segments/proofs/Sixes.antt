@@ -5,7 +5,8 @@ use Rattle.std.proofs.lemmas.Nat.{and_mask}
 use Rattle.stream_syntax.specs.Tests.{word_at}
 use Rattle.segments.specs.Contents.{by_six, page_entry, page_entries, listing, region_listings}
 
-pub length_by_six : {Item : Type 0} (item : ℕ → ℕ → ℕ → ℕ → ℕ → ℕ → Item) (bytes : List ℕ) → length (by_six item bytes) ≡ length bytes / 6
+pub length_by_six : {Item : Type 0} (item : ℕ → ℕ → ℕ → ℕ → ℕ → ℕ → Item) (bytes : List ℕ)
+    → length (by_six item bytes) ≡ length bytes / 6
 length_by_six item (a ∷ b ∷ c ∷ d ∷ e ∷ f ∷ rest) = omega (arith, length_by_six item rest)
 length_by_six item [] = refl
 length_by_six item (a ∷ []) = refl
@@ -14,8 +15,11 @@ length_by_six item (a ∷ b ∷ c ∷ []) = refl
 length_by_six item (a ∷ b ∷ c ∷ d ∷ []) = refl
 length_by_six item (a ∷ b ∷ c ∷ d ∷ e ∷ []) = refl
 
-pub by_six_at : {Item : Type 0} (item : ℕ → ℕ → ℕ → ℕ → ℕ → ℕ → Item) (bytes : List ℕ) (i : ℕ) → 6 * i + 6 ≤ length bytes
-    → slice_get (by_six item bytes) i ≡ Some (item (get_or bytes (6 * i) 0) (get_or bytes (6 * i + 1) 0) (get_or bytes (6 * i + 2) 0) (get_or bytes (6 * i + 3) 0) (get_or bytes (6 * i + 4) 0) (get_or bytes (6 * i + 5) 0))
+pub by_six_at : {Item : Type 0} (item : ℕ → ℕ → ℕ → ℕ → ℕ → ℕ → Item) (bytes : List ℕ)
+    (i : ℕ) → 6 * i + 6 ≤ length bytes
+    → slice_get (by_six item bytes) i
+    ≡ Some (item (get_or bytes (6 * i) 0) (get_or bytes (6 * i + 1) 0) (get_or bytes (6 * i + 2) 0)
+    (get_or bytes (6 * i + 3) 0) (get_or bytes (6 * i + 4) 0) (get_or bytes (6 * i + 5) 0))
 by_six_at item (a ∷ b ∷ c ∷ d ∷ e ∷ f ∷ rest) zero long = refl
 by_six_at item (a ∷ b ∷ c ∷ d ∷ e ∷ f ∷ rest) (suc i) long =
     let ih = by_six_at item rest i (omega arith) in
@@ -33,7 +37,8 @@ by_six_at item (a ∷ b ∷ c ∷ []) i long = absurd (omega arith)
 by_six_at item (a ∷ b ∷ c ∷ d ∷ []) i long = absurd (omega arith)
 by_six_at item (a ∷ b ∷ c ∷ d ∷ e ∷ []) i long = absurd (omega arith)
 
-pub page_entry_at : (bytes : List ℕ) (i region x y : ℕ) → 6 * i + 6 ≤ length bytes → region ≡ get_or bytes (6 * i) 0 → x ≡ word_at (6 * i + 2) bytes → y ≡ word_at (6 * i + 4) bytes
+pub page_entry_at : (bytes : List ℕ) (i region x y : ℕ) → 6 * i + 6 ≤ length bytes
+    → region ≡ get_or bytes (6 * i) 0 → x ≡ word_at (6 * i + 2) bytes → y ≡ word_at (6 * i + 4) bytes
     → slice_get (page_entries bytes) i ≡ Some (record { region = region; x = x; y = y })
 page_entry_at bytes i region x y room region-is x-is y-is =
     let at = by_six_at page_entry bytes i room in
@@ -41,7 +46,9 @@ page_entry_at bytes i region x y room region-is x-is y-is =
     let e5 : 6 * i + 4 + 1 ≡ 6 * i + 5 = omega arith in
     rw (region-is, x-is, y-is, e3, e5) at
 
-pub listing_at : (bytes : List ℕ) (i object x y : ℕ) → 6 * i + 6 ≤ length bytes → object ≡ word_at (6 * i) bytes → x ≡ word_at (6 * i + 2) bytes % 4096 → y ≡ word_at (6 * i + 4) bytes % 4096
+pub listing_at : (bytes : List ℕ) (i object x y : ℕ) → 6 * i + 6 ≤ length bytes
+    → object ≡ word_at (6 * i) bytes → x ≡ word_at (6 * i + 2) bytes % 4096
+    → y ≡ word_at (6 * i + 4) bytes % 4096
     → slice_get (region_listings bytes) i ≡ Some (record { object = object; x = x; y = y })
 listing_at bytes i object x y room object-is x-is y-is =
     let at = by_six_at listing bytes i room in

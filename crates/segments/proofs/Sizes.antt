@@ -22,9 +22,11 @@ clut_entries_size [] = refl
 clut_entries_size (entry ∷ entries) = omega (arith, clut_entries_size entries)
 
 -- the places of listings that fit
-places_fit : (listings : List Listing) → FitsFields (flat_map listing_fields listings) → AllByRecursion (λ (l : Listing). l.y < 4096) listings
+places_fit : (listings : List Listing) → FitsFields (flat_map listing_fields listings)
+    → AllByRecursion (λ (l : Listing). l.y < 4096) listings
 places_fit [] fits = tt
 places_fit (listing ∷ listings) fits = (fits.1.1.1.1.1.0, places_fit listings fits.1.1.1.1.1.1)
 
-pub all_places_fit : (listings : List Listing) → FitsFields (flat_map listing_fields listings) → All (λ (l : Listing). l.y < 4096) listings
+pub all_places_fit : (listings : List Listing) → FitsFields (flat_map listing_fields listings)
+    → All (λ (l : Listing). l.y < 4096) listings
 all_places_fit listings fits = All-from_recursion (λ (l : Listing). l.y < 4096) listings (places_fit listings fits)

@@ -57,7 +57,8 @@ other_faults false false true never = cc
 other_faults false false false never = cc
 
 -- a packet that is refused for its sync byte has none
-unsynced : (pid : ℕ) (packet : List ℕ) → packet_fault pid packet ≡ Some PacketFaults.NoSync → has_sync packet ≡ false
+unsynced : (pid : ℕ) (packet : List ℕ) → packet_fault pid packet ≡ Some PacketFaults.NoSync
+    → has_sync packet ≡ false
 unsynced pid packet refused = by (has_sync packet) refl
   where
     by : (sync : Bool) → has_sync packet ≡ sync → has_sync packet ≡ false

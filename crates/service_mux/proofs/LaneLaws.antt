@@ -25,7 +25,8 @@ pub none_in_hand : (bytes : List ℕ) → length bytes < 188 → length (whole_p
 none_in_hand bytes short = omega (arith, length-whole_packets bytes)
 
 -- the packet that is reached was passed
-pub passed_one : (old new : Lane) → new.packets ≡ old.packets → new.next ≡ old.next + 1 → new.is_ended ≡ old.is_ended → old.next < length (whole_packets old.packets.bytes) → Passes old new
+pub passed_one : (old new : Lane) → new.packets ≡ old.packets → new.next ≡ old.next + 1
+    → new.is_ended ≡ old.is_ended → old.next < length (whole_packets old.packets.bytes) → Passes old new
 passed_one old new same next ended there before now packets packet past is =
     let whole = whole_packets old.packets.bytes in
     let more : take new.next whole ≡ take old.next whole ++ packet ∷ [] =
@@ -40,25 +41,33 @@ passed_one old new same next ended there before now packets packet past is =
       earlier = past.earlier;
       stands = subst (λ (hand : InHand). Stands before now hand past.earlier) (sym same) past.stands;
       passed = all;
-      ended = λ is_ended. subst (λ (hand : InHand). HasEnded now hand) (sym same) (past.ended (sym ended ∙ is_ended));
+      ended =
+          λ is_ended. subst (λ (hand : InHand). HasEnded now hand) (sym same) (past.ended (sym ended ∙ is_ended));
     }
 
 -- passing the packet that is reached, where there is one
-pub passed_reached : (old new : Lane) (packet : List ℕ) → slice_get (whole_packets old.packets.bytes) old.next ≡ Some packet → Passes old new → PassesReached old new true
+pub passed_reached : (old new : Lane) (packet : List ℕ)
+    → slice_get (whole_packets old.packets.bytes) old.next ≡ Some packet → Passes old new
+    → PassesReached old new true
 passed_reached old new packet is passes before now packets past =
-    subst (λ (found : Option (List ℕ)). HasPassed before now new (packets ++ as_list found)) (sym is) (passes before now packets packet past is)
+    subst (λ (found : Option (List ℕ)). HasPassed before now new (packets ++ as_list found)) (sym is)
+    (passes before now packets packet past is)
 
 pub passed_none : (old new : Lane) → new ≡ old → PassesReached old new false
 passed_none old new same before now packets past =
-    subst (λ (all : List (List ℕ)). HasPassed before now new all) (sym (append-nil packets)) (subst (λ (lane : Lane). HasPassed before now lane packets) (sym same) past)
+    subst (λ (all : List (List ℕ)). HasPassed before now new all) (sym (append-nil packets))
+    (subst (λ (lane : Lane). HasPassed before now lane packets) (sym same) past)
 
 -- what stopped a stream since an earlier moment
-pub stopped_since : (before was mid is : Supplied) (why : LaneStop) → was.faults ≤ mid.faults → IsLaneStop before mid is why → IsLaneStop before was is why
+pub stopped_since : (before was mid is : Supplied) (why : LaneStop) → was.faults ≤ mid.faults
+    → IsLaneStop before mid is why → IsLaneStop before was is why
 stopped_since before was mid is stop.Unread kept risen = HasRisen-since was.faults mid.faults is.faults kept risen
 stopped_since before was mid is stop.TooLong kept risen = risen
 
 -- a stream that has ended reaches no packet
-pub ended_none : (before now : Supplied) (lane : Lane) (packets : List (List ℕ)) → HasPassed before now lane packets → lane.is_ended ≡ true → lane.next < length (whole_packets lane.packets.bytes) → ⊥
+pub ended_none : (before now : Supplied) (lane : Lane) (packets : List (List ℕ))
+    → HasPassed before now lane packets → lane.is_ended ≡ true
+    → lane.next < length (whole_packets lane.packets.bytes) → ⊥
 ended_none before now lane packets past ended there =
     let short = (past.ended ended).short in
     omega (arith, none_in_hand lane.packets.bytes short, there)
@@ -77,7 +86,8 @@ pub record HasGiven (before now : Supplied) (packets : List (List ℕ)) : Type 0
   pub rest : List ℕ
   pub gave : Gave before now packets rest
 
-pub given : (before now : Supplied) (lane : Lane) (packets : List (List ℕ)) → HasPassed before now lane packets → HasGiven before now packets
+pub given : (before now : Supplied) (lane : Lane) (packets : List (List ℕ)) → HasPassed before now lane packets
+    → HasGiven before now packets
 given before now lane packets past =
     let bytes = lane.packets.bytes in
     let whole = whole_packets bytes in
@@ -89,7 +99,8 @@ given before now lane packets past =
     ∙ ap (λ (w : List (List ℕ)). bytes_of w ++ rest_of bytes) (sym (take-append-drop lane.next whole))
     ∙ ap (λ (w : List ℕ). w ++ rest_of bytes) (flat_map-append (λ (p : List ℕ). p) front behind)
     ∙ append_assoc (bytes_of front) (bytes_of behind) (rest_of bytes) in
-    let each : AreLong front = All-take (λ (packet : List ℕ). length packet ≡ 188) lane.next whole (whole_packets_long bytes) in
+    let each : AreLong front =
+    All-take (λ (packet : List ℕ). length packet ≡ 188) lane.next whole (whole_packets_long bytes) in
     record {
       rest = rest;
       gave = subst (λ (all : List (List ℕ)). Gave before now all rest) (sym past.passed)
@@ -102,27 +113,36 @@ pub record HasGivenNext (before now : Supplied) (packets : List (List ℕ)) (pac
   pub gave : Gave before now packets (packet ++ rest)
   pub long : length packet ≡ 188
 
-pub given_next : (before now : Supplied) (lane : Lane) (packets : List (List ℕ)) (packet : List ℕ) → HasPassed before now lane packets
-    → slice_get (whole_packets lane.packets.bytes) lane.next ≡ Some packet → HasGivenNext before now packets packet
+pub given_next : (before now : Supplied) (lane : Lane) (packets : List (List ℕ)) (packet : List ℕ)
+    → HasPassed before now lane packets
+    → slice_get (whole_packets lane.packets.bytes) lane.next ≡ Some packet
+    → HasGivenNext before now packets packet
 given_next before now lane packets packet past is =
     let bytes = lane.packets.bytes in
     let whole = whole_packets bytes in
     let here : get_or whole lane.next [] ≡ packet = get_or_from_slice_get whole lane.next packet [] is in
-    let up_to = Gave-up_to before now past.earlier bytes lane.next past.stands.gave (slice_get_within whole lane.next packet is) in
+    let up_to =
+    Gave-up_to before now past.earlier bytes lane.next past.stands.gave (slice_get_within whole lane.next packet is)
+    in
     record {
       rest = up_to.rest;
       gave = subst (λ (all : List (List ℕ)). Gave before now all (packet ++ up_to.rest)) (sym past.passed)
-          (subst (λ (p : List ℕ). Gave before now (past.earlier ++ take lane.next whole) (p ++ up_to.rest)) here up_to.gave);
+          (subst (λ (p : List ℕ). Gave before now (past.earlier ++ take lane.next whole) (p ++ up_to.rest)) here
+          up_to.gave);
       long = ap length (sym here) ∙ up_to.long;
     }
 
 -- a stream that has ended gave these packets, and a rest that is shorter than one
-pub given_all : (before now : Supplied) (lane : Lane) (packets : List (List ℕ)) → HasPassed before now lane packets → lane.is_ended ≡ true → IsRead before now packets
+pub given_all : (before now : Supplied) (lane : Lane) (packets : List (List ℕ))
+    → HasPassed before now lane packets → lane.is_ended ≡ true → IsRead before now packets
 given_all before now lane packets past ended =
     let end = past.ended ended in
-    let none : whole_packets lane.packets.bytes ≡ [] = nil_from_length (whole_packets lane.packets.bytes) (none_in_hand lane.packets.bytes end.short) in
+    let none : whole_packets lane.packets.bytes ≡ [] =
+    nil_from_length (whole_packets lane.packets.bytes) (none_in_hand lane.packets.bytes end.short) in
     let all : packets ≡ past.earlier =
-    past.passed ∙ ap (λ (w : List (List ℕ)). past.earlier ++ take lane.next w) none ∙ ap (λ (w : List (List ℕ)). past.earlier ++ w) (take_all lane.next [] (omega arith)) ∙ append-nil past.earlier in
+    past.passed ∙ ap (λ (w : List (List ℕ)). past.earlier ++ take lane.next w) none
+    ∙ ap (λ (w : List (List ℕ)). past.earlier ++ w) (take_all lane.next [] (omega arith))
+    ∙ append-nil past.earlier in
     record {
       rest = lane.packets.bytes;
       gave = subst (λ (p : List (List ℕ)). Gave before now p lane.packets.bytes) (sym all) past.stands.gave;
@@ -131,9 +151,19 @@ given_all before now lane packets past ended =
     }
 
 -- how many packets were passed, at the most
-pub few_passed : (before now : Supplied) (lane : Lane) (packets : List (List ℕ)) → HasPassed before now lane packets → IsSound lane → 188 * length packets ≤ STREAM_LIMIT
+pub few_passed : (before now : Supplied) (lane : Lane) (packets : List (List ℕ))
+    → HasPassed before now lane packets → IsSound lane → 188 * length packets ≤ STREAM_LIMIT
 few_passed before now lane packets past sound =
     let whole = whole_packets lane.packets.bytes in
     let within = sound.within in
     let limit = sound.limit in
-    omega (arith, ap length past.passed, length-append past.earlier (take lane.next whole), length-take-le lane.next whole within, past.stands.count, length-whole_packets lane.packets.bytes, limit)
+    omega (
+      arith,
+      ap length past.passed,
+      length-append past.earlier (take lane.next whole),
+      length-take-le lane.next
+          whole within,
+      past.stands.count,
+      length-whole_packets lane.packets.bytes,
+      limit,
+    )

@@ -2,6 +2,7 @@ pub mod CloseLaws
 pub mod FollowingLaws
 pub mod FrameLaws
 pub mod JoinLaws
+pub mod JoinSteps
 pub mod LaneLaws
 pub mod ServicesAgain
 pub mod StepLaws

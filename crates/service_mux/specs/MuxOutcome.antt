@@ -27,8 +27,8 @@ pub record IsMuxed (pair : ServicePair) (before now : Seen) : Type 0 where
   pub synced : HaveSync first × HaveSync second
   pub written : Wrote before.out now.out (concat (mux_of pair first second))
 
--- the first stream has a packet without the sync byte, and no packet of the second one in an earlier frame has none: the
--- second one was read as far as the frame before, or to its end. The frames before were written
+-- the first stream has a packet without the sync byte, and no packet of the second one in an earlier frame has none:
+-- the second one was read as far as the frame before, or to its end. The frames before were written
 pub record IsFirstUnsynced (pair : ServicePair) (before now : Seen) (place : ℕ) : Type 0 where
   pub first : List (List ℕ)
   pub unsynced : IsUnsynced before.first now.first place first

@@ -46,7 +46,8 @@ mux_words words =
 
 -- where its files stand among its words
 abbrev pub mux_places : List (List ℕ) → InputPlaces
-mux_places words = if is_some (mux_words words) then record { first = Some 11; second = Some 12; out = Some 13 } else no_places
+mux_places words =
+    if is_some (mux_words words) then record { first = Some 11; second = Some 12; out = Some 13 } else no_places
 
 -- the numbers of two services differ, and so do their four PIDs, none of which is that of the PAT or of null packets
 pub record AreServices (pair : ServicePair) : Type 0 where

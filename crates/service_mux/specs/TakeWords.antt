@@ -18,4 +18,5 @@ take_words words =
 
 -- where its files stand among its words
 abbrev pub take_places : List (List ℕ) → InputPlaces
-take_places words = if is_some (take_words words) then record { first = Some 2; second = None; out = Some 3 } else no_places
+take_places words =
+    if is_some (take_words words) then record { first = Some 2; second = None; out = Some 3 } else no_places

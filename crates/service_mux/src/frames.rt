@@ -53,8 +53,10 @@ impl Multiplexer {
         requires { AreServices pair.now }
         ensures tables { IfOk result (λ mux. HaveNotTurned mux.pair mux) }
         ensures pair { IfOk result (λ mux. mux.pair ≡ pair.now) }
-        ensures first { IfOk result (λ mux. (now : Supplied) → HasPassed now now mux.one.lane []) }
-        ensures second { IfOk result (λ mux. (now : Supplied) → HasPassed now now mux.two.lane []) }
+        ensures first { IfOk result
+            (λ mux. (now : Supplied) → HasPassed now now mux.one.lane []) }
+        ensures second { IfOk result
+            (λ mux. (now : Supplied) → HasPassed now now mux.two.lane []) }
         ensures sound { IfOk result (λ mux. IsSound mux.one.lane × IsSound mux.two.lane) }
     {
         let mut section = Vec::new(alloc);
@@ -73,8 +75,10 @@ impl ServiceLane {
         requires pmt { service.now.pmt < 2 ^ 13 }
         requires pid { service.now.pid < 2 ^ 13 }
         requires language { length service.now.language ≡ 3 }
-        ensures table { IfOk result (λ made. HasTurned made.table service.now.pmt (written_pmt service.now) 0) }
-        ensures nothing { IfOk result (λ made. (now : Supplied) → HasPassed now now made.lane []) }
+        ensures table { IfOk result
+            (λ made. HasTurned made.table service.now.pmt (written_pmt service.now) 0) }
+        ensures nothing { IfOk result
+            (λ made. (now : Supplied) → HasPassed now now made.lane []) }
         ensures sound { IfOk result (λ made. IsSound made.lane) }
     {
         let mut section = Vec::new(alloc);

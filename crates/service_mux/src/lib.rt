@@ -1,5 +1,6 @@
-//! Services of subtitles in a multiplex of transport packets (ISO/IEC 13818-1, 2.4): one is taken out
-//! of any multiplex by its tables, and two streams are joined to one with the tables that name them.
+//! Services of subtitles in a multiplex of transport packets (ISO/IEC 13818-1, 2.4): one is taken
+//! out of any multiplex by its tables, and two streams are joined to one with the tables that name
+//! them.
 #![tactic(auto)]
 
 // What packets say of the tables of a PID.

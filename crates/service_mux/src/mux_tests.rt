@@ -5,8 +5,8 @@ use std::alloc::Global;
 use std::test::Fail;
 use sub_base::{MemSink, MemSource, ToolStatus, Which, Words};
 
-/// The words of a multiplex of the services 1 and 2, with PMTs on the PIDs 100 and 101 and streams on
-/// 256 and 257.
+/// The words of a multiplex of the services 1 and 2, with PMTs on the PIDs 100 and 101 and streams
+/// on 256 and 257.
 const WORDS: &str = "mux 1 100 256 1 eng 2 101 257 7 fre eng.ts fre.ts both.ts";
 
 /// A packet of that PID whose bytes behind the head are all this one.
@@ -92,13 +92,12 @@ fn heads_of(alloc: Global, out: &MemSink) -> Result<Vec<(u16, u8)>, Fail> {
     Ok(heads)
 }
 
-/// The packets of two streams: one of the first is of another PID, and the second has fewer.
+/// The packets of two streams: one of the first is of another PID, without a payload, and the
+/// second has fewer.
 fn first_packets() -> [[u8; 188]; 3] {
-    [
-        packet_of(256, 0, 1),
-        packet_of(300, 0, 2),
-        packet_of(256, 1, 3),
-    ]
+    let mut other = packet_of(300, 0, 2);
+    other[3] = 0;
+    [packet_of(256, 0, 1), other, packet_of(256, 1, 3)]
 }
 
 fn second_packets() -> [[u8; 188]; 1] {
@@ -141,6 +140,43 @@ fn a_multiplex_has_tables_and_frames(rt: HostRuntime) -> Result<(), Fail> {
             Some(packet_of(256, 0, 1).as_slice())
         );
     }
+    Ok(())
+}
+
+/// A stream that is longer than the other one is joined up to its end, be it the first or the
+/// second.
+#[test]
+fn the_longer_stream_is_joined_whole(rt: HostRuntime) -> Result<(), Fail> {
+    let wanted = [
+        (0, 0),
+        (100, 0),
+        (101, 0),
+        (0, 1),
+        (256, 0),
+        (257, 0),
+        (100, 1),
+        (8191, 0),
+        (257, 1),
+    ];
+    let first = [packet_of(256, 0, 1)];
+    let second = [packet_of(257, 0, 2), packet_of(257, 1, 3)];
+    let alloc = rt.alloc();
+    let muxed = run(alloc, WORDS, &first, &second, 1_000, NONE_FAILS)?;
+    assert_eq!(&rt; muxed.status, ToolStatus::Done);
+    assert_eq!(&rt; heads_of(alloc, &muxed.out)?.as_slice(), wanted.as_slice());
+    Ok(())
+}
+
+/// In frame 127 no table has its turn; in frame 128 it is the PAT's again.
+#[test]
+fn tables_come_again_each_128_frames(rt: HostRuntime) -> Result<(), Fail> {
+    let alloc = rt.alloc();
+    let first = [packet_of(256, 0, 1); 129];
+    let muxed = run(alloc, WORDS, &first, &[], 100_000, NONE_FAILS)?;
+    let heads = heads_of(alloc, &muxed.out)?;
+    assert_eq!(&rt; heads.get(3 + 3 * 126), Some(&(8191, 0)));
+    assert_eq!(&rt; heads.get(3 + 3 * 127), Some(&(8191, 0)));
+    assert_eq!(&rt; heads.get(3 + 3 * 128), Some(&(0, 2)));
     Ok(())
 }
 

@@ -55,7 +55,8 @@ fn service_at(words: &Words, place: usize) -> Option<Service>
     requires inside { place + 4 < length words.now }
     requires place { place ≤ 6 }
     ensures service { result ≡ service_from place words.now }
-    ensures number { IfSome result (λ service. (1 ≤ service.number) × (service.number ≤ 65535)) }
+    ensures number { IfSome result
+        (λ service. (1 ≤ service.number) × (service.number ≤ 65535)) }
     ensures pmt { IfSome result (λ service. (32 ≤ service.pmt) × (service.pmt ≤ 8190)) }
     ensures pid { IfSome result (λ service. (32 ≤ service.pid) × (service.pid ≤ 8190)) }
     ensures language { IfSome result (λ service. length service.language ≡ 3) }

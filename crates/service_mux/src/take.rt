@@ -30,8 +30,8 @@ pub fn take_top<A: Source, K: Sink, N: Sink>(
         (seen_of_one (A.supplied first.new) (K.received out.new))
         (N.received notes.old) (N.received notes.new) result }
 
-    // Where the words are a command and nothing gives a cause of refusal, all is taken, or memory is
-    // wanting.
+    // Where the words are a command and nothing gives a cause of refusal, all is taken, or memory
+    // is wanting.
     ensures complete { IsToolWhole take_causes (take_words_of words.now)
         (seen_of_one (A.supplied first.old) (K.received out.old))
         (seen_of_one (A.supplied first.new) (K.received out.new))

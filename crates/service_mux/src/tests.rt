@@ -171,13 +171,14 @@ fn packets_behind_the_tables_are_taken(rt: HostRuntime) -> Result<(), Fail> {
         section_of(0x64, 1, &PMT),
         subtitles_of(0x20, 9),
         subtitles_of(0x30, 0),
+        packet_of(&[0x47, 0x01, 0x30, 0x00], b"damaged"),
         // Neither the counter nor the error flag of what is taken is looked at.
         packet_of(&[0x47, 0x81, 0x20, 0x00], b"damaged"),
         section_of(0x64, 2, &OTHER_PMT),
         section_of(0x00, 1, &LATER_PAT),
         subtitles_of(0x20, 9),
     ];
-    are_taken(&rt, rt.alloc(), &packets, &[5, 7, 10])
+    are_taken(&rt, rt.alloc(), &packets, &[5, 8, 11])
 }
 
 #[test]
@@ -253,7 +254,36 @@ fn sections_stand_together_up_to_stuffing(rt: HostRuntime) -> Result<(), Fail> {
     let subtitles = subtitles_of(0x20, 0);
     are_taken(&rt, rt.alloc(), &[table, both, subtitles], &[2])?;
     let packets = [table, stuffed, subtitles];
+    are_none(&rt, rt.alloc(), "take 5 in.ts out.ts", 5, &packets)?;
+    // Behind the first byte FF nothing is a section, whatever stands there.
+    let hidden = with_bytes(section_of(0x64, 0, &[0xFF, 0x00, 0x00]), 8, &PMT);
+    let packets = [table, hidden, subtitles];
     are_none(&rt, rt.alloc(), "take 5 in.ts out.ts", 5, &packets)
+}
+
+#[test]
+fn the_first_of_several_tables_counts(rt: HostRuntime) -> Result<(), Fail> {
+    let packets = [
+        section_of(0x00, 0, &PAT),
+        with_bytes(section_of(0x64, 0, &PMT), 41, &OTHER_PMT),
+        subtitles_of(0x30, 0),
+        subtitles_of(0x20, 0),
+    ];
+    are_taken(&rt, rt.alloc(), &packets, &[3])
+}
+
+/// A packet with the counter of the one before it is taken for that packet sent twice.
+#[test]
+fn a_packet_that_is_sent_twice_counts_once(rt: HostRuntime) -> Result<(), Fail> {
+    let packets = [
+        section_of(0x00, 0, &PAT),
+        begun_with(&PMT),
+        section_of(0x64, 0, &OTHER_PMT),
+        packet_of(&[0x47, 0x00, 0x64, 0x11], PMT.get(20..).unwrap_or(&[])),
+        subtitles_of(0x30, 0),
+        subtitles_of(0x20, 0),
+    ];
+    are_taken(&rt, rt.alloc(), &packets, &[5])
 }
 
 #[test]
@@ -295,6 +325,7 @@ fn a_service_without_subtitles_is_refused(rt: HostRuntime) -> Result<(), Fail> {
     ];
     let alloc = rt.alloc();
     are_none(&rt, alloc, "take 6 in.ts out.ts", 6, &packets)?;
+    are_none(&rt, alloc, "take 1 in.ts out.ts", 1, &packets)?;
     are_none(&rt, alloc, "take 65535 in.ts out.ts", 65_535, &packets)?;
     are_none(&rt, alloc, "take 5 in.ts out.ts", 5, &[])
 }

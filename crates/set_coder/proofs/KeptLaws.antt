@@ -22,66 +22,93 @@ use Rattle.set_coder.specs.Private.Keeping.{StaysKept}
 abbrev IsOneOf : List Picture → CodedPicture → Type 0
 IsOneOf pictures coded = (d : Picture) → IsCoded (get_or pictures coded.number d) coded.region coded
 
-coded_right : (pictures : List Picture) (picture : Picture) (number : ℕ) (region : Depth) (coded : CodedPicture) → slice_get pictures number ≡ Some picture
+coded_right : (pictures : List Picture) (picture : Picture) (number : ℕ) (region : Depth) (coded : CodedPicture)
+    → slice_get pictures number ≡ Some picture
     → coded.number ≡ number → coded.region ≡ region → IsCoded picture region coded → IsOneOf pictures coded
 coded_right pictures picture number region coded found n r right d =
     let same : get_or pictures number d ≡ picture = get_or_from_slice_get pictures number picture d found in
-    subst (λ (p : Picture). IsCoded p coded.region coded) (sym same ∙ ap (λ (k : ℕ). get_or pictures k d) (sym n)) (subst (λ (at : Depth). IsCoded picture at coded) (sym r) right)
+    subst (λ (p : Picture). IsCoded p coded.region coded) (sym same ∙ ap (λ (k : ℕ). get_or pictures k d) (sym n))
+    (subst (λ (at : Depth). IsCoded picture at coded) (sym r) right)
 
 -- one more picture is kept
-pub one_more : (pictures : List Picture) (picture : Picture) (number : ℕ) (region : Depth) (coded : CodedPicture) (kept more : List CodedPicture) → slice_get pictures number ≡ Some picture
-    → coded.number ≡ number → coded.region ≡ region → IsCoded picture region coded → All (IsOneOf pictures) kept → more ≡ kept ++ coded ∷ [] → All (IsOneOf pictures) more
+pub one_more : (pictures : List Picture) (picture : Picture) (number : ℕ) (region : Depth) (coded : CodedPicture)
+    (kept more : List CodedPicture) → slice_get pictures number ≡ Some picture
+    → coded.number ≡ number → coded.region ≡ region → IsCoded picture region coded
+    → All (IsOneOf pictures) kept → more ≡ kept ++ coded ∷ [] → All (IsOneOf pictures) more
 one_more pictures picture number region coded kept more found n r right all e =
-    subst (All (IsOneOf pictures)) (sym e) (All-append (IsOneOf pictures) kept (coded ∷ []) all (All-cons (IsOneOf pictures) coded [] (coded_right pictures picture number region coded found n r right) (All-nil (IsOneOf pictures))))
+    subst (All (IsOneOf pictures)) (sym e)
+    (All-append (IsOneOf pictures) kept (coded ∷ []) all
+    (All-cons (IsOneOf pictures) coded [] (coded_right pictures picture number region coded found n r right)
+    (All-nil (IsOneOf pictures))))
 
 -- ---- what is kept stays
 
 -- what is said of the one that is found, where one is
-pub some_given : {X : Type 0} (P Q : X → Type 0) (o : Option X) → IfSome o P → IfSome o Q → is_some o ≡ true → (x : X) × P x × Q x
+pub some_given : {X : Type 0} (P Q : X → Type 0) (o : Option X) → IfSome o P → IfSome o Q
+    → is_some o ≡ true → (x : X) × P x × Q x
 some_given P Q None p q given = cc
 some_given P Q (Some x) p q given = (x, p, q)
 
 -- blocks that are found are kept
-pub kept_found : (number : ℕ) (region : Depth) (coded : CodedPicture) (kept : List CodedPicture) → IsOf number region coded → Contains kept coded → Any (IsOf number region) kept
+pub kept_found : (number : ℕ) (region : Depth) (coded : CodedPicture) (kept : List CodedPicture)
+    → IsOf number region coded → Contains kept coded → Any (IsOf number region) kept
 kept_found number region coded kept of among = (among.0, coded, among.1, among.2, of)
 
 -- the blocks that are pushed are kept
-pub last_kept : (number : ℕ) (region : Depth) (coded : CodedPicture) (kept more : List CodedPicture) → coded.number ≡ number → coded.region ≡ region → more ≡ kept ++ coded ∷ [] → Any (IsOf number region) more
-last_kept number region coded kept more n r e = subst (Any (IsOf number region)) (sym e) (Any-push (IsOf number region) kept coded (n, r))
+pub last_kept : (number : ℕ) (region : Depth) (coded : CodedPicture) (kept more : List CodedPicture)
+    → coded.number ≡ number → coded.region ≡ region → more ≡ kept ++ coded ∷ []
+    → Any (IsOf number region) more
+last_kept number region coded kept more n r e =
+    subst (Any (IsOf number region)) (sym e) (Any-push (IsOf number region) kept coded (n, r))
 
 -- those before them stay
-pub more_stay : (coded : CodedPicture) (kept more : List CodedPicture) → more ≡ kept ++ coded ∷ [] → StaysKept kept more
+pub more_stay : (coded : CodedPicture) (kept more : List CodedPicture) → more ≡ kept ++ coded ∷ []
+    → StaysKept kept more
 more_stay coded kept more e = λ number region any.
     let within : any.0 < length (kept ++ coded ∷ []) = omega (arith, length-append kept (coded ∷ []), any.2) in
-    let here : get_or (kept ++ coded ∷ []) any.0 any.1 ≡ any.1 = get_or-append kept (coded ∷ []) any.1 any.0 any.2 ∙ any.3 in
+    let here : get_or (kept ++ coded ∷ []) any.0 any.1 ≡ any.1 =
+    get_or-append kept (coded ∷ []) any.1 any.0 any.2 ∙ any.3 in
     subst (Any (IsOf number region)) (sym e) (any.0, any.1, within, here, any.4)
 
 -- the picture of a cue is kept for the region that is found
-pub cue_kept : (pictures : List Picture) (coded : List CodedPicture) (epoch : Epoch) (cue : Cue) (region : Region) → find_region epoch cue.region ≡ Some region → IsKept pictures coded cue.picture region.depth → IsCueKept pictures coded epoch cue
+pub cue_kept : (pictures : List Picture) (coded : List CodedPicture) (epoch : Epoch) (cue : Cue) (region : Region)
+    → find_region epoch cue.region ≡ Some region → IsKept pictures coded cue.picture region.depth
+    → IsCueKept pictures coded epoch cue
 cue_kept pictures coded epoch cue region found kept = λ other is.
     let same : region ≡ other = cc in
     subst (λ (r : Region). IsKept pictures coded cue.picture r.depth) same kept
 
 -- and stays so
-cue_stays : (pictures : List Picture) (kept more : List CodedPicture) (epoch : Epoch) (cue : Cue) → StaysKept kept more → IsCueKept pictures kept epoch cue → IsCueKept pictures more epoch cue
-cue_stays pictures kept more epoch cue stay here = λ region found picture at can. stay cue.picture region.depth (here region found picture at can)
+cue_stays : (pictures : List Picture) (kept more : List CodedPicture) (epoch : Epoch) (cue : Cue)
+    → StaysKept kept more → IsCueKept pictures kept epoch cue → IsCueKept pictures more epoch cue
+cue_stays pictures kept more epoch cue stay here =
+    λ region found picture at can. stay cue.picture region.depth (here region found picture at can)
 
 -- one more cue, which is read from the same list
-pub next_cue : (pictures : List Picture) (epoch : Epoch) (cues items : List Cue) (i : ℕ) (d : Cue) (kept more : List CodedPicture) → i < length cues → items ≡ cues → StaysKept kept more → All (IsCueKept pictures kept epoch) (take i cues) → IsCueKept pictures more epoch (get_or items i d)
+pub next_cue : (pictures : List Picture) (epoch : Epoch) (cues items : List Cue) (i : ℕ) (d : Cue)
+    (kept more : List CodedPicture) → i < length cues → items ≡ cues → StaysKept kept more
+    → All (IsCueKept pictures kept epoch) (take i cues) → IsCueKept pictures more epoch (get_or items i d)
     → All (IsCueKept pictures more epoch) (take (i + 1) cues)
 next_cue pictures epoch cues items i d kept more lt same stay all here =
-    All-more (IsCueKept pictures more epoch) cues i d lt (λ k e within. cue_stays pictures kept more epoch (get_or (take i cues) k e) stay (all k e within)) (subst (λ (cs : List Cue). IsCueKept pictures more epoch (get_or cs i d)) same here)
+    All-more (IsCueKept pictures more epoch) cues i d lt
+    (λ k e within. cue_stays pictures kept more epoch (get_or (take i cues) k e) stay (all k e within))
+    (subst (λ (cs : List Cue). IsCueKept pictures more epoch (get_or cs i d)) same here)
 
 -- the pictures of the epoch's cues are kept
 abbrev IsEpochKept : List Picture → List CodedPicture → Epoch → Type 0
 IsEpochKept pictures coded epoch = All (IsCueKept pictures coded epoch) epoch.cues
 
 -- one more epoch
-pub next_epoch : (pictures : List Picture) (epochs : List Epoch) (i : ℕ) (epoch : Epoch) (kept more : List CodedPicture) → i < length epochs → epoch ≡ get_or epochs i epoch → StaysKept kept more → All (IsEpochKept pictures kept) (take i epochs) → IsEpochKept pictures more epoch
+pub next_epoch : (pictures : List Picture) (epochs : List Epoch) (i : ℕ) (epoch : Epoch)
+    (kept more : List CodedPicture) → i < length epochs → epoch ≡ get_or epochs i epoch → StaysKept kept more
+    → All (IsEpochKept pictures kept) (take i epochs) → IsEpochKept pictures more epoch
     → All (IsEpochKept pictures more) (take (i + 1) epochs)
 next_epoch pictures epochs i epoch kept more lt is stay all here =
-    All-more (IsEpochKept pictures more) epochs i epoch lt (λ k e within. let one = get_or (take i epochs) k e in λ j f inner. cue_stays pictures kept more one (get_or one.cues j f) stay (all k e within j f inner)) (subst (IsEpochKept pictures more) is here)
+    All-more (IsEpochKept pictures more) epochs i epoch lt
+    (λ k e within. let one = get_or (take i epochs) k e in λ j f inner. cue_stays pictures kept more one
+    (get_or one.cues j f) stay (all k e within j f inner)) (subst (IsEpochKept pictures more) is here)
 
 -- the first ones, where there are no more, are all
-pub all_taken : {X : Type 0} (P : X → Type 0) (i : ℕ) (xs : List X) → length xs ≤ i → All P (take i xs) → All P xs
+pub all_taken : {X : Type 0} (P : X → Type 0) (i : ℕ) (xs : List X) → length xs ≤ i → All P (take i xs)
+    → All P xs
 all_taken P i xs end all = subst (All P) (take_all i xs end) all

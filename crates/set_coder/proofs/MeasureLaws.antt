@@ -19,12 +19,18 @@ use Rattle.set_coder.specs.declared.segment_sizes.SegmentSizes.{SegmentSizes}
 
 -- these have been measured, and with those that are left they are all segments of the set
 abbrev pub AreFirstSizes : Script → PlannedSet → SegmentSizes → List ℕ → Type 0
-AreFirstSizes script set left past = (rest : List ℕ) → AreSizesLeft left rest → AreSegmentSizes script set (past ++ rest)
+AreFirstSizes script set left past =
+    (rest : List ℕ) → AreSizesLeft left rest → AreSegmentSizes script set (past ++ rest)
 
-pub first_more : (script : Script) (set : PlannedSet) (old new : SegmentSizes) (past : List ℕ) (size : ℕ) → AreFirstSizes script set old past → IsNextSize old new size → AreFirstSizes script set new (past ++ size ∷ [])
-first_more script set old new past size before next = λ rest left. subst (AreSegmentSizes script set) (sym (append_assoc past (size ∷ []) rest)) (before (size ∷ rest) (next.first rest left))
+pub first_more : (script : Script) (set : PlannedSet) (old new : SegmentSizes) (past : List ℕ) (size : ℕ)
+    → AreFirstSizes script set old past → IsNextSize old new size
+    → AreFirstSizes script set new (past ++ size ∷ [])
+first_more script set old new past size before next =
+    λ rest left. subst (AreSegmentSizes script set) (sym (append_assoc past (size ∷ []) rest))
+    (before (size ∷ rest) (next.first rest left))
 
-pub first_all : (script : Script) (set : PlannedSet) (left : SegmentSizes) (past : List ℕ) → AreFirstSizes script set left past → AreSizesLeft left [] → AreSegmentSizes script set past
+pub first_all : (script : Script) (set : PlannedSet) (left : SegmentSizes) (past : List ℕ)
+    → AreFirstSizes script set left past → AreSizesLeft left [] → AreSegmentSizes script set past
 first_all script set left past before none = subst (AreSegmentSizes script set) (append-nil past) (before [] none)
 
 -- ---- sums of lengths
@@ -33,8 +39,11 @@ given_sum : (given : Option ℕ) → sum (option_to_list given) ≡ unwrap_or gi
 given_sum None = refl
 given_sum (Some n) = omega arith
 
-pub sum_more : (lengths : List ℕ) (given : Option ℕ) → sum (lengths ++ option_to_list given) ≡ sum lengths + unwrap_or given 0
-sum_more lengths given = sum_by-append (λ (n : ℕ). n) lengths (option_to_list given) ∙ ap (λ (n : ℕ). sum lengths + n) (given_sum given)
+pub sum_more : (lengths : List ℕ) (given : Option ℕ)
+    → sum (lengths ++ option_to_list given) ≡ sum lengths + unwrap_or given 0
+sum_more lengths given =
+    sum_by-append (λ (n : ℕ). n) lengths (option_to_list given)
+    ∙ ap (λ (n : ℕ). sum lengths + n) (given_sum given)
 
 pub sum_with : (lengths more : List ℕ) → sum (lengths ++ more) ≡ sum lengths + sum more
 sum_with lengths more = sum_by-append (λ (n : ℕ). n) lengths more
@@ -47,10 +56,13 @@ or_true false b e = e
 
 at_end : (sizes : List ℕ) (size : ℕ) → list_any (λ s. eqb s size) (sizes ++ size ∷ []) ≡ true
 at_end [] size = ap (λ b. b || false) (eq-eqb size size refl)
-at_end (x ∷ sizes) size = or_true (eqb x size) (list_any (λ s. eqb s size) (sizes ++ size ∷ [])) (at_end sizes size)
+at_end (x ∷ sizes) size =
+    or_true (eqb x size) (list_any (λ s. eqb s size) (sizes ++ size ∷ [])) (at_end sizes size)
 
-in_front : (sizes more : List ℕ) (one : ℕ) → list_any (λ s. eqb s one) sizes ≡ true → list_any (λ s. eqb s one) (sizes ++ more) ≡ true
-in_front sizes more one e = list_any-append (λ s. eqb s one) sizes more ∙ ap (λ b. b || list_any (λ s. eqb s one) more) e
+in_front : (sizes more : List ℕ) (one : ℕ) → list_any (λ s. eqb s one) sizes ≡ true
+    → list_any (λ s. eqb s one) (sizes ++ more) ≡ true
+in_front sizes more one e =
+    list_any-append (λ s. eqb s one) sizes more ∙ ap (λ b. b || list_any (λ s. eqb s one) more) e
 
 not_empty : (sizes : List ℕ) (size : ℕ) → sizes ++ size ∷ [] ≡ [] → ⊥
 not_empty sizes size e = absurd (omega (arith, ap length e, length-append sizes (size ∷ [])))
@@ -58,12 +70,16 @@ not_empty sizes size e = absurd (omega (arith, ap length e, length-append sizes 
 pub greatest_none : IsGreatest [] 0
 greatest_none = record { one = inl refl; none = λ e. refl; greatest = All-nil (λ size. size ≤ 0) }
 
-pub greatest_more : (sizes : List ℕ) (size longest : ℕ) → 1 ≤ size → IsGreatest sizes longest → IsGreatest (sizes ++ size ∷ []) (max longest size)
+pub greatest_more : (sizes : List ℕ) (size longest : ℕ) → 1 ≤ size → IsGreatest sizes longest
+    → IsGreatest (sizes ++ size ∷ []) (max longest size)
 greatest_more sizes size longest some g = elim (cases_lt longest size) [
   | inl less ↦ subst (IsGreatest (sizes ++ size ∷ [])) (sym (max-eq_right (omega (arith, less)))) (record {
     one = inr (at_end sizes size);
     none = λ e. absurd (not_empty sizes size e);
-    greatest = All-append (λ s. s ≤ size) sizes (size ∷ []) (All-weaker (λ s. s ≤ longest) (λ s. s ≤ size) (λ s h. omega (arith, h, less)) sizes g.greatest) (All-cons (λ s. s ≤ size) size [] (omega arith) (All-nil (λ s. s ≤ size)));
+    greatest =
+        All-append (λ s. s ≤ size) sizes (size ∷ [])
+        (All-weaker (λ s. s ≤ longest) (λ s. s ≤ size) (λ s h. omega (arith, h, less)) sizes g.greatest)
+        (All-cons (λ s. s ≤ size) size [] (omega arith) (All-nil (λ s. s ≤ size)));
   })
   | inr most ↦ subst (IsGreatest (sizes ++ size ∷ [])) (sym (max-eq_left (omega (arith, most)))) (record {
     one = inr (elim g.one [
@@ -71,18 +87,28 @@ greatest_more sizes size longest some g = elim (cases_lt longest size) [
       | inr one ↦ in_front sizes (size ∷ []) longest one
     ]);
     none = λ e. absurd (not_empty sizes size e);
-    greatest = All-append (λ s. s ≤ longest) sizes (size ∷ []) g.greatest (All-cons (λ s. s ≤ longest) size [] (omega (arith, most)) (All-nil (λ s. s ≤ longest)));
+    greatest =
+        All-append (λ s. s ≤ longest) sizes (size ∷ []) g.greatest
+        (All-cons (λ s. s ≤ longest) size [] (omega (arith, most)) (All-nil (λ s. s ≤ longest)));
   })
 ]
 
 -- ---- all segments of a set
 
 -- the end of the set is one of them
-some_bytes : (script : Script) (set : PlannedSet) (sizes : List ℕ) → AreSegmentSizes script set sizes → 6 ≤ sum sizes
+some_bytes : (script : Script) (set : PlannedSet) (sizes : List ℕ) → AreSegmentSizes script set sizes
+    → 6 ≤ sum sizes
 some_bytes script set sizes all =
-    omega (arith, ap sum all.whole, sum_with (leading_sizes set) (all.objects ++ 6 ∷ []), sum_with all.objects (6 ∷ []))
+    omega (
+      arith,
+      ap sum all.whole,
+      sum_with (leading_sizes set) (all.objects ++ 6 ∷ []),
+      sum_with all.objects
+          (6 ∷ []),
+    )
 
-pub longest_is : (script : Script) (set : PlannedSet) (sizes : List ℕ) (longest : ℕ) → AreSegmentSizes script set sizes → IsGreatest sizes longest → IsLongestSegment script set longest
+pub longest_is : (script : Script) (set : PlannedSet) (sizes : List ℕ) (longest : ℕ)
+    → AreSegmentSizes script set sizes → IsGreatest sizes longest → IsLongestSegment script set longest
 longest_is script set sizes longest all g = record {
   sizes = sizes;
   segments = all;
@@ -93,20 +119,32 @@ longest_is script set sizes longest all g = record {
   greatest = g.greatest;
 }
 
-pub units_are : (script : Script) (set : PlannedSet) (sizes lengths : List ℕ) → AreSegmentSizes script set sizes → AreUnitLengths sizes lengths → AreUnitSizes script set lengths
-units_are script set sizes lengths all units = record { sizes = sizes; segments = all; units = units.units; shared = units.shared; are = units.are }
+pub units_are : (script : Script) (set : PlannedSet) (sizes lengths : List ℕ) → AreSegmentSizes script set sizes
+    → AreUnitLengths sizes lengths → AreUnitSizes script set lengths
+units_are script set sizes lengths all units =
+    record { sizes = sizes; segments = all; units = units.units; shared = units.shared; are = units.are }
 
 -- the PES packets of a set have bytes
-pub some_units : (script : Script) (set : PlannedSet) (lengths : List ℕ) → AreUnitSizes script set lengths → 1 ≤ sum lengths
+pub some_units : (script : Script) (set : PlannedSet) (lengths : List ℕ) → AreUnitSizes script set lengths
+    → 1 ≤ sum lengths
 some_units script set lengths u =
-    omega (arith, ap sum u.are, shared_sum (λ (bytes : ℕ). bytes) u.sizes u.units u.shared, some_bytes script set u.sizes u.segments)
+    omega (
+      arith,
+      ap sum u.are,
+      shared_sum (λ (bytes : ℕ). bytes) u.sizes u.units u.shared,
+      some_bytes script set
+          u.sizes u.segments,
+    )
 
-pub each_unit : (script : Script) (set : PlannedSet) (lengths : List ℕ) → AreUnitSizes script set lengths → All (λ unit. 17 ≤ unit) lengths
+pub each_unit : (script : Script) (set : PlannedSet) (lengths : List ℕ) → AreUnitSizes script set lengths
+    → All (λ unit. 17 ≤ unit) lengths
 each_unit script set lengths u =
-    subst (All (λ unit. 17 ≤ unit)) (sym u.are) (All-map (λ unit. 17 ≤ unit) (unit_length (λ (bytes : ℕ). bytes)) u.units (λ k d h. omega arith))
+    subst (All (λ unit. 17 ≤ unit)) (sym u.are)
+    (All-map (λ unit. 17 ≤ unit) (unit_length (λ (bytes : ℕ). bytes)) u.units (λ k d h. omega arith))
 
 -- the size of a set whose last unit is closed at the end
-pub sized : (script : Script) (set : PlannedSet) (sizes lengths : List ℕ) (last : Option ℕ) (size more : ℕ) → AreSegmentSizes script set sizes → AreUnitLengths sizes (lengths ++ option_to_list last)
+pub sized : (script : Script) (set : PlannedSet) (sizes lengths : List ℕ) (last : Option ℕ) (size more : ℕ)
+    → AreSegmentSizes script set sizes → AreUnitLengths sizes (lengths ++ option_to_list last)
     → size ≡ sum lengths → more ≡ unwrap_or last 0 → IsSetSize script set (size + more)
 sized script set sizes lengths last size more all units so_far end_of = record {
   lengths = lengths ++ option_to_list last;

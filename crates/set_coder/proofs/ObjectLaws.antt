@@ -28,7 +28,8 @@ use Rattle.set_coder.proofs.FieldLaws.{field_size, one_sizes}
 use Rattle.set_coder.proofs.WritableLaws.{writable, spelled_length, flag_small}
 
 -- bytes fit their rows
-fits_bytes : (bytes : List ℕ) (fields : List Field) → ((i : ℕ) → get_or bytes i 0 < 256) → FitsFields fields → FitsFields (bytes_fields bytes ++ fields)
+fits_bytes : (bytes : List ℕ) (fields : List Field) → ((i : ℕ) → get_or bytes i 0 < 256) → FitsFields fields
+    → FitsFields (bytes_fields bytes ++ fields)
 fits_bytes [] fields each fits = fits
 fits_bytes (b ∷ bytes) fields each fits = (each 0, fits_bytes bytes fields (λ i. each (suc i)) fits)
 
@@ -45,24 +46,66 @@ padding_size n = by (eqb (n % 2) 1) refl
     by false e = let other = eqb-false (n % 2) 1 e in omega (arith, other)
 
 -- an object that is short enough can be written, and has its head, its own seven bytes and its blocks, made even
-pub object_writable : (page object : ℕ) (see_through : Bool) (top bottom : List ℕ) → page < 2 ^ 16 → object < 2 ^ 16 → AreBlocks top bottom → ((i : ℕ) → get_or top i 0 < 256) → ((i : ℕ) → get_or bottom i 0 < 256)
+pub object_writable : (page object : ℕ) (see_through : Bool) (top bottom : List ℕ) → page < 2 ^ 16
+    → object < 2 ^ 16 → AreBlocks top bottom → ((i : ℕ) → get_or top i 0 < 256)
+    → ((i : ℕ) → get_or bottom i 0 < 256)
     → length top + length bottom ≤ 65528 → made_even (13 + length top + length bottom) ≤ 65541
-    → IsWritable page (object_segment object see_through top bottom) × (length (spelled page (object_segment object see_through top bottom)) ≡ made_even (13 + length top + length bottom))
+    → IsWritable page (object_segment object see_through top bottom)
+    × (length (spelled page (object_segment object see_through top bottom))
+    ≡ made_even (13 + length top + length bottom))
 object_writable page object see_through top bottom page_fits object_fits blocks each_top each_bottom few even =
-    let padded = is_odd (record { object = object; version = 0; see_through = see_through; top = top; bottom = bottom }) in
-    let body : FitsFields (object_fields padded (record { object = object; version = 0; see_through = see_through; top = top; bottom = bottom })) =
-    (object_fits, (omega arith, (omega arith, (flag_small see_through, (tt, (omega arith, (omega arith, fits_bytes top _ each_top (fits_bytes bottom _ each_bottom (fits_padding padded))))))))) in
-    let pad : length (padding_bytes padded) ≡ (13 + length top + length bottom) % 2 = padding_size (13 + length top + length bottom) in
-    let rest : length (top ++ (bottom ++ padding_bytes padded)) ≡ length top + (length bottom + length (padding_bytes padded)) = length-append top (bottom ++ padding_bytes padded) ∙ ap (λ (n : ℕ). length top + n) (length-append bottom (padding_bytes padded)) in
-    let whole = writable page (object_segment object see_through top bottom) page_fits body (omega (arith, pad, rest)) blocks tt in
+    let padded =
+    is_odd (record { object = object; version = 0; see_through = see_through; top = top; bottom = bottom }) in
+    let body : FitsFields
+    (object_fields padded
+    (record { object = object; version = 0; see_through = see_through; top = top; bottom = bottom })) = (
+      object_fits,
+      (
+        omega
+            arith,
+        (
+          omega
+              arith,
+          (
+            flag_small
+                see_through,
+            (
+              tt,
+              (
+                omega
+                    arith,
+                (omega arith, fits_bytes top _ each_top (fits_bytes bottom _ each_bottom (fits_padding padded))),
+              ),
+            ),
+          ),
+        ),
+      ),
+    ) in
+    let pad : length (padding_bytes padded) ≡ (13 + length top + length bottom) % 2 =
+    padding_size (13 + length top + length bottom) in
+    let rest : length (top ++ (bottom ++ padding_bytes padded))
+    ≡ length top
+    + (length bottom + length (padding_bytes padded)) = length-append top (bottom ++ padding_bytes padded)
+    ∙ ap (λ (n : ℕ). length top + n) (length-append bottom (padding_bytes padded)) in
+    let whole =
+    writable page (object_segment object see_through top bottom) page_fits body (omega (arith, pad, rest)) blocks tt
+    in
     (whole, spelled_length page _ whole ∙ omega (arith, pad, rest))
 
 -- an object that can be written has that many bytes
-pub object_length : (page object : ℕ) (see_through : Bool) (top bottom : List ℕ) → IsWritable page (object_segment object see_through top bottom) → length (spelled page (object_segment object see_through top bottom)) ≡ made_even (13 + length top + length bottom)
+pub object_length : (page object : ℕ) (see_through : Bool) (top bottom : List ℕ)
+    → IsWritable page (object_segment object see_through top bottom)
+    → length (spelled page (object_segment object see_through top bottom))
+    ≡ made_even (13 + length top + length bottom)
 object_length page object see_through top bottom whole =
-    let padded = is_odd (record { object = object; version = 0; see_through = see_through; top = top; bottom = bottom }) in
-    let pad : length (padding_bytes padded) ≡ (13 + length top + length bottom) % 2 = padding_size (13 + length top + length bottom) in
-    let rest : length (top ++ (bottom ++ padding_bytes padded)) ≡ length top + (length bottom + length (padding_bytes padded)) = length-append top (bottom ++ padding_bytes padded) ∙ ap (λ (n : ℕ). length top + n) (length-append bottom (padding_bytes padded)) in
+    let padded =
+    is_odd (record { object = object; version = 0; see_through = see_through; top = top; bottom = bottom }) in
+    let pad : length (padding_bytes padded) ≡ (13 + length top + length bottom) % 2 =
+    padding_size (13 + length top + length bottom) in
+    let rest : length (top ++ (bottom ++ padding_bytes padded))
+    ≡ length top
+    + (length bottom + length (padding_bytes padded)) = length-append top (bottom ++ padding_bytes padded)
+    ∙ ap (λ (n : ℕ). length top + n) (length-append bottom (padding_bytes padded)) in
     spelled_length page (object_segment object see_through top bottom) whole ∙ omega (arith, pad, rest)
 
 -- ---- the object of a cue
@@ -72,27 +115,40 @@ same_item : {X : Type 0} (xs : List X) (i : ℕ) (d e : X) → i < length xs →
 same_item xs i d e h = sym (get_or_from_slice_get xs i (get_or xs i d) e (slice_get-get_or xs i d h))
 
 -- the picture of a cue and the depth of its region
-pub object_named : (pictures seen : List Picture) (epoch : Epoch) (place : ℕ) (cue : Cue) (picture : Picture) (region : Region) → AreDrawable pictures epoch → HasCue epoch place → cue ≡ cue_at epoch.cues place
-    → seen ≡ pictures → picture ≡ get_or seen cue.picture picture → region ≡ epoch_region epoch cue.region → (picture ≡ picture_of_cue pictures epoch place) × (region.depth ≡ depth_of_cue epoch place)
+pub object_named : (pictures seen : List Picture) (epoch : Epoch) (place : ℕ) (cue : Cue) (picture : Picture)
+    (region : Region) → AreDrawable pictures epoch → HasCue epoch place → cue ≡ cue_at epoch.cues place
+    → seen ≡ pictures → picture ≡ get_or seen cue.picture picture
+    → region ≡ epoch_region epoch cue.region → (picture ≡ picture_of_cue pictures epoch place)
+    × (region.depth ≡ depth_of_cue epoch place)
 object_named pictures seen epoch place cue picture region drawable has named same is found =
     let here : IsDrawable pictures epoch (cue_at epoch.cues place) = drawable place _ has in
     let number : cue.picture ≡ (cue_at epoch.cues place).picture = ap (λ (c : Cue). c.picture) named in (
-      is ∙ ap (λ (xs : List Picture). get_or xs cue.picture picture) same ∙ ap (λ (n : ℕ). get_or pictures n picture) number ∙ same_item pictures (cue_at epoch.cues place).picture picture (picture_of 0 0 Two []) here.picture,
+      is ∙ ap (λ (xs : List Picture). get_or xs cue.picture picture) same
+          ∙ ap (λ (n : ℕ). get_or pictures n picture) number
+          ∙ same_item pictures (cue_at epoch.cues place).picture picture (picture_of 0 0 Two []) here.picture,
       ap (λ (r : Region). r.depth) found ∙ ap (λ (c : Cue). (epoch_region epoch c.region).depth) named,
     )
 
 -- the object with these blocks is that of the cue
-pub object_is : (pictures : List Picture) (epoch : Epoch) (place : ℕ) (cue : Cue) (picture : Picture) (depth : Depth) (top bottom : List ℕ) → cue ≡ cue_at epoch.cues place → picture ≡ picture_of_cue pictures epoch place → depth ≡ depth_of_cue epoch place
-    → AreFieldBlocks picture depth top bottom → DrawsPicture picture depth top bottom → IsObjectOf pictures epoch place (object_segment place cue.see_through top bottom)
+pub object_is : (pictures : List Picture) (epoch : Epoch) (place : ℕ) (cue : Cue) (picture : Picture) (depth : Depth)
+    (top bottom : List ℕ) → cue ≡ cue_at epoch.cues place → picture ≡ picture_of_cue pictures epoch place
+    → depth ≡ depth_of_cue epoch place
+    → AreFieldBlocks picture depth top bottom → DrawsPicture picture depth top bottom
+    → IsObjectOf pictures epoch place (object_segment place cue.see_through top bottom)
 object_is pictures epoch place cue picture depth top bottom named p d blocks drawn = record {
   top = top;
   bottom = bottom;
-  blocks = subst (λ (x : Picture). AreFieldBlocks x (depth_of_cue epoch place) top bottom) p (subst (λ (x : Depth). AreFieldBlocks picture x top bottom) d blocks);
-  drawn = subst (λ (x : Picture). DrawsPicture x (depth_of_cue epoch place) top bottom) p (subst (λ (x : Depth). DrawsPicture picture x top bottom) d drawn);
+  blocks =
+      subst (λ (x : Picture). AreFieldBlocks x (depth_of_cue epoch place) top bottom) p
+      (subst (λ (x : Depth). AreFieldBlocks picture x top bottom) d blocks);
+  drawn =
+      subst (λ (x : Picture). DrawsPicture x (depth_of_cue epoch place) top bottom) p
+      (subst (λ (x : Depth). DrawsPicture picture x top bottom) d drawn);
   value = ap (λ (c : Cue). object_segment place c.see_through top bottom) named;
 }
 
-pub block_sizes : (picture : Picture) (region : Depth) (top bottom : List ℕ) → AreFieldBlocks picture region top bottom → AreFieldSizes picture region (length top) (length bottom)
+pub block_sizes : (picture : Picture) (region : Depth) (top bottom : List ℕ)
+    → AreFieldBlocks picture region top bottom → AreFieldSizes picture region (length top) (length bottom)
 block_sizes picture region top bottom b = record {
   top_size = field_size picture.depth region (top_field picture) top b.top_block;
   shared = λ e. ap length (b.shared e);
@@ -100,60 +156,103 @@ block_sizes picture region top bottom b = record {
 }
 
 -- and the size of the object of the cue is that of its blocks
-pub object_sized : (pictures : List Picture) (epoch : Epoch) (place size : ℕ) (picture : Picture) (depth : Depth) (top bottom : List ℕ) → picture ≡ picture_of_cue pictures epoch place → depth ≡ depth_of_cue epoch place
-    → AreFieldBlocks picture depth top bottom → IsObjectSize pictures epoch place size → made_even (13 + length top + length bottom) ≡ size
+pub object_sized : (pictures : List Picture) (epoch : Epoch) (place size : ℕ) (picture : Picture) (depth : Depth)
+    (top bottom : List ℕ) → picture ≡ picture_of_cue pictures epoch place → depth ≡ depth_of_cue epoch place
+    → AreFieldBlocks picture depth top bottom → IsObjectSize pictures epoch place size
+    → made_even (13 + length top + length bottom) ≡ size
 object_sized pictures epoch place size picture depth top bottom p d blocks s =
-    let here : AreFieldSizes (picture_of_cue pictures epoch place) (depth_of_cue epoch place) (length top) (length bottom) =
-    subst (λ (x : Picture). AreFieldSizes x (depth_of_cue epoch place) (length top) (length bottom)) p (subst (λ (x : Depth). AreFieldSizes picture x (length top) (length bottom)) d (block_sizes picture depth top bottom blocks)) in
-    let same = one_sizes (picture_of_cue pictures epoch place) (depth_of_cue epoch place) (length top) (length bottom) s.0 s.1 here s.2 in
+    let here : AreFieldSizes (picture_of_cue pictures epoch place) (depth_of_cue epoch place) (length top)
+    (length bottom) =
+    subst (λ (x : Picture). AreFieldSizes x (depth_of_cue epoch place) (length top) (length bottom)) p
+    (subst (λ (x : Depth). AreFieldSizes picture x (length top) (length bottom)) d
+    (block_sizes picture depth top bottom blocks)) in
+    let same =
+    one_sizes (picture_of_cue pictures epoch place) (depth_of_cue epoch place) (length top) (length bottom) s.0 s.1
+    here s.2 in
     let e : 13 + length top + length bottom ≡ 13 + s.0 + s.1 = omega (arith, same.0, same.1) in
     ap made_even e ∙ sym s.3
 
 -- ---- one object after another
 
 -- the objects that are written, and those that are left
-pub record Objects (pictures : List Picture) (epoch : Epoch) (page : ℕ) (cues old now : List ℕ) (i : ℕ) : Type 0 where
+pub record Objects (pictures : List Picture) (epoch : Epoch) (page : ℕ) (cues old now : List ℕ)
+    (i : ℕ) : Type 0 where
   pub done : List SegmentValue
   pub right : All (IsWritable page) done
   pub bytes : now ≡ old ++ flat_map (spelled page) done
-  pub drawn : (rest : List SegmentValue) → AreObjectsOf pictures epoch (drop i cues) rest → AreObjectsOf pictures epoch cues (done ++ rest)
+  pub drawn : (rest : List SegmentValue) → AreObjectsOf pictures epoch (drop i cues) rest
+      → AreObjectsOf pictures epoch cues (done ++ rest)
 
-pub objects_none : (pictures : List Picture) (epoch : Epoch) (page : ℕ) (cues old : List ℕ) → Objects pictures epoch page cues old old 0
-objects_none pictures epoch page cues old = record { done = []; right = λ k d h. absurd (omega arith); bytes = sym (append-nil old); drawn = λ rest are. are }
+pub objects_none : (pictures : List Picture) (epoch : Epoch) (page : ℕ) (cues old : List ℕ)
+    → Objects pictures epoch page cues old old 0
+objects_none pictures epoch page cues old =
+    record { done = []; right = λ k d h. absurd (omega arith); bytes = sym (append-nil old); drawn = λ rest are. are }
 
 -- there is room for the next object
 pub object_room : (pictures : List Picture) (epoch : Epoch) (cues : List ℕ) (i : ℕ) → i < length cues
-    → (sizes : List ℕ) × AreObjectSizes pictures epoch cues sizes × All (λ size. size ≤ UNIT_ROOM) sizes → (size : ℕ) × IsObjectSize pictures epoch (get_or cues i 0) size × (size ≤ UNIT_ROOM)
+    → (sizes : List ℕ) × AreObjectSizes pictures epoch cues sizes × All (λ size. size ≤ UNIT_ROOM) sizes
+    → (size : ℕ) × IsObjectSize pictures epoch (get_or cues i 0) size × (size ≤ UNIT_ROOM)
 object_room pictures epoch cues i h room =
-    let count = length_all_zip (IsObjectSize pictures epoch) cues room.0 room.1 in
-    (get_or room.0 i 0, AllZip-get_or (IsObjectSize pictures epoch) cues room.0 i 0 0 room.1 h, room.2 i 0 (omega (arith, count, h)))
+    let count = length_all_zip (IsObjectSize pictures epoch) cues room.0 room.1 in (
+      get_or room.0 i 0,
+      AllZip-get_or (IsObjectSize pictures epoch) cues room.0 i 0 0 room.1 h,
+      room.2 i 0
+          (omega (arith, count, h)),
+    )
 
-pub objects_more : (pictures : List Picture) (epoch : Epoch) (page : ℕ) (cues old now new : List ℕ) (i : ℕ) → i < length cues → Objects pictures epoch page cues old now i
-    → (object : SegmentValue) × IsObjectOf pictures epoch (get_or cues i 0) object × IsWritable page object × (new ≡ now ++ spelled page object) → Objects pictures epoch page cues old new (i + 1)
+pub objects_more : (pictures : List Picture) (epoch : Epoch) (page : ℕ) (cues old now new : List ℕ) (i : ℕ)
+    → i < length cues → Objects pictures epoch page cues old now i
+    → (object : SegmentValue) × IsObjectOf pictures epoch (get_or cues i 0) object × IsWritable page object
+    × (new ≡ now ++ spelled page object) → Objects pictures epoch page cues old new (i + 1)
 objects_more pictures epoch page cues old now new i h o one = record {
   done = o.done ++ one.0 ∷ [];
-  right = All-append (IsWritable page) o.done (one.0 ∷ []) o.right (All-cons (IsWritable page) one.0 [] one.2 (λ k d l. absurd (omega arith)));
-  bytes = one.3 ∙ ap (λ (xs : List ℕ). xs ++ spelled page one.0) o.bytes ∙ append_assoc old (flat_map (spelled page) o.done) (spelled page one.0)
-      ∙ ap (λ (xs : List ℕ). old ++ xs) (ap (λ (xs : List ℕ). flat_map (spelled page) o.done ++ xs) (sym (append-nil (spelled page one.0))) ∙ sym (flat_map-append (spelled page) o.done (one.0 ∷ [])));
+  right =
+      All-append (IsWritable page) o.done (one.0 ∷ []) o.right
+      (All-cons (IsWritable page) one.0 [] one.2 (λ k d l. absurd (omega arith)));
+  bytes =
+      one.3 ∙ ap (λ (xs : List ℕ). xs ++ spelled page one.0) o.bytes
+      ∙ append_assoc old (flat_map (spelled page) o.done) (spelled page one.0)
+      ∙ ap (λ (xs : List ℕ). old ++ xs)
+      (ap (λ (xs : List ℕ). flat_map (spelled page) o.done ++ xs) (sym (append-nil (spelled page one.0)))
+      ∙ sym (flat_map-append (spelled page) o.done (one.0 ∷ [])));
   drawn = λ rest are.
-      subst (AreObjectsOf pictures epoch cues) (sym (append_assoc o.done (one.0 ∷ []) rest)) (o.drawn (one.0 ∷ rest) (subst (λ (places : List ℕ). AreObjectsOf pictures epoch places (one.0 ∷ rest)) (sym (drop_more cues i 0 h)) (one.1, are)));
+      subst (AreObjectsOf pictures epoch cues) (sym (append_assoc o.done (one.0 ∷ []) rest))
+      (o.drawn (one.0 ∷ rest)
+      (subst (λ (places : List ℕ). AreObjectsOf pictures epoch places (one.0 ∷ rest))
+      (sym (drop_more cues i 0 h)) (one.1, are)));
 }
 
-pub objects_drawn : (pictures : List Picture) (epoch : Epoch) (page : ℕ) (cues old now : List ℕ) (i : ℕ) → length cues ≤ i → Objects pictures epoch page cues old now i
-    → (objects : List SegmentValue) × AreObjectsOf pictures epoch cues objects × All (IsWritable page) objects × (now ≡ old ++ flat_map (spelled page) objects)
-objects_drawn pictures epoch page cues old now i h o =
-    (o.done, subst (AreObjectsOf pictures epoch cues) (append-nil o.done) (o.drawn [] (subst (λ (places : List ℕ). AreObjectsOf pictures epoch places []) (sym (drop_all i cues h)) tt)), o.right, o.bytes)
+pub objects_drawn : (pictures : List Picture) (epoch : Epoch) (page : ℕ) (cues old now : List ℕ) (i : ℕ)
+    → length cues ≤ i → Objects pictures epoch page cues old now i
+    → (objects : List SegmentValue) × AreObjectsOf pictures epoch cues objects × All (IsWritable page) objects
+    × (now ≡ old ++ flat_map (spelled page) objects)
+objects_drawn pictures epoch page cues old now i h o = (
+  o.done,
+  subst (AreObjectsOf pictures epoch cues) (append-nil o.done)
+      (o.drawn []
+      (subst (λ (places : List ℕ). AreObjectsOf pictures epoch places []) (sym (drop_all i cues h))
+      tt)),
+  o.right,
+  o.bytes,
+)
 
 -- ---- the segments
 
 -- the bytes of all segments, one after the other
-pub bytes_are : (page : ℕ) (leading objects : List SegmentValue) (start first second whole : List ℕ) → start ≡ [] → first ≡ start ++ flat_map (spelled page) leading → second ≡ first ++ flat_map (spelled page) objects
-    → whole ≡ second ++ spelled page end_of_set → whole ≡ flat_map (spelled page) (leading ++ (objects ++ end_of_set ∷ []))
+pub bytes_are : (page : ℕ) (leading objects : List SegmentValue) (start first second whole : List ℕ)
+    → start ≡ [] → first ≡ start ++ flat_map (spelled page) leading
+    → second ≡ first ++ flat_map (spelled page) objects
+    → whole ≡ second ++ spelled page end_of_set
+    → whole ≡ flat_map (spelled page) (leading ++ (objects ++ end_of_set ∷ []))
 bytes_are page leading objects start first second whole s a b c =
     let one = flat_map (spelled page) leading in
     let two = flat_map (spelled page) objects in
     let three = spelled page end_of_set in
     let text : flat_map (spelled page) (leading ++ (objects ++ end_of_set ∷ [])) ≡ one ++ (two ++ three) =
     flat_map-append (spelled page) leading (objects ++ end_of_set ∷ [])
-    ∙ ap (λ (xs : List ℕ). one ++ xs) (flat_map-append (spelled page) objects (end_of_set ∷ []) ∙ ap (λ (xs : List ℕ). two ++ xs) (append-nil three)) in
-    c ∙ ap (λ (xs : List ℕ). xs ++ three) (b ∙ ap (λ (xs : List ℕ). xs ++ two) (a ∙ ap (λ (xs : List ℕ). xs ++ one) s)) ∙ append_assoc one two three ∙ sym text
+    ∙ ap (λ (xs : List ℕ). one ++ xs)
+    (flat_map-append (spelled page) objects (end_of_set ∷ [])
+    ∙ ap (λ (xs : List ℕ). two ++ xs) (append-nil three)) in
+    c ∙ ap (λ (xs : List ℕ). xs ++ three)
+    (b ∙ ap (λ (xs : List ℕ). xs ++ two) (a ∙ ap (λ (xs : List ℕ). xs ++ one) s))
+    ∙ append_assoc one two three ∙ sym text

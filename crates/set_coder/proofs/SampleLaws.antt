@@ -50,40 +50,89 @@ above : (m n : ℕ) → n + 3600 < m → AreTicksApart m n
 above m n h = inr (inr h)
 
 later : All (AreTicksApart 90000) (270000 ∷ 135000 ∷ 270000 ∷ [])
-later = All-cons (AreTicksApart 90000) 270000 (135000 ∷ 270000 ∷ []) (below 90000 270000 (omega arith)) (All-cons (AreTicksApart 90000) 135000 (270000 ∷ []) (below 90000 135000 (omega arith)) (one (AreTicksApart 90000) 270000 (below 90000 270000 (omega arith))))
+later =
+    All-cons (AreTicksApart 90000) 270000 (135000 ∷ 270000 ∷ []) (below 90000 270000 (omega arith))
+    (All-cons (AreTicksApart 90000) 135000 (270000 ∷ []) (below 90000 135000 (omega arith))
+    (one (AreTicksApart 90000) 270000 (below 90000 270000 (omega arith))))
 
 one_later : All (AreTicksApart 90000) (90000 ∷ 270000 ∷ 135000 ∷ 270000 ∷ [])
 one_later = All-cons (AreTicksApart 90000) 90000 (270000 ∷ 135000 ∷ 270000 ∷ []) (same 90000) later
 
 last : AllPairs AreTicksApart (270000 ∷ 135000 ∷ 270000 ∷ [])
 last =
-    AllPairs-cons AreTicksApart 270000 (135000 ∷ 270000 ∷ []) (All-cons (AreTicksApart 270000) 135000 (270000 ∷ []) (above 270000 135000 (omega arith)) (one (AreTicksApart 270000) 270000 (same 270000)))
-    (AllPairs-cons AreTicksApart 135000 (270000 ∷ []) (one (AreTicksApart 135000) 270000 (below 135000 270000 (omega arith))) (one_pair AreTicksApart 270000))
+    AllPairs-cons AreTicksApart 270000 (135000 ∷ 270000 ∷ [])
+    (All-cons (AreTicksApart 270000) 135000 (270000 ∷ []) (above 270000 135000 (omega arith))
+    (one (AreTicksApart 270000) 270000 (same 270000)))
+    (AllPairs-cons AreTicksApart 135000 (270000 ∷ [])
+    (one (AreTicksApart 135000) 270000 (below 135000 270000 (omega arith))) (one_pair AreTicksApart 270000))
 
 ticks : AllPairs AreTicksApart (90000 ∷ 90000 ∷ 90000 ∷ 270000 ∷ 135000 ∷ 270000 ∷ [])
 ticks =
-    AllPairs-cons AreTicksApart 90000 (90000 ∷ 90000 ∷ 270000 ∷ 135000 ∷ 270000 ∷ []) (All-cons (AreTicksApart 90000) 90000 (90000 ∷ 270000 ∷ 135000 ∷ 270000 ∷ []) (same 90000) one_later)
+    AllPairs-cons AreTicksApart 90000 (90000 ∷ 90000 ∷ 270000 ∷ 135000 ∷ 270000 ∷ [])
+    (All-cons (AreTicksApart 90000) 90000 (90000 ∷ 270000 ∷ 135000 ∷ 270000 ∷ []) (same 90000) one_later)
     (AllPairs-cons AreTicksApart 90000 (90000 ∷ 270000 ∷ 135000 ∷ 270000 ∷ []) one_later
     (AllPairs-cons AreTicksApart 90000 (270000 ∷ 135000 ∷ 270000 ∷ []) later last))
 
-sample_right : (first second : Picture) → IsSmall first → IsSmall second → IsEpoch 0 4 1 (first ∷ second ∷ []) sample
+sample_right : (first second : Picture) → IsSmall first → IsSmall second
+    → IsEpoch 0 4 1 (first ∷ second ∷ []) sample
 sample_right first second p q = record {
   starts = tick 90000 (omega arith);
   regions = record {
     many = omega arith;
-    each = one (IsRegion 4 1) sample_region (record { numbers = (omega arith, omega arith); wide = omega arith; high = omega arith; across = omega arith; down = omega arith });
+    each =
+        one (IsRegion 4 1) sample_region
+        (record {
+          numbers = (omega arith, omega arith);
+          wide = omega arith;
+          high = omega arith;
+          across = omega arith;
+          down = omega arith;
+        });
     apart = one_pair AreApart sample_region;
   };
-  colours = one (IsColourRow 0 90000) sample_colour (record { tick = tick 90000 (omega arith); within = omega arith; clut = omega arith; entry = omega arith; shown = refl; bytes = (omega arith, omega arith, omega arith, omega arith) });
+  colours =
+      one (IsColourRow 0 90000) sample_colour
+      (record {
+        tick = tick 90000 (omega arith);
+        within = omega arith;
+        clut = omega arith;
+        entry = omega arith;
+        shown = refl;
+        bytes = (omega arith, omega arith, omega arith, omega arith);
+      });
   cues = All-cons (IsCue 0 90000 sample.regions (first ∷ second ∷ [])) solid_cue (through_cue ∷ [])
-      (record { starts = tick 90000 (omega arith); ends = tick 270000 (omega arith); within = omega arith; lasts = omega arith; short = omega arith; picture = omega arith; region = sample_region; found = refl; fits = fits first p })
-      (one (IsCue 0 90000 sample.regions (first ∷ second ∷ [])) through_cue (record { starts = tick 135000 (omega arith); ends = tick 270000 (omega arith); within = omega arith; lasts = omega arith; short = omega arith; picture = omega arith; region = sample_region; found = refl; fits = fits second q }));
+      (record {
+        starts = tick 90000 (omega arith);
+        ends = tick 270000 (omega arith);
+        within = omega arith;
+        lasts = omega
+            arith;
+        short = omega arith;
+        picture = omega arith;
+        region = sample_region;
+        found = refl;
+        fits = fits first
+            p;
+      })
+      (one (IsCue 0 90000 sample.regions (first ∷ second ∷ [])) through_cue
+      (record {
+        starts = tick 135000 (omega arith);
+        ends = tick 270000 (omega arith);
+        within = omega arith;
+        lasts = omega arith;
+        short = omega arith;
+        picture = omega arith;
+        region = sample_region;
+        found = refl;
+        fits = fits second q;
+      }));
 }
 
 small : {a b : ℕ} → a ≤ 4 → b ≤ 4 → 0 + a + b ≤ 268435456
 small h k = omega arith
 
-sound : (first second : Picture) → IsSmall first → IsSmall second → IsSound 0 4 1 450000 (sample ∷ []) (first ∷ second ∷ [])
+sound : (first second : Picture) → IsSmall first → IsSmall second
+    → IsSound 0 4 1 450000 (sample ∷ []) (first ∷ second ∷ [])
 sound first second p q = record {
   early = omega arith;
   wide = (omega arith, omega arith);
@@ -100,8 +149,14 @@ sound first second p q = record {
   few_cues = omega arith;
   few_pictures = omega arith;
   drawn = All-cons IsPicture first (second ∷ []) p.picture_is (one IsPicture second q.picture_is);
-  small = small (omega (arith, ap (λ (n : ℕ). n * first.height) p.width, p.height)) (omega (arith, ap (λ (n : ℕ). n * second.height) q.width, q.height));
+  small =
+      small (omega (arith, ap (λ (n : ℕ). n * first.height) p.width, p.height))
+      (omega (arith, ap (λ (n : ℕ). n * second.height) q.width, q.height));
 }
 
-pub sample_sound : (first second : Picture) (epochs : List Epoch) (pictures : List Picture) → IsSmall first → IsSmall second → epochs ≡ sample ∷ [] → pictures ≡ first ∷ second ∷ [] → IsSound 0 4 1 450000 epochs pictures
-sample_sound first second epochs pictures p q e f = subst (λ (es : List Epoch). IsSound 0 4 1 450000 es pictures) (sym e) (subst (IsSound 0 4 1 450000 (sample ∷ [])) (sym f) (sound first second p q))
+pub sample_sound : (first second : Picture) (epochs : List Epoch) (pictures : List Picture) → IsSmall first
+    → IsSmall second → epochs ≡ sample ∷ [] → pictures ≡ first ∷ second ∷ []
+    → IsSound 0 4 1 450000 epochs pictures
+sample_sound first second epochs pictures p q e f =
+    subst (λ (es : List Epoch). IsSound 0 4 1 450000 es pictures) (sym e)
+    (subst (IsSound 0 4 1 450000 (sample ∷ [])) (sym f) (sound first second p q))

@@ -54,7 +54,8 @@ IsKept pictures coded number region =
 -- the picture that the cue shows is kept for the depth of the region in which it is shown
 abbrev pub IsCueKept : List Picture → List CodedPicture → Epoch → Cue → Type 0
 IsCueKept pictures coded epoch cue =
-    (region : Region) → find_region epoch cue.region ≡ Some region → IsKept pictures coded cue.picture region.depth
+    (region : Region) → find_region epoch cue.region ≡ Some region
+    → IsKept pictures coded cue.picture region.depth
 
 -- for each cue of each epoch, the picture that it shows is kept
 abbrev pub AreKept : Script → List CodedPicture → Type 0

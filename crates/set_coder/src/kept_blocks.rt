@@ -123,8 +123,10 @@ impl KeptBlocks {
         ensures coded { self.new.coded ≡ self.old.coded }
         ensures each { length self.new.slots.items ≡ length self.old.slots.items }
         ensures here { place_of self.new.slots.items number region ≡ Some at }
-        ensures others { (other : ℕ) (depth : Depth) → ((other ≡ number) × (depth ≡ region) → ⊥)
-            → place_of self.new.slots.items other depth ≡ place_of self.old.slots.items other depth }
+        ensures others { (other : ℕ) (depth : Depth)
+            → ((other ≡ number) × (depth ≡ region) → ⊥)
+            → place_of self.new.slots.items other depth
+            ≡ place_of self.old.slots.items other depth }
     {
         self.slots.as_mut_slice()[number as usize].set(region, at);
     }

@@ -11,12 +11,12 @@ use Rattle.schedule.specs.Arrivals.{level_at as scheduled_level}
 use Rattle.schedule.specs.Slots.{Timetable}
 use Rattle.buffer_model.specs.Calls.{Call, level_at}
 use Rattle.buffer_model.specs.Within.{AreWithin}
-use Rattle.sent_levels.specs.DoneSets.{DoneSet, done_sets, AreDoneNoLater, IsDecodedBy}
+use Rattle.scheduled_level_laws.specs.DoneSets.{DoneSet, done_sets, AreDoneNoLater, IsDecodedBy}
 use Rattle.decoder_model.specs.declared.pages.Pages.{Pages}
 use Rattle.decoder_model.specs.Streams.{entered_at, is_from}
 use Rattle.shown_stream.specs.SentSets.{sent_set, sent_sets, times_from}
 use Rattle.shown_stream.specs.Shows.{IsAnchorOf}
-use Rattle.stream_calls.specs.StreamCalls.{AreCallsOf}
+use Rattle.received_level_laws.specs.StreamCalls.{AreCallsOf}
 use Rattle.shown_stream.specs.Compiled.{sent_pace}
 
 -- these are the calls of the buffer levels, the latest first, in a receiver of the profile, for a PID and these pages,

@@ -23,7 +23,8 @@ abbrev pub behind : ℕ → List ℕ → ℕ
 behind from [] = from
 behind from (slot ∷ slots) = behind (slot + 1) slots
 
-behind-last : (from slot : ℕ) (slots : List ℕ) → behind from (slot ∷ slots) ≡ get_or (slot ∷ slots) (length slots) 0 + 1
+behind-last : (from slot : ℕ) (slots : List ℕ)
+    → behind from (slot ∷ slots) ≡ get_or (slot ∷ slots) (length slots) 0 + 1
 behind-last from slot [] = refl
 behind-last from slot (next ∷ slots) = behind-last (slot + 1) next slots
 
@@ -48,16 +49,19 @@ range-split (suc n) a m =
     ∙ ap (λ k. range_with_len (a + 1) n ++ range_with_len k m) next)
 
 -- the same one by one
-map-same : {Y : Type 0} (f g : ℕ → Y) (from count : ℕ) → ((i : ℕ) → i < count → f (from + i) ≡ g (from + i))
+map-same : {Y : Type 0} (f g : ℕ → Y) (from count : ℕ)
+    → ((i : ℕ) → i < count → f (from + i) ≡ g (from + i))
     → map f (range_with_len from count) ≡ map g (range_with_len from count)
 map-same f g from zero h = refl
 map-same {Y} f g from (suc count) h =
-    ap {B = List Y} (λ first. first ∷ map f (range_with_len (from + 1) count)) (ap f (omega arith) ∙ h 0 (omega arith)
+    ap {B = List Y} (λ first. first ∷ map f (range_with_len (from + 1) count))
+    (ap f (omega arith) ∙ h 0 (omega arith)
     ∙ ap g (omega arith))
     ∙ ap {B = List Y} (λ rest. g from ∷ rest) (map-same f g (from + 1) count (λ i within. ap f (omega arith)
     ∙ h (suc i) (omega arith) ∙ ap g (omega arith)))
 
-map-constant : {Y : Type 0} (y : Y) (from count : ℕ) → map (λ n. y) (range_with_len from count) ≡ replicate count y
+map-constant : {Y : Type 0} (y : Y) (from count : ℕ)
+    → map (λ n. y) (range_with_len from count) ≡ replicate count y
 map-constant y from zero = refl
 map-constant {Y} y from (suc count) = ap {B = List Y} (λ rest. y ∷ rest) (map-constant y (from + 1) count)
 
@@ -78,7 +82,8 @@ abbrev packet_from : ℕ → List Piece → ℕ → List ℕ → ℕ → List �
 packet_from pid pieces number slots slot = packet_at pid pieces (place_from number slot slots)
 
 -- the packets at the slots from one on are those of the pieces that are left
-at_slots : (pid : ℕ) (pieces : List Piece) (number from : ℕ) (left : List Piece) (slots : List ℕ) → IsAhead from slots
+at_slots : (pid : ℕ) (pieces : List Piece) (number from : ℕ) (left : List Piece) (slots : List ℕ)
+    → IsAhead from slots
     → length left ≡ length slots
     → ((i : ℕ) → i < length left → get_or pieces (number + i) no_piece ≡ get_or left i no_piece)
     → map (packet_from pid pieces number slots) (range_with_len from (behind from slots - from))
@@ -127,7 +132,8 @@ joined_map f [] = refl
 joined_map f (x ∷ xs) = ap (λ rest. f x ++ rest) (joined_map f xs)
 
 -- a stream is its packets, one after another
-pub stream_is_laid : (pid : ℕ) (pieces : List Piece) (slots : List ℕ) → IsAhead 0 slots → length pieces ≡ length slots
+pub stream_is_laid : (pid : ℕ) (pieces : List Piece) (slots : List ℕ) → IsAhead 0 slots
+    → length pieces ≡ length slots
     → stream_of pid pieces slots ≡ concat (laid pid 0 0 pieces slots)
 stream_is_laid pid pieces slots ahead same =
     let whole : behind 0 slots ≡ behind 0 slots - 0 = omega arith in

@@ -1,4 +1,5 @@
--- Packets that are laid at their slots carry the units of which they are the pieces, and none of their counters is missing.
+-- Packets that are laid at their slots carry the units of which they are the pieces, and none of their counters is
+-- missing.
 use Rattle.std.proofs.Common.{◌≡◌, ◌≢◌, ◌∙◌, ℕ, zero, suc, ◌+◌, ◌-◌, ◌%◌, ◌<◌, ◌≤◌, Bool, true, false, eqb, cond, ◌&&◌, List, [], ◌∷◌, ◌++◌, length, map, take, drop, replicate, Option, Some, None, ◌⊎◌, inl, inr, refl, sym, ap, subst, arith, append_assoc}
 use Rattle.std.specs.Bool.{if◌then◌else◌}
 use Rattle.std.proofs.lemmas.Bool.{false≢true}
@@ -33,7 +34,8 @@ says pid number piece free is =
 
 -- ---- cut units
 
-cut_behind_nulls : (pid count : ℕ) (last : Option ℕ) (start : Bool) (piece : List ℕ) (pieces rest : List (List ℕ))
+cut_behind_nulls : (pid count : ℕ) (last : Option ℕ) (start : Bool) (piece : List ℕ)
+    (pieces rest : List (List ℕ))
     → IsFree pid → IsCut pid last start (piece ∷ pieces) rest
     → IsCut pid last start (piece ∷ pieces) (replicate count null_packet ++ rest)
 cut_behind_nulls pid zero last start piece pieces rest free h = h
@@ -41,7 +43,8 @@ cut_behind_nulls pid (suc count) last start piece pieces rest free h =
     inl (inl free.no_null, cut_behind_nulls pid count last start piece pieces rest free h)
 
 -- a piece's packet behind null packets
-cut_one : (pid count counter : ℕ) (last : Option ℕ) (start : Bool) (piece : List ℕ) (pieces rest : List (List ℕ))
+cut_one : (pid count counter : ℕ) (last : Option ℕ) (start : Bool) (piece : List ℕ)
+    (pieces rest : List (List ℕ))
     (packet : List ℕ) → IsFree pid → SaysWhatWasWritten pid start counter piece packet → 1 ≤ length piece
     → HasCounter start last counter
     → IsCut pid (Some counter) false pieces rest
@@ -81,7 +84,8 @@ cut_of_laid pid from number last start piece (next ∷ pieces) slot (after ∷ s
 
 -- a packet of this number follows the payload packet with this counter
 abbrev pub FollowsOn : Option ℕ → ℕ → Type 0
-FollowsOn last number = (last ≡ None) ⊎ ((before : ℕ) × (last ≡ Some before) × (number % 16 ≡ (before + 1) % 16))
+FollowsOn last number =
+    (last ≡ None) ⊎ ((before : ℕ) × (last ≡ Some before) × (number % 16 ≡ (before + 1) % 16))
 
 pub null_is_no_payload : (pid : ℕ) → IsFree pid → is_payload pid null_packet ≡ false
 null_is_no_payload pid free = let no_null = free.no_null in let other : eqb 0x1FFF pid
@@ -115,7 +119,8 @@ unbroken last number found (inr some) is =
     subst (λ (before : Option ℕ). IsUnbroken (succession before found)) (sym some.1) (unbroken_some some.0 found (is
     ∙ some.2))
 
-gapless_nulls : (pid count : ℕ) (last : Option ℕ) (rest : List (List ℕ)) → IsFree pid → IsGapless pid last rest
+gapless_nulls : (pid count : ℕ) (last : Option ℕ) (rest : List (List ℕ)) → IsFree pid
+    → IsGapless pid last rest
     → IsGapless pid last (replicate count null_packet ++ rest)
 gapless_nulls pid zero last rest free h = h
 gapless_nulls pid (suc count) last rest free h =
@@ -126,7 +131,8 @@ gapless_nulls pid (suc count) last rest free h =
     )
 
 gapless_one : (pid count counter number : ℕ) (last : Option ℕ) (start : Bool) (piece packet : List ℕ)
-    (rest : List (List ℕ)) → IsFree pid → SaysWhatWasWritten pid start counter piece packet → counter ≡ number % 16
+    (rest : List (List ℕ)) → IsFree pid → SaysWhatWasWritten pid start counter piece packet
+    → counter ≡ number % 16
     → FollowsOn last number
     → IsGapless pid (Some counter) rest → IsGapless pid last (replicate count null_packet ++ packet ∷ rest)
 gapless_one pid count counter number last start piece packet rest free told is follows more =
@@ -139,7 +145,8 @@ gapless_one pid count counter number last start piece packet rest free told is f
 
 -- no counter is missing
 pub gapless_laid : (pid from number : ℕ) (last : Option ℕ) (pieces : List Piece) (slots : List ℕ) → IsFree pid
-    → AllByRecursion IsPiece pieces → FollowsOn last number → IsGapless pid last (laid pid from number pieces slots)
+    → AllByRecursion IsPiece pieces → FollowsOn last number
+    → IsGapless pid last (laid pid from number pieces slots)
 gapless_laid pid from number last [] slots free are follows = tt
 gapless_laid pid from number last (piece ∷ pieces) [] free are follows = tt
 gapless_laid pid from number last (piece ∷ pieces) (slot ∷ slots) free are follows =
@@ -150,7 +157,8 @@ gapless_laid pid from number last (piece ∷ pieces) (slot ∷ slots) free are f
 
 -- the counter behind a piece's packet is its own
 pub counter_here : (pid counter : ℕ) (start : Bool) (before : List (List ℕ)) (piece packet : List ℕ)
-    → SaysWhatWasWritten pid start counter piece packet → last_counter pid (before ++ packet ∷ []) ≡ Some counter
+    → SaysWhatWasWritten pid start counter piece packet
+    → last_counter pid (before ++ packet ∷ []) ≡ Some counter
 counter_here pid counter start before piece packet told =
     counter_push pid before packet
     ∙ ap (λ payload. cond payload (Some (counter_of packet)) (last_counter pid before))
@@ -162,8 +170,10 @@ regrouped before nulls packet rest =
     sym (append_assoc before nulls (packet ∷ rest)) ∙ sym (append_assoc (before ++ nulls) (packet ∷ []) rest)
 
 -- the counter behind them is that of the last
-pub counter_behind : (pid from number : ℕ) (before : List (List ℕ)) (piece : Piece) (pieces : List Piece) (slot : ℕ)
-    (slots : List ℕ) → IsFree pid → IsPiece piece → AllByRecursion IsPiece pieces → length pieces ≡ length slots
+pub counter_behind : (pid from number : ℕ) (before : List (List ℕ)) (piece : Piece) (pieces : List Piece)
+    (slot : ℕ)
+    (slots : List ℕ) → IsFree pid → IsPiece piece → AllByRecursion IsPiece pieces
+    → length pieces ≡ length slots
     → last_counter pid (before
     ++ laid pid from number (piece ∷ pieces) (slot ∷ slots)) ≡ Some ((number + length pieces) % 16)
 counter_behind pid from number before piece [] slot slots free is are same =
@@ -206,7 +216,8 @@ none_refused pid from number (piece ∷ pieces) (slot ∷ slots) free are =
     (pieces_taken, none_refused pid (slot + 1) (number + 1) pieces slots free are.1)
 
 -- the packets of some pieces and then of others
-pub laid-append : (pid from number : ℕ) (pieces more : List Piece) (slots : List ℕ) → length pieces ≤ length slots
+pub laid-append : (pid from number : ℕ) (pieces more : List Piece) (slots : List ℕ)
+    → length pieces ≤ length slots
     → laid pid from number (pieces ++ more) slots ≡ laid pid from number pieces (take (length pieces) slots)
     ++ laid pid (behind from (take (length pieces) slots)) (number + length pieces) more
     (drop (length pieces) slots)

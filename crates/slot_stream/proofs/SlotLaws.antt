@@ -16,7 +16,8 @@ compared : (a b : ℕ) → (a < b) ⊎ ((a ≡ b) ⊎ (b < a))
 compared a b = grind arith
 
 -- the first slot of that number
-pub place_from-found : (slots : List ℕ) (k i slot : ℕ) → ((j : ℕ) → j < k → get_or slots j 0 ≢ slot) → k < length slots
+pub place_from-found : (slots : List ℕ) (k i slot : ℕ) → ((j : ℕ) → j < k → get_or slots j 0 ≢ slot)
+    → k < length slots
     → get_or slots k 0 ≡ slot → place_from i slot slots ≡ Some (i + k)
 place_from-found [] k i slot before within is = absurd (omega arith)
 place_from-found (x ∷ slots) zero i slot before within is = rw (eq-eqb x slot is) (ap Some (omega arith))
@@ -27,7 +28,8 @@ place_from-found (x ∷ slots) (suc k) i slot before within is =
     ∙ ap Some (omega arith))
 
 -- no slot of that number
-pub place_from-none : (slots : List ℕ) (i slot : ℕ) → ((j : ℕ) → j < length slots → get_or slots j 0 ≢ slot)
+pub place_from-none : (slots : List ℕ) (i slot : ℕ)
+    → ((j : ℕ) → j < length slots → get_or slots j 0 ≢ slot)
     → place_from i slot slots ≡ None
 place_from-none [] i slot others = refl
 place_from-none (x ∷ slots) i slot others =
@@ -77,7 +79,8 @@ IsNext-sent slots next slot rising at within is =
     sent j h =
         elim (compared j next) [
           | inl below ↦ let less : get_or slots j 0 < slot = at.before j below in omega arith
-          | inr (inl same) ↦ let here : get_or slots j 0 ≡ slot = ap (λ k. get_or slots k 0) same ∙ is in omega arith
+          | inr (inl same) ↦ let here : get_or slots j 0 ≡ slot =
+              ap (λ k. get_or slots k 0) same ∙ is in omega arith
           | inr (inr above) ↦ absurd (omega arith)
         ]
 
@@ -105,14 +108,16 @@ IsNext-idle slots next slot rising at idle =
 
 -- the packet of the next piece
 pub slot_packet-next : (pid : ℕ) (pieces : List Piece) (slots : List ℕ) (next slot : ℕ) (d : Piece)
-    → IsNext slots next slot → length slots ≡ length pieces → next < length slots → get_or slots next 0 ≡ slot
+    → IsNext slots next slot → length slots ≡ length pieces → next < length slots
+    → get_or slots next 0 ≡ slot
     → slot_packet pid pieces slots slot ≡ packet_of pid next (get_or pieces next d)
 slot_packet-next pid pieces slots next slot d at pairs within is =
     ap (packet_at pid pieces) (place_from-next slots next slot at within is)
     ∙ ap (packet_of pid next) (get_or_default pieces next no_piece d (omega arith))
 
 -- the null packet, where the slot is that of no piece
-pub slot_packet-idle : (pid : ℕ) (pieces : List Piece) (slots : List ℕ) (next slot : ℕ) → IsStrictlyIncreasing slots
+pub slot_packet-idle : (pid : ℕ) (pieces : List Piece) (slots : List ℕ) (next slot : ℕ)
+    → IsStrictlyIncreasing slots
     → IsNext slots next slot → (next < length slots → get_or slots next 0 ≢ slot)
     → slot_packet pid pieces slots slot ≡ null_packet
 slot_packet-idle pid pieces slots next slot rising at idle =

@@ -14,7 +14,8 @@ pub record IsFirstUnit (lengths bytes : List ℕ) (size : ℕ) (units : List (Li
   pub whole : bytes ≡ unit ++ concat rest
   pub behind : AreUnitsOf lengths (concat rest) rest
 
-pub first_unit : (lengths bytes : List ℕ) (size : ℕ) (units : List (List ℕ)) → AreUnitsOf (size ∷ lengths) bytes units
+pub first_unit : (lengths bytes : List ℕ) (size : ℕ) (units : List (List ℕ))
+    → AreUnitsOf (size ∷ lengths) bytes units
     → IsFirstUnit lengths bytes size units
 first_unit lengths bytes size [] u = absurd (let e : [] ≡ size ∷ lengths = u.sized in cc)
 first_unit lengths bytes size (unit ∷ rest) u = record {
@@ -31,7 +32,8 @@ no_unit bytes [] u = refl
 no_unit bytes (unit ∷ rest) u = absurd (let e : length unit ∷ map length rest ≡ [] = u.sized in cc)
 
 -- what stands once the pieces of the first unit are put behind: the others are left, and all pieces are as before
-pub next_unit : (lengths left unit behind : List ℕ) (size : ℕ) (units : List (List ℕ)) (start held now : List Piece)
+pub next_unit : (lengths left unit behind : List ℕ) (size : ℕ) (units : List (List ℕ))
+    (start held now : List Piece)
     → AreUnitsOf (size ∷ lengths) left units → unit ≡ take size left → behind ≡ drop size left
     → now ≡ held ++ pieces_of unit → start ≡ held ++ all_pieces units
     → (rest : List (List ℕ)) × AreUnitsOf lengths behind rest × (start ≡ now ++ all_pieces rest)

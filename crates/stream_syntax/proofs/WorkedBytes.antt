@@ -45,9 +45,12 @@ packet_is_taken = refl
 
 -- ---- the head of a PES packet
 
--- a presentation time of 4,295,000,065 ticks: its parts of three, fifteen and fifteen bits are 4, 1 and 1, each before a marker bit
+-- a presentation time of 4,295,000,065 ticks: its parts of three, fifteen and fifteen bits are 4, 1 and 1, each before
+-- a marker bit
 packet_head : List ℕ
-packet_head = 0x00 ∷ 0x00 ∷ 0x01 ∷ 0xBD ∷ 0x00 ∷ 0x0A ∷ 0x84 ∷ 0x80 ∷ 0x05 ∷ 0x29 ∷ 0x00 ∷ 0x03 ∷ 0x00 ∷ 0x03 ∷ []
+packet_head =
+    0x00 ∷ 0x00 ∷ 0x01 ∷ 0xBD ∷ 0x00 ∷ 0x0A ∷ 0x84 ∷ 0x80 ∷ 0x05 ∷ 0x29 ∷ 0x00 ∷ 0x03 ∷ 0x00
+    ∷ 0x03 ∷ []
 
 time_is_written : written_header 4295000065 10 ≡ packet_head
 unfolding packet_head
@@ -59,7 +62,8 @@ time_is_read = refl
 
 -- ---- pixel codes
 
--- two pixels of code 0 and the end of a string, in two bits; nine of code 5 in four bits; three of code 0 and of code 2 in eight
+-- two pixels of code 0 and the end of a string, in two bits; nine of code 5 in four bits; three of code 0 and of code 2
+-- in eight
 two_pixels : spelled Two two_zeros ≡ 0 ∷ 0 ∷ 0 ∷ 0 ∷ 0 ∷ 1 ∷ []
 unfolding spelled bits
 two_pixels = refl
@@ -68,7 +72,8 @@ end_of_two_bits : ending Two ≡ 0 ∷ 0 ∷ 0 ∷ 0 ∷ 0 ∷ 0 ∷ []
 unfolding ending bits
 end_of_two_bits = refl
 
-nine_pixels : spelled Four (middle_run 0 5) ≡ 0 ∷ 0 ∷ 0 ∷ 0 ∷ 1 ∷ 1 ∷ 1 ∷ 0 ∷ 0 ∷ 0 ∷ 0 ∷ 0 ∷ 0 ∷ 1 ∷ 0 ∷ 1 ∷ []
+nine_pixels : spelled Four (middle_run 0 5) ≡ 0 ∷ 0 ∷ 0 ∷ 0 ∷ 1 ∷ 1 ∷ 1 ∷ 0 ∷ 0 ∷ 0
+    ∷ 0 ∷ 0 ∷ 0 ∷ 1 ∷ 0 ∷ 1 ∷ []
 unfolding spelled bits
 nine_pixels = refl
 
@@ -83,7 +88,8 @@ three_pixels : bytes_of (spelled Eight (short_run 3 2)) ≡ 0x00 ∷ 0x83 ∷ 0x
 unfolding spelled bits bytes_of number_of
 three_pixels = refl
 
-thirty_pixels : spelled Two (long_run 1 3) ≡ 0 ∷ 0 ∷ 0 ∷ 0 ∷ 1 ∷ 1 ∷ 0 ∷ 0 ∷ 0 ∷ 0 ∷ 0 ∷ 0 ∷ 0 ∷ 1 ∷ 1 ∷ 1 ∷ []
+thirty_pixels : spelled Two (long_run 1 3) ≡ 0 ∷ 0 ∷ 0 ∷ 0 ∷ 1 ∷ 1 ∷ 0 ∷ 0 ∷ 0 ∷ 0 ∷ 0
+    ∷ 0 ∷ 0 ∷ 1 ∷ 1 ∷ 1 ∷ []
 unfolding spelled bits
 thirty_pixels = refl
 
@@ -94,7 +100,10 @@ entry : PageEntry
 entry = record { region = 2; x = 60; y = 460 }
 
 page_is_written :
-    bytes_of (written (written_fields 1 (of_page (record { time_out = 10; version = 3; state = Acquisition; entries = entry ∷ [] }))))
-    ≡ 0x0F ∷ 0x10 ∷ 0x00 ∷ 0x01 ∷ 0x00 ∷ 0x08 ∷ 0x0A ∷ 0x37 ∷ 0x02 ∷ 0xFF ∷ 0x00 ∷ 0x3C ∷ 0x01 ∷ 0xCC ∷ []
+    bytes_of (written
+    (written_fields 1
+    (of_page (record { time_out = 10; version = 3; state = Acquisition; entries = entry ∷ [] }))))
+    ≡ 0x0F ∷ 0x10 ∷ 0x00 ∷ 0x01 ∷ 0x00 ∷ 0x08 ∷ 0x0A ∷ 0x37 ∷ 0x02 ∷ 0xFF ∷ 0x00 ∷ 0x3C
+    ∷ 0x01 ∷ 0xCC ∷ []
 unfolding entry bits bytes_of number_of written
 page_is_written = refl

@@ -47,7 +47,8 @@ untold_tool tool.Memory = tool.Memory
 untold_tool (tool.InputTooLong which) = tool.InputTooLong which
 
 -- the notes have received the line of the run's status; or a prefix of it, and their count of faults rose
-abbrev pub TellsTool : {F : Type 0} → (F → List ℕ) → Received → Received → ToolStatus F → ToolStatus F → Type 0
+abbrev pub TellsTool : {F : Type 0} → (F → List ℕ) → Received → Received → ToolStatus F → ToolStatus F
+    → Type 0
 TellsTool name before now run answer =
     (Appends before.written now.written (tool_line name run) × (answer ≡ run))
     ⊎ (AppendsPrefix before.written now.written (tool_line name run) × HasRisen before.faults now.faults
@@ -55,8 +56,9 @@ TellsTool name before now run answer =
 
 -- ---- causes
 
--- what a tool says of its own statuses: when it is done, when it refuses what it read, what the output has received where
--- it was stopped (a fault of a source or sink, want of memory, an input that is too long), and the limit of its inputs
+-- what a tool says of its own statuses: when it is done, when it refuses what it read, what the output has received
+-- where it was stopped (a fault of a source or sink, want of memory, an input that is too long), and the limit of its
+-- inputs
 pub record Causes (F : Type 0) : Type 1 where
   pub IsDone : Type 0
   pub IsRefused : F → Type 0
@@ -97,7 +99,8 @@ IsToolCause causes before now (tool.InputTooLong which) = IsTooLong which causes
 -- wrong words: `usage`, no source was called, and nothing was written
 abbrev pub IsToolUsage : {F : Type 0} → Seen → Seen → ToolStatus F → Type 0
 IsToolUsage before now answer =
-    (answer ≡ tool.Usage) × (now.first ≡ before.first) × (now.second ≡ before.second) × WroteNothing before.out now.out
+    (answer ≡ tool.Usage) × (now.first ≡ before.first) × (now.second ≡ before.second)
+    × WroteNothing before.out now.out
 
 -- no count rose, no limit was passed and no condition of a refusal holds
 pub record IsToolUntroubled (F : Type 0) (causes : Causes F) (before now : Seen)
@@ -111,19 +114,22 @@ pub record IsToolUntroubled (F : Type 0) (causes : Causes F) (before now : Seen)
   pub right : (fault : F) → causes.IsRefused fault → ⊥
 
 -- where nothing gives a cause of refusal, the tool is done, or memory is wanting
-abbrev pub IsToolComplete : {F : Type 0} → Causes F → Seen → Seen → Received → Received → ToolStatus F → Type 0
+abbrev pub IsToolComplete : {F : Type 0} → Causes F → Seen → Seen → Received → Received → ToolStatus F
+    → Type 0
 IsToolComplete {F} causes before now notes_before notes_now answer =
     IsToolUntroubled F causes before now notes_before notes_now → (answer ≡ tool.Done) ⊎ (answer ≡ tool.Memory)
 
 -- ---- a tool with its words read
 
 -- the cause of the status of a run, by the command that the words are; words that are no command end with the usage
-abbrev pub IsToolRun : {C F : Type 0} → (C → Seen → Seen → Causes F) → Option C → Seen → Seen → ToolStatus F → Type 0
+abbrev pub IsToolRun : {C F : Type 0} → (C → Seen → Seen → Causes F) → Option C → Seen → Seen
+    → ToolStatus F → Type 0
 IsToolRun causes None before now run = IsToolUsage before now run
 IsToolRun causes (Some command) before now run = IsToolCause (causes command before now) before now run
 
 -- the cause of the status that a tool answers, and its line in the notes
-abbrev pub HasToolCause : {C F : Type 0} → (F → List ℕ) → (C → Seen → Seen → Causes F) → Option C → Seen → Seen
+abbrev pub HasToolCause : {C F : Type 0} → (F → List ℕ) → (C → Seen → Seen → Causes F) → Option C
+    → Seen → Seen
     → Received → Received → ToolStatus F → Type 0
 HasToolCause {C} {F} name causes command before now notes_before notes_now answer =
     (run : ToolStatus F) × IsToolRun causes command before now run × TellsTool name notes_before notes_now run answer

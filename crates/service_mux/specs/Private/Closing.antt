@@ -22,8 +22,8 @@ status_at service found (stream.Whole cut) = if found then tool.Done else tool.R
 status_at service found stream.Unread = tool.ReadFault which.First
 status_at service found stream.TooLong = tool.InputTooLong which.First
 
--- how it ends at a packet that cannot be taken and the output is written. A packet is refused for its sync byte alone: no
--- packet of bytes has the taker's PID
+-- how it ends at a packet that cannot be taken and the output is written. A packet is refused for its sync byte alone:
+-- no packet of bytes has the taker's PID
 abbrev pub status_by : ℕ → PacketFault → ToolStatus TakeFault
 status_by packet packet_faults.NoSync = tool.Refused (fault.NoSync packet)
 status_by packet packet_faults.Scrambled = tool.Memory

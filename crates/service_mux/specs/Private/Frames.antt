@@ -62,6 +62,7 @@ pub record HavePassed (before : Seen) (first_now second_now : Supplied) (one two
   pub second_kept : before.second.faults ≤ second_now.faults
 
 -- and these frames were put out
-pub record HaveJoined (pair : ServicePair) (before now : Seen) (one two : Lane) (buffer : Buffered) (frame : ℕ) : Type 0 where
+pub record HaveJoined (pair : ServicePair) (before now : Seen) (one two : Lane) (buffer : Buffered)
+    (frame : ℕ) : Type 0 where
   pub passed : HavePassed before now.first now.second one two frame
   pub out : IsPutOut before.out now.out buffer (concat (frames_of pair passed.first passed.second frame))

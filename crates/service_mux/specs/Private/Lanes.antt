@@ -55,8 +55,10 @@ lacks_sync (Some packet) = not (has_sync packet)
 
 -- whichever packets were passed: one more was passed
 abbrev pub Passes : Lane → Lane → Type 0
-Passes old new = (before now : Supplied) (packets : List (List ℕ)) (packet : List ℕ) → HasPassed before now old packets
-    → slice_get (whole_packets old.packets.bytes) old.next ≡ Some packet → HasPassed before now new (packets ++ packet ∷ [])
+Passes old new =
+    (before now : Supplied) (packets : List (List ℕ)) (packet : List ℕ) → HasPassed before now old packets
+    → slice_get (whole_packets old.packets.bytes) old.next ≡ Some packet
+    → HasPassed before now new (packets ++ packet ∷ [])
 
 -- whichever packets were passed: the one that was reached was passed too, where there is one
 abbrev pub PassesReached : Lane → Lane → Bool → Type 0

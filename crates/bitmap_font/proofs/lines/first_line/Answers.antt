@@ -9,7 +9,8 @@ returns-then-end-text c =
     let text = c.args.text.now in
     lines-one text (omega arith) (λ k below. c.line_len-end.ensures.before k (omega arith))
     ∙ ap (λ l. l ∷ []) (sym (take_all c.line_len-end.result text (omega arith)) ∙ sym c.split_at.ensures.front)
-    ∙ ap (λ r. c.split_at.result.0.now ∷ lines r) (sym (drop_all c.line_len-end.result text (omega arith)) ∙ sym c.split_at.ensures.back)
+    ∙ ap (λ r. c.split_at.result.0.now ∷ lines r)
+    (sym (drop_all c.line_len-end.result text (omega arith)) ∙ sym c.split_at.ensures.back)
 
 pub returns-else-end-text : goal.returns-else-end-text
 returns-else-end-text c =

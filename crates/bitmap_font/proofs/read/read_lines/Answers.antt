@@ -35,51 +35,67 @@ pub returns-in-Err-Wrong-clause-refused : goal.returns-in-Err-Wrong-clause-refus
 returns-in-Err-Wrong-clause-refused c =
     let later : 1 ≤ c.loop-text.number = omega arith in
     let IsRefusal : Result Font FontFault → Type 0 = λ outcome. IfErr outcome (IsFontFault c.args.bytes.now) in
-    let Because : LineFault → Type 0 = λ fault. IsLineFault (fault_by (past_of c.loop-text.reader) (line_of c.in-Some.text.now)) fault in
+    let Because : LineFault → Type 0 =
+    λ fault. IsLineFault (fault_by (past_of c.loop-text.reader) (line_of c.in-Some.text.now)) fault in
     let wrong = subst Because c.in-Err-Wrong.field-0-is c.in-Err-Wrong.ensures.refused in
     let answer = λ (kind : FontKind). refused_of (c.loop-text.number + 1) kind in
     subst IsRefusal (sym (c.refusal-in-Err-Wrong.ensures ∙ ap answer c.in-Err-Wrong.kind-is))
-    (IsRefused-line c.args.bytes.now c.loop-text.number c.loop-text.text-iterator c.next.new.self c.in-Some.text.now c.loop-text.reader c.loop-text.invariant c.in-Some.ensures.steps
+    (IsRefused-line c.args.bytes.now c.loop-text.number c.loop-text.text-iterator c.next.new.self c.in-Some.text.now
+    c.loop-text.reader c.loop-text.invariant c.in-Some.ensures.steps
     later c.in-Err-Wrong.kind wrong)
 
 pub returns-clause-refused : goal.returns-clause-refused
 returns-clause-refused c =
     let IsRefusal : Result Font FontFault → Type 0 = λ outcome. IfErr outcome (IsFontFault c.args.bytes.now) in
     subst IsRefusal (sym c.refusal-2.ensures)
-    (IsRefused-all c.args.bytes.now c.loop-text.number c.loop-text.text-iterator c.loop-text.reader c.loop-text.invariant c.in-None.ensures.steps.0)
+    (IsRefused-all c.args.bytes.now c.loop-text.number c.loop-text.text-iterator c.loop-text.reader
+    c.loop-text.invariant c.in-None.ensures.steps.0)
 
 pub returns-in-Ok-true-clause-font : goal.returns-in-Ok-true-clause-font
 returns-in-Ok-true-clause-font c =
     let later : 1 ≤ c.loop-text.number = omega arith in
-    let law = IsFont-end c.args.bytes.now c.loop-text.number c.loop-text.text-iterator c.next.new.self c.in-Some.text.now c.loop-text.reader c.loop-text.invariant c.in-Some.ensures.steps
-    later c.take.new.self c.in-Ok-true.ensures.reader c.in-Ok-true.ensures.right c.in-Ok-true.ensures.next (sym c.in-Ok-true.ensures.end ∙ c.in-Ok-true.field-0-test) in
-    let Made : FontValue → Type 0 = λ font. IfSome c.take.new.self.bounds (λ bounds. font ≡ font_with bounds c.take.new.self.glyphs.items) in
-    IfOk-with Made Made (IsFont c.args.bytes.now) c.finished.result c.finished.ensures.font c.finished.ensures.font (λ font made _. law.1 font made)
+    let law =
+    IsFont-end c.args.bytes.now c.loop-text.number c.loop-text.text-iterator c.next.new.self c.in-Some.text.now
+    c.loop-text.reader c.loop-text.invariant c.in-Some.ensures.steps
+    later c.take.new.self c.in-Ok-true.ensures.reader c.in-Ok-true.ensures.right c.in-Ok-true.ensures.next
+    (sym c.in-Ok-true.ensures.end ∙ c.in-Ok-true.field-0-test) in
+    let Made : FontValue
+    → Type 0 = λ font. IfSome c.take.new.self.bounds
+    (λ bounds. font ≡ font_with bounds c.take.new.self.glyphs.items) in
+    IfOk-with Made Made (IsFont c.args.bytes.now) c.finished.result c.finished.ensures.font c.finished.ensures.font
+    (λ font made _. law.1 font made)
 
 pub loop-text-preserved : goal.loop-text-preserved
 loop-text-preserved c =
     elim c.if-number-eq0.branch [
       | then-number-eq0+else-not-begins_font w ↦
           rw w.reader-is
-          (HasRead-first c.args.bytes.now c.loop-text.number c.loop-text.text-iterator c.next.new.self c.in-Some.text.now c.loop-text.reader c.loop-text.invariant c.in-Some.ensures.steps
+          (HasRead-first c.args.bytes.now c.loop-text.number c.loop-text.text-iterator c.next.new.self
+          c.in-Some.text.now c.loop-text.reader c.loop-text.invariant c.in-Some.ensures.steps
           w.if-number-eq0.true (w.begins_font.ensures.yes w.if-not-begins_font.false))
       | else-number-eq0+in-Ok-false w ↦
           let later : 1 ≤ c.loop-text.number = omega arith in
           rw w.reader-is
-          (HasRead-line c.args.bytes.now c.loop-text.number c.loop-text.text-iterator c.next.new.self c.in-Some.text.now c.loop-text.reader c.loop-text.invariant c.in-Some.ensures.steps
-          later w.take.new.self w.in-Ok-false.ensures.reader w.in-Ok-false.ensures.right w.in-Ok-false.ensures.next (sym w.in-Ok-false.ensures.end ∙ w.in-Ok-false.field-0-test))
+          (HasRead-line c.args.bytes.now c.loop-text.number c.loop-text.text-iterator c.next.new.self c.in-Some.text.now
+          c.loop-text.reader c.loop-text.invariant c.in-Some.ensures.steps
+          later w.take.new.self w.in-Ok-false.ensures.reader w.in-Ok-false.ensures.right w.in-Ok-false.ensures.next
+          (sym w.in-Ok-false.ensures.end ∙ w.in-Ok-false.field-0-test))
     ]
 
 pub returns-then-not-begins_font-clause-refused : goal.returns-then-not-begins_font-clause-refused
 returns-then-not-begins_font-clause-refused c =
     let IsRefusal : Result Font FontFault → Type 0 = λ outcome. IfErr outcome (IsFontFault c.args.bytes.now) in
     subst IsRefusal (sym c.refusal.ensures)
-    (IsRefused-first c.args.bytes.now c.loop-text.number c.loop-text.text-iterator c.next.new.self c.in-Some.text.now c.loop-text.reader c.loop-text.invariant c.in-Some.ensures.steps
+    (IsRefused-first c.args.bytes.now c.loop-text.number c.loop-text.text-iterator c.next.new.self c.in-Some.text.now
+    c.loop-text.reader c.loop-text.invariant c.in-Some.ensures.steps
     c.if-number-eq0.true (c.begins_font.ensures.no c.if-not-begins_font.true))
 
 pub finished-requires-clause-bounds : goal.finished-requires-clause-bounds
 finished-requires-clause-bounds c =
     let later : 1 ≤ c.loop-text.number = omega arith in
-    let law = IsFont-end c.args.bytes.now c.loop-text.number c.loop-text.text-iterator c.next.new.self c.in-Some.text.now c.loop-text.reader c.loop-text.invariant c.in-Some.ensures.steps
-    later c.take.new.self c.in-Ok-true.ensures.reader c.in-Ok-true.ensures.right c.in-Ok-true.ensures.next (sym c.in-Ok-true.ensures.end ∙ c.in-Ok-true.field-0-test) in
+    let law =
+    IsFont-end c.args.bytes.now c.loop-text.number c.loop-text.text-iterator c.next.new.self c.in-Some.text.now
+    c.loop-text.reader c.loop-text.invariant c.in-Some.ensures.steps
+    later c.take.new.self c.in-Ok-true.ensures.reader c.in-Ok-true.ensures.right c.in-Ok-true.ensures.next
+    (sym c.in-Ok-true.ensures.end ∙ c.in-Ok-true.field-0-test) in
     law.0

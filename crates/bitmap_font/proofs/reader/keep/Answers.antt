@@ -14,6 +14,8 @@ returns-clause-indexed c =
     let len : c.len.result ≡ length c.args.glyphs.now.items = omega arith in
     let P : List GlyphValue → Type 0 = λ glyphs. Indexes (get nat_cmp c.insert.new.self) glyphs in
     subst P (sym c.in_ok-push.ensures.items)
-    (Indexes-push (get nat_cmp c.args.places.now) (get nat_cmp c.insert.new.self) c.args.glyphs.now.items c.args.glyph c.requires.indexed c.requires.fresh
+    (Indexes-push (get nat_cmp c.args.places.now) (get nat_cmp c.insert.new.self) c.args.glyphs.now.items c.args.glyph
+    c.requires.indexed c.requires.fresh
     (ap (get nat_cmp c.insert.new.self) (sym c.character.ensures) ∙ c.in_ok-insert.ensures.updates.1 ∙ ap Some len)
-    (λ character other. c.in_ok-insert.ensures.updates.2 character (ap (λ k. is_at (nat_cmp k) character) c.character.ensures ∙ apart c.args.glyph.character character other)))
+    (λ character other. c.in_ok-insert.ensures.updates.2 character
+    (ap (λ k. is_at (nat_cmp k) character) c.character.ensures ∙ apart c.args.glyph.character character other)))

@@ -11,13 +11,19 @@ loop-out-init g c = record {
 }
 
 pub take_next-requires-clause-next : goal.take_next-requires-clause-next
-take_next-requires-clause-next g c κs within = λ ended packets given. λ stands. let next = c.in-Some.ensures.next packets ended given stands in (next.0, next.1, next.2)
+take_next-requires-clause-next g c κs within =
+    λ ended packets given. λ stands. let next = c.in-Some.ensures.next packets ended given stands in
+    (next.0, next.1, next.2)
 
 pub loop-out-preserved : goal.loop-out-preserved
 loop-out-preserved g c = record {
-  sets = taken_both _ _ _ c.args.receiver.now c.loop-out.receiver c.take_next.new.receiver c.args.levels.now c.loop-out.levels c.take_next.new.levels c.args.buffer.now c.loop-out.buffer c.take_next.new.buffer
+  sets =
+      taken_both _ _ _ c.args.receiver.now c.loop-out.receiver c.take_next.new.receiver c.args.levels.now
+      c.loop-out.levels c.take_next.new.levels c.args.buffer.now c.loop-out.buffer c.take_next.new.buffer
       c.loop-out.invariant.sets c.take_next.ensures.sets;
-  same = same_both c.args.receiver.now c.loop-out.receiver c.take_next.new.receiver c.loop-out.invariant.same c.take_next.ensures.same;
+  same =
+      same_both c.args.receiver.now c.loop-out.receiver c.take_next.new.receiver c.loop-out.invariant.same
+      c.take_next.ensures.same;
   next = c.take_next.ensures.next ∙ c.loop-out.invariant.next;
 }
 

@@ -26,5 +26,8 @@ returns-clause-err c =
     let parse = c.try_get_matches_from in
     let texts = map (λ text. text.now) c.args.texts.now in
     let is : app_of c.in_ok-command.command ≡ one_argument = search rules in
-    let fits : length texts ≤ usize_max = rw (length-map c.args.texts.now (λ (text : Bor (List ℕ)). text.now)) c.requires.fits in
-    IfErr-weaker parse.result _ _ (λ e h. h (ap (λ (a : App). takes a texts) is ∙ words_pass texts fits c.requires.plain)) parse.ensures.passes
+    let fits : length texts ≤ usize_max =
+    rw (length-map c.args.texts.now (λ (text : Bor (List ℕ)). text.now)) c.requires.fits in
+    IfErr-weaker parse.result _ _
+    (λ e h. h (ap (λ (a : App). takes a texts) is ∙ words_pass texts fits c.requires.plain))
+    parse.ensures.passes

@@ -18,11 +18,15 @@ loop-rest-preserved g c =
     let count = c.first_run-count.result in
     let some : 1 ≤ length rest = is_some (length rest) (sym c.is_empty.ensures ∙ c.loop-rest-test.true) in
     record {
-      puts = PutsRow-step _ _ _ c.args.buffer.now c.loop-rest.buffer c.put.new.buffer c.args.row.now rest c.after-rest.result.now count c.as_bytes.result.now c.loop-rest.invariant.puts
-          some c.first_run-count.ensures.within c.first_run-count.ensures.run (c.as_bytes.ensures ∙ c.run_line-line.ensures.line) c.put.ensures c.after-rest.ensures;
+      puts =
+          PutsRow-step _ _ _ c.args.buffer.now c.loop-rest.buffer c.put.new.buffer c.args.row.now rest
+          c.after-rest.result.now count c.as_bytes.result.now c.loop-rest.invariant.puts
+          some c.first_run-count.ensures.within c.first_run-count.ensures.run
+          (c.as_bytes.ensures ∙ c.run_line-line.ensures.line) c.put.ensures c.after-rest.ensures;
     }
 
 pub returns : goal.returns
 returns g c =
     PutsRow-all _ _ c.args.buffer.now c.loop-rest.buffer c.args.row.now c.loop-rest.rest.now c.requires.wide
-    (is_none (length c.loop-rest.rest.now) (sym c.is_empty.ensures ∙ c.loop-rest-test.false)) c.loop-rest.invariant.puts
+    (is_none (length c.loop-rest.rest.now) (sym c.is_empty.ensures ∙ c.loop-rest-test.false))
+    c.loop-rest.invariant.puts

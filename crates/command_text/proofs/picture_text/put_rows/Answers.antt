@@ -6,4 +6,5 @@ row_at-requires g c = row_within c.args.width c.args.height c.loop-y.y _ c.loop-
 
 pub loop-y-preserved : goal.loop-y-preserved
 loop-y-preserved g c =
-    rows_more _ _ _ c.args.buffer.now c.loop-y.buffer c.put_row.new.buffer c.args.width c.loop-y.y c.args.plane.now c.row_at.result.now c.loop-y.invariant c.row_at.ensures.row c.put_row.ensures
+    rows_more _ _ _ c.args.buffer.now c.loop-y.buffer c.put_row.new.buffer c.args.width c.loop-y.y c.args.plane.now
+    c.row_at.result.now c.loop-y.invariant c.row_at.ensures.row c.put_row.ensures

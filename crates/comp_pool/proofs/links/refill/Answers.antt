@@ -9,7 +9,8 @@ returns-clause-forward c k short =
     let within : k < length N = omega (arith, short) in
     free_forward c.args.count c.write_free.new.nexts k (c.write_free.ensures.forward k)
     (λ above. c.write_free.ensures.forward_rest k above ∙ (c.close_lists.ensures k (omega (arith, above)) within
-    (each_end c.args.count N c.args.backs.now (lists_of c.args.count N) c.requires.linked k (omega (arith, above)) within)).0)
+    (each_end c.args.count N c.args.backs.now (lists_of c.args.count N) c.requires.linked k (omega (arith, above))
+    within)).0)
 
 pub returns-clause-backward : goal.returns-clause-backward
 returns-clause-backward c k short =
@@ -17,4 +18,5 @@ returns-clause-backward c k short =
     let within : k < length N = omega (arith, short, c.requires.linked.both) in
     free_backward c.args.count c.write_free.new.backs k (c.write_free.ensures.backward k)
     (λ above. c.write_free.ensures.backward_rest k above ∙ (c.close_lists.ensures k (omega (arith, above)) within
-    (each_end c.args.count N c.args.backs.now (lists_of c.args.count N) c.requires.linked k (omega (arith, above)) within)).1)
+    (each_end c.args.count N c.args.backs.now (lists_of c.args.count N) c.requires.linked k (omega (arith, above))
+    within)).1)

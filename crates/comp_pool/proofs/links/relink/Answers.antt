@@ -8,16 +8,30 @@ use Rattle.comp_pool.proofs.links.relink.Goals as goal
 
 pub bounds-backs-place : goal.bounds-backs-place
 bounds-backs-place c =
-    omega (arith, c.requires.linked.both, c.requires.linked.ends, node_of c.args.count c.args.nexts.now c.args.backs.now (lists_of c.args.count c.args.nexts.now) c.requires.linked c.args.node c.args.from c.requires.from c.requires.listed)
+    omega (
+      arith,
+      c.requires.linked.both,
+      c.requires.linked.ends,
+      node_of c.args.count c.args.nexts.now c.args.backs.now
+          (lists_of c.args.count c.args.nexts.now) c.requires.linked c.args.node c.args.from c.requires.from
+          c.requires.listed,
+    )
 
 pub bounds-nexts-place : goal.bounds-nexts-place
 bounds-nexts-place c =
-    omega (arith, c.requires.linked.ends, node_of c.args.count c.args.nexts.now c.args.backs.now (lists_of c.args.count c.args.nexts.now) c.requires.linked c.args.node c.args.from c.requires.from c.requires.listed)
+    omega (
+      arith,
+      c.requires.linked.ends,
+      node_of c.args.count c.args.nexts.now c.args.backs.now
+          (lists_of c.args.count c.args.nexts.now) c.requires.linked c.args.node c.args.from c.requires.from
+          c.requires.listed,
+    )
 
 pub join-requires-clause-forward : goal.join-requires-clause-forward
 join-requires-clause-forward c =
     let lists = lists_of c.args.count c.args.nexts.now in
-    p_below c.args.count c.args.nexts.now c.args.backs.now lists c.requires.linked c.args.node c.args.from c.requires.from
+    p_below c.args.count c.args.nexts.now c.args.backs.now lists c.requires.linked c.args.node c.args.from
+    c.requires.from
     (Split-from_Contains c.args.node (list_at lists c.args.from) c.requires.listed)
 
 pub join-requires-clause-backward : goal.join-requires-clause-backward
@@ -26,14 +40,17 @@ join-requires-clause-backward c =
     omega (
       arith,
       c.requires.linked.both,
-      q_below c.args.count c.args.nexts.now c.args.backs.now lists c.requires.linked c.args.node c.args.from c.requires.from
+      q_below c.args.count c.args.nexts.now c.args.backs.now lists c.requires.linked c.args.node c.args.from
+          c.requires.from
           (Split-from_Contains c.args.node (list_at lists c.args.from) c.requires.listed),
     )
 
 pub join-requires-2-clause-forward : goal.join-requires-2-clause-forward
 join-requires-2-clause-forward c =
     let lists = lists_of c.args.count c.args.nexts.now in
-    let out = detached c.args.count c.args.nexts.now c.args.backs.now lists c.requires.linked c.args.node c.args.from c.requires.from
+    let out =
+    detached c.args.count c.args.nexts.now c.args.backs.now lists c.requires.linked c.args.node c.args.from
+    c.requires.from
     (Split-from_Contains c.args.node (list_at lists c.args.from) c.requires.listed) in
     let short : c.args.to < length (set lists c.args.from (dropping c.args.node (list_at lists c.args.from))) =
     omega (arith, c.requires.to, length-set lists c.args.from (dropping c.args.node (list_at lists c.args.from))) in
@@ -41,18 +58,40 @@ join-requires-2-clause-forward c =
 
 pub join-requires-2-clause-backward : goal.join-requires-2-clause-backward
 join-requires-2-clause-backward c =
-    omega (arith, c.requires.linked.both, c.requires.linked.ends, node_of c.args.count c.args.nexts.now c.args.backs.now (lists_of c.args.count c.args.nexts.now) c.requires.linked c.args.node c.args.from c.requires.from c.requires.listed)
+    omega (
+      arith,
+      c.requires.linked.both,
+      c.requires.linked.ends,
+      node_of c.args.count c.args.nexts.now c.args.backs.now
+          (lists_of c.args.count c.args.nexts.now) c.requires.linked c.args.node c.args.from c.requires.from
+          c.requires.listed,
+    )
 
 pub join-requires-3-clause-forward : goal.join-requires-3-clause-forward
 join-requires-3-clause-forward c =
-    omega (arith, c.requires.linked.ends, node_of c.args.count c.args.nexts.now c.args.backs.now (lists_of c.args.count c.args.nexts.now) c.requires.linked c.args.node c.args.from c.requires.from c.requires.listed)
+    omega (
+      arith,
+      c.requires.linked.ends,
+      node_of c.args.count c.args.nexts.now c.args.backs.now
+          (lists_of c.args.count c.args.nexts.now) c.requires.linked c.args.node c.args.from c.requires.from
+          c.requires.listed,
+    )
 
 pub returns : goal.returns
 returns c =
     let lists = lists_of c.args.count c.args.nexts.now in
-    let out = detached c.args.count c.args.nexts.now c.args.backs.now lists c.requires.linked c.args.node c.args.from c.requires.from
+    let out =
+    detached c.args.count c.args.nexts.now c.args.backs.now lists c.requires.linked c.args.node c.args.from
+    c.requires.from
     (Split-from_Contains c.args.node (list_at lists c.args.from) c.requires.listed) in
     let short : c.args.to < length (set lists c.args.from (dropping c.args.node (list_at lists c.args.from))) =
     omega (arith, c.requires.to, length-set lists c.args.from (dropping c.args.node (list_at lists c.args.from))) in
-    rw (c.join-3.ensures.forward, c.join-3.ensures.backward, c.join-2.ensures.forward, c.join-2.ensures.backward, c.join.ensures.forward, c.join.ensures.backward)
+    rw (
+      c.join-3.ensures.forward,
+      c.join-3.ensures.backward,
+      c.join-2.ensures.forward,
+      c.join-2.ensures.backward,
+      c.join.ensures.forward,
+      c.join.ensures.backward,
+    )
     (attached _ _ _ _ _ out c.args.to short)

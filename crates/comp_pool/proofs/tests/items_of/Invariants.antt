@@ -6,7 +6,8 @@ use Rattle.comp_pool.proofs.tests.items_of.Given as goal
 
 abbrev pub invariant-loop-place : goal.invariant-loop-place
 invariant-loop-place l = record {
-  so_far : l.items.items ++ map (λ p. p.1) (rest_from l.place (list_of l.pool l.list)) ≡ map (λ p. p.1) (list_of l.pool l.list);
+  so_far : l.items.items
+      ++ map (λ p. p.1) (rest_from l.place (list_of l.pool l.list)) ≡ map (λ p. p.1) (list_of l.pool l.list);
   listed : ForSome l.place (λ node. IsInList l.pool l.list node);
 }
 

@@ -13,14 +13,17 @@ few Eight = omega arith
 
 pub loop-code-preserved : goal.loop-code-preserved
 loop-code-preserved c =
-    let inside : c.from.result < length c.loop-code.entries = omega (arith, c.loop-code.invariant.full, few c.args.depth) in
+    let inside : c.from.result < length c.loop-code.entries =
+    omega (arith, c.loop-code.invariant.full, few c.args.depth) in
     record {
       full = length-set c.loop-code.entries c.from.result c.default_colour.result ∙ c.loop-code.invariant.full;
       defaults = below_more _ _
           (λ entry below.
           let other : entry ≢ c.from.result = omega arith in
-          get_or-set_other c.loop-code.entries c.from.result entry c.default_colour.result clear other ∙ c.loop-code.invariant.defaults entry below)
-          (ap (λ (k : ℕ). get_or (set c.loop-code.entries c.from.result c.default_colour.result) k clear) (sym c.from.ensures)
+          get_or-set_other c.loop-code.entries c.from.result entry c.default_colour.result clear other
+          ∙ c.loop-code.invariant.defaults entry below)
+          (ap (λ (k : ℕ). get_or (set c.loop-code.entries c.from.result c.default_colour.result) k clear)
+          (sym c.from.ensures)
           ∙ get_or-set_same c.loop-code.entries c.from.result c.default_colour.result clear inside
           ∙ c.default_colour.ensures);
     }

@@ -5,4 +5,5 @@ use Rattle.cue_list.proofs.painting.entries_at.Given as goal
 
 abbrev pub invariant-loop-row : goal.invariant-loop-row
 invariant-loop-row l = (entry : ℕ) → entry < code_count l.depth →
-    IsEntryAfter l.clut l.depth l.tick entry (take l.row-index l.colours) (colour_of l.entries entry) (get_or l.ticks entry 0)
+    IsEntryAfter l.clut l.depth l.tick entry (take l.row-index l.colours) (colour_of l.entries entry)
+    (get_or l.ticks entry 0)

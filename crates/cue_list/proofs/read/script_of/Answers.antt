@@ -12,25 +12,35 @@ of-both P x y v w first second holds = rw (first, second) holds
 
 pub overflow_mul-refresh : goal.overflow_mul-refresh
 overflow_mul-refresh c =
-    let few = few-seconds _ _ _ _ _ _ (IsSound-read c.args.bytes.now c.args.font.now [] c.in_ok-reader.reader c.in_ok-reader.ensures.read c.in_ok-reader.ensures.epoch) in
+    let few =
+    few-seconds _ _ _ _ _ _
+    (IsSound-read c.args.bytes.now c.args.font.now [] c.in_ok-reader.reader c.in_ok-reader.ensures.read
+    c.in_ok-reader.ensures.epoch) in
     omega (arith, few)
 
 pub invariant_of-result : goal.invariant_of-result
 invariant_of-result c =
     let reader = c.in_ok-reader.reader in
     let sound : IsSound reader.origin reader.width reader.height (90000 * reader.seconds) c.new.result c.new-2.result =
-    of-both (IsSound reader.origin reader.width reader.height (90000 * reader.seconds)) (with_last reader.ended.items reader.epoch) c.new.result reader.pictures.items c.new-2.result (c.new.ensures ∙ c.in_ok-epochs.ensures.epochs) c.new-2.ensures
-    (IsSound-read c.args.bytes.now c.args.font.now [] reader c.in_ok-reader.ensures.read c.in_ok-reader.ensures.epoch) in
+    of-both (IsSound reader.origin reader.width reader.height (90000 * reader.seconds))
+    (with_last reader.ended.items reader.epoch) c.new.result reader.pictures.items c.new-2.result
+    (c.new.ensures ∙ c.in_ok-epochs.ensures.epochs) c.new-2.ensures
+    (IsSound-read c.args.bytes.now c.args.font.now [] reader c.in_ok-reader.ensures.read c.in_ok-reader.ensures.epoch)
+    in
     record { sound = grind (arith, common_steps) }
 
 pub returns-clause-script : goal.returns-clause-script
 returns-clause-script c =
     let reader = c.in_ok-reader.reader in
-    of-both (IsScript c.args.bytes.now c.args.font.now reader.origin reader.width reader.height (90000 * reader.seconds)) (with_last reader.ended.items reader.epoch) c.new.result reader.pictures.items c.new-2.result (c.new.ensures ∙ c.in_ok-epochs.ensures.epochs) c.new-2.ensures
+    of-both (IsScript c.args.bytes.now c.args.font.now reader.origin reader.width reader.height
+    (90000 * reader.seconds)) (with_last reader.ended.items reader.epoch) c.new.result reader.pictures.items
+    c.new-2.result (c.new.ensures ∙ c.in_ok-epochs.ensures.epochs) c.new-2.ensures
     (IsScript-read c.args.bytes.now c.args.font.now reader c.in_ok-reader.ensures.read c.in_ok-reader.ensures.epoch)
 
 pub returns-clause-sound : goal.returns-clause-sound
 returns-clause-sound c =
     let reader = c.in_ok-reader.reader in
-    of-both (IsSound reader.origin reader.width reader.height (90000 * reader.seconds)) (with_last reader.ended.items reader.epoch) c.new.result reader.pictures.items c.new-2.result (c.new.ensures ∙ c.in_ok-epochs.ensures.epochs) c.new-2.ensures
+    of-both (IsSound reader.origin reader.width reader.height (90000 * reader.seconds))
+    (with_last reader.ended.items reader.epoch) c.new.result reader.pictures.items c.new-2.result
+    (c.new.ensures ∙ c.in_ok-epochs.ensures.epochs) c.new-2.ensures
     (IsSound-read c.args.bytes.now c.args.font.now [] reader c.in_ok-reader.ensures.read c.in_ok-reader.ensures.epoch)

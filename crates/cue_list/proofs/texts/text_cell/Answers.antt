@@ -7,4 +7,6 @@ use Rattle.cue_list.proofs.texts.text_cell.Goals as goal
 
 pub unreachable-requires : goal.unreachable-requires
 unreachable-requires c =
-    c.in-Err.ensures.cases.0 (IsUtf8-from_is_utf8 _ (ap is_utf8 c.cell.ensures ∙ is_utf8-cell (fields_of c.args.row.now) c.args.place c.requires))
+    c.in-Err.ensures.cases.0
+    (IsUtf8-from_is_utf8 _
+    (ap is_utf8 c.cell.ensures ∙ is_utf8-cell (fields_of c.args.row.now) c.args.place c.requires))

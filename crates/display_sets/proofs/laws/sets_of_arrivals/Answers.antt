@@ -6,4 +6,6 @@ use Rattle.display_sets.proofs.laws.sets_of_arrivals.Goals as goal
 
 pub returns : goal.returns
 returns c = λ coded. λ pid. λ pages. λ ended. λ packets. λ taken.
-    sets_of_packets coded pid pages ended packets ∙ ap (λ all. sets_in coded all (runs_of (arrivals_of coded pid pages packets))) (ended_packets ended pid packets taken)
+    sets_of_packets coded pid pages ended packets
+    ∙ ap (λ all. sets_in coded all (runs_of (arrivals_of coded pid pages packets)))
+    (ended_packets ended pid packets taken)

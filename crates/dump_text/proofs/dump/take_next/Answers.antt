@@ -5,6 +5,8 @@ use Rattle.dump_text.proofs.dump.take_next.Goals as goal
 pub returns-clause-dumps : goal.returns-clause-dumps
 returns-clause-dumps g c =
     dumps_by c.args.receiver.now c.take.new.self c.args.ticks.now c.args.told c.ready_at-time.result c.requires.next
-    (λ packets ended given rest next past one is are read. c.ready_at-time.ensures.next packets ended given rest next past one is are read)
+    (λ packets ended given rest next past one is are read. c.ready_at-time.ensures.next packets ended given rest next
+    past one is are read)
     (λ ended packets given rest delivery is. c.take.ensures.stands ended packets given rest delivery is)
-    c.take.ensures.same.core c.requires.within _ _ c.args.buffer.now c.put_settled-told.new.buffer c.put_settled-told.result c.ready_at-time.result refl c.put_settled-told.ensures.settles
+    c.take.ensures.same.core c.requires.within _ _ c.args.buffer.now c.put_settled-told.new.buffer
+    c.put_settled-told.result c.ready_at-time.result refl c.put_settled-told.ensures.settles

@@ -11,14 +11,21 @@ loop-out-init g c = record {
 }
 
 pub take_next-told-requires-clause-next : goal.take_next-told-requires-clause-next
-take_next-told-requires-clause-next g c = λ _ _. λ ended packets given. λ stands. let next = c.in-Some.ensures.next packets ended given stands in (next.0, next.1, next.2)
+take_next-told-requires-clause-next g c =
+    λ _ _. λ ended packets given. λ stands. let next = c.in-Some.ensures.next packets ended given stands in
+    (next.0, next.1, next.2)
 
 pub loop-out-preserved : goal.loop-out-preserved
 loop-out-preserved g c = record {
-  dumps = dumps_both _ _ _ c.args.receiver.now c.loop-out.receiver c.take_next-told.new.receiver c.args.ticks.now c.args.told c.loop-out.told c.take_next-told.result c.args.buffer.now c.loop-out.buffer c.take_next-told.new.buffer
+  dumps =
+      dumps_both _ _ _ c.args.receiver.now c.loop-out.receiver c.take_next-told.new.receiver c.args.ticks.now
+      c.args.told c.loop-out.told c.take_next-told.result c.args.buffer.now c.loop-out.buffer
+      c.take_next-told.new.buffer
       c.loop-out.invariant.dumps c.take_next-told.ensures.dumps;
   within = c.take_next-told.ensures.within;
-  same = same_both c.args.receiver.now c.loop-out.receiver c.take_next-told.new.receiver c.loop-out.invariant.same c.take_next-told.ensures.same;
+  same =
+      same_both c.args.receiver.now c.loop-out.receiver c.take_next-told.new.receiver c.loop-out.invariant.same
+      c.take_next-told.ensures.same;
 }
 
 pub returns-clause-all : goal.returns-clause-all

@@ -2,8 +2,8 @@ use Rattle.std.proofs.Common.{◌∙◌, List, reverse, refl, sym, ap}
 use Rattle.decoder_model.specs.Readings.{Reading}
 use Rattle.decoder_model.specs.Sets.{Delivery, sets_of}
 use Rattle.decoder_model.specs.Shown.{view_at}
-use Rattle.readings.proofs.OneReading.{same_past}
-use Rattle.readings.proofs.PacketsRead.{packets_read}
+use Rattle.reading_laws.proofs.OneReading.{same_past}
+use Rattle.reading_laws.proofs.PacketsRead.{packets_read}
 use Rattle.dump_text.proofs.laws.packets_are_shown.Goals as goal
 
 pub returns-clause-some : goal.returns-clause-some
@@ -13,4 +13,7 @@ returns-clause-some c profile pid pages anchor ended packets tick bytes =
 
 pub returns-clause-one : goal.returns-clause-one
 returns-clause-one c profile pid pages anchor ended packets tick shown other is too =
-    is.is_view ∙ ap (λ (past : List (Delivery Reading)). view_at profile anchor tick past) (same_past (reverse (sets_of profile.coded pid pages ended packets)) is.past too.past is.received too.received) ∙ sym too.is_view
+    is.is_view
+    ∙ ap (λ (past : List (Delivery Reading)). view_at profile anchor tick past)
+    (same_past (reverse (sets_of profile.coded pid pages ended packets)) is.past too.past is.received too.received)
+    ∙ sym too.is_view

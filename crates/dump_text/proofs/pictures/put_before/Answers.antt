@@ -9,27 +9,34 @@ loop-place-init g c = record {
   next = omega arith;
   within = c.requires.within;
   before = λ k from less. absurd (omega arith);
-  puts = puts_none c.args.receiver.now (g.K.Sink.received c.args.out.now) c.args.buffer.now c.args.ticks.now c.args.first;
+  puts =
+      puts_none c.args.receiver.now (g.K.Sink.received c.args.out.now) c.args.buffer.now c.args.ticks.now c.args.first;
 }
 
 pub returns-then-ticks-place-clause-from : goal.returns-then-ticks-place-clause-from
 returns-then-ticks-place-clause-from g c =
-    let at : c.args.end ≤ get_or c.args.ticks.now c.loop-place.place 0 = grind (arith, nat_tests, c.if-ticks-place.true) in
+    let at : c.args.end ≤ get_or c.args.ticks.now c.loop-place.place 0 =
+    grind (arith, nat_tests, c.if-ticks-place.true) in
     from_the_first c.args.ticks.now c.args.end c.loop-place.place c.requires.rising at
 
 pub loop-place-preserved : goal.loop-place-preserved
 loop-place-preserved g c =
-    let at : get_or c.args.ticks.now c.loop-place.place 0 < c.args.end = grind (arith, nat_tests, c.if-ticks-place.false) in
+    let at : get_or c.args.ticks.now c.loop-place.place 0 < c.args.end =
+    grind (arith, nat_tests, c.if-ticks-place.false) in
     record {
       next = omega (arith, c.loop-place.invariant.next);
       within = omega (arith, c.loop-place-test.true);
       before = before_more c.args.ticks.now c.args.end c.args.first c.loop-place.place c.loop-place.invariant.before at;
-      puts = puts_more c.args.receiver.now _ _ _ c.args.buffer.now c.loop-place.buffer c.put_shown.new.buffer c.args.ticks.now c.args.first c.loop-place.place
+      puts =
+          puts_more c.args.receiver.now _ _ _ c.args.buffer.now c.loop-place.buffer c.put_shown.new.buffer
+          c.args.ticks.now c.args.first c.loop-place.place
           c.loop-place.invariant.next c.loop-place-test.true c.loop-place.invariant.puts c.put_shown.ensures;
     }
 
 pub returns-clause-puts : goal.returns-clause-puts
 returns-clause-puts g c =
-    let last : c.loop-place.place ≡ length c.args.ticks.now = omega (arith, c.loop-place.invariant.within, c.loop-place-test.false) in
-    subst (PutsBetween c.args.receiver.now (g.K.Sink.received c.args.out.now) (g.K.Sink.received c.loop-place.out) c.args.buffer.now c.loop-place.buffer c.args.ticks.now c.args.first) last
+    let last : c.loop-place.place ≡ length c.args.ticks.now =
+    omega (arith, c.loop-place.invariant.within, c.loop-place-test.false) in
+    subst (PutsBetween c.args.receiver.now (g.K.Sink.received c.args.out.now) (g.K.Sink.received c.loop-place.out)
+    c.args.buffer.now c.loop-place.buffer c.args.ticks.now c.args.first) last
     c.loop-place.invariant.puts

@@ -9,5 +9,6 @@ returns c =
     let text : List ℕ = expect_text c.args.script.now c.args.ticks.now in
     let well = sym c.has_failed.ensures ∙ c.if-has_failed.false in
     let whole : c.flush.new.sink.written ≡ c.make-texts.result.written ++ text =
-    written_whole _ _ _ c.in_ok-buffer.buffer c.put_pictures.new.buffer c.flush.new.buffer text c.in_ok-buffer.ensures c.put_pictures.ensures c.flush.ensures.puts well (c.flush.ensures.empty well) in
+    written_whole _ _ _ c.in_ok-buffer.buffer c.put_pictures.new.buffer c.flush.new.buffer text c.in_ok-buffer.ensures
+    c.put_pictures.ensures c.flush.ensures.puts well (c.flush.ensures.empty well) in
     whole ∙ ap (λ (store : Store). store.written ++ text) c.make-texts.ensures

@@ -5,7 +5,8 @@ use Rattle.sub_base.specs.Endpoints.{Received}
 use Rattle.dvbsub_cmd.proofs.gen_text.put_told.Goals as goal
 
 -- what was put out is this text
-put_as : (before now : Received) (old new : Buffered) (text other : List ℕ) → text ≡ other → PutsOut before now old new text
+put_as : (before now : Received) (old new : Buffered) (text other : List ℕ) → text ≡ other
+    → PutsOut before now old new text
     → PutsOut before now old new other
 put_as before now old new text other same put = subst (PutsOut before now old new) same put
 

@@ -22,17 +22,23 @@ returns-in-Ok c =
 
 pub unreachable-requires : goal.unreachable-requires
 unreachable-requires c =
-    let refused = of_plan c.args.profile generated_pid generated_page c.in_ok-script.script (Some c.make-stream.result.written) (Some c.send.new.out.written)
+    let refused =
+    of_plan c.args.profile generated_pid generated_page c.in_ok-script.script (Some c.make-stream.result.written)
+    (Some c.send.new.out.written)
     c.make-stream.result.faults c.send.new.out.faults c.in-Err-Plan.field-0-0
     c.in-Err-Plan.field-0 c.in-Err-Plan.field-0-is c.in-Err-Plan.ensures.refused in
-    (never_refused c.args.number c.args.profile c.in_ok-script.script c.requires.profile c.in_ok-script.ensures.made).has_plan
+    (never_refused c.args.number c.args.profile c.in_ok-script.script c.requires.profile
+    c.in_ok-script.ensures.made).has_plan
     c.in-Err-Plan.field-0-0 refused.0
 
 pub unreachable-requires-in-Err-Schedule : goal.unreachable-requires-in-Err-Schedule
 unreachable-requires-in-Err-Schedule c =
-    let refused = of_schedule c.args.profile generated_pid generated_page c.in_ok-script.script (Some c.make-stream.result.written) (Some c.send.new.out.written)
+    let refused =
+    of_schedule c.args.profile generated_pid generated_page c.in_ok-script.script
+    (Some c.make-stream.result.written) (Some c.send.new.out.written)
     c.make-stream.result.faults c.send.new.out.faults
     c.in-Err-Schedule.field-0-0 c.in-Err-Schedule.field-0-1 c.in-Err-Schedule.field-0 c.in-Err-Schedule.field-0-is
     c.in-Err-Schedule.ensures.refused in
-    (never_refused c.args.number c.args.profile c.in_ok-script.script c.requires.profile c.in_ok-script.ensures.made).has_schedule
+    (never_refused c.args.number c.args.profile c.in_ok-script.script c.requires.profile
+    c.in_ok-script.ensures.made).has_schedule
     c.in-Err-Schedule.field-0-0 c.in-Err-Schedule.field-0-1 refused.0

@@ -4,7 +4,9 @@ use Rattle.dvbsub_cmd.specs.Command.{command_of}
 use Rattle.dvbsub_cmd.proofs.top_call.top.Goals as goal
 
 pub returns-clause-complete : goal.returns-clause-complete
-returns-clause-complete g c = complete c.args.words.now _ _ _ _ _ (c.run-status.result, c.run-status.ensures.cause, c.tell.ensures)
+returns-clause-complete g c =
+    complete c.args.words.now _ _ _ _ _ (c.run-status.result, c.run-status.ensures.cause, c.tell.ensures)
 
 pub returns-clause-shown : goal.returns-clause-shown
-returns-clause-shown g c = shown_as_told (command_of c.args.words.now) _ _ _ _ c.run-status.result _ c.run-status.ensures.shown c.tell.ensures
+returns-clause-shown g c =
+    shown_as_told (command_of c.args.words.now) _ _ _ _ c.run-status.result _ c.run-status.ensures.shown c.tell.ensures

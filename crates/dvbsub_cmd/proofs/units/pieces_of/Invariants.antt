@@ -6,6 +6,7 @@ use Rattle.dvbsub_cmd.proofs.units.pieces_of.Given as goal
 
 abbrev pub invariant-loop-i : goal.invariant-loop-i
 invariant-loop-i l = record {
-  pieces : (units : List (List (List ℕ))) → AreCut l.loads l.written units → l.pieces.items ≡ all_pieces (all_units (take l.i units));
+  pieces : (units : List (List (List ℕ))) → AreCut l.loads l.written units
+      → l.pieces.items ≡ all_pieces (all_units (take l.i units));
   each : All IsPiece l.pieces.items;
 }

@@ -9,8 +9,12 @@ use Rattle.generated_script.proofs.script.generate.Goals as goal
 
 pub invariant_of-result : goal.invariant_of-result
 invariant_of-result c =
-    let epochs : AllZip (IsGeneratedEpoch c.args.number) (range_with_len 0 ((c.args.number + 15) / 16)) c.new.result = subst (λ (es : List Epoch). AllZip (IsGeneratedEpoch c.args.number) (range_with_len 0 ((c.args.number + 15) / 16)) es) (sym c.new.ensures) c.in_ok-epochs.ensures in
-    let made : IsSound 0 320 180 450000 c.new.result c.new-2.result = sound c.args.number c.new.result c.new-2.result c.requires.some c.requires.few epochs (c.new-2.ensures ∙ c.in_ok-pictures.ensures) in
+    let epochs : AllZip (IsGeneratedEpoch c.args.number) (range_with_len 0 ((c.args.number + 15) / 16)) c.new.result =
+    subst (λ (es : List Epoch). AllZip (IsGeneratedEpoch c.args.number)
+    (range_with_len 0 ((c.args.number + 15) / 16)) es) (sym c.new.ensures) c.in_ok-epochs.ensures in
+    let made : IsSound 0 320 180 450000 c.new.result c.new-2.result =
+    sound c.args.number c.new.result c.new-2.result c.requires.some c.requires.few epochs
+    (c.new-2.ensures ∙ c.in_ok-pictures.ensures) in
     record { sound = grind (arith, common_steps) }
 
 pub returns : goal.returns
@@ -20,7 +24,9 @@ returns c = record {
     width = refl;
     height = refl;
     refresh = refl;
-    epochs = subst (λ (es : List Epoch). AllZip (IsGeneratedEpoch c.args.number) (range_with_len 0 ((c.args.number + 15) / 16)) es) (sym c.new.ensures) c.in_ok-epochs.ensures;
+    epochs =
+        subst (λ (es : List Epoch). AllZip (IsGeneratedEpoch c.args.number)
+        (range_with_len 0 ((c.args.number + 15) / 16)) es) (sym c.new.ensures) c.in_ok-epochs.ensures;
     pictures = c.new-2.ensures ∙ c.in_ok-pictures.ensures;
   };
 }

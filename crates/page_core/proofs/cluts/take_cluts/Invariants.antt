@@ -1,7 +1,7 @@
 -- The CLUT segments so far are taken.
 use Rattle.std.proofs.Common.{length}
 use Rattle.page_core.specs.Private.ClutSteps.{AreColoured, IsKeptBeside}
-use Rattle.page_core.proofs.ClutSegments.{IsTakingAny}
+use Rattle.page_core.proofs.ColourTables.ClutSegments.{IsTakingAny}
 use Rattle.page_core.proofs.cluts.take_cluts.Given as goal
 
 abbrev pub invariant-loop-next : goal.invariant-loop-next

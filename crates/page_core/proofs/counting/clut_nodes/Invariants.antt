@@ -1,7 +1,7 @@
 -- The CLUT segments so far are counted.
 use Rattle.std.proofs.Common.{◌≡◌, length, map}
 use Rattle.page_core.specs.Private.Marks.{uncounted}
-use Rattle.page_core.proofs.ClutCounts.{IsCountingAny}
+use Rattle.page_core.proofs.Counts.ClutCounts.{IsCountingAny}
 use Rattle.page_core.proofs.counting.clut_nodes.Given as goal
 
 abbrev pub invariant-loop-next : goal.invariant-loop-next

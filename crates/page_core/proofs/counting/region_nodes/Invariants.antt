@@ -1,6 +1,6 @@
 -- The regions so far are counted.
 use Rattle.std.proofs.Common.{length}
-use Rattle.page_core.proofs.RegionWalks.{IsCountingAny}
+use Rattle.page_core.proofs.Counts.RegionWalks.{IsCountingAny}
 use Rattle.page_core.proofs.counting.region_nodes.Given as goal
 
 abbrev pub invariant-loop-next : goal.invariant-loop-next

@@ -3,7 +3,7 @@ use Rattle.std.proofs.Common.{ℕ, ◌∙◌, sym, subst, take, arith}
 use Rattle.segments.specs.Framing.{IsFrameOf}
 use Rattle.segments.proofs.Framing.{frame_is, alone}
 use Rattle.segments.proofs.Shapes.{AreBytes}
-use Rattle.page_core.proofs.Fronts.{taken_front}
+use Rattle.page_core.proofs.Sets.Fronts.{taken_front}
 use Rattle.page_core.proofs.front.cut_front.Goals as goal
 
 pub returns-clause-cut : goal.returns-clause-cut

@@ -1,7 +1,7 @@
 -- The reading of a frame by what its reader says of all values and faults.
 use Rattle.std.proofs.Common.{arith}
 use Rattle.segments.proofs.Framing.{body_size}
-use Rattle.page_core.proofs.Fronts.{matches_result, right_result}
+use Rattle.page_core.proofs.Sets.Fronts.{matches_result, right_result}
 use Rattle.page_core.proofs.front.read_one.Goals as goal
 
 pub segment-requires : goal.segment-requires
@@ -12,7 +12,9 @@ segment-requires c =
 
 pub returns-clause-matches : goal.returns-clause-matches
 returns-clause-matches c segment reading framed is_reading =
-    matches_result segment c.args.frame.now.whole _ reading (c.segment.ensures.every_segment segment framed) (c.segment.ensures.every_fault segment framed) is_reading
+    matches_result segment c.args.frame.now.whole _ reading (c.segment.ensures.every_segment segment framed)
+    (c.segment.ensures.every_fault segment framed) is_reading
 
 pub returns-clause-right : goal.returns-clause-right
-returns-clause-right c = right_result c.requires.0 c.args.frame.now.whole _ (c.segment.ensures.segment c.requires.0 c.requires.1)
+returns-clause-right c =
+    right_result c.requires.0 c.args.frame.now.whole _ (c.segment.ensures.segment c.requires.0 c.requires.1)

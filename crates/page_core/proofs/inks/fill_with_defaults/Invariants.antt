@@ -6,4 +6,5 @@ use Rattle.page_core.specs.Memory.{colours_of_clut}
 use Rattle.page_core.proofs.inks.fill_with_defaults.Given as goal
 
 abbrev pub invariant-loop-index : goal.invariant-loop-index
-invariant-loop-index l = (k : ℕ) → k < l.index → slice_index_or l.colours k clear ≡ default_ink (k % colours_of_clut)
+invariant-loop-index l =
+    (k : ℕ) → k < l.index → slice_index_or l.colours k clear ≡ default_ink (k % colours_of_clut)

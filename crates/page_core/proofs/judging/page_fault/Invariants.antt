@@ -10,4 +10,5 @@ use Rattle.page_core.proofs.judging.page_fault.Given as goal
 
 abbrev pub invariant-loop-i : goal.invariant-loop-i
 invariant-loop-i l = (set older : List Content) → KnowsRegions older l.composition → AreDefined set l.defined
-    → page_fault (reverse (in_order set) ++ older) (page_value l.page) ≡ first_given (unknown_region (reverse (in_order set) ++ older)) (drop l.i (page_value l.page).entries)
+    → page_fault (reverse (in_order set) ++ older) (page_value l.page)
+    ≡ first_given (unknown_region (reverse (in_order set) ++ older)) (drop l.i (page_value l.page).entries)

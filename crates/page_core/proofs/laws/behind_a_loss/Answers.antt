@@ -8,7 +8,13 @@ pub returns-clause-free : goal.returns-clause-free
 returns-clause-free c past memory behind stands =
     let unknown = unknown_behind_loss memory.profile memory.anchor past behind in
     let free = free_where_unknown memory.profile memory.anchor past unknown in
-    record { known = stands.known ∙ ap is_some unknown; nodes = stands.free_nodes ∙ free.1; pixels = stands.free_pixels ∙ free.0 }
+    record {
+      known = stands.known ∙ ap is_some unknown;
+      nodes = stands.free_nodes
+          ∙ free.1;
+      pixels = stands.free_pixels ∙ free.0;
+    }
 
 pub returns-clause-waits : goal.returns-clause-waits
-returns-clause-waits c past memory pts size time readings behind kept normal = waits_behind_loss memory.profile memory.anchor time past pts size readings behind kept normal
+returns-clause-waits c past memory pts size time readings behind kept normal =
+    waits_behind_loss memory.profile memory.anchor time past pts size readings behind kept normal

@@ -1,5 +1,5 @@
 -- The display and the page of a set.
-use Rattle.page_core.proofs.QuietSteps.{before_regions_hold}
+use Rattle.page_core.proofs.Sets.QuietSteps.{before_regions_hold}
 use Rattle.page_core.proofs.laws.display_and_page.Goals as goal
 
 pub returns : goal.returns

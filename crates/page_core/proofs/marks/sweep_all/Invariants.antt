@@ -5,4 +5,6 @@ use Rattle.page_core.proofs.marks.sweep_all.Given as goal
 
 abbrev pub invariant-loop-index : goal.invariant-loop-index
 invariant-loop-index l =
-    ((j : ℕ) → j < l.index → slice_index_or l.stamps j 0 ≡ cond (slice_index_or l.fn.stamps j 0 == all_set) all_set 0) × ((j : ℕ) → l.index ≤ j → slice_index_or l.stamps j 0 ≡ slice_index_or l.fn.stamps j 0)
+    ((j : ℕ) → j < l.index
+    → slice_index_or l.stamps j 0 ≡ cond (slice_index_or l.fn.stamps j 0 == all_set) all_set 0)
+    × ((j : ℕ) → l.index ≤ j → slice_index_or l.stamps j 0 ≡ slice_index_or l.fn.stamps j 0)

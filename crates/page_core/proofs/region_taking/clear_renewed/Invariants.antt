@@ -5,7 +5,7 @@ use Rattle.pixel_store.specs.Regions.{Regions}
 use Rattle.page_core.specs.Composition.{AreIdsApart}
 use Rattle.page_core.specs.Handed.{AreContents}
 use Rattle.page_core.specs.Private.RegionSteps.{AreStored, KeepsBesideRegions}
-use Rattle.page_core.proofs.RenewedRegions.{IsClearing}
+use Rattle.page_core.proofs.Regions.RenewedRegions.{IsClearing}
 use Rattle.page_core.proofs.region_taking.clear_renewed.Given as goal
 
 abbrev pub invariant-loop-next : goal.invariant-loop-next

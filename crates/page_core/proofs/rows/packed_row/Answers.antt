@@ -1,4 +1,4 @@
-use Rattle.page_core.proofs.DrawnEntries.{found_placed}
+use Rattle.page_core.proofs.Pictures.DrawnEntries.{found_placed}
 use Rattle.page_core.proofs.rows.packed_row.Goals as goal
 
 pub packed_line-requires : goal.packed_line-requires

@@ -1,5 +1,5 @@
 use Rattle.std.proofs.Common.{length}
-use Rattle.page_core.proofs.DrawnEntries.{IsOnWay}
+use Rattle.page_core.proofs.Pictures.DrawnEntries.{IsOnWay}
 use Rattle.page_core.proofs.rows.row_into.Given as goal
 
 abbrev pub invariant-loop-entry : goal.invariant-loop-entry

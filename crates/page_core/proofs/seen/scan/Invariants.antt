@@ -7,7 +7,8 @@ use Rattle.page_core.specs.Private.Seen.{Progress}
 use Rattle.page_core.proofs.seen.scan.Given as goal
 
 abbrev pub invariant-loop-front : goal.invariant-loop-front
-invariant-loop-front l = (readings : List Reading) → AreRead readings l.fn.bytes → Progress readings l.seen (option_map page_value l.page) (option_map display_value l.display) l.rest
+invariant-loop-front l = (readings : List Reading) → AreRead readings l.fn.bytes
+    → Progress readings l.seen (option_map page_value l.page) (option_map display_value l.display) l.rest
 
 abbrev pub decreases-loop-front : goal.decreases-loop-front
 decreases-loop-front l = length l.rest

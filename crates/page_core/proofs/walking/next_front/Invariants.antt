@@ -6,7 +6,8 @@ use Rattle.page_core.specs.Private.Walks.{IsLeftOf, is_content_of}
 use Rattle.page_core.proofs.walking.next_front.Given as goal
 
 abbrev pub invariant-loop-front : goal.invariant-loop-front
-invariant-loop-front l = (length l.rest ≤ length l.fn.bytes) × ((set : List Content) → AreContents set l.fn.bytes → IsLeftOf (is_content_of l.fn.kind) set l.rest)
+invariant-loop-front l = (length l.rest ≤ length l.fn.bytes)
+    × ((set : List Content) → AreContents set l.fn.bytes → IsLeftOf (is_content_of l.fn.kind) set l.rest)
 
 abbrev pub decreases-loop-front : goal.decreases-loop-front
 decreases-loop-front l = length l.rest

@@ -13,6 +13,10 @@ returns c =
     record {
       moved = subst From c.in_ok-rows.ensures.items c.in_ok-sort_by_key.ensures.permutation;
       rise = IsNonDecreasingBy-from_sort_by_key tick _ c.in_ok-sort_by_key.ensures.sorted (λ a r q k. search rules);
-      stable = subst (λ (own : List ℕ). (other : ℕ) → filter (λ place. tick place == tick other) c.sort_by_key.new.self.items ≡ filter (λ place. tick place == tick other) own) c.in_ok-rows.ensures.items
-          (stable_from c.args.colours.now c.in_ok-rows.rows.items c.sort_by_key.new.self.items (c.in_ok-sort_by_key.ensures.stable tick (always_returns_same _ _ _ (λ a r q k. search rules))));
+      stable =
+          subst (λ (own : List ℕ). (other : ℕ)
+          → filter (λ place. tick place == tick other) c.sort_by_key.new.self.items
+          ≡ filter (λ place. tick place == tick other) own) c.in_ok-rows.ensures.items
+          (stable_from c.args.colours.now c.in_ok-rows.rows.items c.sort_by_key.new.self.items
+          (c.in_ok-sort_by_key.ensures.stable tick (always_returns_same _ _ _ (λ a r q k. search rules))));
     }

@@ -9,7 +9,8 @@ use Rattle.page_epoch.proofs.clut_rows.push_entries.Goals as goal
 pub loop-number-preserved : goal.loop-number-preserved
 loop-number-preserved c =
     let entry = λ (number : ℕ). let made : Entry = record { depth = c.args.depth; number = number } in made in
-    mapped_more entry c.loop-number.number _ c.loop-number.entries.items _ c.loop-number.invariant c.in_ok-push.ensures.items
+    mapped_more entry c.loop-number.number _ c.loop-number.entries.items _ c.loop-number.invariant
+    c.in_ok-push.ensures.items
 
 pub returns : goal.returns
 unfolding entries_at

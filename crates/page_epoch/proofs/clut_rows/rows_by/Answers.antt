@@ -7,4 +7,5 @@ pub returns-clause-point : goal.returns-clause-point
 returns-clause-point c = λ rise.
     let tick = λ (place : ℕ). (row_at c.args.colours.now place).tick in
     let parted = IsPartitionedBy-leb tick c.args.rows.now c.args.tick rise in
-    IsPartitionPoint-from_clause (λ (place : ℕ). nat_le (tick place) c.args.tick) c.args.rows.now c.partition_point.result c.partition_point.ensures.partitioned parted (λ a r q k. search rules)
+    IsPartitionPoint-from_clause (λ (place : ℕ). nat_le (tick place) c.args.tick) c.args.rows.now
+    c.partition_point.result c.partition_point.ensures.partitioned parted (λ a r q k. search rules)

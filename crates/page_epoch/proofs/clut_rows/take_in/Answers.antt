@@ -8,8 +8,11 @@ pub loop-i-preserved : goal.loop-i-preserved
 loop-i-preserved c =
     let colours = c.args.colours.now in
     let place = get_or c.args.rows.now c.loop-i.i 0 in
-    current_more colours all_entries c.args.rows.now c.loop-i.i place (row_at colours place) c.loop-i.current.items c.note.new.current.items c.requires.rows (omega (arith, c.requires.few, c.loop-i-test.true))
-    (get_or_default c.args.rows.now c.loop-i.i 0 place (omega (arith, c.requires.few, c.loop-i-test.true))) refl c.loop-i.invariant c.note.ensures.long c.note.ensures.each
+    current_more colours all_entries c.args.rows.now c.loop-i.i place (row_at colours place) c.loop-i.current.items
+    c.note.new.current.items c.requires.rows (omega (arith, c.requires.few, c.loop-i-test.true))
+    (get_or_default c.args.rows.now c.loop-i.i 0 place (omega (arith, c.requires.few, c.loop-i-test.true))) refl
+    c.loop-i.invariant c.note.ensures.long c.note.ensures.each
 
 pub note-requires : goal.note-requires
-note-requires c = current_long c.args.colours.now (take c.loop-i.i c.args.rows.now) c.loop-i.current.items c.loop-i.invariant
+note-requires c =
+    current_long c.args.colours.now (take c.loop-i.i c.args.rows.now) c.loop-i.current.items c.loop-i.invariant

@@ -10,4 +10,5 @@ returns-then-change-tick c =
     let change = c.args.change.now in
     c.new-then-change-tick-2.ensures ∙ c.new-then-change-tick.ensures.items
     ∙ sym (ap (λ b. rows_from colours b c.args.tick change.rows) c.if-whole.false
-    ∙ filter_none (λ place. (row_at colours place).tick == c.args.tick) change.rows (c.requires.others (ne_eqb change.tick c.args.tick c.if-change-tick.true)))
+    ∙ filter_none (λ place. (row_at colours place).tick == c.args.tick) change.rows
+    (c.requires.others (ne_eqb change.tick c.args.tick c.if-change-tick.true)))

@@ -7,5 +7,7 @@ pub returns : goal.returns
 returns c = λ rise.
     let p = λ (other : ℕ). nat_le other c.args.tick in
     let parted = IsPartitionedBy-leb (λ (x : ℕ). x) c.args.ticks.now c.args.tick rise in
-    let point = IsPartitionPoint-from_clause p c.args.ticks.now c.partition_point.result c.partition_point.ensures.partitioned parted (λ a r q k. search rules) in
+    let point =
+    IsPartitionPoint-from_clause p c.args.ticks.now c.partition_point.result c.partition_point.ensures.partitioned
+    parted (λ a r q k. search rules) in
     sym (counted p c.args.ticks.now c.partition_point.result c.partition_point.ensures.bound point)

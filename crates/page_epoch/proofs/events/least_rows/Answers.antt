@@ -12,4 +12,5 @@ loop-event-preserved c =
     let i = c.loop-event.event-index in
     let NotedIn : List Event → Type 0 = λ events. Noted events (get nat_cmp c.note.new.rows) in
     subst NotedIn (sym (take_more c.args.events.now i (event 0 0) (omega arith)))
-    (Noted-more (take i c.args.events.now) (get_or c.args.events.now i (event 0 0)) (get nat_cmp c.loop-event.rows) (get nat_cmp c.note.new.rows) c.loop-event.invariant c.in_ok-note.ensures)
+    (Noted-more (take i c.args.events.now) (get_or c.args.events.now i (event 0 0)) (get nat_cmp c.loop-event.rows)
+    (get nat_cmp c.note.new.rows) c.loop-event.invariant c.in_ok-note.ensures)

@@ -4,4 +4,5 @@ use Rattle.page_epoch.specs.Rows.{events_of_cue}
 use Rattle.page_epoch.proofs.events.push_cue_events.Given as goal
 
 abbrev pub invariant-loop-cue : goal.invariant-loop-cue
-invariant-loop-cue l = l.events.items ≡ l.initial.events.items ++ flat_map events_of_cue (take l.cue-index l.epoch.cues)
+invariant-loop-cue l =
+    l.events.items ≡ l.initial.events.items ++ flat_map events_of_cue (take l.cue-index l.epoch.cues)

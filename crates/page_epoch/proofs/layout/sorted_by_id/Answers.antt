@@ -9,5 +9,7 @@ returns c =
     let From : List Region → Type 0 = λ regions. IsPermutation regions c.sort_by_key.new.self.items in
     record {
       same = subst From c.in_ok-ordered.ensures.items c.in_ok-sort_by_key.ensures.permutation;
-      rise = IsNonDecreasingBy-from_sort_by_key (λ (region : Region). region.id) _ c.in_ok-sort_by_key.ensures.sorted (λ a r q k. search rules);
+      rise =
+          IsNonDecreasingBy-from_sort_by_key (λ (region : Region). region.id) _ c.in_ok-sort_by_key.ensures.sorted
+          (λ a r q k. search rules);
     }

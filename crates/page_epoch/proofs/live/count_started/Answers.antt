@@ -6,4 +6,5 @@ use Rattle.page_epoch.proofs.live.count_started.Goals as goal
 pub returns-clause-point : goal.returns-clause-point
 returns-clause-point c = λ rise.
     let parted = IsPartitionedBy-leb (λ (start : CueStart). start.tick) c.args.starts.now c.args.tick rise in
-    IsPartitionPoint-from_clause (λ (start : CueStart). nat_le start.tick c.args.tick) c.args.starts.now c.partition_point.result c.partition_point.ensures.partitioned parted (λ a r q k. search rules)
+    IsPartitionPoint-from_clause (λ (start : CueStart). nat_le start.tick c.args.tick) c.args.starts.now
+    c.partition_point.result c.partition_point.ensures.partitioned parted (λ a r q k. search rules)

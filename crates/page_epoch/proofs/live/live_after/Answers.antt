@@ -21,11 +21,19 @@ returns-clause-same c = λ v.
     let old = ap (times v) c.in_ok-live.ensures in
     ap (times v) c.new.ensures ∙ elim c.if-before-started.branch [
       | then-before-started+in_ok-push_live+in_ok-sort w ↦
-          ap (λ xs. times v xs.items) w.live-is ∙ sum_by-IsPermutation (λ (other : ℕ). cond {A = ℕ} (other == v) 1 0) w.push_live.new.live.items w.sort.new.self.items w.in_ok-sort.ensures.permutation
-          ∙ ap (times v) w.in_ok-push_live.ensures ∙ count_append (λ (other : ℕ). other == v) c.in_ok-live.live.items (filter live (map place run)) ∙ ap (λ (n : ℕ). n + times v (filter live (map place run))) old
+          ap (λ xs. times v xs.items) w.live-is
+          ∙ sum_by-IsPermutation (λ (other : ℕ). cond {A = ℕ} (other == v) 1 0) w.push_live.new.live.items
+          w.sort.new.self.items w.in_ok-sort.ensures.permutation
+          ∙ ap (times v) w.in_ok-push_live.ensures
+          ∙ count_append (λ (other : ℕ). other == v) c.in_ok-live.live.items (filter live (map place run))
+          ∙ ap (λ (n : ℕ). n + times v (filter live (map place run))) old
       | else-before-started w ↦
-          let none = ap (λ (xs : List CueStart). times v (filter live (map place xs))) (no_range c.args.starts.now c.args.before c.args.started (grind arith)) in
-          ap (λ xs. times v xs.items) w.live-is ∙ old ∙ (let all : times v (filter live c.args.old.now) ≡ times v (filter live c.args.old.now) + times v (filter live (map place run)) = omega arith in all)
+          let none =
+          ap (λ (xs : List CueStart). times v (filter live (map place xs)))
+          (no_range c.args.starts.now c.args.before c.args.started (grind arith)) in
+          ap (λ xs. times v xs.items) w.live-is ∙ old
+          ∙ (let all : times v (filter live c.args.old.now)
+          ≡ times v (filter live c.args.old.now) + times v (filter live (map place run)) = omega arith in all)
     ]
 
 pub returns-clause-order : goal.returns-clause-order
@@ -33,9 +41,11 @@ returns-clause-order c = λ rise.
     let live = λ (place : ℕ). is_live c.args.tick (cue_at c.args.cues.now place) in
     let Rises : List ℕ → Type 0 = λ xs. IsNonDecreasing xs in
     subst Rises (sym c.new.ensures) (elim c.if-before-started.branch [
-      | then-before-started+in_ok-push_live+in_ok-sort w ↦ subst Rises (sym (ap (λ xs. xs.items) w.live-is)) (IsNonDecreasingBy-from_sort (λ (x : ℕ). x) w.sort.new.self.items w.in_ok-sort.ensures.sorted)
+      | then-before-started+in_ok-push_live+in_ok-sort w ↦ subst Rises (sym (ap (λ xs. xs.items) w.live-is))
+          (IsNonDecreasingBy-from_sort (λ (x : ℕ). x) w.sort.new.self.items w.in_ok-sort.ensures.sorted)
       | else-before-started w ↦
-          subst Rises (sym (ap (λ xs. xs.items) w.live-is ∙ c.in_ok-live.ensures)) (falls_not (filter live c.args.old.now) (IsStrictlyIncreasing-filter live c.args.old.now rise))
+          subst Rises (sym (ap (λ xs. xs.items) w.live-is ∙ c.in_ok-live.ensures))
+          (falls_not (filter live c.args.old.now) (IsStrictlyIncreasing-filter live c.args.old.now rise))
     ])
 
 pub returns-clause-few : goal.returns-clause-few
@@ -48,7 +58,8 @@ returns-clause-few c =
     let kept = length_kept live c.args.old.now in
     subst Few (sym c.new.ensures) (elim c.if-before-started.branch [
       | then-before-started+in_ok-push_live+in_ok-sort w ↦
-          let moved = length_permutation w.push_live.new.live.items w.sort.new.self.items w.in_ok-sort.ensures.permutation in
+          let moved =
+          length_permutation w.push_live.new.live.items w.sort.new.self.items w.in_ok-sort.ensures.permutation in
           let pushed = ap length w.in_ok-push_live.ensures in
           let both = length-append c.in_ok-live.live.items (filter live (map place run)) in
           let more = length_kept live (map place run) in

@@ -17,7 +17,16 @@ after-requires-clause-live c =
 pub after-requires-clause-few : goal.after-requires-clause-few
 after-requires-clause-few c =
     let starts = few_begins c.args.cues.now c.args.region.now.id c.args.region.now.starts c.requires.own in
-    omega (arith, c.max.ensures, c.count_started-started.ensures.few, ap length c.as_slice-starts.ensures, starts, c.requires.few, c.requires.small.started)
+    omega (
+      arith,
+      c.max.ensures,
+      c.count_started-started.ensures.few,
+      ap length
+          c.as_slice-starts.ensures,
+      starts,
+      c.requires.few,
+      c.requires.small.started,
+    )
 
 pub returns-clause-next : goal.returns-clause-next
 returns-clause-next c = λ seen is after.
@@ -34,10 +43,17 @@ returns-clause-next c = λ seen is after.
     let started = ap (λ (x : RegionState). x.started) is in
     let old = c.as_slice-old.ensures ∙ ap (λ (x : RegionState). x.live) is in
     let Rises : List ℕ → Type 0 = λ xs. IsStrictlyIncreasing xs in
-    let new = live_on cues id starts tick count seen c.in_ok-live.live are few point after (c.in_ok-live.ensures.order (subst Rises (sym old) (before_rise cues id seen))) (λ v.
-    c.in_ok-live.ensures.same v ∙ ap (λ xs. times v (filter live xs) + times v (filter live (map place (slice_range starts c.args.current.now.started count)))) old
-    ∙ ap (λ (n : ℕ). times v (filter live (live_before cues id seen)) + times v (filter live (map place (slice_range starts n count)))) started) in
+    let new =
+    live_on cues id starts tick count seen c.in_ok-live.live are few point after
+    (c.in_ok-live.ensures.order (subst Rises (sym old) (before_rise cues id seen))) (λ v.
+    c.in_ok-live.ensures.same v
+    ∙ ap (λ xs. times v (filter live xs)
+    + times v (filter live (map place (slice_range starts c.args.current.now.started count)))) old
+    ∙ ap (λ (n : ℕ). times v (filter live (live_before cues id seen))
+    + times v (filter live (map place (slice_range starts n count)))) started) in
     let order = started_order cues id starts tick count seen are few point after in
     let most : max count c.args.current.now.started ≡ count = omega (arith, started, order) in
-    c.after.ensures.next ∙ ap (λ (n : ℕ). region_after c.args.first c.args.current.now n c.in_ok-live.live) (c.max.ensures ∙ most ∙ started_are cues id starts tick count are few point)
+    c.after.ensures.next
+    ∙ ap (λ (n : ℕ). region_after c.args.first c.args.current.now n c.in_ok-live.live)
+    (c.max.ensures ∙ most ∙ started_are cues id starts tick count are few point)
     ∙ ap (λ (xs : List ℕ). region_after c.args.first c.args.current.now (started_by cues id tick) xs) new

@@ -5,7 +5,8 @@ use Rattle.pixel_codes.proofs.maximal.end_by_one.Given as goal
 
 abbrev pub invariant-loop-place : goal.invariant-loop-place
 invariant-loop-place l =
-    (l.from + prefix_len (is_code l.code) (drop l.from l.codes) ≡ l.place + prefix_len (is_code l.code) (drop l.place l.codes)) × (l.place ≤ length l.codes)
+    (l.from + prefix_len (is_code l.code) (drop l.from l.codes)
+    ≡ l.place + prefix_len (is_code l.code) (drop l.place l.codes)) × (l.place ≤ length l.codes)
 
 abbrev pub decreases-loop-place : goal.decreases-loop-place
 decreases-loop-place l = length l.codes - l.place

@@ -9,7 +9,9 @@ use Rattle.pixel_codes.proofs.row.append_row_of.Given as goal
 abbrev pub invariant-loop-place : goal.invariant-loop-place
 invariant-loop-place l = record {
   within : l.place ≤ length l.codes;
-  text : stream l.out.items l.pending ++ flat_map (spelled l.depth) (codes_of l.depth (runs_of (drop l.place l.codes))) ≡ bits_of l.fn.out.items ++ flat_map (spelled l.depth) (codes_of l.depth (runs_of l.codes));
+  text : stream l.out.items l.pending
+      ++ flat_map (spelled l.depth) (codes_of l.depth (runs_of (drop l.place l.codes))) ≡ bits_of l.fn.out.items
+      ++ flat_map (spelled l.depth) (codes_of l.depth (runs_of l.codes));
   extends : Extends l.fn.out.items l.out.items;
 }
 

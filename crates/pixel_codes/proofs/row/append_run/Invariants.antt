@@ -8,7 +8,9 @@ use Rattle.pixel_codes.proofs.row.append_run.Given as goal
 
 abbrev pub invariant-loop-left : goal.invariant-loop-left
 invariant-loop-left l = record {
-  text : stream l.out.items l.pending ++ flat_map (spelled l.depth) (chosen l.depth l.code l.left) ≡ stream l.fn.out.items l.fn.pending ++ flat_map (spelled l.depth) (chosen l.depth l.code l.count);
+  text : stream l.out.items l.pending
+      ++ flat_map (spelled l.depth) (chosen l.depth l.code l.left) ≡ stream l.fn.out.items l.fn.pending
+      ++ flat_map (spelled l.depth) (chosen l.depth l.code l.count);
   extends : Extends l.fn.out.items l.out.items;
 }
 

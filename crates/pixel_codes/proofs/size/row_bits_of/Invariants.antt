@@ -7,7 +7,8 @@ abbrev pub invariant-loop-place : goal.invariant-loop-place
 invariant-loop-place l = record {
   within : l.place ≤ length l.codes;
   short : l.bits ≤ 16 * l.place;
-  sum : (rest : ℕ) → IsLeastSum l.depth (runs_of (drop l.place l.codes)) rest → IsLeastSum l.depth (runs_of l.codes) (l.bits + rest);
+  sum : (rest : ℕ) → IsLeastSum l.depth (runs_of (drop l.place l.codes)) rest
+      → IsLeastSum l.depth (runs_of l.codes) (l.bits + rest);
 }
 
 abbrev pub decreases-loop-place : goal.decreases-loop-place

@@ -9,4 +9,7 @@ all_below : (limit : ℕ) (xs : List ℕ) → list_all (λ x. ltb x limit) xs �
 all_below limit xs e = λ k d h. ltb-true _ limit (AllPass-from_list_all (λ x. ltb x limit) xs e k d h)
 
 pub write_row-requires-2 : goal.write_row-requires-2
-write_row-requires-2 g c = all_below 16 (0 ∷ 0 ∷ 0 ∷ 7 ∷ 9 ∷ 9 ∷ 9 ∷ 9 ∷ 9 ∷ 9 ∷ 9 ∷ 9 ∷ 9 ∷ 9 ∷ 9 ∷ 9 ∷ 9 ∷ 9 ∷ 9 ∷ 9 ∷ 9 ∷ 9 ∷ 9 ∷ 9 ∷ 9 ∷ 9 ∷ 9 ∷ 9 ∷ 9 ∷ []) refl
+write_row-requires-2 g c =
+    all_below 16
+    (0 ∷ 0 ∷ 0 ∷ 7 ∷ 9 ∷ 9 ∷ 9 ∷ 9 ∷ 9 ∷ 9 ∷ 9 ∷ 9 ∷ 9 ∷ 9 ∷ 9
+    ∷ 9 ∷ 9 ∷ 9 ∷ 9 ∷ 9 ∷ 9 ∷ 9 ∷ 9 ∷ 9 ∷ 9 ∷ 9 ∷ 9 ∷ 9 ∷ 9 ∷ []) refl

@@ -9,5 +9,6 @@ unfolding splice
 overflow_cast-result c =
     let high : 1 * 2 ^ c.args.high % 4294967296 ≡ 2 ^ c.args.high = one_shl c.args.high 32 (omega arith) in
     let low : 1 * 2 ^ c.args.low % 4294967296 ≡ 2 ^ c.args.low = one_shl c.args.low 32 (omega arith) in
-    let small = splice_small c.args.high c.args.low c.args.pattern c.args.byte c.requires.order c.requires.high (omega arith) in
+    let small =
+    splice_small c.args.high c.args.low c.args.pattern c.args.byte c.requires.order c.requires.high (omega arith) in
     rw (c.from-byte.ensures, c.from.ensures, high, low) (omega (arith, small))

@@ -6,4 +6,5 @@ pub returns : goal.returns
 returns c =
     let inside = rw c.size.ensures at c.fill.ensures.inside in
     let outside = rw c.size.ensures at c.fill.ensures.outside in
-    Fills-whole c.args.extent c.args.code c.pattern.result c.args.bytes.now c.fill.new.bytes c.requires.full c.requires.code c.pattern.ensures inside outside
+    Fills-whole c.args.extent c.args.code c.pattern.result c.args.bytes.now c.fill.new.bytes c.requires.full
+    c.requires.code c.pattern.ensures inside outside

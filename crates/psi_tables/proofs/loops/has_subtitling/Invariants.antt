@@ -6,7 +6,8 @@ use Rattle.psi_tables.proofs.loops.has_subtitling.Given as goal
 
 -- none has been passed
 abbrev pub invariant-loop-tag : goal.invariant-loop-tag
-invariant-loop-tag l = list_any is_subtitling (descriptors_of l.rest) ≡ list_any is_subtitling (descriptors_of l.descriptors)
+invariant-loop-tag l =
+    list_any is_subtitling (descriptors_of l.rest) ≡ list_any is_subtitling (descriptors_of l.descriptors)
 
 abbrev pub decreases-loop-tag : goal.decreases-loop-tag
 decreases-loop-tag l = length l.rest

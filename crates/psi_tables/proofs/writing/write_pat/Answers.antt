@@ -13,7 +13,12 @@ returns-clause-section c = appended c.args.out.now.items (flat_map pat_entry c.a
   bodied = c.loop-service.out.items;
   size_is = sym (pat_size c.args.services.now);
   start_is = search rules;
-  headed_is = c.append.ensures.items ∙ ap (λ head. c.reserve.new.self.items ++ head) c.head_bytes.ensures ∙ ap (λ old. old ++ head_bytes 0 1 (4 * length c.args.services.now)) c.reserve.ensures.items;
-  bodied_is = c.loop-service.invariant.0 ∙ ap (λ services. c.append.new.out.items ++ flat_map pat_entry services) (take_all c.loop-service.service-index c.args.services.now c.loop-service-test.false);
+  headed_is =
+      c.append.ensures.items ∙ ap (λ head. c.reserve.new.self.items ++ head) c.head_bytes.ensures
+      ∙ ap (λ old. old ++ head_bytes 0 1 (4 * length c.args.services.now)) c.reserve.ensures.items;
+  bodied_is =
+      c.loop-service.invariant.0
+      ∙ ap (λ services. c.append.new.out.items ++ flat_map pat_entry services)
+      (take_all c.loop-service.service-index c.args.services.now c.loop-service-test.false);
   new_is = c.append_crc.ensures;
 })

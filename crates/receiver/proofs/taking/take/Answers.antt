@@ -14,40 +14,59 @@ use Rattle.receiver.proofs.taking.take.Goals as goal
 
 pub returns-in-Ok-clause-stands : goal.returns-in-Ok-clause-stands
 returns-in-Ok-clause-stands g c past delivery one ready read stands =
-    let found = ready_whole (lent c.args.ready) c.in-Ok.bytes.now delivery one (ap lent_content c.in-Ok.is) ready read in
-    subst (λ (d : Delivery Reading). Stands (d ∷ past) c.take_set-end.new.self) (sym found.2) (c.take_set-end.ensures.stands past c.args.ready.size found.0 stands found.1)
+    let found =
+    ready_whole (lent c.args.ready) c.in-Ok.bytes.now delivery one (ap lent_content c.in-Ok.is) ready read in
+    subst (λ (d : Delivery Reading). Stands (d ∷ past) c.take_set-end.new.self) (sym found.2)
+    (c.take_set-end.ensures.stands past c.args.ready.size found.0 stands found.1)
 
 pub returns-in-Ok-clause-answer : goal.returns-in-Ok-clause-answer
 returns-in-Ok-clause-answer g c past delivery one ready read stands =
-    let found = ready_whole (lent c.args.ready) c.in-Ok.bytes.now delivery one (ap lent_content c.in-Ok.is) ready read in
-    c.take_set-end.ensures.answer past c.args.ready.size found.0 stands found.1 ∙ ap (verdict_of c.args.screen.now.core.profile c.args.screen.now.core.anchor past) (sym found.2)
+    let found =
+    ready_whole (lent c.args.ready) c.in-Ok.bytes.now delivery one (ap lent_content c.in-Ok.is) ready read in
+    c.take_set-end.ensures.answer past c.args.ready.size found.0 stands found.1
+    ∙ ap (verdict_of c.args.screen.now.core.profile c.args.screen.now.core.anchor past) (sym found.2)
 
 pub returns-in-Ok-clause-load : goal.returns-in-Ok-clause-load
 returns-in-Ok-clause-load g c past delivery one ready read stands =
-    let found = ready_whole (lent c.args.ready) c.in-Ok.bytes.now delivery one (ap lent_content c.in-Ok.is) ready read in
+    let found =
+    ready_whole (lent c.args.ready) c.in-Ok.bytes.now delivery one (ap lent_content c.in-Ok.is) ready read in
     let answer = c.take_set-end.ensures.answer past c.args.ready.size found.0 stands found.1 in
     let core = subst (cores.Stands past) (sym c.core.ensures) stands.core in
-    let lifted = c.lift.ensures.lifted past c.args.ready.size found.0 core ∙ ap (λ (memory : Memory). lifted_time memory.anchor past (whole c.args.ready.time c.args.ready.size found.0)) c.core.ensures in
-    let says = verdict_says c.args.screen.now.core.profile c.args.screen.now.core.anchor past c.args.ready.time c.args.ready.size found.0 c.take_set-end.result answer in
-    ap (λ (n : ℕ). Some (record { pts = n; size = c.args.ready.size; painted = c.painted-painted.result })) c.unwrap_or-pts.ensures
-    ∙ whole_load c.args.screen.now.core.profile c.args.screen.now.core.anchor past c.args.ready.time c.args.ready.size c.painted-painted.result found.0 c.take_set-end.result c.lift.result lifted answer (c.painted-painted.ensures.painting found.0 found.1 says)
+    let lifted =
+    c.lift.ensures.lifted past c.args.ready.size found.0 core
+    ∙ ap (λ (memory : Memory). lifted_time memory.anchor past
+    (whole c.args.ready.time c.args.ready.size found.0)) c.core.ensures in
+    let says =
+    verdict_says c.args.screen.now.core.profile c.args.screen.now.core.anchor past c.args.ready.time
+    c.args.ready.size found.0 c.take_set-end.result answer in
+    ap (λ (n : ℕ). Some (record { pts = n; size = c.args.ready.size; painted = c.painted-painted.result }))
+    c.unwrap_or-pts.ensures
+    ∙ whole_load c.args.screen.now.core.profile c.args.screen.now.core.anchor past c.args.ready.time c.args.ready.size
+    c.painted-painted.result found.0 c.take_set-end.result c.lift.result lifted answer
+    (c.painted-painted.ensures.painting found.0 found.1 says)
     ∙ ap (set_load c.args.screen.now.core.profile c.args.screen.now.core.anchor past) (sym found.2)
 
 pub returns-in-Err-clause-stands : goal.returns-in-Err-clause-stands
 returns-in-Err-clause-stands g c past delivery one ready read stands =
     let is = ready_refused (lent c.args.ready) c.in-Err.fault delivery one (ap lent_content c.in-Err.is) ready read in
-    subst (λ (d : Delivery Reading). Stands (d ∷ past) c.refuse_set.new.self) (sym is) (c.refuse_set.ensures.stands past c.args.ready.size stands)
+    subst (λ (d : Delivery Reading). Stands (d ∷ past) c.refuse_set.new.self) (sym is)
+    (c.refuse_set.ensures.stands past c.args.ready.size stands)
 
 pub returns-in-Err-clause-answer : goal.returns-in-Err-clause-answer
 returns-in-Err-clause-answer g c past delivery one ready read stands =
     let is = ready_refused (lent c.args.ready) c.in-Err.fault delivery one (ap lent_content c.in-Err.is) ready read in
-    c.refuse_set.ensures.answer past c.args.ready.size stands ∙ ap (verdict_of c.args.screen.now.core.profile c.args.screen.now.core.anchor past) (sym is)
+    c.refuse_set.ensures.answer past c.args.ready.size stands
+    ∙ ap (verdict_of c.args.screen.now.core.profile c.args.screen.now.core.anchor past) (sym is)
 
 pub returns-in-Err-clause-load : goal.returns-in-Err-clause-load
 returns-in-Err-clause-load g c past delivery one ready read stands =
     let is = ready_refused (lent c.args.ready) c.in-Err.fault delivery one (ap lent_content c.in-Err.is) ready read in
     let core = subst (cores.Stands past) (sym c.core.ensures) stands.core in
-    let lifted = c.lift.ensures.lifted past c.args.ready.size [] core ∙ ap (λ (memory : Memory). lifted_time {S = Reading} memory.anchor past (refused c.args.ready.time c.args.ready.size c.in-Err.fault)) c.core.ensures in
+    let lifted =
+    c.lift.ensures.lifted past c.args.ready.size [] core
+    ∙ ap (λ (memory : Memory). lifted_time {S = Reading} memory.anchor past
+    (refused c.args.ready.time c.args.ready.size c.in-Err.fault)) c.core.ensures in
     ap (λ (n : ℕ). Some (record { pts = n; size = c.args.ready.size; painted = 0 })) c.unwrap_or-pts.ensures
-    ∙ refused_load c.args.screen.now.core.profile c.args.screen.now.core.anchor past c.args.ready.time c.args.ready.size c.in-Err.fault c.lift.result lifted
+    ∙ refused_load c.args.screen.now.core.profile c.args.screen.now.core.anchor past c.args.ready.time
+    c.args.ready.size c.in-Err.fault c.lift.result lifted
     ∙ ap (set_load c.args.screen.now.core.profile c.args.screen.now.core.anchor past) (sym is)

@@ -5,27 +5,39 @@ use Rattle.receiver.proofs.units.take_unit.Goals as goal
 
 pub returns-in-Ok-clause-gathers : goal.returns-in-Ok-clause-gathers
 returns-in-Ok-clause-gathers c arrivals given place gathers =
-    taken_gathers arrivals _ _ given _ _ _ (read_unit c.args.sets.now.pages place c.args.unit.now c.in-Ok.pes.pts c.in-Ok.pes.segments.now c.in-Ok.ensures.exact) gathers (c.take_unit.ensures.stands arrivals given place gathers.sets)
+    taken_gathers arrivals _ _ given _ _ _
+    (read_unit c.args.sets.now.pages place c.args.unit.now c.in-Ok.pes.pts c.in-Ok.pes.segments.now
+    c.in-Ok.ensures.exact) gathers (c.take_unit.ensures.stands arrivals given place gathers.sets)
 
 pub returns-in-Ok-clause-end : goal.returns-in-Ok-clause-end
 returns-in-Ok-clause-end c arrivals given place gathers =
-    end_of _ arrivals _ _ _ (read_unit c.args.sets.now.pages place c.args.unit.now c.in-Ok.pes.pts c.in-Ok.pes.segments.now c.in-Ok.ensures.exact) (c.take_unit.ensures.end arrivals given place gathers.sets)
+    end_of _ arrivals _ _ _
+    (read_unit c.args.sets.now.pages place c.args.unit.now c.in-Ok.pes.pts c.in-Ok.pes.segments.now
+    c.in-Ok.ensures.exact) (c.take_unit.ensures.end arrivals given place gathers.sets)
 
 pub returns-then-is_passed_over-clause-gathers : goal.returns-then-is_passed_over-clause-gathers
 returns-then-is_passed_over-clause-gathers c arrivals given place gathers =
-    passed_gathers arrivals _ given _ _ (other_unit c.args.sets.now.pages place c.args.unit.now c.in-Err.fault c.in-Err.ensures.exact (sym c.is_passed_over.ensures ∙ c.if-is_passed_over.true)) gathers
+    passed_gathers arrivals _ given _ _
+    (other_unit c.args.sets.now.pages place c.args.unit.now c.in-Err.fault c.in-Err.ensures.exact
+    (sym c.is_passed_over.ensures ∙ c.if-is_passed_over.true)) gathers
 
 pub returns-then-is_passed_over-clause-end : goal.returns-then-is_passed_over-clause-end
 returns-then-is_passed_over-clause-end c arrivals given place gathers =
-    end_of _ arrivals _ _ _ (other_unit c.args.sets.now.pages place c.args.unit.now c.in-Err.fault c.in-Err.ensures.exact (sym c.is_passed_over.ensures ∙ c.if-is_passed_over.true))
+    end_of _ arrivals _ _ _
+    (other_unit c.args.sets.now.pages place c.args.unit.now c.in-Err.fault c.in-Err.ensures.exact
+    (sym c.is_passed_over.ensures ∙ c.if-is_passed_over.true))
     (record { passed_over = refl; dropped = refl; before = refl })
 
 pub returns-else-is_passed_over-clause-gathers : goal.returns-else-is_passed_over-clause-gathers
 returns-else-is_passed_over-clause-gathers c arrivals given place gathers =
-    lost_gathers arrivals _ given _ _ _ _ (lost_unit c.args.sets.now.pages place c.args.unit.now c.in-Err.fault c.in-Err.ensures.exact (sym c.is_passed_over.ensures ∙ c.if-is_passed_over.false)) gathers
+    lost_gathers arrivals _ given _ _ _ _
+    (lost_unit c.args.sets.now.pages place c.args.unit.now c.in-Err.fault c.in-Err.ensures.exact
+    (sym c.is_passed_over.ensures ∙ c.if-is_passed_over.false)) gathers
     (c.lose.ensures.refused arrivals given gathers.sets) c.lose-in-Err.ensures.stands
 
 pub returns-else-is_passed_over-clause-end : goal.returns-else-is_passed_over-clause-end
 returns-else-is_passed_over-clause-end c arrivals given place gathers =
-    end_of _ arrivals _ _ _ (lost_unit c.args.sets.now.pages place c.args.unit.now c.in-Err.fault c.in-Err.ensures.exact (sym c.is_passed_over.ensures ∙ c.if-is_passed_over.false))
+    end_of _ arrivals _ _ _
+    (lost_unit c.args.sets.now.pages place c.args.unit.now c.in-Err.fault c.in-Err.ensures.exact
+    (sym c.is_passed_over.ensures ∙ c.if-is_passed_over.false))
     (record { passed_over = refl; dropped = refl; before = refl })

@@ -8,6 +8,8 @@ use Rattle.schedule.proofs.send.send_set.Given as goal
 abbrev pub invariant-loop-size : goal.invariant-loop-size
 invariant-loop-size l =
     record {
-      within : IsWithin l.loads l.pace l.slots.items l.dones (packets_before (units_of l.loads (length l.dones)) l.size-index) l.search;
-      kept : (n : ℕ) → n < length l.fn.slots.items → slice_index l.slots.items n ≡ slice_index l.fn.slots.items n;
+      within : IsWithin l.loads l.pace l.slots.items l.dones
+          (packets_before (units_of l.loads (length l.dones)) l.size-index) l.search;
+      kept : (n : ℕ) → n < length l.fn.slots.items
+          → slice_index l.slots.items n ≡ slice_index l.fn.slots.items n;
     }

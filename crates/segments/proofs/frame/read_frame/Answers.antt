@@ -10,4 +10,5 @@ returns-clause-head c =
     let sync : byte_at 0 c.args.bytes.now ≡ 15 = grind (arith, common_steps) in
     let page : c.read_word-2.result ≡ word_at 2 c.args.bytes.now = grind (arith, common_steps) in
     let size : c.read_word.result ≡ word_at 4 c.args.bytes.now = grind (arith, common_steps) in
-    head_reads c.args.bytes.now _ _ _ (λ i. omega (arith, c.type_inv.bytes i)) sync (omega arith) refl page (simp (length-take, length-drop) (omega arith))
+    head_reads c.args.bytes.now _ _ _ (λ i. omega (arith, c.type_inv.bytes i)) sync (omega arith) refl page
+    (simp (length-take, length-drop) (omega arith))

@@ -8,4 +8,5 @@ returns-clause-cause g c = (c.run-status.result, c.run-status.ensures, c.tell_to
 
 pub returns-clause-complete : goal.returns-clause-complete
 returns-clause-complete g c =
-    tool_whole mux_fault_name mux_causes (mux_words c.args.words.now) _ _ _ _ _ _ c.run-status.ensures c.tell_tool.ensures
+    tool_whole mux_fault_name mux_causes (mux_words c.args.words.now) _ _ _ _ _ _ c.run-status.ensures
+    c.tell_tool.ensures

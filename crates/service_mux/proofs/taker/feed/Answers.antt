@@ -11,5 +11,6 @@ returns-then-is_of_pid-clause-tells g c =
 
 pub returns-else-is_of_pid-clause-tells : goal.returns-else-is_of_pid-clause-tells
 returns-else-is_of_pid-clause-tells g c =
-    let other : of_pid c.in-BehindMap.pid c.args.packet.now ≡ false = sym c.is_of_pid.ensures ∙ c.if-is_of_pid.false in
+    let other : of_pid c.in-BehindMap.pid c.args.packet.now ≡ false =
+    sym c.is_of_pid.ensures ∙ c.if-is_of_pid.false in
     λ place. tells_taken _ _ _ _ _ place _ c.in-BehindMap.pid false c.in-BehindMap.is other (PutsOut-nothing _ _)

@@ -3,4 +3,5 @@ use Rattle.set_coder.proofs.FieldLaws.{few_rows}
 use Rattle.set_coder.proofs.field_sizes.bottom_field_size.Goals as goal
 
 pub field_size-requires-clause-few : goal.field_size-requires-clause-few
-field_size-requires-clause-few c = omega (arith, few_rows c.args.picture.now c.height.ensures.picture 1, ap length c.bottom_rows.ensures.value)
+field_size-requires-clause-few c =
+    omega (arith, few_rows c.args.picture.now c.height.ensures.picture 1, ap length c.bottom_rows.ensures.value)

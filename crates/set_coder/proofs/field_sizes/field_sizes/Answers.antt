@@ -4,7 +4,8 @@ use Rattle.set_coder.proofs.FieldLaws.{few_rows, room_fields}
 use Rattle.set_coder.proofs.field_sizes.field_sizes.Goals as goal
 
 pub field_size-top-requires-clause-few : goal.field_size-top-requires-clause-few
-field_size-top-requires-clause-few c = omega (arith, few_rows c.args.picture.now c.depth.ensures.picture 0, ap length c.top_rows.ensures.value)
+field_size-top-requires-clause-few c =
+    omega (arith, few_rows c.args.picture.now c.depth.ensures.picture 0, ap length c.top_rows.ensures.value)
 
 pub returns-then-fields_equal-clause-room : goal.returns-then-fields_equal-clause-room
 returns-then-fields_equal-clause-room c =
@@ -14,4 +15,11 @@ returns-then-fields_equal-clause-room c =
 pub returns-else-fields_equal-clause-room : goal.returns-else-fields_equal-clause-room
 returns-else-fields_equal-clause-room c =
     let whole = room_fields c.args.picture.now c.depth.ensures.picture in
-    omega (arith, whole, c.field_size-top.ensures.room, ap room_of c.top_rows.ensures.value, c.bottom_field_size-bottom.ensures.room)
+    omega (
+      arith,
+      whole,
+      c.field_size-top.ensures.room,
+      ap room_of
+          c.top_rows.ensures.value,
+      c.bottom_field_size-bottom.ensures.room,
+    )

@@ -7,6 +7,8 @@ use Rattle.set_coder.proofs.kept_blocks.can_be_kept.Goals as goal
 pub returns-clause-all : goal.returns-clause-all
 returns-clause-all c = λ can.
     let found = c.field_sizes-sizes in
-    let same = one_sizes c.args.picture.now c.args.region found.result.top found.result.bottom can.top can.bottom found.ensures.sizes can.sizes in
+    let same =
+    one_sizes c.args.picture.now c.args.region found.result.top found.result.bottom can.top can.bottom
+    found.ensures.sizes can.sizes in
     let few : found.result.top + found.result.bottom ≤ MOST_BYTES = omega (arith, same.0, same.1, can.fits) in
     grind (arith, nat_tests)

@@ -5,4 +5,6 @@ use Rattle.set_coder.specs.SetSegments.{clut_segment_of}
 use Rattle.set_coder.proofs.set_segments.append_cluts.Given as goal
 
 abbrev pub invariant-loop-sent : goal.invariant-loop-sent
-invariant-loop-sent l = l.field.items ≡ l.initial.field.items ++ flat_map (spelled l.page) (map (clut_segment_of l.epoch) (take l.sent-index l.cluts))
+invariant-loop-sent l =
+    l.field.items ≡ l.initial.field.items
+    ++ flat_map (spelled l.page) (map (clut_segment_of l.epoch) (take l.sent-index l.cluts))

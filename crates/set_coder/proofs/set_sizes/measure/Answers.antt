@@ -13,7 +13,8 @@ loop-segment-preserved c =
       few = (few.0 + 1, c.in_ok-take.ensures.few few.0 few.1, omega (arith, few.2, next.fewer));
       measured = (
         so_far.0 ++ c.in-Some.segment ∷ [],
-        first_more c.args.script.now c.args.set.now l.segments c.next_size.new.self so_far.0 c.in-Some.segment so_far.1 next,
+        first_more c.args.script.now c.args.set.now l.segments c.next_size.new.self so_far.0 c.in-Some.segment so_far.1
+            next,
         c.in_ok-take.ensures.measured so_far.0 so_far.2,
       );
     }

@@ -9,7 +9,8 @@ invariant-loop-segment l = record {
   can : IsMeasurable l.segments;
   bytes : l.unit.bytes ≤ 2 ^ 31;
   few : l.size + 4294967296 * segments_left l.segments ≤ 4294967296 * 5000;
-  measured : (past : List ℕ) × (lengths : List ℕ) × AreFirstSizes l.script l.set l.segments past × IsOpenAfter past lengths l.unit.bytes × (l.size ≡ sum lengths);
+  measured : (past : List ℕ) × (lengths : List ℕ) × AreFirstSizes l.script l.set l.segments past
+      × IsOpenAfter past lengths l.unit.bytes × (l.size ≡ sum lengths);
 }
 
 abbrev pub decreases-loop-segment : goal.decreases-loop-segment

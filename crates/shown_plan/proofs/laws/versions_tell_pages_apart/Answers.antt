@@ -1,4 +1,4 @@
-use Rattle.shown_plan.proofs.NeighbourPages.{page_after, same_page}
+use Rattle.shown_plan.proofs.Segments.NeighbourPages.{page_after, same_page}
 use Rattle.shown_plan.proofs.laws.versions_tell_pages_apart.Goals as goal
 
 pub returns-clause-after : goal.returns-clause-after

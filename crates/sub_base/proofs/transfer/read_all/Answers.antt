@@ -22,13 +22,19 @@ returns-then-count-eq0-clause-whole g c =
     }
 
 pub returns-then-count-limit-clause-part : goal.returns-then-count-limit-clause-part
-returns-then-count-limit-clause-part g c =
-    (c.loop-count.bytes.items ++ take c.in-Ok.count c.read.new.buf, Consumes-trans _ _ _ _ _ c.loop-count.invariant.whole c.in-Ok.ensures.bytes.0)
+returns-then-count-limit-clause-part g c = (
+  c.loop-count.bytes.items
+      ++ take c.in-Ok.count c.read.new.buf,
+  Consumes-trans _ _ _ _ _ c.loop-count.invariant.whole
+      c.in-Ok.ensures.bytes.0,
+)
 
 pub returns-then-count-limit-clause-long : goal.returns-then-count-limit-clause-long
 returns-then-count-limit-clause-long g c =
-    λ _. HasRisenPast-since c.args.limit _ (length c.loop-count.bytes.items) c.in-Ok.count _ (omega (arith, c.loop-count.bytes.ok.0))
-    (omega (arith, c.loop-count.bytes.ok.0)) (c.in-Ok.ensures.given ∙ ap (λ k. counted k c.in-Ok.count) c.loop-count.invariant.given)
+    λ _. HasRisenPast-since c.args.limit _ (length c.loop-count.bytes.items) c.in-Ok.count _
+    (omega (arith, c.loop-count.bytes.ok.0))
+    (omega (arith, c.loop-count.bytes.ok.0))
+    (c.in-Ok.ensures.given ∙ ap (λ k. counted k c.in-Ok.count) c.loop-count.invariant.given)
 
 pub loop-count-preserved : goal.loop-count-preserved
 loop-count-preserved g c =
@@ -37,12 +43,19 @@ loop-count-preserved g c =
       within = omega (arith, c.in_ok-extend_from_slice.ensures.len, sym c.in-Ok.ensures.bound.1);
       room = c.read.auto.buf ∙ c.loop-count.invariant.room;
       kept = omega arith;
-      given = counted-more _ _ _ c.loop-count.bytes.items (take c.in-Ok.count c.read.new.buf) _ c.loop-count.invariant.given (c.in-Ok.ensures.given ∙ ap (λ k. counted ((g.A.Source.supplied c.loop-count.source).given) k) c.in-Ok.ensures.bound.1) e;
+      given =
+          counted-more _ _ _ c.loop-count.bytes.items (take c.in-Ok.count c.read.new.buf) _ c.loop-count.invariant.given
+          (c.in-Ok.ensures.given
+          ∙ ap (λ k. counted ((g.A.Source.supplied c.loop-count.source).given) k) c.in-Ok.ensures.bound.1) e;
       whole = rw e (Consumes-trans _ _ _ _ _ c.loop-count.invariant.whole c.in-Ok.ensures.bytes.0);
     }
 
 pub returns-in_err-extend_from_slice-clause-part : goal.returns-in_err-extend_from_slice-clause-part
 returns-in_err-extend_from_slice-clause-part g c =
-    let front : WasReadInPart (g.A.Source.supplied c.args.source.now) (g.A.Source.supplied c.read.new.self) =
-    (c.loop-count.bytes.items ++ take c.in-Ok.count c.read.new.buf, Consumes-trans _ _ _ _ _ c.loop-count.invariant.whole c.in-Ok.ensures.bytes.0) in
+    let front : WasReadInPart (g.A.Source.supplied c.args.source.now) (g.A.Source.supplied c.read.new.self) = (
+      c.loop-count.bytes.items
+          ++ take c.in-Ok.count c.read.new.buf,
+      Consumes-trans _ _ _ _ _ c.loop-count.invariant.whole
+          c.in-Ok.ensures.bytes.0,
+    ) in
     OnErr-of _ _ front

@@ -9,7 +9,8 @@ invariant-loop-count g l =
       within : vec_len l.bytes ≤ l.limit;
       room : length l.buffer ≡ 65536;
       kept : (g.A.Source.supplied l.fn.source).faults ≤ (g.A.Source.supplied l.source).faults;
-      given : (g.A.Source.supplied l.source).given ≡ counted (g.A.Source.supplied l.fn.source).given (length l.bytes.items);
+      given : (g.A.Source.supplied l.source).given
+          ≡ counted (g.A.Source.supplied l.fn.source).given (length l.bytes.items);
       whole : Consumes (g.A.Source.supplied l.fn.source).left (g.A.Source.supplied l.source).left l.bytes.items;
     }
 

@@ -5,4 +5,6 @@ use Rattle.bitmap_font.proofs.DrawingLaws.{IsInkedBefore}
 use Rattle.bitmap_font.proofs.font.Font.draw.Given as goal
 
 abbrev pub invariant-loop-place : goal.invariant-loop-place
-invariant-loop-place l = PaintsWhere (IsInkedBefore l.self (map drawn_of l.placed) l.place-index) l.width l.height l.ink l.initial.codes l.codes
+invariant-loop-place l =
+    PaintsWhere (IsInkedBefore l.self (map drawn_of l.placed) l.place-index) l.width l.height l.ink l.initial.codes
+    l.codes

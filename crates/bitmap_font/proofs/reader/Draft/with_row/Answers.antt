@@ -19,7 +19,12 @@ returns-clause-draft c =
       length-bytes_from c.args.text.now (length c.args.text.now / 2),
     ) in
     record {
-      lines = record { given = c.requires.draft.lines.given; blank = λ none. absurd (omega (arith, (c.requires.draft.lines.blank none).0)) };
+      lines =
+          record {
+            given = c.requires.draft.lines.given;
+            blank = λ none. absurd
+                (omega (arith, (c.requires.draft.lines.blank none).0));
+          };
       shape = c.requires.draft.shape;
       advance = c.requires.draft.advance;
       whole = λ bitmap. omega (arith, c.requires.draft.whole bitmap, row_done c.args.self.left row c.requires.due);

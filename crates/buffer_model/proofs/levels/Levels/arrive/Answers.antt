@@ -8,4 +8,14 @@ overflow_add-level-in-None c =
     let bytes : Waiting → ℕ = λ (set : Waiting). set.bytes in
     let most = held-most c.tick.result c.deref.result.now in
     let all = ap (sum_by bytes) c.deref.ensures.value in
-    omega (arith, c.held.ensures, most, all, c.self.invariant.0.bytes, c.self.invariant.0.level c.in-None.is, c.self.invariant.0.sound.coded, c.requires.bytes)
+    omega (
+      arith,
+      c.held.ensures,
+      most,
+      all,
+      c.self.invariant.0.bytes,
+      c.self.invariant.0.level
+          c.in-None.is,
+      c.self.invariant.0.sound.coded,
+      c.requires.bytes,
+    )

@@ -9,8 +9,12 @@ pub returns : goal.returns
 returns g c =
     subst (λ (checking : Checking). (packets : List (List ℕ)) (text : List ℕ) → HasChecked checking packets text
     → (more : List ℕ)
-    × IsCheckText checking.receiving.showing.core.profile checking.receiving.showing.core.anchor checking.receiving.demux.pid checking.receiving.sets.pages true packets (text ++ more)
-    × PutsOut (g.K.Sink.received c.args.out.now) (g.K.Sink.received c.put_end.new.out) c.args.buffer.now c.put_end.new.buffer more)
+    × IsCheckText checking.receiving.showing.core.profile checking.receiving.showing.core.anchor
+    checking.receiving.demux.pid checking.receiving.sets.pages true packets (text ++ more)
+    × PutsOut (g.K.Sink.received c.args.out.now) (g.K.Sink.received c.put_end.new.out) c.args.buffer.now
+    c.put_end.new.buffer more)
     c.self.view_is
-    (end_told c.self.inside.receiver c.finish.new.self c.take_ready.new.receiver c.self.inside.levels c.take_ready.new.levels _ _ _ c.args.buffer.now c.take_ready.new.buffer c.put_end.new.buffer
-    c.finish.ensures.same (λ fed given stands. c.finish.ensures.stands fed given stands) c.take_ready.ensures.sets c.take_ready.ensures.all c.put_end.ensures)
+    (end_told c.self.inside.receiver c.finish.new.self c.take_ready.new.receiver c.self.inside.levels
+    c.take_ready.new.levels _ _ _ c.args.buffer.now c.take_ready.new.buffer c.put_end.new.buffer
+    c.finish.ensures.same (λ fed given stands. c.finish.ensures.stands fed given stands) c.take_ready.ensures.sets
+    c.take_ready.ensures.all c.put_end.ensures)

@@ -7,17 +7,26 @@ use Rattle.check_text.proofs.check.Check.take_packets.Goals as goal
 
 pub returns-in-Err-clause-refused : goal.returns-in-Err-clause-refused
 returns-in-Err-clause-refused g c =
-    tells_refused HasChecked c.args.self.now.receiving.demux.pid _ _ _ _ _ _ _ _ _ c.args.first c.loop-packet.place c.loop-packet.packet-index c.args.packets.now c.in-Err.fault
+    tells_refused HasChecked c.args.self.now.receiving.demux.pid _ _ _ _ _ _ _ _ _ c.args.first c.loop-packet.place
+    c.loop-packet.packet-index c.args.packets.now c.in-Err.fault
     c.loop-packet.invariant.told c.in-Err.ensures.kept c.loop-packet-test.true c.loop-packet.invariant.place
-    (subst (λ (p : ℕ). packet_fault p (get_or c.args.packets.now c.loop-packet.packet-index []) ≡ Some c.in-Err.fault) c.loop-packet.invariant.same.receiver.pid c.in-Err.ensures.fault)
+    (subst (λ (p : ℕ). packet_fault p (get_or c.args.packets.now c.loop-packet.packet-index [])
+    ≡ Some c.in-Err.fault) c.loop-packet.invariant.same.receiver.pid c.in-Err.ensures.fault)
 
 pub loop-packet-preserved : goal.loop-packet-preserved
 loop-packet-preserved g c = record {
   place = omega (arith, c.loop-packet.invariant.place);
   next = omega (arith, c.in_default.ensures.next);
-  same = record { receiver = same_both c.args.self.now.receiving c.loop-packet.self.receiving c.take_packet.new.self.receiving c.loop-packet.invariant.same.receiver c.take_packet.ensures.same.receiver };
-  told = tells_one_more HasChecked c.args.self.now.receiving.demux.pid _ _ _ _ _ _ _ _ _ c.args.first c.loop-packet.place c.loop-packet.packet-index c.args.packets.now
+  same =
+      record {
+        receiver = same_both c.args.self.now.receiving c.loop-packet.self.receiving
+            c.take_packet.new.self.receiving c.loop-packet.invariant.same.receiver c.take_packet.ensures.same.receiver;
+      };
+  told =
+      tells_one_more HasChecked c.args.self.now.receiving.demux.pid _ _ _ _ _ _ _ _ _ c.args.first c.loop-packet.place
+      c.loop-packet.packet-index c.args.packets.now
       c.loop-packet.invariant.told
-      (subst (λ (p : ℕ). packet_fault p (get_or c.args.packets.now c.loop-packet.packet-index []) ≡ None) c.loop-packet.invariant.same.receiver.pid c.in_default.ensures.fault)
+      (subst (λ (p : ℕ). packet_fault p (get_or c.args.packets.now c.loop-packet.packet-index []) ≡ None)
+      c.loop-packet.invariant.same.receiver.pid c.in_default.ensures.fault)
       c.in_default.ensures.told c.loop-packet-test.true c.loop-packet.invariant.place;
 }

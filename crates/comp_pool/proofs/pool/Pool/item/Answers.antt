@@ -7,12 +7,17 @@ use Rattle.comp_pool.proofs.pool.Pool.item.Goals as goal
 pub index-requires : goal.index-requires
 index-requires g c =
     let inside = c.self.inside in
-    let below = is_one inside.filler inside.items.items inside.count inside.nexts.items inside.backs.items inside.free c.self.invariant c.args.self.now c.self.view_is c.args.node c.requires in
+    let below =
+    is_one inside.filler inside.items.items inside.count inside.nexts.items inside.backs.items inside.free
+    c.self.invariant c.args.self.now c.self.view_is c.args.node c.requires in
     omega (arith, below, c.self.invariant.itemed)
 
 pub returns : goal.returns
 returns g c =
     let inside = c.self.inside in
-    let P : PoolOf g.row.T.Denot → Type 0 = λ p. (l : ℕ) → IsInList p l c.args.node → Contains (list_of p l) (c.args.node, c.index.result.now) in
-    subst P c.self.view_is (in_list_from_item inside.filler inside.items.items inside.count inside.nexts.items inside.backs.items c.args.node c.index.result.now
+    let P : PoolOf g.row.T.Denot → Type 0 = λ p. (l : ℕ) → IsInList p l c.args.node
+    → Contains (list_of p l) (c.args.node, c.index.result.now) in
+    subst P c.self.view_is
+    (in_list_from_item inside.filler inside.items.items inside.count inside.nexts.items inside.backs.items
+    c.args.node c.index.result.now
     c.self.invariant.linked c.self.invariant.itemed c.index.ensures)

@@ -7,8 +7,11 @@ pub returns-in-Ok-clause-glyphs : goal.returns-in-Ok-clause-glyphs
 returns-in-Ok-clause-glyphs c = missing-none c.args.font.now (chars c.args.text.now) c.in-Ok.ensures.glyphs
 
 pub returns-in-Ok-clause-head : goal.returns-in-Ok-clause-head
-returns-in-Ok-clause-head c = text_head-set c.args.font.now (chars c.args.text.now) c.args.cue.ink c.args.cue.paper c.args.region.depth c.in-Ok.picture c.in-Ok.ensures.set
+returns-in-Ok-clause-head c =
+    text_head-set c.args.font.now (chars c.args.text.now) c.args.cue.ink c.args.cue.paper c.args.region.depth
+    c.in-Ok.picture c.in-Ok.ensures.set
 
 pub returns-in-Err-clause-refused : goal.returns-in-Err-clause-refused
 returns-in-Err-clause-refused c =
-    set-refused-as c.args.font.now (chars c.args.text.now) c.in-Err.fault (past_of c.args.self.now) c.args.cue.placing c.args.region c.row_fault_of.result c.row_fault_of.ensures c.in-Err.ensures.refused
+    set-refused-as c.args.font.now (chars c.args.text.now) c.in-Err.fault (past_of c.args.self.now) c.args.cue.placing
+    c.args.region c.row_fault_of.result c.row_fault_of.ensures c.in-Err.ensures.refused

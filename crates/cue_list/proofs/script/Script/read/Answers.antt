@@ -2,4 +2,6 @@ use Rattle.cue_list.proofs.AnswerLaws.{every_fault}
 use Rattle.cue_list.proofs.script.Script.read.Goals as goal
 
 pub returns-clause-every_fault : goal.returns-clause-every_fault
-returns-clause-every_fault c = every_fault c.args.bytes.now c.args.font.now c.script_of.result c.script_of.ensures.script c.script_of.ensures.refused
+returns-clause-every_fault c =
+    every_fault c.args.bytes.now c.args.font.now c.script_of.result c.script_of.ensures.script
+    c.script_of.ensures.refused

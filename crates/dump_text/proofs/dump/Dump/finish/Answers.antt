@@ -9,8 +9,14 @@ pub returns : goal.returns
 returns g c =
     subst
     (λ (old : Dumping). (packets : List (List ℕ)) (text : List ℕ) → HasDumped old packets text
-    → (more : List ℕ) × IsDumpText old.receiving.showing.core.profile old.receiving.demux.pid old.receiving.sets.pages old.ticks true packets (text ++ more)
-    × PutsOut (g.K.Sink.received c.args.out.now) (g.K.Sink.received c.put_rest.new.out) c.args.buffer.now c.put_rest.new.buffer more)
+    → (more : List ℕ)
+    × IsDumpText old.receiving.showing.core.profile old.receiving.demux.pid old.receiving.sets.pages old.ticks true
+    packets (text ++ more)
+    × PutsOut (g.K.Sink.received c.args.out.now) (g.K.Sink.received c.put_rest.new.out) c.args.buffer.now
+    c.put_rest.new.buffer more)
     c.self.view_is
-    (dumped_whole _ _ _ _ c.finish.new.self c.take_ready-self-inside.new.receiver c.take_ready-self-inside.result c.args.buffer.now c.take_ready-self-inside.new.buffer c.put_rest.new.buffer
-    c.finish.ensures.stands c.finish.ensures.same c.take_ready-self-inside.ensures.dumps c.take_ready-self-inside.ensures.same c.take_ready-self-inside.ensures.all c.take_ready-self-inside.ensures.within c.put_rest.ensures)
+    (dumped_whole _ _ _ _ c.finish.new.self c.take_ready-self-inside.new.receiver c.take_ready-self-inside.result
+    c.args.buffer.now c.take_ready-self-inside.new.buffer c.put_rest.new.buffer
+    c.finish.ensures.stands c.finish.ensures.same c.take_ready-self-inside.ensures.dumps
+    c.take_ready-self-inside.ensures.same c.take_ready-self-inside.ensures.all
+    c.take_ready-self-inside.ensures.within c.put_rest.ensures)

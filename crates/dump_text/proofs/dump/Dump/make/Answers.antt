@@ -15,5 +15,7 @@ returns-clause-nothing c = record {
   anchored = c.in_ok-of_pages.ensures.anchor ∙ c.anchor.ensures;
   within = omega arith;
   told = nothing_told c.in_ok-of_pages.field-0 c.args.ticks.now c.in_ok-of_pages.ensures.stands;
-  all = no_packets c.in_ok-of_pages.field-0.showing.core.profile.coded c.in_ok-of_pages.field-0.demux.pid c.in_ok-of_pages.field-0.sets.pages;
+  all =
+      no_packets c.in_ok-of_pages.field-0.showing.core.profile.coded c.in_ok-of_pages.field-0.demux.pid
+      c.in_ok-of_pages.field-0.sets.pages;
 }

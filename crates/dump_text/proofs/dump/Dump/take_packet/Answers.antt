@@ -12,9 +12,17 @@ returns-clause-told g c place =
     (g.K.Sink.received c.args.out.now)
     (g.K.Sink.received c.take_ready-self-inside.new.out)
     old
-    (record { receiving = c.take_ready-self-inside.new.receiver; bands = c.self.inside.bands; ticks = c.self.inside.ticks.now; told = c.take_ready-self-inside.result })
+    (record {
+      receiving = c.take_ready-self-inside.new.receiver;
+      bands = c.self.inside.bands;
+      ticks = c.self.inside.ticks.now;
+      told = c.take_ready-self-inside.result;
+    })
     c.args.buffer.now c.take_ready-self-inside.new.buffer place c.args.packet.now)
     c.self.view_is
-    (packet_told _ _ _ c.feed.new.self c.take_ready-self-inside.new.receiver c.take_ready-self-inside.result c.args.buffer.now c.take_ready-self-inside.new.buffer place c.args.packet.now
+    (packet_told _ _ _ c.feed.new.self c.take_ready-self-inside.new.receiver c.take_ready-self-inside.result
+    c.args.buffer.now c.take_ready-self-inside.new.buffer place c.args.packet.now
     c.self.invariant.within (All-from_get_or (λ (b : ℕ). b < 256) c.args.packet.now 0 (λ i within. c.fits-packet i))
-    c.in_ok-feed.ensures.same c.in_ok-feed.ensures.stands c.take_ready-self-inside.ensures.same c.take_ready-self-inside.ensures.all c.take_ready-self-inside.ensures.within c.take_ready-self-inside.ensures.dumps)
+    c.in_ok-feed.ensures.same c.in_ok-feed.ensures.stands c.take_ready-self-inside.ensures.same
+    c.take_ready-self-inside.ensures.all c.take_ready-self-inside.ensures.within
+    c.take_ready-self-inside.ensures.dumps)

@@ -7,16 +7,23 @@ use Rattle.dump_text.proofs.dump.Dump.take_packets.Goals as goal
 
 pub returns-in-Err-clause-refused : goal.returns-in-Err-clause-refused
 returns-in-Err-clause-refused g c =
-    tells_refused HasDumped c.args.self.now.receiving.demux.pid _ _ _ _ _ _ _ _ _ c.args.first c.loop-packet.place c.loop-packet.packet-index c.args.packets.now c.in-Err.fault
+    tells_refused HasDumped c.args.self.now.receiving.demux.pid _ _ _ _ _ _ _ _ _ c.args.first c.loop-packet.place
+    c.loop-packet.packet-index c.args.packets.now c.in-Err.fault
     c.loop-packet.invariant.told c.in-Err.ensures.kept c.loop-packet-test.true c.loop-packet.invariant.place
-    (subst (λ (p : ℕ). packet_fault p (get_or c.args.packets.now c.loop-packet.packet-index []) ≡ Some c.in-Err.fault) c.loop-packet.invariant.same.receiver.pid c.in-Err.ensures.fault)
+    (subst (λ (p : ℕ). packet_fault p (get_or c.args.packets.now c.loop-packet.packet-index [])
+    ≡ Some c.in-Err.fault) c.loop-packet.invariant.same.receiver.pid c.in-Err.ensures.fault)
 
 pub loop-packet-preserved : goal.loop-packet-preserved
 loop-packet-preserved g c = record {
   place = omega (arith, c.loop-packet.invariant.place);
-  same = same_dumps c.args.self.now c.loop-packet.self c.take_packet.new.self c.loop-packet.invariant.same c.take_packet.ensures.same;
-  told = tells_one_more HasDumped c.args.self.now.receiving.demux.pid _ _ _ _ _ _ _ _ _ c.args.first c.loop-packet.place c.loop-packet.packet-index c.args.packets.now
+  same =
+      same_dumps c.args.self.now c.loop-packet.self c.take_packet.new.self c.loop-packet.invariant.same
+      c.take_packet.ensures.same;
+  told =
+      tells_one_more HasDumped c.args.self.now.receiving.demux.pid _ _ _ _ _ _ _ _ _ c.args.first c.loop-packet.place
+      c.loop-packet.packet-index c.args.packets.now
       c.loop-packet.invariant.told
-      (subst (λ (p : ℕ). packet_fault p (get_or c.args.packets.now c.loop-packet.packet-index []) ≡ None) c.loop-packet.invariant.same.receiver.pid c.in_default.ensures.fault)
+      (subst (λ (p : ℕ). packet_fault p (get_or c.args.packets.now c.loop-packet.packet-index []) ≡ None)
+      c.loop-packet.invariant.same.receiver.pid c.in_default.ensures.fault)
       (c.in_default.ensures.told c.loop-packet.place) c.loop-packet-test.true c.loop-packet.invariant.place;
 }

@@ -7,7 +7,8 @@ pub returns-clause-steps : goal.returns-clause-steps
 returns-clause-steps c =
     let inside : c.self.inside.next < c.self.inside.picture.now.height = omega arith in
     sym c.self.view_is ∙ every_second_row-cons c.self.inside.picture.now c.self.inside.next inside
-    ∙ ap (λ (row : List ℕ). row ∷ every_second_row c.self.inside.picture.now (c.self.inside.next + 2)) (sym c.row-row.ensures.value)
+    ∙ ap (λ (row : List ℕ). row ∷ every_second_row c.self.inside.picture.now (c.self.inside.next + 2))
+    (sym c.row-row.ensures.value)
 
 pub returns-clause-goes : goal.returns-clause-goes
 returns-clause-goes c =

@@ -6,4 +6,5 @@ use Rattle.indexed_picture.proofs.picture.Indexed.bottom_rows.Goals as goal
 pub returns-clause-rows : goal.returns-clause-rows
 returns-clause-rows c =
     let P : List (List ℕ) → Type 0 = All (IsRow c.args.self.now) in
-    subst P (sym c.starting_at.ensures) (All-every_second_row c.args.self.now (subst IsPicture c.self.view_is c.self.invariant) 1)
+    subst P (sym c.starting_at.ensures)
+    (All-every_second_row c.args.self.now (subst IsPicture c.self.view_is c.self.invariant) 1)

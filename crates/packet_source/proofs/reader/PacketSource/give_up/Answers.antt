@@ -6,4 +6,5 @@ pub returns : goal.returns
 returns c =
     let inside = c.self.inside in
     given_up-moved inside.first inside.start inside.filled 240 inside.room.items _ c.args.self.now c.self.invariant.3
-    (omega (arith, c.self.invariant.0, c.self.invariant.1, inside.room.ok.0)) (omega arith) (omega (arith, c.self.invariant.1, inside.room.ok.0)) c.copy_within.ensures.items c.self.view_is
+    (omega (arith, c.self.invariant.0, c.self.invariant.1, inside.room.ok.0)) (omega arith)
+    (omega (arith, c.self.invariant.1, inside.room.ok.0)) c.copy_within.ensures.items c.self.view_is

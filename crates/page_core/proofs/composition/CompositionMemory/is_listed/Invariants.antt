@@ -6,7 +6,8 @@ use Rattle.page_core.proofs.composition.CompositionMemory.is_listed.Given as goa
 
 abbrev pub invariant-loop-entry : goal.invariant-loop-entry
 invariant-loop-entry l =
-    list_any (λ (entry : PageEntry). entry.region == l.id) l.fn.self.entries ≡ list_any (λ (entry : PageEntry). entry.region == l.id) l.entries
+    list_any (λ (entry : PageEntry). entry.region == l.id) l.fn.self.entries
+    ≡ list_any (λ (entry : PageEntry). entry.region == l.id) l.entries
 
 abbrev pub decreases-loop-entry : goal.decreases-loop-entry
 decreases-loop-entry l = length l.entries

@@ -6,9 +6,9 @@ use Rattle.decoder_model.specs.Readings.{Content, AreFields}
 use Rattle.segments.specs.Contents.{object_value}
 use Rattle.page_core.specs.Private.Everywhere.{AreApart, HaveRegions, KeepsRoom}
 use Rattle.page_core.specs.Private.ObjectFaults.{told}
-use Rattle.page_core.proofs.EverywhereLaws.{IsLeastSoFar}
-use Rattle.page_core.proofs.EverywhereWalks.{IsPaintingAll}
-use Rattle.page_core.proofs.EverywhereWrites.{IsWritingAll}
+use Rattle.page_core.proofs.Objects.EverywhereLaws.{IsLeastSoFar}
+use Rattle.page_core.proofs.Objects.EverywhereWalks.{IsPaintingAll}
+use Rattle.page_core.proofs.Objects.EverywhereWrites.{IsWritingAll}
 use Rattle.page_core.proofs.composition.everywhere.paint_regions.Given as goal
 
 abbrev pub invariant-loop-place : goal.invariant-loop-place
@@ -16,7 +16,8 @@ invariant-loop-place l = record {
   nodes : IsPaintingAll l.painter l.initial.pool l.place l.pool;
   regions : HaveRegions l.initial.pool l.store;
   room : KeepsRoom l.initial.store l.store;
-  fault : (content : Content) → AreFields (of_object (object_value l.object)) content.top content.bottom → AreApart l.initial.pool
+  fault : (content : Content) → AreFields (of_object (object_value l.object)) content.top content.bottom
+      → AreApart l.initial.pool
       → IsLeastSoFar l.painter content (object_value l.object) l.initial.pool l.place (option_map told l.least);
   written : (content : Content) → AreFields (of_object (object_value l.object)) content.top content.bottom
       → IsWritingAll l.painter content (object_value l.object) l.initial.pool l.initial.store l.place l.store;

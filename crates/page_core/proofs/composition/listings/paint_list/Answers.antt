@@ -3,34 +3,39 @@ use Rattle.comp_pool.specs.Places.{rest_from}
 use Rattle.comp_pool.specs.Pool.{IsInList, list_of}
 use Rattle.comp_pool.specs.declared.node.NodeId.{NodeId}
 use Rattle.comp_pool.proofs.NodeLaws.{in_some_list}
-use Rattle.page_core.proofs.Repainting.{node_is_listed, repainting_goes_on}
-use Rattle.page_core.proofs.Rewriting.{walk_shorter}
+use Rattle.page_core.proofs.Objects.Repainting.{node_is_listed, repainting_goes_on}
+use Rattle.page_core.proofs.Objects.Rewriting.{walk_shorter}
 use Rattle.page_core.proofs.composition.listings.paint_list.Goals as goal
 
 pub next-place-requires : goal.next-place-requires
 next-place-requires c =
     in_some_list c.loop-place.pool c.args.list c.in-Some.node
-    (node_is_listed c.args.list c.args.object c.args.fields.now c.args.region.now.slot c.args.pool.now c.args.store.now c.loop-place.place c.loop-place.pool c.loop-place.store c.loop-place.invariant c.in-Some.node c.in-Some.is)
+    (node_is_listed c.args.list c.args.object c.args.fields.now c.args.region.now.slot c.args.pool.now c.args.store.now
+    c.loop-place.place c.loop-place.pool c.loop-place.store c.loop-place.invariant c.in-Some.node c.in-Some.is)
 
 pub item-requires : goal.item-requires
 item-requires c =
     in_some_list c.loop-place.pool c.args.list c.in-Some.node
-    (node_is_listed c.args.list c.args.object c.args.fields.now c.args.region.now.slot c.args.pool.now c.args.store.now c.loop-place.place c.loop-place.pool c.loop-place.store c.loop-place.invariant c.in-Some.node c.in-Some.is)
+    (node_is_listed c.args.list c.args.object c.args.fields.now c.args.region.now.slot c.args.pool.now c.args.store.now
+    c.loop-place.place c.loop-place.pool c.loop-place.store c.loop-place.invariant c.in-Some.node c.in-Some.is)
 
 pub set_item-requires : goal.set_item-requires
 set_item-requires c =
     in_some_list c.loop-place.pool c.args.list c.in-Some.node
-    (node_is_listed c.args.list c.args.object c.args.fields.now c.args.region.now.slot c.args.pool.now c.args.store.now c.loop-place.place c.loop-place.pool c.loop-place.store c.loop-place.invariant c.in-Some.node c.in-Some.is)
+    (node_is_listed c.args.list c.args.object c.args.fields.now c.args.region.now.slot c.args.pool.now c.args.store.now
+    c.loop-place.place c.loop-place.pool c.loop-place.store c.loop-place.invariant c.in-Some.node c.in-Some.is)
 
 pub loop-place-smaller : goal.loop-place-smaller
 loop-place-smaller c =
     let pool = c.loop-place.pool in
     let node = c.in-Some.node in
     let listed : IsInList pool c.args.list node
-    = node_is_listed c.args.list c.args.object c.args.fields.now c.args.region.now.slot c.args.pool.now c.args.store.now c.loop-place.place pool c.loop-place.store c.loop-place.invariant node c.in-Some.is in
+    = node_is_listed c.args.list c.args.object c.args.fields.now c.args.region.now.slot c.args.pool.now c.args.store.now
+    c.loop-place.place pool c.loop-place.store c.loop-place.invariant node c.in-Some.is in
     omega (
       arith,
-      walk_shorter pool c.set_item.new.self c.args.list node c.item.result c.painted_node-item.result c.next-place.result c.loop-place.invariant.nodes.distinct
+      walk_shorter pool c.set_item.new.self c.args.list node c.item.result c.painted_node-item.result
+          c.next-place.result c.loop-place.invariant.nodes.distinct
           (c.item.ensures c.args.list listed) (c.next-place.ensures c.args.list listed) c.set_item.ensures.replaced,
       ap (λ (o : Option NodeId). length (rest_from o (list_of pool c.args.list))) c.in-Some.is,
     )
@@ -40,8 +45,12 @@ loop-place-preserved c =
     let pool = c.loop-place.pool in
     let node = c.in-Some.node in
     let listed : IsInList pool c.args.list node
-    = node_is_listed c.args.list c.args.object c.args.fields.now c.args.region.now.slot c.args.pool.now c.args.store.now c.loop-place.place pool c.loop-place.store c.loop-place.invariant node c.in-Some.is in
-    repainting_goes_on c.args.list c.args.object c.args.fields.now c.args.region.now.slot c.args.pool.now c.args.store.now c.loop-place.place pool c.loop-place.store c.loop-place.invariant
-    node c.item.result c.next-place.result c.set_item.new.self c.painted_node-item.result c.painted_node-item.new.store c.in-Some.is
-    (c.item.ensures c.args.list listed) (c.next-place.ensures c.args.list listed) c.painted_node-item.ensures.node c.painted_node-item.ensures.written
+    = node_is_listed c.args.list c.args.object c.args.fields.now c.args.region.now.slot c.args.pool.now c.args.store.now
+    c.loop-place.place pool c.loop-place.store c.loop-place.invariant node c.in-Some.is in
+    repainting_goes_on c.args.list c.args.object c.args.fields.now c.args.region.now.slot c.args.pool.now
+    c.args.store.now c.loop-place.place pool c.loop-place.store c.loop-place.invariant
+    node c.item.result c.next-place.result c.set_item.new.self c.painted_node-item.result c.painted_node-item.new.store
+    c.in-Some.is
+    (c.item.ensures c.args.list listed) (c.next-place.ensures c.args.list listed) c.painted_node-item.ensures.node
+    c.painted_node-item.ensures.written
     c.set_item.ensures.replaced c.set_item.ensures.distinct c.set_item.ensures.nodes

@@ -1,6 +1,6 @@
 -- No entry is marked.
 use Rattle.std.proofs.Common.{refl}
-use Rattle.page_core.proofs.MarkLaws.{first_stamps, none_marked}
+use Rattle.page_core.proofs.Counts.MarkLaws.{first_stamps, none_marked}
 use Rattle.page_core.proofs.marks.Marks.make.Goals as goal
 
 pub invariant_of-result : goal.invariant_of-result

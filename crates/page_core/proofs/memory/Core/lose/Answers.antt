@@ -1,5 +1,5 @@
 -- What stands after a loss.
-use Rattle.page_core.proofs.Pasts.{loss_stands}
+use Rattle.page_core.proofs.Handed.Pasts.{loss_stands}
 use Rattle.page_core.proofs.memory.Core.lose.Goals as goal
 
 pub returns-clause-stands : goal.returns-clause-stands

@@ -1,6 +1,6 @@
 -- A core that was handed nothing.
 use Rattle.std.proofs.Common.{refl}
-use Rattle.page_core.proofs.Pasts.{nothing_handed}
+use Rattle.page_core.proofs.Handed.Pasts.{nothing_handed}
 use Rattle.page_core.proofs.memory.Core.make.Goals as goal
 
 pub returns-clause-stands : goal.returns-clause-stands

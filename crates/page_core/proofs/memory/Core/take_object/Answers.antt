@@ -7,7 +7,7 @@ use Rattle.decoder_model.specs.Readings.{AreFields}
 use Rattle.segments.specs.Contents.{object_value}
 use Rattle.page_core.specs.Private.Listings.{IsPainter, painter_of}
 use Rattle.page_core.specs.Memory.{Holds}
-use Rattle.page_core.proofs.ObjectMemory.{regions_there, still_whole, painted_holds, fault_is, no_fault_is}
+use Rattle.page_core.proofs.Objects.ObjectMemory.{regions_there, still_whole, painted_holds, fault_is, no_fault_is}
 use Rattle.page_core.proofs.memory.Core.take_object.Goals as goal
 
 pub paint_everywhere-requires-clause-regions : goal.paint_everywhere-requires-clause-regions
@@ -27,7 +27,9 @@ invariant_of-self c = record {
       c.self.invariant.whole;
   anchored = c.self.invariant.anchored;
   timed = c.self.invariant.timed;
-  marked = subst (λ (composition : Composition). AreMarked composition.set_entries [] c.self.inside.marks) (sym c.paint_everywhere.ensures.composition) c.self.invariant.marked;
+  marked =
+      subst (λ (composition : Composition). AreMarked composition.set_entries [] c.self.inside.marks)
+      (sym c.paint_everywhere.ensures.composition) c.self.invariant.marked;
   few = c.self.invariant.few;
   display = c.self.invariant.display;
 }
@@ -39,7 +41,8 @@ returns-clause-fault c older content holds is fields =
     let before = subst (Holds older) (sym c.self.view_is) holds in
     let apart = c.self.invariant.whole.apart in
     c.in_segment.ensures
-    ∙ fault_is older _ before (painter_of c.args.object.now) object content (record { object = refl; version = refl; see_through = refl }) is c.self.invariant.whole.ids
+    ∙ fault_is older _ before (painter_of c.args.object.now) object content
+    (record { object = refl; version = refl; see_through = refl }) is c.self.invariant.whole.ids
     c.paint_everywhere.result (c.paint_everywhere.ensures.fault content read apart)
 
 pub returns-clause-taken : goal.returns-clause-taken
@@ -48,8 +51,11 @@ returns-clause-taken c older content holds is fields none =
     let read = subst (λ (v : SegmentValue). AreFields v content.top content.bottom) (sym is) fields in
     let before = subst (Holds older) (sym c.self.view_is) holds in
     let apart = c.self.invariant.whole.apart in
-    let by_painter : IsPainter (painter_of c.args.object.now) object = record { object = refl; version = refl; see_through = refl } in
-    let no_fault = no_fault_is older _ before (painter_of c.args.object.now) object content by_painter is c.self.invariant.whole.ids
+    let by_painter : IsPainter (painter_of c.args.object.now) object =
+    record { object = refl; version = refl; see_through = refl } in
+    let no_fault =
+    no_fault_is older _ before (painter_of c.args.object.now) object content by_painter is
+    c.self.invariant.whole.ids
     (sym none ∙ c.in_segment.ensures ∙ c.paint_everywhere.ensures.fault content read apart) in
     painted_holds (painter_of c.args.object.now) _ _ object content older
     (record {

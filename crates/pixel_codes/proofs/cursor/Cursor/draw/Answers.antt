@@ -12,18 +12,37 @@ pub invariant_of-self : goal.invariant_of-self
 invariant_of-self c =
     let s = c.args.self.now in
     let f = pixels_fit c.args.depth s.rest.now s.place c.args.length c.args.code c.args.next c.requires.read in
-    record { at_head = λ e. absurd (let h = c.requires.string in cc); within = f.within; fits = omega (arith, f.on, f.within, s.fits); lines = s.lines }
+    record {
+      at_head = λ e. absurd (let h = c.requires.string in cc);
+      within = f.within;
+      fits = omega
+          (arith, f.on, f.within, s.fits);
+      lines = s.lines;
+    }
 
 pub returns-then-length-eq0 : goal.returns-then-length-eq0
 returns-then-length-eq0 c =
     let s = c.args.self.now in
     let f = pixels_fit c.args.depth s.rest.now s.place c.args.length c.args.code c.args.next c.requires.read in
     let none : s.x + c.args.length ≡ s.x = omega arith in (
-      at_token s.region c.args.depth s.string s.rest.now s.place (pen_of s) (Some (Pixels c.args.length c.args.code, c.args.next)) c.requires.string c.requires.read
-          ∙ ap (λ (t : List Run). t ++ runs_left s.region (Some c.args.depth) s.rest.now c.args.next (record { x = s.x + c.args.length; line = s.line; maps = maps_of s.tables })) (no_run s.region c.args.depth (pen_of s) c.args.length c.args.code (omega arith))
-          ∙ ap (λ (n : ℕ). let pen : Pen = record { x = n; line = s.line; maps = maps_of s.tables } in runs_left s.region (Some c.args.depth) s.rest.now c.args.next pen) none
-          ∙ ap (λ (i : Option Depth). runs_left s.region i s.rest.now c.args.next (pen_of s)) (sym c.requires.string),
-      omega (arith, bits_left-some s.string c.args.depth s.rest.now s.place c.requires.string, bits_left-some s.string c.args.depth s.rest.now c.args.next c.requires.string, f.on, f.within),
+      at_token s.region c.args.depth s.string s.rest.now s.place (pen_of s)
+          (Some (Pixels c.args.length c.args.code, c.args.next)) c.requires.string c.requires.read
+          ∙ ap (λ (t : List Run). t
+          ++ runs_left s.region (Some c.args.depth) s.rest.now c.args.next
+          (record { x = s.x + c.args.length; line = s.line; maps = maps_of s.tables }))
+          (no_run s.region c.args.depth (pen_of s) c.args.length c.args.code (omega arith))
+          ∙ ap (λ (n : ℕ). let pen : Pen = record { x = n; line = s.line; maps = maps_of s.tables } in runs_left
+          s.region (Some c.args.depth) s.rest.now c.args.next pen) none
+          ∙ ap (λ (i : Option Depth). runs_left s.region i s.rest.now c.args.next (pen_of s))
+          (sym c.requires.string),
+      omega (
+        arith,
+        bits_left-some s.string c.args.depth s.rest.now s.place c.requires.string,
+        bits_left-some s.string
+            c.args.depth s.rest.now c.args.next c.requires.string,
+        f.on,
+        f.within,
+      ),
     )
 
 pub mapped-requires : goal.mapped-requires
@@ -41,13 +60,34 @@ pub invariant_of-self-2 : goal.invariant_of-self-2
 invariant_of-self-2 c =
     let s = c.args.self.now in
     let f = pixels_fit c.args.depth s.rest.now s.place c.args.length c.args.code c.args.next c.requires.read in
-    record { at_head = λ e. absurd (let h = c.requires.string in cc); within = f.within; fits = omega (arith, f.few, f.on, f.within, s.fits); lines = s.lines }
+    record {
+      at_head = λ e. absurd (let h = c.requires.string in cc);
+      within = f.within;
+      fits = omega
+          (arith, f.few, f.on, f.within, s.fits);
+      lines = s.lines;
+    }
 
 pub returns : goal.returns
 returns c =
     let s = c.args.self.now in
     let pen : Pen = record { x = s.x + c.args.length; line = s.line; maps = maps_of s.tables } in
-    at_token s.region c.args.depth s.string s.rest.now s.place (pen_of s) (Some (Pixels c.args.length c.args.code, c.args.next)) c.requires.string c.requires.read
-    ∙ ap (λ (t : List Run). t ++ runs_left s.region (Some c.args.depth) s.rest.now c.args.next pen) (one_run s.region c.args.depth (pen_of s) c.args.length c.args.code c.if-length-eq0.false)
-    ∙ ap (λ (n : ℕ). let run : Run = record { x = s.x; line = s.line; length = c.args.length; read = c.args.code; code = n } in run ∷ runs_left s.region (Some c.args.depth) s.rest.now c.args.next pen) (sym c.mapped.ensures)
-    ∙ ap (λ (i : Option Depth). let run : Run = record { x = s.x; line = s.line; length = c.args.length; read = c.args.code; code = c.mapped.result } in run ∷ runs_left s.region i s.rest.now c.args.next pen) (sym c.requires.string)
+    at_token s.region c.args.depth s.string s.rest.now s.place (pen_of s)
+    (Some (Pixels c.args.length c.args.code, c.args.next)) c.requires.string c.requires.read
+    ∙ ap (λ (t : List Run). t ++ runs_left s.region (Some c.args.depth) s.rest.now c.args.next pen)
+    (one_run s.region c.args.depth (pen_of s) c.args.length c.args.code c.if-length-eq0.false)
+    ∙ ap (λ (n : ℕ). let run : Run = record {
+      x = s.x;
+      line = s.line;
+      length = c.args.length;
+      read = c.args.code;
+      code = n;
+    } in run ∷ runs_left s.region (Some c.args.depth) s.rest.now c.args.next pen) (sym c.mapped.ensures)
+    ∙ ap (λ (i : Option Depth). let run : Run = record {
+      x = s.x;
+      line = s.line;
+      length = c.args.length;
+      read = c.args.code;
+      code = c.mapped.result;
+    } in run ∷ runs_left s.region i s.rest.now c.args.next pen)
+    (sym c.requires.string)

@@ -9,7 +9,8 @@ loop-byte-init c = search rules
 
 -- a byte more stands at the end
 next : (old before after bytes : List ℕ) (i byte : ℕ) → i < length bytes
-    → before ≡ old ++ map shown_byte (take i bytes) → byte ≡ shown_byte (slice_index_or bytes i 0) → after ≡ before ++ byte ∷ []
+    → before ≡ old ++ map shown_byte (take i bytes) → byte ≡ shown_byte (slice_index_or bytes i 0)
+    → after ≡ before ++ byte ∷ []
     → after ≡ old ++ map shown_byte (take (i + 1) bytes)
 next old before after bytes i byte inside was is more =
     more
@@ -21,11 +22,13 @@ next old before after bytes i byte inside was is more =
 -- src/text.rt:94:9
 pub loop-byte-preserved : goal.loop-byte-preserved
 loop-byte-preserved c =
-    next c.args.self.now c.loop-byte.self-inside.bytes.items c.push.new.self.items c.args.bytes.now c.loop-byte.byte-index c.shown.result c.loop-byte-test.true c.loop-byte.invariant
+    next c.args.self.now c.loop-byte.self-inside.bytes.items c.push.new.self.items c.args.bytes.now
+    c.loop-byte.byte-index c.shown.result c.loop-byte-test.true c.loop-byte.invariant
     c.shown.ensures c.in_ok-push.ensures.items
 
 -- src/text.rt:91:5
 pub returns : goal.returns
 returns c =
     c.loop-byte.invariant
-    ∙ ap (λ bytes. c.args.self.now ++ map shown_byte bytes) (take_all c.loop-byte.byte-index c.args.bytes.now c.loop-byte-test.false)
+    ∙ ap (λ bytes. c.args.self.now ++ map shown_byte bytes)
+    (take_all c.loop-byte.byte-index c.args.bytes.now c.loop-byte-test.false)

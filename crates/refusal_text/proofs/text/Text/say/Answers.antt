@@ -22,10 +22,12 @@ next old before after parts i d inside was more =
 -- src/text.rt:49:9
 pub loop-part-preserved : goal.loop-part-preserved
 loop-part-preserved c =
-    next c.args.self.now c.loop-part.self c.put.new.self c.args.parts.now c.loop-part.part-index _ c.loop-part-test.true c.loop-part.invariant c.in_ok-put.ensures
+    next c.args.self.now c.loop-part.self c.put.new.self c.args.parts.now c.loop-part.part-index _ c.loop-part-test.true
+    c.loop-part.invariant c.in_ok-put.ensures
 
 -- src/text.rt:46:5
 pub returns : goal.returns
 returns c =
     c.loop-part.invariant
-    ∙ ap (λ parts. c.args.self.now ++ flat_map part_text parts) (take_all c.loop-part.part-index c.args.parts.now c.loop-part-test.false)
+    ∙ ap (λ parts. c.args.self.now ++ flat_map part_text parts)
+    (take_all c.loop-part.part-index c.args.parts.now c.loop-part-test.false)

@@ -3,4 +3,6 @@ use Rattle.schedule.proofs.AnswerLaws.{no_hope}
 use Rattle.schedule.proofs.schedule.Schedule.make.Goals as goal
 
 pub returns-clause-hopeless : goal.returns-clause-hopeless
-returns-clause-hopeless c = no_hope c.args.loads.now (pace_of c.args.origin c.args.profile.now) c.search.result c.requires.loads c.search.ensures.cause
+returns-clause-hopeless c =
+    no_hope c.args.loads.now (pace_of c.args.origin c.args.profile.now) c.search.result c.requires.loads
+    c.search.ensures.cause

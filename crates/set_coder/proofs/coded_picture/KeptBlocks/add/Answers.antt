@@ -5,20 +5,32 @@ use Rattle.set_coder.proofs.SlotLaws.{more_led}
 use Rattle.set_coder.proofs.coded_picture.KeptBlocks.add.Goals as goal
 
 pub lead-requires : goal.lead-requires
-lead-requires c = omega (arith, c.requires.slots.each, slice_get_within c.args.pictures.now c.args.number c.args.picture.now c.requires.picture)
+lead-requires c =
+    omega (
+      arith,
+      c.requires.slots.each,
+      slice_get_within c.args.pictures.now c.args.number c.args.picture.now
+          c.requires.picture,
+    )
 
 pub returns-clause-right : goal.returns-clause-right
 returns-clause-right c =
     let coded = c.in_ok-coded in
-    one_more c.args.pictures.now c.args.picture.now c.args.number c.args.region coded.coded c.args.self.now.coded.items c.lead.new.self.coded.items c.requires.picture coded.ensures.number coded.ensures.region coded.ensures.coded c.requires.coded (ap (λ v. v.items) c.lead.ensures.coded ∙ c.in_ok-push.ensures.items)
+    one_more c.args.pictures.now c.args.picture.now c.args.number c.args.region coded.coded c.args.self.now.coded.items
+    c.lead.new.self.coded.items c.requires.picture coded.ensures.number coded.ensures.region coded.ensures.coded
+    c.requires.coded (ap (λ v. v.items) c.lead.ensures.coded ∙ c.in_ok-push.ensures.items)
 
 pub returns-clause-kept : goal.returns-clause-kept
 returns-clause-kept c =
     let coded = c.in_ok-coded in
-    last_kept c.args.number c.args.region coded.coded c.args.self.now.coded.items c.lead.new.self.coded.items coded.ensures.number coded.ensures.region (ap (λ v. v.items) c.lead.ensures.coded ∙ c.in_ok-push.ensures.items)
+    last_kept c.args.number c.args.region coded.coded c.args.self.now.coded.items c.lead.new.self.coded.items
+    coded.ensures.number coded.ensures.region
+    (ap (λ v. v.items) c.lead.ensures.coded ∙ c.in_ok-push.ensures.items)
 
 pub returns-clause-stay : goal.returns-clause-stay
-returns-clause-stay c = more_stay c.in_ok-coded.coded c.args.self.now.coded.items c.lead.new.self.coded.items (ap (λ v. v.items) c.lead.ensures.coded ∙ c.in_ok-push.ensures.items)
+returns-clause-stay c =
+    more_stay c.in_ok-coded.coded c.args.self.now.coded.items c.lead.new.self.coded.items
+    (ap (λ v. v.items) c.lead.ensures.coded ∙ c.in_ok-push.ensures.items)
 
 pub returns-clause-slots : goal.returns-clause-slots
 returns-clause-slots c =
@@ -26,5 +38,9 @@ returns-clause-slots c =
     let last : c.len-last.result ≡ length c.args.self.now.coded.items = search rules in
     record {
       each = c.lead.ensures.each ∙ c.requires.slots.each;
-      led = more_led c.args.self.now.slots.items c.lead.new.self.slots.items coded.coded c.args.self.now.coded.items c.lead.new.self.coded.items c.args.number c.args.region c.requires.slots.led (ap (λ v. v.items) c.lead.ensures.coded ∙ c.in_ok-push.ensures.items) coded.ensures.number coded.ensures.region (c.lead.ensures.here ∙ ap Some last) c.lead.ensures.others c.requires.fresh;
+      led =
+          more_led c.args.self.now.slots.items c.lead.new.self.slots.items coded.coded c.args.self.now.coded.items
+          c.lead.new.self.coded.items c.args.number c.args.region c.requires.slots.led
+          (ap (λ v. v.items) c.lead.ensures.coded ∙ c.in_ok-push.ensures.items) coded.ensures.number
+          coded.ensures.region (c.lead.ensures.here ∙ ap Some last) c.lead.ensures.others c.requires.fresh;
     }

@@ -5,4 +5,6 @@ use Rattle.set_coder.proofs.coded_picture.KeptBlocks.keep_cue.Goals as goal
 
 pub returns-in-Some-clause-kept : goal.returns-in-Some-clause-kept
 returns-in-Some-clause-kept c =
-    on_ok_weaker c.keep.result (cue_kept c.args.pictures.now c.keep.new.self.coded.items c.args.epoch.now c.args.cue.now c.in-Some.region (sym c.region_of.ensures ∙ c.in-Some.is)) c.keep.ensures.kept
+    on_ok_weaker c.keep.result
+    (cue_kept c.args.pictures.now c.keep.new.self.coded.items c.args.epoch.now c.args.cue.now c.in-Some.region
+    (sym c.region_of.ensures ∙ c.in-Some.is)) c.keep.ensures.kept

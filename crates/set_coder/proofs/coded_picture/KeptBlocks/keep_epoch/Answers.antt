@@ -7,15 +7,21 @@ pub loop-cue-preserved : goal.loop-cue-preserved
 loop-cue-preserved c =
     let next = c.in_ok-keep_cue.ensures in
     let before = c.loop-cue.invariant in
-    let lt : c.loop-cue.cue-index < length c.args.epoch.now.cues = omega (arith, ap length c.as_slice-cue-items.ensures) in
+    let lt : c.loop-cue.cue-index < length c.args.epoch.now.cues =
+    omega (arith, ap length c.as_slice-cue-items.ensures) in
     record {
       right = next.right;
       slots = next.slots;
-      kept = next_cue c.args.pictures.now c.args.epoch.now c.args.epoch.now.cues c.as_slice-cue-items.result.now c.loop-cue.cue-index _ c.loop-cue.self.coded.items c.keep_cue.new.self.coded.items lt c.as_slice-cue-items.ensures next.stay before.kept next.kept;
+      kept =
+          next_cue c.args.pictures.now c.args.epoch.now c.args.epoch.now.cues c.as_slice-cue-items.result.now
+          c.loop-cue.cue-index _ c.loop-cue.self.coded.items c.keep_cue.new.self.coded.items lt
+          c.as_slice-cue-items.ensures next.stay before.kept next.kept;
       stay = λ number region any. next.stay number region (before.stay number region any);
     }
 
 pub returns-clause-kept : goal.returns-clause-kept
 returns-clause-kept c =
-    let end : length c.args.epoch.now.cues ≤ c.loop-cue.cue-index = omega (arith, ap length c.as_slice-cue-items.ensures) in
-    all_taken (IsCueKept c.args.pictures.now c.loop-cue.self.coded.items c.args.epoch.now) c.loop-cue.cue-index c.args.epoch.now.cues end c.loop-cue.invariant.kept
+    let end : length c.args.epoch.now.cues ≤ c.loop-cue.cue-index =
+    omega (arith, ap length c.as_slice-cue-items.ensures) in
+    all_taken (IsCueKept c.args.pictures.now c.loop-cue.self.coded.items c.args.epoch.now) c.loop-cue.cue-index
+    c.args.epoch.now.cues end c.loop-cue.invariant.kept

@@ -12,15 +12,24 @@ loop-epoch-preserved c =
     let before = c.loop-epoch.invariant in
     let epoch = c.epoch-item.result in
     let more = c.keep_epoch.new.self.coded.items in
-    let lt : c.loop-epoch.epoch-index < length c.args.script.now.epochs = omega (arith, ap length c.as_slice-epoch-items.ensures) in
-    let is : epoch ≡ get_or c.args.script.now.epochs c.loop-epoch.epoch-index epoch = c.epoch-item.is ∙ ap (λ (es : List Epoch). get_or es c.loop-epoch.epoch-index epoch) c.as_slice-epoch-items.ensures in
+    let lt : c.loop-epoch.epoch-index < length c.args.script.now.epochs =
+    omega (arith, ap length c.as_slice-epoch-items.ensures) in
+    let is : epoch ≡ get_or c.args.script.now.epochs c.loop-epoch.epoch-index epoch =
+    c.epoch-item.is
+    ∙ ap (λ (es : List Epoch). get_or es c.loop-epoch.epoch-index epoch) c.as_slice-epoch-items.ensures in
     record {
       right = subst (λ (ps : List Picture). AreCoded ps more) c.as_slice.ensures next.right;
       slots = subst (λ (ps : List Picture). HasSlots ps c.keep_epoch.new.self) c.as_slice.ensures next.slots;
-      kept = next_epoch c.args.script.now.pictures c.args.script.now.epochs c.loop-epoch.epoch-index epoch c.loop-epoch.kept.coded.items more lt is next.stay before.kept (subst (λ (ps : List Picture). All (IsCueKept ps more epoch) epoch.cues) c.as_slice.ensures next.kept);
+      kept =
+          next_epoch c.args.script.now.pictures c.args.script.now.epochs c.loop-epoch.epoch-index epoch
+          c.loop-epoch.kept.coded.items more lt is next.stay before.kept
+          (subst (λ (ps : List Picture). All (IsCueKept ps more epoch) epoch.cues) c.as_slice.ensures next.kept);
     }
 
 pub returns-clause-kept : goal.returns-clause-kept
 returns-clause-kept c =
-    let end : length c.args.script.now.epochs ≤ c.loop-epoch.epoch-index = omega (arith, ap length c.as_slice-epoch-items.ensures) in
-    all_taken (λ (epoch : Epoch). All (IsCueKept c.args.script.now.pictures c.loop-epoch.kept.coded.items epoch) epoch.cues) c.loop-epoch.epoch-index c.args.script.now.epochs end c.loop-epoch.invariant.kept
+    let end : length c.args.script.now.epochs ≤ c.loop-epoch.epoch-index =
+    omega (arith, ap length c.as_slice-epoch-items.ensures) in
+    all_taken
+    (λ (epoch : Epoch). All (IsCueKept c.args.script.now.pictures c.loop-epoch.kept.coded.items epoch) epoch.cues)
+    c.loop-epoch.epoch-index c.args.script.now.epochs end c.loop-epoch.invariant.kept

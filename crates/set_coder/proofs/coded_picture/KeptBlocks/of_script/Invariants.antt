@@ -8,5 +8,6 @@ abbrev pub invariant-loop-epoch : goal.invariant-loop-epoch
 invariant-loop-epoch l = record {
   right : AreCoded l.script.pictures l.kept.coded.items;
   slots : HasSlots l.script.pictures l.kept;
-  kept : All (λ (epoch : Epoch). All (IsCueKept l.script.pictures l.kept.coded.items epoch) epoch.cues) (take l.epoch-index l.script.epochs);
+  kept : All (λ (epoch : Epoch). All (IsCueKept l.script.pictures l.kept.coded.items epoch) epoch.cues)
+      (take l.epoch-index l.script.epochs);
 }

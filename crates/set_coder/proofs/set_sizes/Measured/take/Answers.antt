@@ -17,10 +17,14 @@ returns-clause-measured c =
     let new = c.close.new.self in
     let closed = option_to_list c.take-closed.result in
     let bytes = ap (λ (unit : OpenUnit). unit.bytes) c.close.ensures.unit in
-    let longest = c.close.ensures.longest ∙ c.max-self.ensures ∙ ap (λ (n : ℕ). max old.longest n) c.from.ensures in
+    let longest =
+    c.close.ensures.longest ∙ c.max-self.ensures ∙ ap (λ (n : ℕ). max old.longest n) c.from.ensures in
     both_on_ok c.close.result c.close.ensures.units c.close.ensures.size (λ units size sizes measured. record {
       taken = subst (λ (n : ℕ). IsOpenAfter (sizes ++ segment ∷ []) new.units.items n) (sym bytes)
-          (subst (λ (lengths : List ℕ). IsOpenAfter (sizes ++ segment ∷ []) lengths c.take-closed.new.self.bytes) (sym units) (c.take-closed.ensures.taken sizes old.units.items measured.taken));
+          (subst (λ (lengths : List ℕ). IsOpenAfter (sizes ++ segment ∷ []) lengths c.take-closed.new.self.bytes)
+          (sym units) (c.take-closed.ensures.taken sizes old.units.items measured.taken));
       size = omega (arith, size, measured.size, ap sum units, sum_with old.units.items closed);
-      longest = subst (IsGreatest (sizes ++ segment ∷ [])) (sym longest) (greatest_more sizes segment old.longest (omega (arith, c.requires.segment.0)) measured.longest);
+      longest =
+          subst (IsGreatest (sizes ++ segment ∷ [])) (sym longest)
+          (greatest_more sizes segment old.longest (omega (arith, c.requires.segment.0)) measured.longest);
     })

@@ -21,4 +21,5 @@ pub returns-in-Payload-clause-steps : goal.returns-in-Payload-clause-steps
 returns-in-Payload-clause-steps c =
     let kind = rw c.in-Payload.is at c.in_ok-kind_of.ensures in
     let pid_is = c.self.view_is in
-    payload_steps _ _ _ _ c.in-Payload.payload (rw (← c.self.view_is) kind.0) (rw (← c.self.view_is) kind.1.0) kind.1.1 kind.1.2 kind.1.3 c.take.ensures.answers c.take.ensures.counter
+    payload_steps _ _ _ _ c.in-Payload.payload (rw (← c.self.view_is) kind.0) (rw (← c.self.view_is) kind.1.0)
+    kind.1.1 kind.1.2 kind.1.3 c.take.ensures.answers c.take.ensures.counter

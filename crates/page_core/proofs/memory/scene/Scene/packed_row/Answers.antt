@@ -1,5 +1,5 @@
 -- The regions have their pixels.
-use Rattle.page_core.proofs.DrawnEntries.{regions_placed}
+use Rattle.page_core.proofs.Pictures.DrawnEntries.{regions_placed}
 use Rattle.page_core.proofs.memory.scene.Scene.packed_row.Goals as goal
 
 pub packed_row-requires : goal.packed_row-requires

@@ -1,0 +1,198 @@
+use crate::first_run::{FIRST_UNIT, PICTURES, SCRIPT, SECOND_UNIT};
+use crate::running::{Asked, done, ends_as, reading, run, sound};
+use crate::streams::packet_of;
+use std::alloc::Global;
+use std::test::Fail;
+
+// What the first run has for PID 256 and page 1, for services at the edges of what words may say.
+
+/// A service: the PID of its packets and the page id of its segments.
+#[derive(Clone, Copy)]
+struct Service {
+    pid: u16,
+    page: u16,
+}
+
+const SERVICES: [Service; 3] = [
+    Service { pid: 32, page: 1 },
+    Service {
+        pid: 8190,
+        page: 65535,
+    },
+    Service {
+        pid: 256,
+        page: 65535,
+    },
+];
+
+/// The unit with the page id in each of its segments, which begin at these places.
+fn with_page<const N: usize>(mut unit: [u8; N], places: &[usize], page: u16) -> [u8; N] {
+    for place in places {
+        for (byte, given) in unit.iter_mut().skip(*place).skip(2).zip(page.to_be_bytes()) {
+            *byte = given;
+        }
+    }
+    unit
+}
+
+/// The two packets of the first run, as that service has them.
+fn stream_of(alloc: Global, service: Service) -> Result<Vec<u8>, Fail> {
+    let [high, low] = service.pid.to_be_bytes();
+    let first = with_page(FIRST_UNIT, &[16, 27, 41, 63, 91], service.page);
+    let second = with_page(SECOND_UNIT, &[16, 24], service.page);
+    let first = packet_of(&[0x47, 0x40 | high, low, 0x30, 0x55, 0x00], &first);
+    let second = packet_of(&[0x47, 0x40 | high, low, 0x31, 0x98, 0x00], &second);
+    let mut stream = Vec::from_slice(alloc, &first)?;
+    stream.extend_from_slice(&second)?;
+    Ok(stream)
+}
+
+#[test]
+fn a_script_is_compiled_for_any_service(rt: HostRuntime) -> Result<(), Fail> {
+    let alloc = rt.alloc();
+    for service in SERVICES {
+        let line = format!(in alloc;
+            "compile sd {} {} script.csv none out.ts",
+            service.pid, service.page
+        )?;
+        let asked = reading(line.as_str(), SCRIPT.as_bytes());
+        let stream = stream_of(alloc, service)?;
+        ends_as(&rt, alloc, &asked, sound(1_000), done(stream.as_slice()))?;
+    }
+    Ok(())
+}
+
+#[test]
+fn a_stream_is_told_for_any_service(rt: HostRuntime) -> Result<(), Fail> {
+    let alloc = rt.alloc();
+    for service in SERVICES {
+        let Service { pid, page } = service;
+        let stream = stream_of(alloc, service)?;
+        let list = format!(in alloc; "list {pid} in.ts out.txt")?;
+        let lines = format!(in alloc;
+            "unit 0 pts 90000 length 98\n\
+             segment 2 14 {page} 5\n\
+             segment 13 10 {page} 8\n\
+             segment 27 11 {page} 16\n\
+             segment 49 13 {page} 22\n\
+             segment 77 80 {page} 0\n\
+             unit 1 pts 180000 length 31\n\
+             segment 2 10 {page} 2\n\
+             segment 10 80 {page} 0\n"
+        )?;
+        let dump = format!(in alloc; "dump sd {pid} {page} 2 in.ts out.txt 90000 180000")?;
+        let check = format!(in alloc; "check sd 0 {pid} {page} in.ts out.txt")?;
+        let checked = "set 90000 shown 98 99\nset 180000 shown 31 90031\npeak 98\nbreach none\n";
+        for (line, text) in [
+            (list.as_str(), lines.as_str()),
+            (dump.as_str(), PICTURES),
+            (check.as_str(), checked),
+        ] {
+            let asked = reading(line, stream.as_slice());
+            ends_as(&rt, alloc, &asked, sound(1_000), done(text.as_bytes()))?;
+        }
+    }
+    Ok(())
+}
+
+// Many sets, each with a picture of its own.
+
+const MANY: u64 = 18;
+
+/// The colours of the codes 1, 2 and 3 of 8 bits where no colour is sent.
+const COLOURS: [&str; 3] = ["51F05AC0", "912236C0", "D29210C0"];
+
+/// Four codes from 1 to 3: no two numbers below 81 have the same.
+fn codes_of(number: u64) -> [u64; 4] {
+    [
+        number / 27 % 3 + 1,
+        number / 9 % 3 + 1,
+        number / 3 % 3 + 1,
+        number % 3 + 1,
+    ]
+}
+
+/// The row of these codes as a picture's text has it: runs of one colour.
+fn put_row(alloc: Global, text: &mut String, codes: [u64; 4]) -> Result<(), Fail> {
+    let mut rest = codes.as_slice();
+    let mut part = "";
+    while let Some(code) = rest.first().copied() {
+        let count = rest.iter().take_while(|other| **other == code).count();
+        let colour = COLOURS
+            .get(code.saturating_sub(1) as usize)
+            .copied()
+            .unwrap_or("");
+        text.push_str(format!(in alloc; "{part}{count}*{colour}")?.as_str())?;
+        rest = rest.get(count.max(1)..).unwrap_or(&[]);
+        part = " ";
+    }
+    text.push_str("\n")?;
+    Ok(())
+}
+
+#[test]
+fn many_pictures_are_sent_and_shown(rt: HostRuntime) -> Result<(), Fail> {
+    let alloc = rt.alloc();
+    let mut script = String::new(alloc);
+    let mut places = String::new(alloc);
+    let mut dump = String::new(alloc);
+    let mut shown = String::new(alloc);
+    script.push_str("origin,0\ndisplay,4,2\nrefresh,60\nepoch,90000\nregion,0,0,0,4,2,8,0\n")?;
+    dump.push_str("dump large 256 1 2 in.ts out.txt")?;
+    for number in 0..MANY {
+        let codes = codes_of(number);
+        let [a, b, c, d] = codes;
+        let start = 90_000 + 270_000 * number;
+        let end = start + 180_000;
+        script.push_str(format!(in alloc;
+            "picture,p{number},8,4,2,0{a}0{b}0{c}0{d}03030303\n"
+        )?.as_str())?;
+        places.push_str(format!(in alloc;
+            "place,{start},{end},0,0,0,solid,p{number}\n"
+        )?.as_str())?;
+        dump.push_str(format!(in alloc; " {start} {end}")?.as_str())?;
+        shown.push_str(format!(in alloc; "picture {start} 4 2\n")?.as_str())?;
+        put_row(alloc, &mut shown, codes)?;
+        shown.push_str(format!(in alloc; "4*D29210C0\npicture {end} clear\n")?.as_str())?;
+    }
+    script.push_str(places.as_str())?;
+    let compile = reading(
+        "compile large 256 1 script.csv none out.ts",
+        script.as_bytes(),
+    );
+    let sent = run(&rt, alloc, &compile, sound(100_000))?;
+    assert_eq!(rt; sent.notes.written(), b"done\n".as_slice());
+    let asked = Asked {
+        line: dump.as_str(),
+        first: sent.out.written(),
+        second: &[],
+    };
+    ends_as(&rt, alloc, &asked, sound(100_000), done(shown.as_bytes()))
+}
+
+// Numbers that another program, without any code of this one, reckoned of generated scripts.
+
+#[test]
+fn scripts_of_other_lengths_are_generated(rt: HostRuntime) -> Result<(), Fail> {
+    for (line, text) in [
+        (
+            "gen 17 hd entries.txt",
+            "sets 34\npackets 3426\npeak 6106\n\
+             entry 0 180000\nentry 1142 1080000\nentry 2284 1530000\n",
+        ),
+        (
+            "gen 100 sd entries.txt",
+            "sets 200\npackets 12563\npeak 6106\n\
+             entry 0 180000\nentry 4187 3510000\nentry 8375 6390000\n",
+        ),
+    ] {
+        ends_as(
+            &rt,
+            rt.alloc(),
+            &reading(line, &[]),
+            sound(100_000),
+            done(text.as_bytes()),
+        )?;
+    }
+    Ok(())
+}

@@ -1,4 +1,0 @@
-pub mod LiveCues
-pub mod ListedCues
-pub mod PlanFaults
-pub mod PlanTicks

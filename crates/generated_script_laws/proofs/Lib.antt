@@ -1,0 +1,11 @@
+pub mod LiveCues
+pub mod ListedCues
+pub mod PlanFaults
+pub mod PlanTicks
+pub mod GeneratedRows
+pub mod GeneratedFields
+pub mod ScriptParts
+pub mod SegmentBytes
+pub mod SmallSets
+pub mod FarSets
+pub mod GeneratedSchedule

@@ -1,0 +1,21 @@
+-- Region segments that are taken: what they mean, the regions that are kept, and the nodes of these in the pool.
+pub mod RegionHeads
+pub mod RegionLaws
+pub mod RegionNodes
+pub mod Versions
+pub mod KeptIds
+pub mod OtherSegments
+pub mod ListingPushes
+pub mod RegionPools
+pub mod RegionHeadsSet
+pub mod StrayListings
+pub mod RegionAdds
+pub mod RegionIds
+pub mod RegionsStored
+pub mod RenewedRegions
+pub mod TakenRegions
+pub mod RegionLookups
+pub mod RegionMeanings
+pub mod RegionReady
+pub mod RegionsBegin
+pub mod RegionsHeld

@@ -1,5 +1,0 @@
-use Rattle.sent_twice.proofs.OtherPids.{sets_of_pid}
-use Rattle.sent_twice.proofs.laws.other_pids_change_no_set.Goals as goal
-
-pub returns : goal.returns
-returns c = sets_of_pid

@@ -1,0 +1,588 @@
+-- One packet more of sets that are cut into pieces: what it adds to the calls, and what is left behind it.
+use Rattle.std.proofs.Common.{◌≡◌, ◌∙◌, inl, inr, ℕ, zero, suc, ◌+◌, ◌%◌, ◌<◌, ◌≤◌, Bool, false, eqb, cond, List, [], ◌∷◌, ◌++◌, length, map, take, drop, reverse, Option, Some, None, refl, sym, ap, subst, arith, append-nil, append_assoc, length-append}
+use Rattle.std.specs.Prelude.{flat_map, slice_index}
+use Rattle.std.specs.List.{AllByRecursion, AllZip}
+use Rattle.std.proofs.lemmas.Bool.{cases_lt}
+use Rattle.std.proofs.lemmas.Bool.Decides.{nat_tests}
+use Rattle.std.proofs.lemmas.Grind.{flat_map-append}
+use Rattle.std.proofs.lemmas.List.{length-map}
+use Rattle.sub_base.specs.declared.load.WriteLoad.{WriteLoad}
+use Rattle.buffer_model.specs.Calls.{Call, Arrived, SetWhole}
+use Rattle.schedule.specs.Packets.{units_of, packets_of, first_packet, payload_of, payloads_of}
+use Rattle.schedule.proofs.SumLaws.{sum_below-suc}
+use Rattle.stream_syntax.specs.Cutting.{IsUnit}
+use Rattle.stream_syntax.specs.TransportPackets.{null_packet, packet_fault}
+use Rattle.stream_syntax.specs.Units.{hand_after, last_counter}
+use Rattle.decoder_model.specs.declared.pages.Pages.{Pages}
+use Rattle.decoder_model.proofs.SentSets.{all-append, SetUnit, TimedSet, timed, AreSetUnits, IsTimedSet, IsUnitOf, HaveDifferentTimes, delivered}
+use Rattle.ts_packets.proofs.WrittenPackets.{null_is_taken}
+use Rattle.scheduled_level_laws.specs.EnteredCalls.{Entry, from_of, heard_load}
+use Rattle.scheduled_level_laws.proofs.EnteredSums.{AreSlots}
+use Rattle.slot_stream.specs.SlotStream.{Piece, packet_of, pieces_of, all_pieces, IsPiece}
+use Rattle.received_level_laws.specs.StreamCalls.{itself, count_with, arrived_in}
+use Rattle.shown_stream.proofs.Calls.BroughtPieces.{Brings, IsReady, null_brings, piece_brings, last_brings}
+use Rattle.shown_stream.proofs.Calls.CallsOfPieces.{ArePiecesOf, bytes_left, unit_has_bytes, E, IsSentSet, AreSentSets, units_in, AreLeft, Goes, Piecewise, Position, nothing_left, goes_on, dropped, unit_at_front, begin_unit}
+use Rattle.shown_stream.proofs.Calls.EnteredSlots.{StandsAt, packet_adds, last_adds}
+use Rattle.slot_stream.proofs.SentPieces.{IsFree, FollowsOn, says}
+use Rattle.slot_stream.proofs.SentStream.{its_pieces}
+use Rattle.shown_stream.proofs.Sent.SetPackets.{bytes_in}
+use Rattle.shown_stream.proofs.Calls.SetsInHand.{HaveCome, sets_so_far, sets_whole, no_unit_more, slice_inside, next_unit_more, last_unit_more, IsPlain, plain_piece, plain_last, count_is}
+
+-- the times differ without the later sets
+front_of_apart : (sets : List TimedSet) (set : TimedSet) (later : List TimedSet)
+    → HaveDifferentTimes (sets ++ set ∷ later) → HaveDifferentTimes (sets ++ set ∷ [])
+front_of_apart [] set later h = (tt, tt)
+front_of_apart (first ∷ []) set later h = (h.0, front_of_apart [] set later h.1)
+front_of_apart (first ∷ next ∷ sets) set later h = (h.0, front_of_apart (next ∷ sets) set later h.1)
+
+-- ---- a null packet
+
+-- behind a null packet the same is left
+pub null_more : (coded pid : ℕ) (pages : Pages) (loads : List WriteLoad) (slots : List ℕ) (entry : Entry)
+    (slot number i : ℕ) (before : List (List ℕ)) (left : List Piece) → IsFree pid
+    → Piecewise coded pid pages loads slots entry slot number i before left
+    → Piecewise coded pid pages loads slots entry (slot + 1) number i (before ++ null_packet ∷ []) left
+null_more coded pid pages loads slots entry slot number i before left free at =
+    let brings = null_brings pid coded before free in
+    let goes = at.goes in
+    record {
+      k = at.k;
+      sets = at.sets;
+      set = at.set;
+      u = at.u;
+      groups = at.groups;
+      later = at.later;
+      goes = record {
+        inside = goes.inside;
+        numbered = goes.numbered;
+        begun = goes.begun;
+        counted = goes.counted;
+        passed = λ q low. (let less = goes.passed q low in omega arith);
+        follows = subst (λ (last : Option ℕ). FollowsOn last number) (sym brings.counter_behind) goes.follows;
+        came =
+            no_unit_more coded pid pages 0 before null_packet (hand_after pid coded before) (last_counter pid before)
+            at.sets at.set at.u goes.came (null_is_taken pid (λ e. free.no_null (sym e))) brings;
+        all = goes.all;
+        is = goes.is;
+        apart = goes.apart;
+        sent = goes.sent;
+      };
+      one = at.one;
+      found = at.found;
+      unit = at.unit;
+      unit_is = at.unit_is;
+      whole = at.whole;
+      start = at.start;
+      front = at.front;
+      piece = at.piece;
+      pieces = at.pieces;
+      rest = at.rest;
+      ready = subst (λ (hand : Option (List ℕ)). IsReady at.start hand at.front) (sym brings.hand_behind) at.ready;
+      units = at.units;
+      units_are = at.units_are;
+      units_whole = at.units_whole;
+      own = at.own;
+      left_is = at.left_is;
+    }
+
+-- and no set comes with it
+pub null_count : (coded pid : ℕ) (pages : Pages) (loads : List WriteLoad) (slots : List ℕ) (entry : Entry)
+    (slot number i : ℕ) (before : List (List ℕ)) (left : List Piece) → IsFree pid
+    → Piecewise coded pid pages loads slots entry slot number i before left
+    → count_with coded pid pages before null_packet ≡ 0
+unfolding null_more
+null_count coded pid pages loads slots entry slot number i before left free at =
+    let goes = at.goes in
+    let behind = (null_more coded pid pages loads slots entry slot number i before left free at).goes.came in
+    let inside = slice_inside at.u at.set.units at.one at.found in
+    let apart = front_of_apart at.sets at.set at.later goes.apart in
+    count_is coded pid pages before null_packet at.sets []
+    (sets_so_far coded pid pages before at.sets at.set at.u goes.came goes.all goes.is apart inside)
+    (sets_so_far coded pid pages (before ++ null_packet ∷ []) at.sets at.set at.u behind goes.all goes.is apart
+    inside ∙ ap (map delivered) (sym (append-nil at.sets)))
+
+-- ---- the packet of a piece
+
+-- what the next piece's packet adds, and what is left behind it
+pub record Step (coded pid : ℕ) (pages : Pages) (loads : List WriteLoad) (slots : List ℕ) (painted : ℕ → ℕ)
+    (entry : Entry) (slot number i : ℕ) (before : List (List ℕ)) (piece : Piece) (rest : List Piece) : Type 0 where
+  pub plain : IsPlain coded pid pages before (packet_of pid number piece) (length piece.bytes)
+  pub count : ℕ
+  pub counted : count_with coded pid pages before (packet_of pid number piece) ≡ count
+  pub adds : (calls : List (List Call)) → count ≤ length calls → AreLeft loads painted entry i calls
+      → reverse
+      (arrived_in itself slot (length piece.bytes) ++ flat_map (λ (calls : List Call). calls) (take count calls))
+      ++ E loads slots painted entry slot ≡ E loads slots painted entry (slot + 1)
+  pub next : ℕ
+  pub left_behind : (calls : List (List Call)) → AreLeft loads painted entry i calls
+      → AreLeft loads painted entry next (drop count calls)
+  pub onward : Position coded pid pages loads slots entry (slot + 1) (number + 1) next
+      (before ++ packet_of pid number piece ∷ []) rest
+
+some_arrive : (slot bytes : ℕ) → 1 ≤ bytes → arrived_in itself slot bytes ≡ Arrived slot bytes ∷ []
+some_arrive slot bytes some = ap (λ none. cond none [] (Arrived slot bytes ∷ [])) (not_none bytes some)
+  where
+    not_none : (n : ℕ) → 1 ≤ n → eqb n 0 ≡ false
+    not_none n h = grind (arith, nat_tests)
+
+-- the first piece of the rest is one with bytes
+first_is : (start : Bool) (front : List ℕ) (piece : Piece) (pieces : List Piece) (unit : List ℕ)
+    → ArePiecesOf start front (piece ∷ pieces) unit → IsPiece piece × (piece.starts ≡ start)
+first_is start front piece [] unit are = (are.0, are.1)
+first_is start front piece (next ∷ pieces) unit are = (are.0, are.1)
+
+-- where the packet of the next piece stands
+record Stands (coded pid : ℕ) (pages : Pages) (loads : List WriteLoad) (slots : List ℕ) (entry : Entry)
+    (slot number i : ℕ) (before : List (List ℕ)) (left : List Piece)
+    (at : Piecewise coded pid pages loads slots entry slot number i before left) : Type 0 where
+  stands : StandsAt loads slots entry i at.k slot
+  payload : payload_of loads i at.k ≡ length at.piece.bytes
+  many : packets_of loads i ≡ at.k + suc (length (at.pieces ++ all_pieces at.units))
+  own_left : drop (suc at.k) (payloads_of (units_of loads i)) ≡ map bytes_in (at.pieces ++ all_pieces at.units)
+  passed_here : (q : ℕ) → q < number + 1 → slice_index slots q < slot + 1
+
+stands_here : (coded pid : ℕ) (pages : Pages) (loads : List WriteLoad) (slots : List ℕ) (entry : Entry)
+    (slot number i : ℕ) (before : List (List ℕ)) (left : List Piece)
+    (at : Piecewise coded pid pages loads slots entry slot number i before left) → slice_index slots number ≡ slot
+    → Stands coded pid pages loads slots entry slot number i before left at
+stands_here coded pid pages loads slots entry slot number i before left at here =
+    let goes = at.goes in
+    let told =
+    dropped at.k (payloads_of (units_of loads i)) (length at.piece.bytes)
+    (map bytes_in (at.pieces ++ all_pieces at.units)) at.own in
+    record {
+      stands = record {
+        inside = goes.inside;
+        within = omega (arith, told.0);
+        begun = goes.begun;
+        counted = goes.counted;
+        here = ap (slice_index slots) (sym goes.numbered) ∙ here;
+      };
+      payload = told.1;
+      many = omega (arith, told.0, length-map (at.pieces ++ all_pieces at.units) bytes_in);
+      own_left = told.2;
+      passed_here = λ q low.
+          elim (cases_lt q number) [
+            | inl less ↦ (let under = goes.passed q less in omega arith)
+            | inr most ↦ (let same : q ≡ number = omega arith in omega (arith, here, ap (slice_index slots) same))
+          ];
+    }
+
+-- a packet that ends no set: its bytes arrive
+adds_bytes : (coded pid : ℕ) (pages : Pages) (loads : List WriteLoad) (slots : List ℕ) (painted : ℕ → ℕ)
+    (entry : Entry) (slot number i : ℕ) (before : List (List ℕ)) (left : List Piece)
+    (at : Piecewise coded pid pages loads slots entry slot number i before left)
+    → AreSlots loads slots → Stands coded pid pages loads slots entry slot number i before left at
+    → 1 ≤ length at.piece.bytes → 1 ≤ length (at.pieces ++ all_pieces at.units)
+    → reverse (arrived_in itself slot (length at.piece.bytes) ++ [])
+    ++ E loads slots painted entry slot ≡ E loads slots painted entry (slot + 1)
+adds_bytes coded pid pages loads slots painted entry slot number i before left at are stands some more =
+    let many = stands.many in
+    let next : suc slot ≡ slot + 1 = omega arith in
+    ap (λ calls. reverse (calls ++ []) ++ E loads slots painted entry slot)
+    (some_arrive slot (length at.piece.bytes) some)
+    ∙ ap (λ bytes. Arrived slot bytes ∷ E loads slots painted entry slot) (sym stands.payload)
+    ∙ sym (packet_adds loads slots painted entry i at.k slot are stands.stands (omega arith))
+    ∙ ap (E loads slots painted entry) next
+
+-- a packet that ends a set: its bytes arrive, and the set is whole
+adds_set : (coded pid : ℕ) (pages : Pages) (loads : List WriteLoad) (slots : List ℕ) (painted : ℕ → ℕ)
+    (entry : Entry) (slot number i : ℕ) (before : List (List ℕ)) (left : List Piece)
+    (at : Piecewise coded pid pages loads slots entry slot number i before left)
+    → AreSlots loads slots → Stands coded pid pages loads slots entry slot number i before left at
+    → 1 ≤ length at.piece.bytes → length (at.pieces ++ all_pieces at.units) ≡ 0
+    → (calls : List (List Call)) → 1 ≤ length calls → AreLeft loads painted entry i calls
+    → reverse
+    (arrived_in itself slot (length at.piece.bytes) ++ flat_map (λ (calls : List Call). calls) (take 1 calls))
+    ++ E loads slots painted entry slot ≡ E loads slots painted entry (slot + 1)
+adds_set coded pid pages loads slots painted entry slot number i before left at are stands some last [] any h =
+    absurd (omega arith)
+adds_set coded pid pages loads slots painted entry slot number i before left at are stands some last (own ∷ calls) any
+    h =
+    let many = stands.many in
+    let next : suc slot ≡ slot + 1 = omega arith in
+    let same : i + 0 ≡ i = omega arith in
+    let first : own ≡ SetWhole (heard_load loads painted entry i) ∷ [] =
+    h 0 (omega arith) ∙ ap (λ n. SetWhole (heard_load loads painted entry n) ∷ []) same in
+    ap (λ calls. reverse (calls ++ (own ++ [])) ++ E loads slots painted entry slot)
+    (some_arrive slot (length at.piece.bytes) some)
+    ∙ ap (λ own. reverse (Arrived slot (length at.piece.bytes) ∷ (own ++ [])) ++ E loads slots painted entry slot)
+    first
+    ∙ ap (λ bytes. SetWhole (heard_load loads painted entry i) ∷ Arrived slot bytes
+    ∷ E loads slots painted entry slot) (sym stands.payload)
+    ∙ sym (last_adds loads slots painted entry i at.k slot are stands.stands (omega arith))
+    ∙ ap (E loads slots painted entry) next
+
+-- the same calls are left, and all but the first
+same_left : (loads : List WriteLoad) (painted : ℕ → ℕ) (entry : Entry) (i : ℕ) (calls : List (List Call))
+    → AreLeft loads painted entry i calls → AreLeft loads painted entry i (drop 0 calls)
+same_left loads painted entry i calls h = h
+
+one_less : (loads : List WriteLoad) (painted : ℕ → ℕ) (entry : Entry) (i : ℕ) (calls : List (List Call))
+    → AreLeft loads painted entry i calls → AreLeft loads painted entry (suc i) (drop 1 calls)
+one_less loads painted entry i [] h = λ j inside. absurd (omega arith)
+one_less loads painted entry i (first ∷ calls) h =
+    λ j inside. (let next : i + suc j ≡ suc i + j = omega arith in h (suc j) (omega arith)
+    ∙ ap (λ n. SetWhole (heard_load loads painted entry n) ∷ []) next)
+
+-- ---- a piece that is not its unit's last
+
+inner_step : (coded pid : ℕ) (pages : Pages) (loads : List WriteLoad) (slots : List ℕ) (painted : ℕ → ℕ)
+    (entry : Entry) (slot number i : ℕ) (before : List (List ℕ)) (left : List Piece) → IsFree pid
+    → AreSlots loads slots
+    → (at : Piecewise coded pid pages loads slots entry slot number i before left)
+    → slice_index slots number ≡ slot → (next : Piece) (pieces : List Piece) → at.pieces ≡ next ∷ pieces
+    → Step coded pid pages loads slots painted entry slot number i before at.piece
+    (at.pieces ++ (all_pieces at.units ++ all_pieces (units_in at.groups)))
+inner_step coded pid pages loads slots painted entry slot number i before left free are at here next pieces more =
+    let goes = at.goes in
+    let stands = stands_here coded pid pages loads slots entry slot number i before left at here in
+    let rest : ArePiecesOf at.start at.front (at.piece ∷ next ∷ pieces) at.unit =
+    subst (λ (found : List Piece). ArePiecesOf at.start at.front (at.piece ∷ found) at.unit) more at.rest in
+    let is : IsPiece at.piece = rest.0 in
+    let some = bytes_left (at.front ++ at.piece.bytes) next pieces at.unit rest.2 in
+    let ready : IsReady at.piece.starts (hand_after pid coded before) at.front =
+    subst (λ (flag : Bool). IsReady flag (hand_after pid coded before) at.front) (sym rest.1) at.ready in
+    let packet = packet_of pid number at.piece in
+    let taken = (says pid number at.piece free is).taken in
+    let brings =
+    piece_brings pid coded number before at.piece at.front some.0 free is goes.follows ready
+    (subst (IsUnit coded) some.1 at.whole) some.2 in
+    let came =
+    no_unit_more coded pid pages (length at.piece.bytes) before packet (Some (at.front ++ at.piece.bytes))
+    (Some (number % 16)) at.sets at.set at.u goes.came taken brings in
+    let inside = slice_inside at.u at.set.units at.one at.found in
+    let apart = front_of_apart at.sets at.set at.later goes.apart in
+    let many : length (at.pieces ++ all_pieces at.units) ≡ suc (length (pieces ++ all_pieces at.units)) =
+    ap (λ found. length (found ++ all_pieces at.units)) more in
+    record {
+      plain =
+          plain_piece coded pid pages (length at.piece.bytes) before packet (Some (at.front ++ at.piece.bytes))
+          (Some (number % 16)) brings;
+      count = 0;
+      counted =
+          count_is coded pid pages before packet at.sets []
+          (sets_so_far coded pid pages before at.sets at.set at.u goes.came goes.all goes.is apart inside)
+          (sets_so_far coded pid pages (before ++ packet ∷ []) at.sets at.set at.u came goes.all goes.is apart
+          inside ∙ ap (map delivered) (sym (append-nil at.sets)));
+      adds =
+          λ calls enough h. adds_bytes coded pid pages loads slots painted entry slot number i before left at are
+          stands is.0 (omega (arith, many));
+      next = i;
+      left_behind = same_left loads painted entry i;
+      onward = goes_on (record {
+        k = suc at.k;
+        sets = at.sets;
+        set = at.set;
+        u = at.u;
+        groups = at.groups;
+        later = at.later;
+        goes = record {
+          inside = goes.inside;
+          numbered = (let same = goes.numbered in omega (arith, same));
+          begun = goes.begun;
+          counted = (let low = goes.counted in omega arith);
+          passed = stands.passed_here;
+          follows = inr (number % 16, brings.counter_behind, omega arith);
+          came = came;
+          all = goes.all;
+          is = goes.is;
+          apart = goes.apart;
+          sent = goes.sent;
+        };
+        one = at.one;
+        found = at.found;
+        unit = at.unit;
+        unit_is = at.unit_is;
+        whole = at.whole;
+        start = false;
+        front = at.front ++ at.piece.bytes;
+        piece = next;
+        pieces = pieces;
+        rest = rest.2;
+        ready = brings.hand_behind;
+        units = at.units;
+        units_are = at.units_are;
+        units_whole = at.units_whole;
+        own = stands.own_left ∙ ap (λ found. map bytes_in (found ++ all_pieces at.units)) more;
+        left_is = ap (λ found. found ++ (all_pieces at.units ++ all_pieces (units_in at.groups))) more;
+      });
+    }
+
+-- ---- a unit's last piece
+
+-- what the last piece of a unit brings
+record EndsUnit (coded pid : ℕ) (pages : Pages) (loads : List WriteLoad) (slots : List ℕ) (entry : Entry)
+    (slot number i : ℕ) (before : List (List ℕ)) (left : List Piece)
+    (at : Piecewise coded pid pages loads slots entry slot number i before left) : Type 0 where
+  is : IsPiece at.piece
+  taken : packet_fault pid (packet_of pid number at.piece) ≡ None
+  brings : Brings pid coded before (packet_of pid number at.piece) (length at.piece.bytes) (Some at.unit) None
+      (Some (number % 16))
+
+ends_unit : (coded pid : ℕ) (pages : Pages) (loads : List WriteLoad) (slots : List ℕ) (entry : Entry)
+    (slot number i : ℕ) (before : List (List ℕ)) (left : List Piece) → IsFree pid
+    → (at : Piecewise coded pid pages loads slots entry slot number i before left) → at.pieces ≡ []
+    → EndsUnit coded pid pages loads slots entry slot number i before left at
+ends_unit coded pid pages loads slots entry slot number i before left free at none =
+    let rest : ArePiecesOf at.start at.front (at.piece ∷ []) at.unit =
+    subst (λ (found : List Piece). ArePiecesOf at.start at.front (at.piece ∷ found) at.unit) none at.rest in
+    let ready : IsReady at.piece.starts (hand_after pid coded before) at.front =
+    subst (λ (flag : Bool). IsReady flag (hand_after pid coded before) at.front) (sym rest.1) at.ready in
+    record {
+      is = rest.0;
+      taken = (says pid number at.piece free rest.0).taken;
+      brings =
+          subst (λ (unit : List ℕ). Brings pid coded before (packet_of pid number at.piece) (length at.piece.bytes)
+          (Some unit) None (Some (number % 16))) (sym rest.2)
+          (last_brings pid coded number before at.piece at.front free rest.0 at.goes.follows ready
+          (subst (IsUnit coded) rest.2 at.whole));
+    }
+
+some_pieces : (coded : ℕ) (unit : List ℕ) (units : List (List ℕ))
+    → AllByRecursion (IsUnit coded) (unit ∷ units) → 1 ≤ length (all_pieces (unit ∷ units))
+some_pieces coded unit units whole =
+    omega (
+      arith,
+      length-append (pieces_of unit) (all_pieces units),
+      ap length
+          (its_pieces unit (unit_has_bytes coded unit whole.0)),
+    )
+
+-- a unit that is not its set's last
+middle_step : (coded pid : ℕ) (pages : Pages) (loads : List WriteLoad) (slots : List ℕ) (painted : ℕ → ℕ)
+    (entry : Entry) (slot number i : ℕ) (before : List (List ℕ)) (left : List Piece) → IsFree pid
+    → AreSlots loads slots
+    → (at : Piecewise coded pid pages loads slots entry slot number i before left)
+    → slice_index slots number ≡ slot → at.pieces ≡ [] → (unit : List ℕ) (units : List (List ℕ))
+    → at.units ≡ unit ∷ units
+    → Step coded pid pages loads slots painted entry slot number i before at.piece
+    (at.pieces ++ (all_pieces at.units ++ all_pieces (units_in at.groups)))
+middle_step coded pid pages loads slots painted entry slot number i before left free are at here none unit units more =
+    let goes = at.goes in
+    let stands = stands_here coded pid pages loads slots entry slot number i before left at here in
+    let ends = ends_unit coded pid pages loads slots entry slot number i before left free at none in
+    let packet = packet_of pid number at.piece in
+    let inside = slice_inside at.u at.set.units at.one at.found in
+    let apart = front_of_apart at.sets at.set at.later goes.apart in
+    let came =
+    next_unit_more coded pid pages (length at.piece.bytes) before packet at.unit None (Some (number % 16)) at.sets
+    at.set at.u at.one goes.came ends.taken ends.brings at.found at.unit_is in
+    let units_are : AllZip (IsUnitOf pages) (unit ∷ units) (map (timed at.set.time) (drop (suc at.u) at.set.units)) =
+    subst (λ (found : List (List ℕ)). AllZip (IsUnitOf pages) found
+    (map (timed at.set.time) (drop (suc at.u) at.set.units))) more at.units_are in
+    let whole : AllByRecursion (IsUnit coded) (unit ∷ units) =
+    subst (AllByRecursion (IsUnit coded)) more at.units_whole in
+    let following = unit_at_front pages at.set.time (suc at.u) at.set.units unit units units_are in
+    let later = slice_inside (suc at.u) at.set.units following.0 following.1 in
+    let pieces_are : at.pieces ++ all_pieces at.units ≡ all_pieces (unit ∷ units) =
+    ap (λ found. found ++ all_pieces at.units) none ∙ ap all_pieces more in
+    let left_are : at.pieces ++ (all_pieces at.units ++ all_pieces (units_in at.groups)) ≡ all_pieces (unit ∷ units)
+    ++ all_pieces (units_in at.groups) =
+    ap (λ found. found ++ (all_pieces at.units ++ all_pieces (units_in at.groups))) none
+    ∙ ap (λ found. all_pieces found ++ all_pieces (units_in at.groups)) more in
+    record {
+      plain =
+          plain_last coded pid pages (length at.piece.bytes) before packet at.unit None (Some (number % 16)) at.sets
+          at.set at.u at.one goes.came ends.brings at.found at.unit_is goes.is;
+      count = 0;
+      counted =
+          count_is coded pid pages before packet at.sets []
+          (sets_so_far coded pid pages before at.sets at.set at.u goes.came goes.all goes.is apart inside)
+          (sets_so_far coded pid pages (before ++ packet ∷ []) at.sets at.set (suc at.u) came goes.all goes.is apart
+          later ∙ ap (map delivered) (sym (append-nil at.sets)));
+      adds =
+          λ calls enough h. adds_bytes coded pid pages loads slots painted entry slot number i before left at are
+          stands ends.is.0 (omega (arith, ap length pieces_are, some_pieces coded unit units whole));
+      next = i;
+      left_behind = same_left loads painted entry i;
+      onward =
+          goes_on (subst
+          (Piecewise coded pid pages loads slots entry (slot + 1) (number + 1) i (before ++ packet ∷ []))
+          (sym left_are)
+          (begin_unit coded pid pages loads slots entry (slot + 1) (number + 1) i (suc at.k) (before ++ packet ∷ [])
+          at.sets at.set (suc at.u) at.groups at.later unit units
+          (record {
+            inside = goes.inside;
+            numbered = (let same = goes.numbered in omega (arith, same));
+            begun = goes.begun;
+            counted = (let low = goes.counted in omega arith);
+            passed = stands.passed_here;
+            follows = inr (number % 16, ends.brings.counter_behind, omega arith);
+            came = came;
+            all = goes.all;
+            is = goes.is;
+            apart = goes.apart;
+            sent = goes.sent;
+          })
+          units_are whole ends.brings.hand_behind (stands.own_left ∙ ap (map bytes_in) pieces_are)));
+    }
+
+-- ---- a set's last piece
+
+later_set : (number place : ℕ) → number ≤ place → eqb (suc place) number ≡ false
+later_set number place h = grind (arith, nat_tests)
+
+apart_next : (sets : List TimedSet) (set next : TimedSet) (later : List TimedSet)
+    → HaveDifferentTimes (sets ++ set ∷ next ∷ later) → eqb set.time next.time ≡ false
+apart_next [] set next later h = h.0
+apart_next (first ∷ sets) set next later h = apart_next sets set next later h.1
+
+no_units_left : (pages : Pages) (time u : ℕ) (units : List SetUnit) → u < length units
+    → AllZip (IsUnitOf pages) [] (map (timed time) (drop (suc u) units)) → suc u ≡ length units
+no_units_left pages time u [] inside are = absurd (omega arith)
+no_units_left pages time zero (one ∷ []) inside are = refl
+no_units_left pages time zero (one ∷ next ∷ units) inside are = absurd are
+no_units_left pages time (suc u) (one ∷ units) inside are =
+    ap suc (no_units_left pages time u units (omega arith) are)
+
+-- a set after this one, and one at another time where there is none
+abbrev next_of : TimedSet → List TimedSet → TimedSet
+next_of set [] = record { time = suc set.time; units = [] }
+next_of set (next ∷ later) = next
+
+next_is_other : (sets : List TimedSet) (set : TimedSet) (later : List TimedSet)
+    → HaveDifferentTimes (sets ++ set ∷ later) → eqb set.time (next_of set later).time ≡ false
+next_is_other sets set [] h = grows set.time
+  where
+    grows : (n : ℕ) → eqb n (suc n) ≡ false
+    grows n = grind (arith, nat_tests)
+next_is_other sets set (next ∷ later) h = apart_next sets set next later h
+
+units_append : (group : List (List ℕ)) (groups : List (List (List ℕ)))
+    → all_pieces (units_in (group ∷ groups)) ≡ all_pieces group ++ all_pieces (units_in groups)
+units_append group groups = flat_map-append pieces_of group (units_in groups)
+
+-- the next set begins with the next packet, or nothing is left
+begin_set : (coded pid : ℕ) (pages : Pages) (loads : List WriteLoad) (slots : List ℕ) (entry : Entry)
+    (slot number i k : ℕ) (before : List (List ℕ)) (sets : List TimedSet) (set : TimedSet)
+    (groups : List (List (List ℕ))) (later : List TimedSet)
+    → AreSentSets coded pages loads (suc i) groups later → number ≡ first_packet loads i + k
+    → suc k ≡ packets_of loads i → entry.set ≤ i
+    → ((q : ℕ) → q < number + 1 → slice_index slots q < slot)
+    → FollowsOn (last_counter pid before) (number + 1)
+    → HaveCome coded pid pages before (sets ++ set ∷ []) (next_of set later) 0
+    → AllByRecursion (IsTimedSet coded pages) (sets ++ set ∷ [])
+    → HaveDifferentTimes (sets ++ set ∷ later) → hand_after pid coded before ≡ None
+    → Position coded pid pages loads slots entry slot (number + 1) (suc i) before (all_pieces (units_in groups))
+begin_set coded pid pages loads slots entry slot number i k before sets set [] [] sent numbered last begun passed
+    follows came all apart hand = nothing_left
+begin_set coded pid pages loads slots entry slot number i k before sets set [] (next ∷ later) sent numbered last begun
+    passed follows came all apart hand = absurd sent
+begin_set coded pid pages loads slots entry slot number i k before sets set (group ∷ groups) [] sent numbered last
+    begun passed follows came all apart hand = absurd sent
+begin_set coded pid pages loads slots entry slot number i k before sets set (group ∷ groups) (next ∷ later) sent
+    numbered last begun passed follows came all apart hand =
+    by group (sent.0)
+  where
+    goes : Goes coded pid pages loads slots entry slot (number + 1) (suc i) 0 before (sets ++ set ∷ []) next 0 groups
+        later
+    goes = record {
+      inside = sent.0.inside;
+      numbered = omega (arith, numbered, last, sum_below-suc (packets_of loads) i);
+      begun = omega (arith, begun);
+      counted = ap_le (later_set entry.set i begun);
+      passed = passed;
+      follows = follows;
+      came = came;
+      all = all;
+      is = sent.0.is;
+      apart = subst HaveDifferentTimes (sym (append_assoc sets (set ∷ []) (next ∷ later))) apart;
+      sent = sent.1;
+    }
+      where
+        ap_le : eqb (suc i) entry.set ≡ false → from_of entry (suc i) ≤ 0
+        ap_le e = omega (arith, ap (λ found. cond found entry.packet 0) e)
+
+    no_set : (units : List SetUnit) → AreSetUnits pages units
+        → AllZip (IsUnitOf pages) [] (map (timed next.time) units) → ⊥
+    no_set [] is are = is
+    no_set (one ∷ units) is are = are
+
+    by : (group : List (List ℕ)) → IsSentSet coded pages loads (suc i) group next
+        → Position coded pid pages loads slots entry slot (number + 1) (suc i) before
+        (all_pieces (units_in (group ∷ groups)))
+    by [] is = absurd (no_set next.units is.is.units is.units)
+    by (unit ∷ units) is =
+        goes_on (subst (Piecewise coded pid pages loads slots entry slot (number + 1) (suc i) before)
+        (sym (units_append (unit ∷ units) groups))
+        (begin_unit coded pid pages loads slots entry slot (number + 1) (suc i) 0 before (sets ++ set ∷ []) next 0
+        groups later unit units goes is.units is.whole hand is.bytes))
+
+-- the last unit of a set
+last_step : (coded pid : ℕ) (pages : Pages) (loads : List WriteLoad) (slots : List ℕ) (painted : ℕ → ℕ)
+    (entry : Entry) (slot number i : ℕ) (before : List (List ℕ)) (left : List Piece) → IsFree pid
+    → AreSlots loads slots
+    → (at : Piecewise coded pid pages loads slots entry slot number i before left)
+    → slice_index slots number ≡ slot → at.pieces ≡ [] → at.units ≡ []
+    → Step coded pid pages loads slots painted entry slot number i before at.piece
+    (at.pieces ++ (all_pieces at.units ++ all_pieces (units_in at.groups)))
+last_step coded pid pages loads slots painted entry slot number i before left free are at here none no_units =
+    let goes = at.goes in
+    let stands = stands_here coded pid pages loads slots entry slot number i before left at here in
+    let ends = ends_unit coded pid pages loads slots entry slot number i before left free at none in
+    let packet = packet_of pid number at.piece in
+    let inside = slice_inside at.u at.set.units at.one at.found in
+    let apart = front_of_apart at.sets at.set at.later goes.apart in
+    let next = next_of at.set at.later in
+    let last =
+    no_units_left pages at.set.time at.u at.set.units inside
+    (subst (λ (found : List (List ℕ)). AllZip (IsUnitOf pages) found
+    (map (timed at.set.time) (drop (suc at.u) at.set.units))) no_units at.units_are) in
+    let came =
+    last_unit_more coded pid pages (length at.piece.bytes) before packet at.unit None (Some (number % 16)) at.sets
+    at.set next at.u at.one goes.came ends.taken ends.brings at.found at.unit_is goes.is last
+    (next_is_other at.sets at.set at.later goes.apart) in
+    let all = all-append (IsTimedSet coded pages) at.sets (at.set ∷ []) goes.all (goes.is, tt) in
+    let pieces_are : at.pieces ++ all_pieces at.units ≡ [] =
+    ap (λ found. found ++ all_pieces at.units) none ∙ ap all_pieces no_units in
+    let left_are : at.pieces
+    ++ (all_pieces at.units ++ all_pieces (units_in at.groups)) ≡ all_pieces (units_in at.groups) =
+    ap (λ found. found ++ (all_pieces at.units ++ all_pieces (units_in at.groups))) none
+    ∙ ap (λ found. all_pieces found ++ all_pieces (units_in at.groups)) no_units in
+    let many = stands.many in
+    record {
+      plain =
+          plain_last coded pid pages (length at.piece.bytes) before packet at.unit None (Some (number % 16)) at.sets
+          at.set at.u at.one goes.came ends.brings at.found at.unit_is goes.is;
+      count = 1;
+      counted =
+          count_is coded pid pages before packet at.sets (at.set ∷ [])
+          (sets_so_far coded pid pages before at.sets at.set at.u goes.came goes.all goes.is apart inside)
+          (sets_whole coded pid pages (before ++ packet ∷ []) (at.sets ++ at.set ∷ []) next came all apart);
+      adds =
+          λ calls enough h. adds_set coded pid pages loads slots painted entry slot number i before left at are stands
+          ends.is.0 (ap length pieces_are) calls enough h;
+      next = suc i;
+      left_behind = one_less loads painted entry i;
+      onward =
+          subst (Position coded pid pages loads slots entry (slot + 1) (number + 1) (suc i) (before ++ packet ∷ []))
+          (sym left_are)
+          (begin_set coded pid pages loads slots entry (slot + 1) number i at.k (before ++ packet ∷ []) at.sets at.set
+          at.groups at.later goes.sent goes.numbered (omega (arith, many, ap length pieces_are)) goes.begun
+          stands.passed_here
+          (inr (number % 16, ends.brings.counter_behind, omega arith)) came all goes.apart ends.brings.hand_behind);
+    }
+
+-- ---- any piece
+
+pub piece_step : (coded pid : ℕ) (pages : Pages) (loads : List WriteLoad) (slots : List ℕ) (painted : ℕ → ℕ)
+    (entry : Entry) (slot number i : ℕ) (before : List (List ℕ)) (left : List Piece) → IsFree pid
+    → AreSlots loads slots
+    → (at : Piecewise coded pid pages loads slots entry slot number i before left)
+    → slice_index slots number ≡ slot
+    → Step coded pid pages loads slots painted entry slot number i before at.piece
+    (at.pieces ++ (all_pieces at.units ++ all_pieces (units_in at.groups)))
+piece_step coded pid pages loads slots painted entry slot number i before left free are at here =
+    by at.pieces refl at.units refl
+  where
+    by : (pieces : List Piece) → at.pieces ≡ pieces → (units : List (List ℕ)) → at.units ≡ units
+        → Step coded pid pages loads slots painted entry slot number i before at.piece
+        (at.pieces ++ (all_pieces at.units ++ all_pieces (units_in at.groups)))
+    by (next ∷ pieces) more units same =
+        inner_step coded pid pages loads slots painted entry slot number i before left free are at here next pieces more
+    by [] none (unit ∷ units) more =
+        middle_step coded pid pages loads slots painted entry slot number i before left free are at here none unit units
+        more
+    by [] none [] no_units =
+        last_step coded pid pages loads slots painted entry slot number i before left free are at here none no_units

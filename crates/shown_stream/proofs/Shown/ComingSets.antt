@@ -1,0 +1,100 @@
+-- The sets of a plan that come whole, as a receiver reads them.
+use Rattle.std.proofs.Common.{◌≡◌, ◌∙◌, ℕ, suc, ◌%◌, List, [], ◌∷◌, ◌++◌, map, reverse, Some, None, refl, sym, ap, subst, append_assoc}
+use Rattle.std.specs.Prelude.{All, slice_get}
+use Rattle.std.specs.List.{AllZip}
+use Rattle.std.proofs.lemmas.List.{reverse-append}
+use Rattle.sub_base.specs.declared.profile.Profile.{Profile}
+use Rattle.stream_syntax.specs.declared.wire.TheConstants.{TIME_ROUND}
+use Rattle.cue_list.specs.declared.epoch.Epoch.{Epoch}
+use Rattle.cue_list.specs.declared.script.Script.{Script}
+use Rattle.page_epoch.specs.Plan.{IsPlan}
+use Rattle.page_epoch.specs.Sendable.{HasCue}
+use Rattle.page_epoch.specs.declared.planned_set.PlannedSet.{PlannedSet}
+use Rattle.decoder_model.specs.Faults.{contents_in, segment_fault}
+use Rattle.decoder_model.specs.Readings.{Content, Reading, read, AreReadings, IsDeliveryRead}
+use Rattle.decoder_model.specs.Sets.{Delivery, whole}
+use Rattle.decoder_model.proofs.SentSets.{TimedSet, all_segments, size_of_units, delivered}
+use Rattle.shown_plan.proofs.Steps.Fair.{fair}
+use Rattle.shown_plan.proofs.Segments.PlannedSets.{IsInEpoch}
+use Rattle.shown_plan.proofs.Segments.ReadSets.{IsReadSet}
+use Rattle.shown_plan.proofs.Pictures.Runs.{at_place}
+use Rattle.shown_stream.proofs.Sent.CompiledSets.{IsSentAs, AreSentAs}
+use Rattle.shown_stream.proofs.Late.LateRest.{IsPlannedWell}
+use Rattle.shown_stream.proofs.Shown.ReadSegments.{AreShallow, fair_shallow, set_is_read}
+
+-- a set of a plan that comes whole, with what it is read as
+pub record SetComes (script : Script) (set : PlannedSet) (sent : TimedSet) : Type 0 where
+  pub epoch : Epoch
+  pub found : slice_get script.epochs set.epoch ≡ Some epoch
+  pub time : sent.time ≡ set.pts % TIME_ROUND
+  pub contents : List Content
+  pub readings : List Reading
+  pub are : AreReadings (all_segments sent) readings
+  pub contents_are : contents_in readings ≡ contents
+  pub no_fault : segment_fault readings ≡ None
+  pub is : IsReadSet script epoch set contents
+
+-- what the page memory is handed of it
+abbrev pub reading_of : {script : Script} {set : PlannedSet} {sent : TimedSet} → SetComes script set sent
+    → Delivery Reading
+reading_of {sent = sent} comes = whole sent.time (size_of_units sent.units) comes.readings
+
+pub is_read : {script : Script} {set : PlannedSet} {sent : TimedSet} (comes : SetComes script set sent)
+    → IsDeliveryRead (delivered sent) (reading_of comes)
+is_read comes = (comes.readings, comes.are, refl)
+
+-- each set of a plan does
+pub set_comes : (script : Script) (profile : Profile) (past : List PlannedSet) (page : ℕ) (set : PlannedSet)
+    (packets : List (List ℕ)) (sent : TimedSet) → IsInEpoch script profile past set → IsPlannedWell set
+    → IsSentAs script page set packets sent
+    → SetComes script set sent
+set_comes script profile past page set packets sent place well is =
+    let carried = is.carried in
+    let same : place.epoch ≡ carried.epoch =
+    (let both : Some place.epoch ≡ Some carried.epoch = sym place.place.found ∙ carried.found in cc) in
+    let was =
+    set_is_read script page set is.segments carried well
+    (subst (AreShallow script.pictures) same (fair_shallow script.pictures place.epoch place.fair.cues))
+    (subst (λ (epoch : Epoch). All (HasCue epoch) set.cues) same place.planned.sendable.cues) in
+    record {
+      epoch = carried.epoch;
+      found = carried.found;
+      time = is.time;
+      contents = was.contents;
+      readings = map read was.contents;
+      are = subst (λ (segments : List (List ℕ)). AreReadings segments (map read was.contents)) (sym is.are) was.are;
+      contents_are = was.back;
+      no_fault = was.no_fault;
+      is = was.is;
+    }
+
+-- all sets of a plan do
+pub turned_more : (past back : List PlannedSet) (set : PlannedSet)
+    → reverse (set ∷ past) ++ back ≡ reverse past ++ (set ∷ back)
+turned_more past back set =
+    ap (λ front. front ++ back) (reverse-append (set ∷ []) past) ∙ append_assoc (reverse past) (set ∷ []) back
+
+come_from : (script : Script) (profile : Profile) (page : ℕ) (sets past left : List PlannedSet)
+    (units : List (List (List ℕ))) (sent : List TimedSet) → IsPlan script profile sets
+    → sets ≡ reverse past ++ left
+    → ((number : ℕ) (set : PlannedSet) → slice_get left number ≡ Some set → IsPlannedWell set)
+    → AreSentAs script page left units sent → AllZip (SetComes script) left sent
+come_from script profile page sets past [] [] [] plan parts well are = tt
+come_from script profile page sets past [] [] (one ∷ sent) plan parts well are = absurd are
+come_from script profile page sets past [] (packets ∷ units) sent plan parts well are = absurd are
+come_from script profile page sets past (set ∷ left) [] sent plan parts well are = absurd are
+come_from script profile page sets past (set ∷ left) (packets ∷ units) [] plan parts well are = absurd are
+come_from script profile page sets past (set ∷ left) (packets ∷ units) (one ∷ sent) plan parts well are =
+    let whole = parts ∙ sym (turned_more past left set) in (
+      set_comes script profile past page set packets one
+          (at_place script profile sets past left set (fair script) plan whole) (well 0 set refl) are.0,
+      come_from script profile page sets (set ∷ past) left units sent plan whole
+          (λ number other found. well (suc number) other found) are.1,
+    )
+
+pub all_come : (script : Script) (profile : Profile) (page : ℕ) (sets : List PlannedSet)
+    (units : List (List (List ℕ))) (sent : List TimedSet) → IsPlan script profile sets
+    → ((number : ℕ) (set : PlannedSet) → slice_get sets number ≡ Some set → IsPlannedWell set)
+    → AreSentAs script page sets units sent → AllZip (SetComes script) sets sent
+all_come script profile page sets units sent plan well are =
+    come_from script profile page sets [] sets units sent plan refl well are

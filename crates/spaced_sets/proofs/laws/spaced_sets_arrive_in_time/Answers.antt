@@ -1,5 +1,0 @@
-use Rattle.spaced_sets.proofs.SpacedArrival.{arrive_in_time}
-use Rattle.spaced_sets.proofs.laws.spaced_sets_arrive_in_time.Goals as goal
-
-pub returns : goal.returns
-returns c = arrive_in_time
