@@ -1,11 +1,11 @@
 #!/usr/bin/env python3
-"""Lines that are longer than the house's: 100 columns in code and clauses, 120 in definitions and proofs.
+"""Lines that are longer than the house's: 100 columns in code and clauses, 120 in definitions and proofs. To be run after `rt fmt`.
 
     python3 checks/long_lines.py                 how many there are, by file; status 1 where there are some
     python3 checks/long_lines.py --break FILE..  breaks them at an operator of the least depth
 
 A broken line goes on four columns further in. A paragraph of comments with a long line is wrapped anew. Imports, lines
-with texts, and lines with a name of more than 100 columns (the prover's, of a case) stay as they are. Columns are counted in bytes. A file whose lines were broken is to be read again: the place that is
+with texts, and lines with a name of more than 100 columns (the prover's, of a case) stay as they are. A file whose lines were broken is to be read again: the place that is
 found is the one of least depth, and not always the one that reads best.
 """
 import glob
@@ -26,9 +26,14 @@ def limit_of(path):
     return 100 if path.endswith(".rt") else 120
 
 
+def is_long(line, limit):
+    """Views and invariants of a type are definitions, which the formatter leaves on one line."""
+    return columns(line) > (120 if line.lstrip().startswith("ghost ") else limit)
+
+
 def columns(line):
-    """How long a line is, by the bytes of its characters."""
-    return len(line.encode())
+    """How many characters a line has."""
+    return len(line)
 
 
 def is_left_alone(line):
@@ -74,7 +79,7 @@ def best_place(line, limit, start):
 
 def broken(line, limit):
     """The line as several lines."""
-    if columns(line) <= limit or is_left_alone(line):
+    if not is_long(line, limit) or is_left_alone(line):
         return [line]
     further = " " * (len(line) - len(line.lstrip(" ")) + INDENT)
     lines, rest = [], line
@@ -134,7 +139,7 @@ def count_long(path):
     limit = limit_of(path)
     with open(path) as file:
         lines = [line.rstrip("\n") for line in file]
-    return sum(columns(line) > limit and (comment_of(line) is not None or not is_left_alone(line)) for line in lines)
+    return sum(is_long(line, limit) and (comment_of(line) is not None or not is_left_alone(line)) for line in lines)
 
 
 def main(arguments):

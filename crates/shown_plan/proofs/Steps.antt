@@ -13,6 +13,7 @@ pub mod KeepsOn
 pub mod KeepsStep
 pub mod SetFits
 pub mod SetPixels
+pub mod SetDepths
 pub mod SetNodes
 pub mod FaultFree
 pub mod ComesBack

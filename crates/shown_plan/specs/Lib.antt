@@ -1,3 +1,4 @@
 pub mod HoldsScript
+pub mod NamedSets
 pub mod NeighbourPages
 pub mod WithinNeed

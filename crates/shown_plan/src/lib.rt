@@ -4,4 +4,4 @@
 
 mod laws;
 
-pub use laws::versions_tell_pages_apart;
+pub use laws::{places_are_names, versions_tell_pages_apart};

@@ -150,9 +150,7 @@ memory_within script profile past set latest before kept =
           (known_ids kept.place.epoch set.pts (taken_among (segments_of (latest ∷ kept.older)))
           (taken_all (IsSent kept.place.epoch set.pts) (segments_of (latest ∷ kept.older)) kept.keeps.each));
       nodes =
-          (let within = nodes_within script kept.place.epoch set kept.place.earlier
-          (segments_of (latest ∷ kept.older)) (page_value script kept.place.epoch set) kept.place.fair
-          kept.place.planned kept.keeps refl in
+          (let within = nodes_within kept.place.fair kept.place.planned kept.keeps in
           let page =
           ap (nodes_with_page (taken_of (segments_of (latest ∷ kept.older))))
           (page_is script kept.place.epoch set latest kept.read) in omega (arith, within, page));

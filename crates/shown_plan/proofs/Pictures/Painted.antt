@@ -10,11 +10,12 @@ use Rattle.cue_list.specs.Authored.{code_of, covers, shows, code_shown, authored
 use Rattle.cue_list.specs.declared.epoch.Cue.{Cue}
 use Rattle.cue_list.specs.declared.epoch.Epoch.{Epoch}
 use Rattle.page_epoch.specs.Live.{cue_at, no_cue, places_below, live_places}
-use Rattle.set_coder.specs.SetSegments.{picture_of_cue, depth_of_cue, listing_of}
+use Rattle.set_coder.specs.SetSegments.{picture_of_cue, depth_of_cue}
 use Rattle.decoder_model.specs.Pixels.{code_by_listing}
 use Rattle.decoder_model.specs.Readings.{Content}
 use Rattle.decoder_model.proofs.DrawnPictures.{in_picture, IsOutside, left_of, right_of, above, below, outside_picture}
 use Rattle.page_epoch.proofs.ListLaws.{places_back, map_kept}
+use Rattle.shown_plan.specs.NamedSets.{Names, named_listing}
 use Rattle.shown_plan.proofs.Segments.ReadSets.{IsDrawnObject}
 
 -- the code that the cue at a place shows there, where it shows one of its own
@@ -25,10 +26,10 @@ code_by_cue pictures epoch x y place =
 -- ---- one cue
 
 -- a place that a cue does not cover lies outside its picture
-outside : (pictures : List Picture) (epoch : Epoch) (place x y : ℕ)
+outside : (names : Names) (pictures : List Picture) (epoch : Epoch) (place x y : ℕ)
     → covers pictures (cue_at epoch.cues place) x y ≡ false
-    → IsOutside (picture_of_cue pictures epoch place) (listing_of epoch place) x y
-outside pictures epoch place x y e =
+    → IsOutside (picture_of_cue pictures epoch place) (named_listing names epoch place) x y
+outside names pictures epoch place x y e =
     by (nat_le cue.x x) (nat_lt x (cue.x + picture.width)) (nat_le cue.y y) (nat_lt y (cue.y + picture.height)) refl
     refl refl refl e
   where
@@ -40,7 +41,8 @@ outside pictures epoch place x y e =
 
     by : (a b c d : Bool) → nat_le cue.x x ≡ a → nat_lt x (cue.x + picture.width) ≡ b → nat_le cue.y y ≡ c
         → nat_lt y (cue.y + picture.height) ≡ d
-        → covers pictures (cue_at epoch.cues place) x y ≡ false → IsOutside picture (listing_of epoch place) x y
+        → covers pictures (cue_at epoch.cues place) x y ≡ false
+        → IsOutside picture (named_listing names epoch place) x y
     by false b c d ea eb ec ed e = left_of (grind (arith, nat_tests))
     by true false c d ea eb ec ed e = right_of (grind (arith, nat_tests))
     by true true false d ea eb ec ed e = above (grind (arith, nat_tests))
@@ -50,21 +52,22 @@ outside pictures epoch place x y e =
         ≡ true = rw (ea, eb, ec, ed) refl in let no : true ≡ false = sym all ∙ e in cc)
 
 -- the object of a cue writes the codes that the cue shows
-pub cue_paints : (pictures : List Picture) (epoch : Epoch) (place x y : ℕ) (content : Content)
-    → IsPicture (picture_of_cue pictures epoch place) → IsDrawnObject pictures epoch place content
+pub cue_paints : {names : Names} {pictures : List Picture} {epoch : Epoch} (place x y : ℕ) (content : Content)
+    → IsPicture (picture_of_cue pictures epoch place) → IsDrawnObject names pictures epoch place content
     → code_by_listing (depth_of_cue epoch place) (cue_at epoch.cues place).see_through content.top content.bottom x y
-    (listing_of epoch place) ≡ code_by_cue pictures epoch x y place
-cue_paints pictures epoch place x y content is_picture drawn = by (covers pictures cue x y) refl
+    (named_listing names epoch place) ≡ code_by_cue pictures epoch x y place
+cue_paints {names} {pictures} {epoch} place x y content is_picture drawn = by (covers pictures cue x y) refl
   where
     cue : Cue
     cue = cue_at epoch.cues place
 
     by : (b : Bool) → covers pictures cue x y ≡ b
         → code_by_listing (depth_of_cue epoch place) cue.see_through content.top content.bottom x y
-        (listing_of epoch place) ≡ code_by_cue pictures epoch x y place
+        (named_listing names epoch place) ≡ code_by_cue pictures epoch x y place
     by false e =
-        outside_picture cue.see_through (listing_of epoch place) (depth_of_cue epoch place) content.top content.bottom
-        (picture_of_cue pictures epoch place) is_picture drawn.draws x y (outside pictures epoch place x y e)
+        outside_picture cue.see_through (named_listing names epoch place) (depth_of_cue epoch place) content.top
+        content.bottom
+        (picture_of_cue pictures epoch place) is_picture drawn.draws x y (outside names pictures epoch place x y e)
         ∙ sym (ap
         (λ b. cond (b && not (cue.see_through && (code_of pictures cue x y == 1)))
         (Some (code_of pictures cue x y)) None) e)
@@ -73,7 +76,8 @@ cue_paints pictures epoch place x y content is_picture drawn = by (covers pictur
         let right : x < cue.x + (picture_of_cue pictures epoch place).width = grind (arith, nat_tests) in
         let top : cue.y ≤ y = grind (arith, nat_tests) in
         let bottom : y < cue.y + (picture_of_cue pictures epoch place).height = grind (arith, nat_tests) in
-        in_picture cue.see_through (listing_of epoch place) (depth_of_cue epoch place) content.top content.bottom
+        in_picture cue.see_through (named_listing names epoch place) (depth_of_cue epoch place) content.top
+        content.bottom
         (picture_of_cue pictures epoch place) is_picture drawn.draws
         (x - cue.x) (y - cue.y) x y (omega arith) (omega arith) (omega arith) (omega arith)
         ∙ sym (ap

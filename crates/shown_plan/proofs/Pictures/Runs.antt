@@ -17,7 +17,7 @@ use Rattle.page_epoch.specs.declared.planned_set.PlannedSet.{PlannedSet}
 use Rattle.page_epoch.specs.declared.planned_set.SentClut.{SentClut}
 use Rattle.page_epoch.specs.declared.planned_set.SentRegion.{SentRegion}
 use Rattle.set_coder.specs.SetSegments.{display_segments}
-use Rattle.decoder_model.specs.Contents.{page_of, has_state}
+use Rattle.decoder_model.specs.Contents.{page_of, page_in_set, has_state}
 use Rattle.decoder_model.specs.Faults.{contents_in, segment_fault}
 use Rattle.decoder_model.specs.Kept.{epoch_of}
 use Rattle.decoder_model.specs.Readings.{Content, Reading}
@@ -27,12 +27,11 @@ use Rattle.decoder_model.specs.declared.set_end.SetEnd.TheVariants.{Shown}
 use Rattle.decoder_model.proofs.Epochs.{epoch_begun, epoch_on, epoch_entered}
 use Rattle.shown_plan.proofs.Steps.Fair.{IsFair}
 use Rattle.shown_plan.proofs.Steps.FaultFree.{HasRoom, page_value, page_is, set_fits}
-use Rattle.shown_plan.proofs.Steps.Keeps.{Keeps}
-use Rattle.shown_plan.proofs.Steps.KeepsOn.{IsPlannedIn}
+use Rattle.shown_plan.proofs.Steps.Keeps.{Keeps, KeepsBefore}
 use Rattle.shown_plan.proofs.Steps.KeepsStep.{IsReadIn, keeps_first, keeps_next}
-use Rattle.shown_plan.proofs.Segments.Ordered.{displays_in, page_content, region_content, clut_content, objects_are, contents_are}
+use Rattle.shown_plan.proofs.Segments.Ordered.{displays_in, page_content, region_content, clut_content, objects_are, regions_in, cluts_in, contents_are}
 use Rattle.shown_plan.proofs.Segments.PlannedSets.{times_of, has_times, IsInEpoch, in_epoch, goes_after}
-use Rattle.shown_plan.proofs.Segments.ReadSets.{plain, IsReadSet}
+use Rattle.shown_plan.proofs.Segments.ReadSets.{plain, IsReadSet, objects_of}
 
 -- The sets of the plan up to one, and the kept sets since the last loss or broken set up to it. The run begins with a
 -- set that is not normal: a mode change, or an acquisition point at which no epoch is known.
@@ -46,6 +45,11 @@ pub data IsRun (script : Script) : List PlannedSet → List (List Content) → T
       → IsRun script (before ∷ plan) (previous ∷ sets) → IsReadSet script epoch set contents
       → IsRun script (set ∷ before ∷ plan) (contents ∷ previous ∷ sets)
 
+-- a set is shown behind others, in whatever segments it comes that have no fault
+abbrev pub IsShownBehind : Profile → List (List Content) → List Content → Type 0
+IsShownBehind profile before latest = (readings : List Reading) → contents_in readings ≡ latest
+    → segment_fault readings ≡ None → verdict_on_kept profile before readings ≡ Shown
+
 -- what stands behind a run: its last set is shown, and what the receiver has of the epoch is as the plan says
 pub record RunKeeps (script : Script) (profile : Profile) (past : List PlannedSet) (set : PlannedSet)
     (latest : List Content) (before : List (List Content)) : Type 0 where
@@ -54,8 +58,7 @@ pub record RunKeeps (script : Script) (profile : Profile) (past : List PlannedSe
   pub known : epoch_of (latest ∷ before) ≡ Some (latest ∷ older)
   pub read : IsReadSet script place.epoch set latest
   pub keeps : Keeps script place.epoch set.pts place.earlier (segments_of (latest ∷ older))
-  pub shown : (readings : List Reading) → contents_in readings ≡ latest → segment_fault readings ≡ None
-      → verdict_on_kept profile before readings ≡ Shown
+  pub shown : IsShownBehind profile before latest
 
 abbrev pub HasKept : Script → Profile → List PlannedSet → List (List Content) → Type 0
 HasKept script profile [] sets = Unit {0}
@@ -68,21 +71,19 @@ HasKept script profile (set ∷ past) (latest ∷ before) = RunKeeps script prof
 one_page : (script : Script) (epoch : Epoch) (set : PlannedSet) (contents : List Content)
     → IsReadSet script epoch set contents → filter_map page_of contents ≡ page_value script epoch set ∷ []
 one_page script epoch set contents is =
-    ap (filter_map page_of) (contents_are script epoch set contents is)
+    ap (filter_map page_of) (contents_are is)
     ∙ filter_map-append page_of (displays_in script set) (page_content script epoch set ∷ rest)
     ∙ (λ i. no_displays set.state i ++ (page_value script epoch set ∷ none i))
   where
     rest : List Content
-    rest =
-        map (region_content epoch) set.regions
-        ++ (map (clut_content epoch) set.cluts ++ (is.objects ++ plain end_of_set ∷ []))
+    rest = regions_in is ++ (cluts_in is ++ (is.objects ++ plain end_of_set ∷ []))
 
     no_displays : (state : State) → filter_map page_of (map plain (display_segments script state)) ≡ []
     no_displays Normal = refl
     no_displays Acquisition = refl
     no_displays ModeChange = refl
 
-    no_regions : (sent : List SentRegion) → filter_map page_of (map (region_content epoch) sent) ≡ []
+    no_regions : (sent : List SentRegion) → filter_map page_of (map (region_content is.names epoch) sent) ≡ []
     no_regions [] = refl
     no_regions (one ∷ sent) = no_regions sent
 
@@ -104,14 +105,13 @@ one_page script epoch set contents is =
 
     none : filter_map page_of rest ≡ []
     none =
-        filter_map-append page_of (map (region_content epoch) set.regions)
-        (map (clut_content epoch) set.cluts ++ (is.objects ++ plain end_of_set ∷ []))
+        filter_map-append page_of (regions_in is) (cluts_in is ++ (is.objects ++ plain end_of_set ∷ []))
         ∙ (λ i. no_regions set.regions i
-        ++ (filter_map-append page_of (map (clut_content epoch) set.cluts) (is.objects ++ plain end_of_set ∷ [])
-        ∙ (λ j. no_cluts set.cluts j ++ (filter_map-append page_of is.objects (plain end_of_set ∷ [])
+        ++ (filter_map-append page_of (cluts_in is) (is.objects ++ plain end_of_set ∷ [])
+        ∙ (λ j. no_cluts is.cluts j ++ (filter_map-append page_of is.objects (plain end_of_set ∷ [])
         ∙ (λ k. no_objects is.objects
         (λ n d within. none_of (page_of (get_or is.objects n d))
-        (objects_are script.pictures epoch set.cues is.objects is.drawn n d within).page_is) k ++ [])) j)) i)
+        (objects_are is.objects (objects_of is) n d within).page_is) k ++ [])) j)) i)
 
 pub has_its_state : (script : Script) (epoch : Epoch) (set : PlannedSet) (contents : List Content) (state : State)
     → IsReadSet script epoch set contents
@@ -124,67 +124,66 @@ has_its_state script epoch set contents state is =
     either true = refl
     either false = refl
 
+-- the set is read in its epoch
+read_at : {script : Script} {profile : Profile} {past : List PlannedSet} {set : PlannedSet} {latest : List Content}
+    (place : IsInEpoch script profile past set) → IsReadSet script place.epoch set latest
+    → IsReadIn script place.epoch set place.earlier latest
+read_at place read = record { fair = place.fair; planned = place.planned; read = read }
+
+same_epoch : {script : Script} {profile : Profile} {past : List PlannedSet} {set : PlannedSet} {epoch : Epoch}
+    {latest : List Content} (place : IsInEpoch script profile past set)
+    → slice_get script.epochs set.epoch ≡ Some epoch
+    → IsReadSet script epoch set latest → IsReadSet script place.epoch set latest
+same_epoch {script} {profile} {past} {set} {epoch} {latest} place found read =
+    subst (λ (e : Epoch). IsReadSet script e set latest)
+    (let both : Some epoch ≡ Some place.epoch = sym found ∙ place.place.found in cc) read
+
 -- ---- the verdict
 
-shown_set : (script : Script) (profile : Profile) (epoch : Epoch) (set : PlannedSet) (earlier : List ℕ)
-    (latest : List Content) (before older : List (List Content)) → IsReadIn script epoch set earlier latest
-    → HasRoom script epoch set earlier profile
-    → epoch_of (latest ∷ before) ≡ Some (latest ∷ older)
-    → Keeps script epoch set.pts earlier (segments_of (latest ∷ older))
-    → (readings : List Reading) → contents_in readings ≡ latest → segment_fault readings ≡ None
-    → verdict_on_kept profile before readings ≡ Shown
-shown_set script profile epoch set earlier latest before older is room known kept readings contents no_fault =
+-- what a receiver has of the epoch before a set, and with it
+record IsStepOf (script : Script) (epoch : Epoch) (set : PlannedSet) (earlier : List ℕ) (latest : List Content)
+    (older : List (List Content)) : Type 0 where
+  is : IsReadIn script epoch set earlier latest
+  before : KeepsBefore script epoch earlier older
+  now : Keeps script epoch set.pts earlier (segments_of (latest ∷ older))
+
+shown_set : {script : Script} {profile : Profile} {epoch : Epoch} {set : PlannedSet} {earlier : List ℕ}
+    {latest : List Content} {older : List (List Content)} (before : List (List Content))
+    → IsStepOf script epoch set earlier latest older → HasRoom script epoch set earlier profile
+    → epoch_of (latest ∷ before) ≡ Some (latest ∷ older) → IsShownBehind profile before latest
+shown_set {script} {profile} {epoch} {set} {earlier} {latest} {older} before step room known readings contents
+    no_fault =
     (λ i. verdict_on_segments profile before (contents i) (no_fault i))
-    ∙ ap (verdict_with_page profile before latest) (page_is script epoch set latest is.read)
+    ∙ ap (verdict_with_page profile before latest) page
     ∙ ap (verdict_in_epoch profile (page_value script epoch set)) known
-    ∙ ap shown_unless
-    (set_fits script epoch set earlier latest older (page_value script epoch set) profile is room kept
-    (page_is script epoch set latest is.read))
+    ∙ ap shown_unless (set_fits older (page_value script epoch set) step.is room step.before step.now page)
+  where
+    page : page_in_set latest ≡ Some (page_value script epoch set)
+    page = page_is script epoch set latest step.is.read
 
 -- ---- the run
 
-begun : (script : Script) (profile : Profile) (past : List PlannedSet) (set : PlannedSet) (latest : List Content)
+begun : {script : Script} {profile : Profile} {past : List PlannedSet} {set : PlannedSet} {latest : List Content}
     (before : List (List Content)) (place : IsInEpoch script profile past set)
     → IsReadSet script place.epoch set latest → is_entry_state set.state ≡ true
     → epoch_of (latest ∷ before) ≡ Some (latest ∷ []) → RunKeeps script profile past set latest before
-begun script profile past set latest before place read whole known =
-    let is : IsReadIn script place.epoch set place.earlier latest =
-    record { fair = place.fair; planned = place.planned; read = read } in
-    let kept = keeps_first script place.epoch set place.earlier latest is whole in
+begun before place read whole known =
+    let kept = keeps_first (read_at place read) whole in
     record {
       place = place;
       older = [];
       known = known;
       read = read;
       keeps = kept;
-      shown = shown_set script profile place.epoch set place.earlier latest before [] is place.room known kept;
+      shown = shown_set before (record { is = read_at place read; before = tt; now = kept }) place.room known;
     }
 
-read_in : (script : Script) (profile : Profile) (past : List PlannedSet) (set : PlannedSet) (epoch : Epoch)
-    (latest : List Content) (place : IsInEpoch script profile past set)
-    → slice_get script.epochs set.epoch ≡ Some epoch → IsReadSet script epoch set latest
-    → IsReadSet script place.epoch set latest
-read_in script profile past set epoch latest place found read =
-    subst (λ (e : Epoch). IsReadSet script e set latest)
-    (let both : Some epoch ≡ Some place.epoch = sym found ∙ place.place.found in cc) read
-
-states_differ : (a b : State) → (state_number a == state_number b) ≡ true → a ≡ b
-states_differ Normal Normal e = refl
-states_differ Acquisition Acquisition e = refl
-states_differ ModeChange ModeChange e = refl
-states_differ Normal Acquisition e = absurd (cc)
-states_differ Normal ModeChange e = absurd (cc)
-states_differ Acquisition Normal e = absurd (cc)
-states_differ Acquisition ModeChange e = absurd (cc)
-states_differ ModeChange Normal e = absurd (cc)
-states_differ ModeChange Acquisition e = absurd (cc)
-
-begins_run : (script : Script) (profile : Profile) (past : List PlannedSet) (set : PlannedSet) (latest : List Content)
+begins_run : {script : Script} {profile : Profile} {past : List PlannedSet} {set : PlannedSet} {latest : List Content}
     (before : List (List Content)) (place : IsInEpoch script profile past set)
     → IsReadSet script place.epoch set latest → is_entry_state set.state ≡ true
     → (set.state ≡ ModeChange) ⊎ (epoch_of before ≡ None) → RunKeeps script profile past set latest before
-begins_run script profile past set latest before place read whole first =
-    begun script profile past set latest before place read whole (by set.state refl whole first)
+begins_run {script} {profile} {past} {set} {latest} before place read whole first =
+    begun before place read whole (by set.state refl whole first)
   where
     mode : (b : Bool) → (state_number set.state == state_number ModeChange) ≡ b
         → has_state ModeChange latest ≡ b
@@ -201,12 +200,12 @@ begins_run script profile past set latest before place read whole first =
         (has_its_state script place.epoch set latest Acquisition read
         ∙ ap (λ s. state_number s == state_number Acquisition) e) unknown
 
-continues : (script : Script) (profile : Profile) (past : List PlannedSet) (before set : PlannedSet)
-    (latest previous : List Content) (sets : List (List Content))
+continues : {script : Script} {profile : Profile} {past : List PlannedSet} {before set : PlannedSet}
+    {latest previous : List Content} {sets : List (List Content)}
     (place : IsInEpoch script profile (before ∷ past) set) → before.pts < set.pts
     → IsReadSet script place.epoch set latest → RunKeeps script profile past before previous sets
     → RunKeeps script profile (before ∷ past) set latest (previous ∷ sets)
-continues script profile past before set latest previous sets place rise read kept = by set.state refl
+continues {script} {profile} {past} {before} {set} {latest} {previous} {sets} place rise read kept = by set.state refl
   where
     mode : (b : Bool) → (state_number set.state == state_number ModeChange) ≡ b
         → has_state ModeChange latest ≡ b
@@ -217,14 +216,13 @@ continues script profile past before set latest previous sets place rise read ke
     still other number =
         (let after = goes_after script profile past before set kept.place place rise other in
         let known = epoch_on latest (previous ∷ sets) (previous ∷ kept.older) (mode false number) kept.known in
-        let planned = subst (IsPlannedIn place.epoch set) after.earlier place.planned in
         let is : IsReadIn script place.epoch set (before.pts ∷ kept.place.earlier) latest =
-        record { fair = place.fair; planned = planned; read = read } in
+        subst (λ (times : List ℕ). IsReadIn script place.epoch set times latest) after.earlier
+        (read_at place read) in
         let was : Keeps script place.epoch before.pts kept.place.earlier (segments_of (previous ∷ kept.older)) =
         subst (λ (e : Epoch). Keeps script e before.pts kept.place.earlier (segments_of (previous ∷ kept.older)))
         (sym after.epoch) kept.keeps in
-        let keeps =
-        keeps_next script place.epoch set before.pts kept.place.earlier latest (previous ∷ kept.older) is was in
+        let keeps = keeps_next (previous ∷ kept.older) is was in
         record {
           place = place;
           older = previous ∷ kept.older;
@@ -234,18 +232,16 @@ continues script profile past before set latest previous sets place rise read ke
               subst (λ (times : List ℕ). Keeps script place.epoch set.pts times
               (segments_of (latest ∷ previous ∷ kept.older))) (sym after.earlier) keeps;
           shown =
-              shown_set script profile place.epoch set (before.pts ∷ kept.place.earlier) latest (previous ∷ sets)
-              (previous ∷ kept.older) is
+              shown_set (previous ∷ sets) (record { is = is; before = was; now = keeps })
               (subst (λ (times : List ℕ). HasRoom script place.epoch set times profile) after.earlier place.room)
-              known keeps;
+              known;
         })
 
     by : (state : State) → set.state ≡ state
         → RunKeeps script profile (before ∷ past) set latest (previous ∷ sets)
     by ModeChange e =
-        begun script profile (before ∷ past) set latest (previous ∷ sets) place read (ap is_entry_state e)
-        (epoch_begun latest (previous ∷ sets)
-        (mode true (ap (λ s. state_number s == state_number ModeChange) e)))
+        begun (previous ∷ sets) place read (ap is_entry_state e)
+        (epoch_begun latest (previous ∷ sets) (mode true (ap (λ s. state_number s == state_number ModeChange) e)))
     by Normal e =
         still (λ other. (let no : Normal ≡ ModeChange = sym e ∙ other in absurd (cc)))
         (ap (λ s. state_number s == state_number ModeChange) e)
@@ -294,14 +290,11 @@ pub run_keeps : (script : Script) (profile : Profile) (sets : List PlannedSet) �
 run_keeps script profile sets is_fair plan_is all kept
     (begins {plan = past} {sets = older} {set = set} {contents = latest} epoch found whole first read) back parts =
     let place = at_place script profile sets past back set is_fair plan_is parts in
-    begins_run script profile past set latest older place
-    (read_in script profile past set epoch latest place found read) whole first
+    begins_run older place (same_epoch place found read) whole first
 run_keeps script profile sets is_fair plan_is all kept
     (goes_on {plan = past} {sets = older} {before = before} {set = set} {previous = previous} {contents = latest} epoch
     found run read) back parts =
     let place = at_place script profile sets (before ∷ past) back set is_fair plan_is parts in
-    continues script profile past before set latest previous older place
-    (next_later script profile sets past back before set plan_is parts)
-    (read_in script profile (before ∷ past) set epoch latest place found read)
+    continues place (next_later script profile sets past back before set plan_is parts) (same_epoch place found read)
     (run_keeps script profile sets is_fair plan_is (before ∷ past) (previous ∷ older) run (set ∷ back)
     (parts ∙ turned_more (before ∷ past) back set))

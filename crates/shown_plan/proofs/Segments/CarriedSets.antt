@@ -3,7 +3,7 @@
 use Rattle.std.proofs.Common.{◌≡◌, ◌≢◌, ◌∙◌, ◌⊎◌, inl, inr, ℕ, ◌==◌, ◌<◌, ◌≤◌, Bool, true, false, not, ◌&&◌, ◌||◌, cond, List, [], ◌∷◌, ◌++◌, length, filter, get_or, refl, sym, ap, subst, arith}
 use Rattle.std.specs.Prelude.{All}
 use Rattle.std.specs.List.{AllPairs, Contains, list_any, range_with_len}
-use Rattle.std.specs.List.Sorted.{IsPermutation, IsNonDecreasing}
+use Rattle.std.specs.List.Sorted.{IsNonDecreasing}
 use Rattle.std.proofs.lemmas.Bool.Decides.{nat_tests}
 use Rattle.std.proofs.lemmas.List.{append-nil}
 use Rattle.std.proofs.lemmas.List.Folds.{list_any_at}
@@ -21,8 +21,10 @@ use Rattle.page_epoch.proofs.CountLaws.{count_filter, same_sorted}
 use Rattle.page_epoch.proofs.ListLaws.{All-none, All-one, All-pieces, filter_none}
 use Rattle.page_epoch.proofs.RowLaws.{own_within}
 use Rattle.page_epoch.specs.Live.{cue_at, times, own_places, live_places, places_below}
+use Rattle.page_epoch.specs.Plan.{IsCarried}
 use Rattle.page_epoch.specs.SentCluts.{no_row, rows_of_clut, row_at, clut_with, clut_count, clut_version, rows_from, defined_rows, sent_clut, named_cluts, sent_cluts}
 use Rattle.page_epoch.specs.SentRegions.{is_redrawn, is_extended, region_version, live_before, filled, extended, region_from, sent_region, AreSentRegions, listed_cues}
+use Rattle.page_epoch.specs.declared.planned_set.PlannedSet.{PlannedSet}
 use Rattle.page_epoch.specs.declared.planned_set.SentClut.{SentClut}
 use Rattle.page_epoch.specs.declared.planned_set.SentRegion.{SentRegion}
 use Rattle.shown_plan.proofs.Steps.ClutRows.{defined_own}
@@ -156,27 +158,27 @@ falls_not places rise i j d low within = by (grind arith)
     by (inr before) = (let less = rise i j d before within in omega (arith, less))
 
 -- of the cues of a set those of a region are the ones that it lists
-pub own_listed : (epoch : Epoch) (whole : Bool) (seen : List ℕ) (regions : List SentRegion) (cues : List ℕ)
-    (region : Region) → HaveOwnIds epoch.regions → AreSentRegions epoch.cues epoch.regions whole seen regions
-    → IsPermutation (listed_cues regions) cues → IsNonDecreasing cues → Contains epoch.regions region
+pub own_listed : {epoch : Epoch} {whole : Bool} {seen : List ℕ} {set : PlannedSet} (region : Region)
+    → HaveOwnIds epoch.regions → IsCarried epoch whole seen set → Contains epoch.regions region
     → (sent : SentRegion) → sent_region epoch.cues whole seen region.id ≡ sent ∷ []
-    → filter (is_own epoch region.id) cues ≡ sent.cues
-own_listed epoch whole seen regions cues region apart are same order there sent one =
-    same_sorted (filter (is_own epoch region.id) cues) sent.cues
-    (IsNonDecreasingBy-filter (λ x. x) (is_own epoch region.id) cues order) (falls_not sent.cues lists.rise)
-    (λ v. count_filter (λ place. place == v) (is_own epoch region.id) cues
+    → filter (is_own epoch region.id) set.cues ≡ sent.cues
+own_listed {epoch} {whole} {seen} {set} region apart carried there sent one =
+    same_sorted (filter (is_own epoch region.id) set.cues) sent.cues
+    (IsNonDecreasingBy-filter (λ x. x) (is_own epoch region.id) set.cues carried.in_order)
+    (falls_not sent.cues lists.rise)
+    (λ v. count_filter (λ place. place == v) (is_own epoch region.id) set.cues
     ∙ sum_by-IsPermutation (λ place. cond {A = ℕ} (is_own epoch region.id place && (place == v)) 1 0)
-    (listed_cues regions) cues same
-    ∙ sym (count_filter (λ place. place == v) (is_own epoch region.id) (listed_cues regions))
+    (listed_cues set.regions) set.cues carried.cues
+    ∙ sym (count_filter (λ place. place == v) (is_own epoch region.id) (listed_cues set.regions))
     ∙ ap (times v) listed)
   where
-    part : HasPart (λ (sent : SentRegion). sent.id) region.id (sent_region epoch.cues whole seen region.id) regions
-    part = region_part epoch.cues epoch.regions whole seen regions region apart are there
+    part : HasPart (λ (sent : SentRegion). sent.id) region.id (sent_region epoch.cues whole seen region.id) set.regions
+    part = region_part epoch.cues epoch.regions whole seen set.regions region apart carried.regions there
 
     all_lists : All (ListsOwn epoch) (part.front ++ (sent ∷ part.back))
     all_lists =
         subst (All (ListsOwn epoch)) (part.whole ∙ ap (λ own. part.front ++ (own ++ part.back)) one)
-        (all_list_own epoch whole seen regions are)
+        (all_list_own epoch whole seen set.regions carried.regions)
 
     lists : ListsOwn epoch sent
     lists =
@@ -201,7 +203,7 @@ own_listed epoch whole seen regions cues region apart are same order there sent 
         (Contains-append_right (sent ∷ []) part.back (get_or part.back k d)
         (All-contains_itself part.back k d within)))
 
-    listed : filter (is_own epoch region.id) (listed_cues regions) ≡ sent.cues
+    listed : filter (is_own epoch region.id) (listed_cues set.regions) ≡ sent.cues
     listed =
         ap (λ all. filter (is_own epoch region.id) (listed_cues all))
         (part.whole ∙ ap (λ own. part.front ++ (own ++ part.back)) one)
@@ -225,7 +227,7 @@ places_rising n i j d before within e =
     let second = get_or-range_with_len 0 n j d (omega (arith, within, long)) in
     absurd (omega (arith, e, first, second, before))
 
-clut_own : (colours : List ColourRow) (whole : Bool) (seen : List ℕ) (clut : ℕ)
+pub clut_own : (colours : List ColourRow) (whole : Bool) (seen : List ℕ) (clut : ℕ)
     → All (λ (sent : SentClut). sent.clut ≡ clut) (sent_clut colours whole seen clut)
 clut_own colours whole [] clut = All-none _
 clut_own colours whole (tick ∷ earlier) clut = by (rows_from colours whole tick (defined_rows colours clut tick))
@@ -238,7 +240,7 @@ clut_own colours whole (tick ∷ earlier) clut = by (rows_from colours whole tic
         All-one (λ (sent : SentClut). sent.clut ≡ clut)
         (record { clut = clut; version = clut_version colours clut (tick ∷ earlier); rows = row ∷ rows }) refl
 
-clut_once : (colours : List ColourRow) (whole : Bool) (seen : List ℕ) (clut : ℕ)
+pub clut_once : (colours : List ColourRow) (whole : Bool) (seen : List ℕ) (clut : ℕ)
     → length (sent_clut colours whole seen clut) ≤ 1
 clut_once colours whole [] clut = omega arith
 clut_once colours whole (tick ∷ earlier) clut = by (rows_from colours whole tick (defined_rows colours clut tick))

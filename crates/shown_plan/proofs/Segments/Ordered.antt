@@ -1,11 +1,10 @@
 -- The segments of a set as they are handled: display, page, regions, CLUTs and objects.
-use Rattle.std.proofs.Common.{◌≡◌, ◌∙◌, ℕ, Bool, true, false, cond, List, [], ◌∷◌, ◌++◌, map, filter, refl, ap}
+use Rattle.std.proofs.Common.{◌≡◌, ◌∙◌, Bool, true, false, cond, List, [], ◌∷◌, ◌++◌, map, filter, get_or, refl, ap}
 use Rattle.std.specs.Prelude.{All}
-use Rattle.std.specs.List.{AllZip}
+use Rattle.std.specs.List.{flat_map}
 use Rattle.std.specs.Option.{is_some}
 use Rattle.std.proofs.lemmas.List.{append-nil, map-append, append_assoc}
 use Rattle.std.proofs.lemmas.List.Elements.{filter-append, All-head, All-tail, All-cons}
-use Rattle.sub_base.specs.Picture.{Picture}
 use Rattle.stream_syntax.specs.Segments.{SegmentValue, end_of_set}
 use Rattle.stream_syntax.specs.declared.page.State.{State}
 use Rattle.stream_syntax.specs.declared.page.State.TheVariants.{Normal, Acquisition, ModeChange}
@@ -15,10 +14,11 @@ use Rattle.page_epoch.proofs.ListLaws.{filter_none, All-none}
 use Rattle.page_epoch.specs.declared.planned_set.PlannedSet.{PlannedSet}
 use Rattle.page_epoch.specs.declared.planned_set.SentClut.{SentClut}
 use Rattle.page_epoch.specs.declared.planned_set.SentRegion.{SentRegion}
-use Rattle.set_coder.specs.SetSegments.{display_segments, page_segment, region_segment_of, clut_segment_of, leading_segments}
+use Rattle.set_coder.specs.SetSegments.{display_segments, page_segment, clut_segment_of}
 use Rattle.decoder_model.specs.Contents.{page_of, region_of, clut_of, object_of, display_of, in_order}
 use Rattle.decoder_model.specs.Readings.{Content}
-use Rattle.shown_plan.proofs.Segments.ReadSets.{plain, IsDrawnObject, IsReadSet}
+use Rattle.shown_plan.specs.NamedSets.{Names, named_region, named_leading}
+use Rattle.shown_plan.proofs.Segments.ReadSets.{plain, IsObject, IsReadSet, objects_of}
 
 -- ---- kinds
 
@@ -39,79 +39,93 @@ filter_alike p true (x ∷ xs) alike =
     ∙ ap (λ rest. x ∷ rest) (filter_alike p true xs (All-tail (λ x. p x ≡ true) x xs alike))
 filter_alike p false xs alike = filter_none p xs alike
 
-six_parts : (p : Content → Bool) (ba bb bc bd be bf : Bool) (a b c d e f : List Content)
-    → All (λ x. p x ≡ ba) a → All (λ x. p x ≡ bb) b → All (λ x. p x ≡ bc) c
-    → All (λ x. p x ≡ bd) d → All (λ x. p x ≡ be) e → All (λ x. p x ≡ bf) f
-    → filter p (a ++ (b ++ (c ++ (d ++ (e ++ f))))) ≡ cond ba a []
-    ++ (cond bb b [] ++ (cond bc c [] ++ (cond bd d [] ++ (cond be e [] ++ cond bf f []))))
-six_parts p ba bb bc bd be bf a b c d e f ha hb hc hd he hf =
-    filter-append p a (b ++ (c ++ (d ++ (e ++ f))))
-    ∙ (λ i. filter_alike p ba a ha i ++ (filter-append p b (c ++ (d ++ (e ++ f)))
-    ∙ (λ i. filter_alike p bb b hb i ++ (filter-append p c (d ++ (e ++ f))
-    ∙ (λ i. filter_alike p bc c hc i ++ (filter-append p d (e ++ f)
-    ∙ (λ i. filter_alike p bd d hd i ++ (filter-append p e f
-    ∙ (λ i. filter_alike p be e he i ++ filter_alike p bf f hf i)) i)) i)) i)) i)
+-- the kinds in the order in which they are handled
+data Kind : Type 0 where
+  a_display : Kind
+  a_page : Kind
+  a_region : Kind
+  a_clut : Kind
+  an_object : Kind
 
--- segments that stand by kinds are handled as they stand, but for the last one, which ends the set
-pub kinds_in_order : (displays pages regions cluts objects : List Content) (last : Content)
-    → All (IsKind true false false false false) displays → All (IsKind false true false false false) pages
-    → All (IsKind false false true false false) regions → All (IsKind false false false true false) cluts
-    → All (IsKind false false false false true) objects → IsKind false false false false false last
-    → in_order (displays ++ (pages ++ (regions ++ (cluts ++ (objects ++ last ∷ []))))) ≡ displays
-    ++ (pages ++ (regions ++ (cluts ++ objects)))
-kinds_in_order displays pages regions cluts objects last hd hp hr hc ho hl =
-    λ i. by_display i ++ (by_page i ++ (by_region i ++ (by_clut i ++ by_object i)))
+abbrev is_of : Kind → Content → Bool
+is_of a_display content = is_some (display_of content)
+is_of a_page content = is_some (page_of content)
+is_of a_region content = is_some (region_of content)
+is_of a_clut content = is_some (clut_of content)
+is_of an_object content = is_some (object_of content)
+
+-- segments that answer alike of which kind they are
+record Part : Type 0 where
+  answers : Kind → Bool
+  items : List Content
+  alike : (kind : Kind) → All (λ content. is_of kind content ≡ answers kind) items
+
+abbrev answers_by : Bool → Bool → Bool → Bool → Bool → Kind → Bool
+answers_by display page region clut object a_display = display
+answers_by display page region clut object a_page = page
+answers_by display page region clut object a_region = region
+answers_by display page region clut object a_clut = clut
+answers_by display page region clut object an_object = object
+
+alike_by : {display page region clut object : Bool} (items : List Content)
+    → All (IsKind display page region clut object) items → (kind : Kind)
+    → All (λ content. is_of kind content ≡ answers_by display page region clut object kind) items
+alike_by items are a_display = λ k d within. (are k d within).display_is
+alike_by items are a_page = λ k d within. (are k d within).page_is
+alike_by items are a_region = λ k d within. (are k d within).region_is
+alike_by items are a_clut = λ k d within. (are k d within).clut_is
+alike_by items are an_object = λ k d within. (are k d within).object_is
+
+abbrev part : {display page region clut object : Bool} (items : List Content)
+    → All (IsKind display page region clut object) items → Part
+part {display = display} {page = page} {region = region} {clut = clut} {object = object} items are =
+    record { answers = answers_by display page region clut object; items = items; alike = alike_by items are }
+
+-- those of a kind among all parts are the parts of that kind
+parts_kept : (kind : Kind) (parts : List Part)
+    → filter (is_of kind) (flat_map (λ (part : Part). part.items) parts)
+    ≡ flat_map (λ (part : Part). cond (part.answers kind) part.items []) parts
+parts_kept kind [] = refl
+parts_kept kind (part ∷ parts) =
+    filter-append (is_of kind) part.items (flat_map (λ (part : Part). part.items) parts)
+    ∙ (λ i. filter_alike (is_of kind) (part.answers kind) part.items (part.alike kind) i ++ parts_kept kind parts i)
+
+-- segments that stand by kinds, and a last one of no kind, which ends the set
+record ByKinds : Type 0 where
+  displays : List Content
+  pages : List Content
+  regions : List Content
+  cluts : List Content
+  objects : List Content
+  last : Content
+  are_displays : All (IsKind true false false false false) displays
+  are_pages : All (IsKind false true false false false) pages
+  are_regions : All (IsKind false false true false false) regions
+  are_cluts : All (IsKind false false false true false) cluts
+  are_objects : All (IsKind false false false false true) objects
+  no_kind : IsKind false false false false false last
+
+-- they are handled as they stand
+kinds_in_order : (all : ByKinds)
+    → in_order (all.displays ++ (all.pages ++ (all.regions ++ (all.cluts ++ (all.objects ++ all.last ∷ [])))))
+    ≡ all.displays ++ (all.pages ++ (all.regions ++ (all.cluts ++ all.objects)))
+kinds_in_order all =
+    λ i. (parts_kept a_display parts ∙ append-nil all.displays) i
+    ++ ((parts_kept a_page parts ∙ append-nil all.pages) i
+    ++ ((parts_kept a_region parts ∙ append-nil all.regions) i
+    ++ ((parts_kept a_clut parts ∙ append-nil all.cluts) i
+    ++ (parts_kept an_object parts ∙ append-nil all.objects) i)))
   where
-    all : List Content
-    all = displays ++ (pages ++ (regions ++ (cluts ++ (objects ++ last ∷ []))))
-
-    ends : (P : Content → Type 0) → P last → All P (last ∷ [])
-    ends P p = All-cons P last [] p (All-none P)
-
-    by_display : filter (λ content. is_some (display_of content)) all ≡ displays
-    by_display =
-        six_parts (λ content. is_some (display_of content)) true false false false false false displays pages regions
-        cluts objects (last ∷ [])
-        (λ k d w. (hd k d w).display_is) (λ k d w. (hp k d w).display_is) (λ k d w. (hr k d w).display_is)
-        (λ k d w. (hc k d w).display_is) (λ k d w. (ho k d w).display_is)
-        (ends (λ x. is_some (display_of x) ≡ false) hl.display_is)
-        ∙ append-nil displays
-
-    by_page : filter (λ content. is_some (page_of content)) all ≡ pages
-    by_page =
-        six_parts (λ content. is_some (page_of content)) false true false false false false displays pages regions
-        cluts objects (last ∷ [])
-        (λ k d w. (hd k d w).page_is) (λ k d w. (hp k d w).page_is) (λ k d w. (hr k d w).page_is)
-        (λ k d w. (hc k d w).page_is) (λ k d w. (ho k d w).page_is)
-        (ends (λ x. is_some (page_of x) ≡ false) hl.page_is)
-        ∙ append-nil pages
-
-    by_region : filter (λ content. is_some (region_of content)) all ≡ regions
-    by_region =
-        six_parts (λ content. is_some (region_of content)) false false true false false false displays pages regions
-        cluts objects (last ∷ [])
-        (λ k d w. (hd k d w).region_is) (λ k d w. (hp k d w).region_is) (λ k d w. (hr k d w).region_is)
-        (λ k d w. (hc k d w).region_is) (λ k d w. (ho k d w).region_is)
-        (ends (λ x. is_some (region_of x) ≡ false) hl.region_is)
-        ∙ append-nil regions
-
-    by_clut : filter (λ content. is_some (clut_of content)) all ≡ cluts
-    by_clut =
-        six_parts (λ content. is_some (clut_of content)) false false false true false false displays pages regions
-        cluts objects (last ∷ [])
-        (λ k d w. (hd k d w).clut_is) (λ k d w. (hp k d w).clut_is) (λ k d w. (hr k d w).clut_is)
-        (λ k d w. (hc k d w).clut_is) (λ k d w. (ho k d w).clut_is)
-        (ends (λ x. is_some (clut_of x) ≡ false) hl.clut_is)
-        ∙ append-nil cluts
-
-    by_object : filter (λ content. is_some (object_of content)) all ≡ objects
-    by_object =
-        six_parts (λ content. is_some (object_of content)) false false false false true false displays pages regions
-        cluts objects (last ∷ [])
-        (λ k d w. (hd k d w).object_is) (λ k d w. (hp k d w).object_is) (λ k d w. (hr k d w).object_is)
-        (λ k d w. (hc k d w).object_is) (λ k d w. (ho k d w).object_is)
-        (ends (λ x. is_some (object_of x) ≡ false) hl.object_is)
-        ∙ append-nil objects
+    parts : List Part
+    parts =
+        part all.displays all.are_displays
+        ∷ part all.pages all.are_pages
+        ∷ part all.regions all.are_regions
+        ∷ part all.cluts all.are_cluts
+        ∷ part all.objects all.are_objects
+        ∷ part (all.last ∷ [])
+        (All-cons (IsKind false false false false false) all.last [] all.no_kind (All-none _))
+        ∷ []
 
 -- ---- the set
 
@@ -122,8 +136,8 @@ displays_in script set = map plain (display_segments script set.state)
 abbrev pub page_content : Script → Epoch → PlannedSet → Content
 page_content script epoch set = plain (page_segment script epoch set)
 
-abbrev pub region_content : Epoch → SentRegion → Content
-region_content epoch sent = plain (region_segment_of epoch sent)
+abbrev pub region_content : Names → Epoch → SentRegion → Content
+region_content names epoch sent = plain (named_region names epoch sent)
 
 abbrev pub clut_content : Epoch → SentClut → Content
 clut_content epoch sent = plain (clut_segment_of epoch sent)
@@ -138,13 +152,14 @@ displays_are script ModeChange =
     All-cons (IsKind true false false false false) _ []
     (record { display_is = refl; page_is = refl; region_is = refl; clut_is = refl; object_is = refl }) (All-none _)
 
-regions_are : (epoch : Epoch) (sent : List SentRegion)
-    → All (IsKind false false true false false) (map (region_content epoch) sent)
-regions_are epoch [] = All-none _
-regions_are epoch (one ∷ sent) =
-    All-cons (IsKind false false true false false) (region_content epoch one) (map (region_content epoch) sent)
+regions_are : (names : Names) (epoch : Epoch) (sent : List SentRegion)
+    → All (IsKind false false true false false) (map (region_content names epoch) sent)
+regions_are names epoch [] = All-none _
+regions_are names epoch (one ∷ sent) =
+    All-cons (IsKind false false true false false) (region_content names epoch one)
+    (map (region_content names epoch) sent)
     (record { display_is = refl; page_is = refl; region_is = refl; clut_is = refl; object_is = refl })
-    (regions_are epoch sent)
+    (regions_are names epoch sent)
 
 cluts_are : (epoch : Epoch) (sent : List SentClut)
     → All (IsKind false false false true false) (map (clut_content epoch) sent)
@@ -154,69 +169,79 @@ cluts_are epoch (one ∷ sent) =
     (record { display_is = refl; page_is = refl; region_is = refl; clut_is = refl; object_is = refl })
     (cluts_are epoch sent)
 
-pub objects_are : (pictures : List Picture) (epoch : Epoch) (cues : List ℕ) (objects : List Content)
-    → AllZip (IsDrawnObject pictures epoch) cues objects → All (IsKind false false false false true) objects
-objects_are pictures epoch [] [] drawn = All-none _
-objects_are pictures epoch [] (o ∷ objects) drawn = absurd drawn
-objects_are pictures epoch (place ∷ cues) [] drawn = absurd drawn
-objects_are pictures epoch (place ∷ cues) (o ∷ objects) drawn =
-    All-cons (IsKind false false false false true) o objects
-    (record {
-      display_is = rw drawn.0.value_is refl;
-      page_is = rw drawn.0.value_is refl;
-      region_is = rw drawn.0.value_is
-          refl;
-      clut_is = rw drawn.0.value_is refl;
-      object_is = rw drawn.0.value_is refl;
-    })
-    (objects_are pictures epoch cues objects drawn.1)
+object_is_one : (content : Content) → IsObject content → IsKind false false false false true content
+object_is_one content object =
+    record {
+      display_is = rw object.is refl;
+      page_is = rw object.is refl;
+      region_is = rw object.is refl;
+      clut_is = rw object.is refl;
+      object_is = rw object.is refl;
+    }
+
+pub objects_are : (objects : List Content) → All IsObject objects
+    → All (IsKind false false false false true) objects
+objects_are objects all = λ k d within. object_is_one (get_or objects k d) (all k d within)
 
 map_twice : {X : Type 0} (f : X → SegmentValue) (xs : List X) → map plain (map f xs) ≡ map (λ x. plain (f x)) xs
 map_twice f [] = refl
 map_twice f (x ∷ xs) = ap (λ rest. plain (f x) ∷ rest) (map_twice f xs)
 
-leading_are : (script : Script) (epoch : Epoch) (set : PlannedSet)
-    → map plain (leading_segments script epoch set) ≡ displays_in script set
+leading_are : (names : Names) (script : Script) (epoch : Epoch) (set : PlannedSet) (cluts : List SentClut)
+    → map plain (named_leading names script epoch set cluts) ≡ displays_in script set
     ++ (page_content script epoch set
-    ∷ (map (region_content epoch) set.regions ++ map (clut_content epoch) set.cluts))
-leading_are script epoch set =
+    ∷ (map (region_content names epoch) set.regions ++ map (clut_content epoch) cluts))
+leading_are names script epoch set cluts =
     map-append plain (display_segments script set.state)
     (page_segment script epoch set
-    ∷ (map (region_segment_of epoch) set.regions ++ map (clut_segment_of epoch) set.cluts))
+    ∷ (map (named_region names epoch) set.regions ++ map (clut_segment_of epoch) cluts))
     ∙ ap (λ rest. displays_in script set ++ (page_content script epoch set ∷ rest))
-    (map-append plain (map (region_segment_of epoch) set.regions) (map (clut_segment_of epoch) set.cluts)
-    ∙ (λ i. map_twice (region_segment_of epoch) set.regions i ++ map_twice (clut_segment_of epoch) set.cluts i))
+    (map-append plain (map (named_region names epoch) set.regions) (map (clut_segment_of epoch) cluts)
+    ∙ (λ i. map_twice (named_region names epoch) set.regions i ++ map_twice (clut_segment_of epoch) cluts i))
 
--- the segments of a set that is read so, as they stand
-pub contents_are : (script : Script) (epoch : Epoch) (set : PlannedSet) (contents : List Content)
+-- the regions of a set that is read so, with the set's names, and its CLUTs
+abbrev pub regions_in : {script : Script} {epoch : Epoch} {set : PlannedSet} {contents : List Content}
+    → IsReadSet script epoch set contents → List Content
+regions_in {epoch = epoch} {set = set} is = map (region_content is.names epoch) set.regions
+
+abbrev pub cluts_in : {script : Script} {epoch : Epoch} {set : PlannedSet} {contents : List Content}
+    → IsReadSet script epoch set contents → List Content
+cluts_in {epoch = epoch} is = map (clut_content epoch) is.cluts
+
+-- its segments, as they stand
+pub contents_are : {script : Script} {epoch : Epoch} {set : PlannedSet} {contents : List Content}
     (is : IsReadSet script epoch set contents)
     → contents ≡ displays_in script set
     ++ (page_content script epoch set
-    ∷ (map (region_content epoch) set.regions
-    ++ (map (clut_content epoch) set.cluts ++ (is.objects ++ plain end_of_set ∷ []))))
-contents_are script epoch set contents is =
-    is.are ∙ ap (λ front. front ++ (is.objects ++ plain end_of_set ∷ [])) (leading_are script epoch set)
-    ∙ append_assoc (displays_in script set)
-    (page_content script epoch set
-    ∷ (map (region_content epoch) set.regions ++ map (clut_content epoch) set.cluts))
+    ∷ (regions_in is ++ (cluts_in is ++ (is.objects ++ plain end_of_set ∷ []))))
+contents_are {script} {epoch} {set} {contents} is =
+    is.are
+    ∙ ap (λ front. front ++ (is.objects ++ plain end_of_set ∷ [])) (leading_are is.names script epoch set is.cluts)
+    ∙ append_assoc (displays_in script set) (page_content script epoch set ∷ (regions_in is ++ cluts_in is))
     (is.objects ++ plain end_of_set ∷ [])
     ∙ ap (λ rest. displays_in script set ++ (page_content script epoch set ∷ rest))
-    (append_assoc (map (region_content epoch) set.regions) (map (clut_content epoch) set.cluts)
-    (is.objects ++ plain end_of_set ∷ []))
+    (append_assoc (regions_in is) (cluts_in is) (is.objects ++ plain end_of_set ∷ []))
 
--- the segments of a set that is read so, as they are handled
-pub contents_in_order : (script : Script) (epoch : Epoch) (set : PlannedSet) (contents : List Content)
+-- its segments, as they are handled
+pub contents_in_order : {script : Script} {epoch : Epoch} {set : PlannedSet} {contents : List Content}
     (is : IsReadSet script epoch set contents)
     → in_order contents ≡ displays_in script set
-    ++ (page_content script epoch set
-    ∷ (map (region_content epoch) set.regions ++ (map (clut_content epoch) set.cluts ++ is.objects)))
-contents_in_order script epoch set contents is =
-    ap in_order (contents_are script epoch set contents is)
-    ∙ kinds_in_order (displays_in script set) (page_content script epoch set ∷ [])
-    (map (region_content epoch) set.regions) (map (clut_content epoch) set.cluts) is.objects (plain end_of_set)
-    (displays_are script set.state)
-    (All-cons (IsKind false true false false false) (page_content script epoch set) []
-    (record { display_is = refl; page_is = refl; region_is = refl; clut_is = refl; object_is = refl }) (All-none _))
-    (regions_are epoch set.regions) (cluts_are epoch set.cluts)
-    (objects_are script.pictures epoch set.cues is.objects is.drawn)
-    (record { display_is = refl; page_is = refl; region_is = refl; clut_is = refl; object_is = refl })
+    ++ (page_content script epoch set ∷ (regions_in is ++ (cluts_in is ++ is.objects)))
+contents_in_order {script} {epoch} {set} {contents} is =
+    ap in_order (contents_are is)
+    ∙ kinds_in_order (record {
+      displays = displays_in script set;
+      pages = page_content script epoch set ∷ [];
+      regions = regions_in is;
+      cluts = cluts_in is;
+      objects = is.objects;
+      last = plain end_of_set;
+      are_displays = displays_are script set.state;
+      are_pages = All-cons (IsKind false true false false false) (page_content script epoch set) []
+          (record { display_is = refl; page_is = refl; region_is = refl; clut_is = refl; object_is = refl })
+          (All-none _);
+      are_regions = regions_are is.names epoch set.regions;
+      are_cluts = cluts_are epoch is.cluts;
+      are_objects = objects_are is.objects (objects_of is);
+      no_kind = record { display_is = refl; page_is = refl; region_is = refl; clut_is = refl; object_is = refl };
+    })

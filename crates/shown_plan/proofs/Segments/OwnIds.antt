@@ -1,14 +1,15 @@
 -- Items that each have their own number, told by counts: no number comes twice.
-use Rattle.std.proofs.Common.{◌≡◌, ◌≢◌, ◌∙◌, ℕ, zero, suc, ◌+◌, ◌==◌, ◌≤◌, Bool, true, false, cond, List, [], ◌∷◌, length, reverse, get_or, refl, ap, arith}
+use Rattle.std.proofs.Common.{◌≡◌, ◌≢◌, ◌∙◌, ℕ, zero, suc, ◌+◌, ◌==◌, ◌≤◌, Bool, true, false, cond, List, [], ◌∷◌, ◌++◌, length, reverse, get_or, refl, sym, ap, subst, arith}
 use Rattle.std.specs.Prelude.{All}
-use Rattle.std.specs.List.{AllPairs, count_by, flat_map}
+use Rattle.std.specs.List.{AllPairs, Contains, count_by, flat_map}
 use Rattle.std.specs.List.Sorted.{IsPermutation}
 use Rattle.std.proofs.lemmas.Bool.Decides.{nat_tests}
-use Rattle.std.proofs.lemmas.List.{reverse-append}
-use Rattle.std.proofs.lemmas.List.Elements.{All-head}
-use Rattle.std.proofs.lemmas.List.Sorted.{sum_by-IsPermutation}
+use Rattle.std.proofs.lemmas.List.{append-nil, reverse-append}
+use Rattle.std.proofs.lemmas.List.Elements.{All-head, All-append, Contains-append_right}
+use Rattle.std.proofs.lemmas.List.Sorted.{sum_by-IsPermutation, All-permutation, Contains-permutation}
 use Rattle.page_epoch.proofs.CountLaws.{count_cons, count_append}
-use Rattle.shown_plan.proofs.Segments.Parts.{none_counted, once_counted}
+use Rattle.page_epoch.proofs.ListLaws.{All-none}
+use Rattle.shown_plan.proofs.Segments.Parts.{HasPart, parted, none_counted, once_counted}
 
 -- each number is that of one item at most
 abbrev pub AreSingle : {X : Type 0} → (X → ℕ) → List X → Type 0
@@ -57,6 +58,47 @@ pub single_permuted : {X : Type 0} (number : X → ℕ) (xs ys : List X) → IsP
     → AreSingle number xs → AreSingle number ys
 single_permuted number xs ys same single id =
     omega (arith, single id, sum_by-IsPermutation (λ x. cond {A = ℕ} (number x == id) 1 0) xs ys same)
+
+-- where the items of a number stand among all, if there are some: in any order of all of them too
+pub part_permuted : {X : Type 0} {number : X → ℕ} {id : ℕ} {own xs ys : List X} → length own ≤ 1
+    → All (λ one. number one ≡ id) own → IsPermutation xs ys → AreSingle number ys → HasPart number id own xs
+    → HasPart number id own ys
+part_permuted {X} {number} {id} {own} {xs} {ys} few mine same single part = by own few mine refl
+  where
+    others : (side : List X) → All (λ one. (number one == id) ≡ false) side
+        → All (λ one. number one ≢ id) side
+    others side differ = λ k d within e. (let no = differ k d within in absurd (grind (arith, nat_tests)))
+
+    by : (sent : List X) → length sent ≤ 1 → All (λ one. number one ≡ id) sent → own ≡ sent
+        → HasPart number id sent ys
+    by [] few mine is =
+        record {
+          front = ys;
+          back = [];
+          whole = sym (append-nil ys);
+          before = All-permutation (λ one. number one ≢ id) xs ys same
+              (subst (All (λ one. number one ≢ id))
+              (sym (part.whole ∙ ap (λ sent. part.front ++ (sent ++ part.back)) is))
+              (All-append (λ one. number one ≢ id) part.front part.back part.before part.behind));
+          behind = All-none _;
+        }
+    by (one ∷ []) few mine is =
+        (let here : (number one == id) ≡ true =
+        (let e : number one ≡ id = All-head (λ one. number one ≡ id) one [] mine in grind (arith, nat_tests)) in
+        let there : Contains xs one =
+        subst (λ (all : List X). Contains all one)
+        (sym (part.whole ∙ ap (λ sent. part.front ++ (sent ++ part.back)) is))
+        (Contains-append_right part.front (one ∷ part.back) one (0, omega arith, refl)) in
+        let place = parted (λ item. number item == id) one ys (single id) here
+        (Contains-permutation xs ys one same there) in
+        record {
+          front = place.front;
+          back = place.back;
+          whole = place.whole;
+          before = others place.front place.before;
+          behind = others place.back place.behind;
+        })
+    by (one ∷ other ∷ sent) few mine is = absurd (omega (arith, few))
 
 count_reversed : {X : Type 0} (p : X → Bool) (xs : List X) → count_by p (reverse xs) ≡ count_by p xs
 count_reversed p [] = refl

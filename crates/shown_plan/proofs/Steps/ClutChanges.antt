@@ -114,6 +114,12 @@ AreBetween colours clut before tick =
     All (λ place. (row_at colours place).tick ≤ tick → ((row_at colours place).tick ≡ tick)
     ⊎ ((row_at colours place).tick ≤ before)) (rows_of_clut colours clut)
 
+-- an instant that follows another one, as a CLUT sees it: no row of it came between them, and all that came are seen
+pub record IsNextFor (colours : List ColourRow) (clut tick before : ℕ) (more : List ℕ) : Type 0 where
+  pub rise : before < tick
+  pub between : AreBetween colours clut before tick
+  pub rows : AreSeenRows colours clut tick (before ∷ more)
+
 -- where no row of an entry comes at a tick, its latest row stays
 latest_still : (colours : List ColourRow) (clut before tick : ℕ) (entry : Entry) → before < tick
     → AreBetween colours clut before tick

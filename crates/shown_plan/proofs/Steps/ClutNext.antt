@@ -1,13 +1,11 @@
 -- Each CLUT of an epoch behind one set of the plan more: its version, and the colours of its entries.
 use Rattle.std.proofs.Common.{◌≡◌, ◌≢◌, ◌∙◌, ℕ, Bool, true, false, cond, eqb, List, [], ◌∷◌, ◌++◌, map, filter, reverse, get_or, Option, Some, None, refl, sym, ap, arith}
 use Rattle.std.specs.Prelude.{All}
-use Rattle.std.specs.List.{AllZip}
 use Rattle.std.specs.Option.{option_or, option_and_then}
 use Rattle.std.proofs.lemmas.Bool.Decides.{nat_tests}
-use Rattle.std.proofs.lemmas.List.{reverse-append, append_assoc, map-append}
-use Rattle.std.proofs.lemmas.List.Elements.{All-cons, All-append, All-map, All-filter, filter-append}
+use Rattle.std.proofs.lemmas.List.{append_assoc}
+use Rattle.std.proofs.lemmas.List.Elements.{All-cons, All-append, All-map, All-filter}
 use Rattle.sub_base.specs.Lists.{first_given, last_given}
-use Rattle.sub_base.specs.Picture.{Picture}
 use Rattle.sub_base.specs.declared.depth.Depth.{Depth}
 use Rattle.stream_syntax.specs.Segments.{Clut}
 use Rattle.stream_syntax.specs.declared.page.State.{State}
@@ -24,11 +22,11 @@ use Rattle.decoder_model.specs.Ink.{colour_by_entry, colour_by_clut, colour_by_s
 use Rattle.decoder_model.specs.Readings.{Content}
 use Rattle.decoder_model.specs.Taken.{segments_of, taken_among, has_new_version, version_of_clut, last_clut}
 use Rattle.decoder_model.proofs.Searches.{first_given-append, first_given-all_none}
+use Rattle.shown_plan.specs.NamedSets.{Names}
 use Rattle.shown_plan.proofs.Segments.Ordered.{displays_in, page_content, region_content, clut_content}
-use Rattle.shown_plan.proofs.Segments.OwnIds.{AreSingle}
 use Rattle.shown_plan.proofs.Segments.Parts.{HasPart}
-use Rattle.shown_plan.proofs.Segments.ReadSets.{plain, IsReadSet, IsDrawnObject}
-use Rattle.shown_plan.proofs.Segments.SetView.{keeps, reversed_all, taken_now}
+use Rattle.shown_plan.proofs.Segments.ReadSets.{plain, IsObject, IsReadSet, objects_of}
+use Rattle.shown_plan.proofs.Segments.SetView.{keeps, reversed_all, new_regions, new_page, AreSentOnce, kept_of, parted_kept, taken_now}
 
 -- ---- a set, as a CLUT sees it
 
@@ -38,7 +36,7 @@ pub record IsClutView (epoch : Epoch) (id : ℕ) (own : List SentClut) (taken no
   pub below : List Content
   pub aside_above : All (λ c. clut_named id c ≡ None) above
   pub aside_below : All (λ c. clut_named id c ≡ None) below
-  pub whole : now ≡ above ++ (filter (keeps taken) (map (clut_content epoch) (reverse own)) ++ (below ++ taken))
+  pub whole : now ≡ above ++ (kept_of (clut_content epoch) taken own ++ (below ++ taken))
 
 abbrev NoClut : ℕ → Content → Type 0
 NoClut id content = clut_named id content ≡ None
@@ -53,9 +51,9 @@ others_aside epoch id sent other =
     (λ k d within. other_clut epoch id (get_or (reverse sent) k d)
     (reversed_all (λ (one : SentClut). one.clut ≢ id) sent other k d within))
 
-regions_aside : (epoch : Epoch) (id : ℕ) (sent : List SentRegion)
-    → All (NoClut id) (map (region_content epoch) sent)
-regions_aside epoch id sent = All-map (NoClut id) (region_content epoch) sent (λ k d within. refl)
+regions_aside : (names : Names) (epoch : Epoch) (id : ℕ) (sent : List SentRegion)
+    → All (NoClut id) (map (region_content names epoch) sent)
+regions_aside names epoch id sent = All-map (NoClut id) (region_content names epoch) sent (λ k d within. refl)
 
 displays_aside : (script : Script) (id : ℕ) (state : State)
     → All (NoClut id) (map plain (display_segments script state))
@@ -63,91 +61,58 @@ displays_aside script id Normal = All-none _
 displays_aside script id Acquisition = All-cons (NoClut id) _ [] refl (All-none _)
 displays_aside script id ModeChange = All-cons (NoClut id) _ [] refl (All-none _)
 
-objects_aside : (pictures : List Picture) (epoch : Epoch) (id : ℕ) (cues : List ℕ) (objects : List Content)
-    → AllZip (IsDrawnObject pictures epoch) cues objects → All (NoClut id) objects
-objects_aside pictures epoch id [] [] drawn = All-none _
-objects_aside pictures epoch id [] (o ∷ objects) drawn = absurd drawn
-objects_aside pictures epoch id (place ∷ cues) [] drawn = absurd drawn
-objects_aside pictures epoch id (place ∷ cues) (o ∷ objects) drawn =
-    All-cons (NoClut id) o objects (rw drawn.0.value_is refl) (objects_aside pictures epoch id cues objects drawn.1)
+objects_aside : (id : ℕ) (objects : List Content) → All IsObject objects → All (NoClut id) objects
+objects_aside id objects all = λ k d within. (let object = all k d within in rw object.is refl)
 
-parted_cluts : (epoch : Epoch) (taken : List Content) (front own back all : List SentClut)
-    → all ≡ front ++ (own ++ back)
-    → filter (keeps taken) (map (clut_content epoch) (reverse all))
-    ≡ filter (keeps taken) (map (clut_content epoch) (reverse back))
-    ++ (filter (keeps taken) (map (clut_content epoch) (reverse own))
-    ++ filter (keeps taken) (map (clut_content epoch) (reverse front)))
-parted_cluts epoch taken front own back all whole =
-    ap (λ (cluts : List SentClut). filter (keeps taken) (map (clut_content epoch) (reverse cluts))) whole
-    ∙ ap (λ (cluts : List SentClut). filter (keeps taken) (map (clut_content epoch) cluts))
-    (reverse-append front (own ++ back) ∙ ap (λ rest. rest ++ reverse front) (reverse-append own back))
-    ∙ ap (filter (keeps taken))
-    (map-append (clut_content epoch) (reverse back ++ reverse own) (reverse front)
-    ∙ ap (λ rest. rest ++ map (clut_content epoch) (reverse front))
-    (map-append (clut_content epoch) (reverse back) (reverse own)))
-    ∙ filter-append (keeps taken) (map (clut_content epoch) (reverse back) ++ map (clut_content epoch) (reverse own))
-    (map (clut_content epoch) (reverse front))
-    ∙ ap (λ rest. rest ++ filter (keeps taken) (map (clut_content epoch) (reverse front)))
-    (filter-append (keeps taken) (map (clut_content epoch) (reverse back)) (map (clut_content epoch) (reverse own)))
-    ∙ append_assoc (filter (keeps taken) (map (clut_content epoch) (reverse back)))
-    (filter (keeps taken) (map (clut_content epoch) (reverse own)))
-    (filter (keeps taken) (map (clut_content epoch) (reverse front)))
-
-pub clut_view : (script : Script) (epoch : Epoch) (set : PlannedSet) (contents : List Content)
-    (sets : List (List Content)) (is : IsReadSet script epoch set contents)
-    → AreSingle (λ (sent : SentRegion). sent.id) set.regions
-    → AreSingle (λ (sent : SentClut). sent.clut) set.cluts
-    → (id : ℕ) (own : List SentClut) → HasPart (λ (sent : SentClut). sent.clut) id own set.cluts
+pub clut_view : {script : Script} {epoch : Epoch} {set : PlannedSet} {contents : List Content}
+    (is : IsReadSet script epoch set contents) (sets : List (List Content)) → AreSentOnce is
+    → (id : ℕ) (own : List SentClut) → HasPart (λ (sent : SentClut). sent.clut) id own is.cluts
     → IsClutView epoch id own (taken_among (segments_of sets)) (taken_among (segments_of (contents ∷ sets)))
-clut_view script epoch set contents sets is regions cluts id own part =
+clut_view {script} {epoch} {set} {contents} is sets once id own part =
     record {
-      above = reverse is.objects ++ kept_back;
-      below = kept_front ++ (kept_regions ++ last);
+      above = reverse is.objects ++ kept part.back;
+      below = kept part.front ++ (kept_regions ++ last);
       aside_above =
-          All-append (NoClut id) (reverse is.objects) kept_back
-          (reversed_all (NoClut id) is.objects (objects_aside script.pictures epoch id set.cues is.objects is.drawn))
+          All-append (NoClut id) (reverse is.objects) (kept part.back)
+          (reversed_all (NoClut id) is.objects (objects_aside id is.objects (objects_of is)))
           (All-filter (keeps taken) (NoClut id) (map (clut_content epoch) (reverse part.back))
           (others_aside epoch id part.back part.behind));
       aside_below =
-          All-append (NoClut id) kept_front (kept_regions ++ last)
+          All-append (NoClut id) (kept part.front) (kept_regions ++ last)
           (All-filter (keeps taken) (NoClut id) (map (clut_content epoch) (reverse part.front))
           (others_aside epoch id part.front part.before))
           (All-append (NoClut id) kept_regions last
-          (All-filter (keeps taken) (NoClut id) (map (region_content epoch) (reverse set.regions))
-          (regions_aside epoch id (reverse set.regions)))
+          (All-filter (keeps taken) (NoClut id) (new_regions is)
+          (regions_aside is.names epoch id (reverse set.regions)))
           (All-cons (NoClut id) (page_content script epoch set) (reverse (displays_in script set)) refl
           (reversed_all (NoClut id) (displays_in script set) (displays_aside script id set.state))));
       whole =
-          taken_now script epoch set contents sets is regions cluts
+          taken_now is sets once
           ∙ ap (λ rest. reverse is.objects ++ rest)
           (ap (λ mine. mine ++ (kept_regions ++ (last ++ taken)))
-          (parted_cluts epoch taken part.front own part.back set.cluts part.whole)
-          ∙ append_assoc kept_back (kept_own ++ kept_front) (kept_regions ++ (last ++ taken))
-          ∙ ap (λ rest. kept_back ++ rest) (append_assoc kept_own kept_front (kept_regions ++ (last ++ taken))
-          ∙ ap (λ rest. kept_own ++ rest)
-          (ap (λ rest. kept_front ++ rest) (sym (append_assoc kept_regions last taken))
-          ∙ sym (append_assoc kept_front (kept_regions ++ last) taken))))
-          ∙ sym (append_assoc (reverse is.objects) kept_back
-          (kept_own ++ ((kept_front ++ (kept_regions ++ last)) ++ taken)));
+          (ap (kept_of (clut_content epoch) taken) part.whole
+          ∙ parted_kept (clut_content epoch) taken part.front own part.back)
+          ∙ append_assoc (kept part.back) (kept own ++ kept part.front) (kept_regions ++ (last ++ taken))
+          ∙ ap (λ rest. kept part.back ++ rest)
+          (append_assoc (kept own) (kept part.front) (kept_regions ++ (last ++ taken))
+          ∙ ap (λ rest. kept own ++ rest)
+          (ap (λ rest. kept part.front ++ rest) (sym (append_assoc kept_regions last taken))
+          ∙ sym (append_assoc (kept part.front) (kept_regions ++ last) taken))))
+          ∙ sym (append_assoc (reverse is.objects) (kept part.back)
+          (kept own ++ ((kept part.front ++ (kept_regions ++ last)) ++ taken)));
     }
   where
     taken : List Content
     taken = taken_among (segments_of sets)
 
+    kept : List SentClut → List Content
+    kept sent = kept_of (clut_content epoch) taken sent
+
     last : List Content
-    last = page_content script epoch set ∷ reverse (displays_in script set)
+    last = new_page script epoch set
 
     kept_regions : List Content
-    kept_regions = filter (keeps taken) (map (region_content epoch) (reverse set.regions))
-
-    kept_back : List Content
-    kept_back = filter (keeps taken) (map (clut_content epoch) (reverse part.back))
-
-    kept_own : List Content
-    kept_own = filter (keeps taken) (map (clut_content epoch) (reverse own))
-
-    kept_front : List Content
-    kept_front = filter (keeps taken) (map (clut_content epoch) (reverse part.front))
+    kept_regions = filter (keeps taken) (new_regions is)
 
 -- ---- a CLUT whose segment is taken or not
 

@@ -18,7 +18,7 @@ use Rattle.decoder_model.specs.Ink.{colour_by_entry}
 use Rattle.decoder_model.specs.Readings.{Content}
 use Rattle.decoder_model.specs.Taken.{has_new_version, version_of_clut, last_clut}
 use Rattle.decoder_model.proofs.Searches.{option_or-none}
-use Rattle.shown_plan.proofs.Steps.ClutChanges.{changes_send, still_not_sent, version_known, defined_known, undefined_unknown, AreBetween, latest_unchanged, given_upon}
+use Rattle.shown_plan.proofs.Steps.ClutChanges.{changes_send, still_not_sent, version_known, defined_known, undefined_unknown, IsNextFor, latest_unchanged, given_upon}
 use Rattle.shown_plan.proofs.Steps.ClutNext.{IsClutView, untaken, taken_clut, own_kept}
 use Rattle.shown_plan.proofs.Steps.ClutRows.{AreSeenRows}
 use Rattle.shown_plan.proofs.Pictures.ColourRows.{latest_of, colour_at, given_latest}
@@ -35,11 +35,11 @@ all_given colours tick (Some place) = refl
 
 -- ---- the first set that a receiver has of the epoch
 
-pub clut_first : (epoch : Epoch) (id tick : ℕ) (earlier : List ℕ) (now : List Content)
+pub clut_first : {epoch : Epoch} {id tick : ℕ} {earlier : List ℕ} {now : List Content}
     → AreSeenRows epoch.colours id tick earlier
     → IsClutView epoch id (sent_clut epoch.colours true (tick ∷ earlier) id) [] now
     → KeepsClut epoch.colours tick earlier now id
-clut_first epoch id tick earlier now rows view = by (defined_rows epoch.colours id tick) refl view
+clut_first {epoch} {id} {tick} {earlier} {now} rows view = by (defined_rows epoch.colours id tick) refl view
   where
     gives : (found : List ℕ) → defined_rows epoch.colours id tick ≡ found → (depth : Depth) (number : ℕ)
         → number < code_count depth
@@ -118,12 +118,11 @@ next_is_new (Some last) version small is =
 same_is_old : (version : ℕ) → has_new_version version (Some version) ≡ false
 same_is_old version = ap not (let same : eqb version version ≡ true = grind (arith, nat_tests) in same)
 
-pub clut_next : (epoch : Epoch) (whole : Bool) (id tick before : ℕ) (more : List ℕ) (taken now : List Content)
-    → before < tick → AreBetween epoch.colours id before tick
-    → AreSeenRows epoch.colours id tick (before ∷ more)
+pub clut_next : {epoch : Epoch} {id tick before : ℕ} {more : List ℕ} {taken now : List Content} (whole : Bool)
+    → IsNextFor epoch.colours id tick before more
     → IsClutView epoch id (sent_clut epoch.colours whole (tick ∷ before ∷ more) id) taken now
     → KeepsClut epoch.colours before more taken id → KeepsClut epoch.colours tick (before ∷ more) now id
-clut_next epoch whole id tick before more taken now rise between rows view kept =
+clut_next {epoch} {id} {tick} {before} {more} {taken} {now} whole next view kept =
     by (is_changed epoch.colours id tick) (rows_from epoch.colours whole tick (defined_rows epoch.colours id tick)) refl
     refl
   where
@@ -150,7 +149,8 @@ clut_next epoch whole id tick before more taken now rise between rows view kept 
           version = ap version_of_clut same.0 ∙ kept.version ∙ sym (course_on false still);
           inks = λ depth number small. same.1 depth number ∙ kept.inks depth number small
               ∙ ap (option_map (colour_at epoch.colours))
-              (sym (latest_unchanged epoch.colours id before tick (entry_of depth number) rise between still));
+              (sym (latest_unchanged epoch.colours id before tick (entry_of depth number) next.rise next.between
+              still));
         })
 
     by : (b : Bool) (found : List ℕ) → is_changed epoch.colours id tick ≡ b
@@ -161,7 +161,7 @@ clut_next epoch whole id tick before more taken now rise between rows view kept 
         (ap (λ (places : List ℕ). filter (keeps taken)
         (map (clut_content epoch) (reverse (clut_with id version places)))) is)
     by true [] changed is =
-        (let some = changes_send epoch.colours whole id tick (before ∷ more) rows changed in
+        (let some = changes_send epoch.colours whole id tick (before ∷ more) next.rows changed in
         let there : Contains {X = ℕ} [] some.0 = subst (λ (places : List ℕ). Contains places some.0) is some.1 in
         absurd (omega (arith, there.1)))
     by true (place ∷ places) changed is =
@@ -187,7 +187,7 @@ clut_next epoch whole id tick before more taken now rise between rows view kept 
               ∙ ap (λ given. option_or given
               (option_map (colour_at epoch.colours) (latest_of epoch.colours id (entry_of depth number) before)))
               (rows_give epoch whole id tick depth number small)
-              ∙ given_upon epoch.colours whole id before tick (entry_of depth number) rise between;
+              ∙ given_upon epoch.colours whole id before tick (entry_of depth number) next.rise next.between;
         })
     by false (place ∷ places) still is = held whole refl
       where
@@ -204,7 +204,7 @@ clut_next epoch whole id tick before more taken now rise between rows view kept 
             (0, omega arith, refl) in
             let course : changed_version epoch.colours (before ∷ more) id ≡ Some version =
             sym (course_on false still)
-            ∙ defined_known epoch.colours id tick place (before ∷ more) rows there in
+            ∙ defined_known epoch.colours id tick place (before ∷ more) next.rows there in
             let old : has_new_version version (version_of_clut (last_clut id taken)) ≡ false =
             ap (has_new_version version) (kept.version ∙ course) ∙ same_is_old version in
             stays still

@@ -34,13 +34,14 @@ use Rattle.decoder_model.proofs.SoleCue.{six_none}
 use Rattle.decoder_model.proofs.TakenLaws.{taken_region_version}
 use Rattle.decoder_model.proofs.TakenSets.{taken_all}
 use Rattle.shown_plan.proofs.Steps.Fair.{IsFairEpoch}
-use Rattle.shown_plan.proofs.Steps.Keeps.{IsSent, KeepsRegion, Keeps}
+use Rattle.shown_plan.proofs.Steps.Keeps.{IsSent, KeepsRegion, Keeps, KeepsBefore}
 use Rattle.shown_plan.proofs.Steps.KeepsOn.{IsPlannedIn, rows_seen}
 use Rattle.shown_plan.proofs.Steps.KeepsStep.{IsReadIn}
 use Rattle.shown_plan.proofs.Segments.Lists.{all_at, sum_ones}
-use Rattle.shown_plan.proofs.Segments.Ordered.{displays_in, page_content, region_content, clut_content, objects_are, contents_are}
-use Rattle.shown_plan.proofs.Segments.ReadSets.{plain, IsReadSet}
-use Rattle.shown_plan.proofs.Steps.SetFits.{shapes_stay, depths_fit}
+use Rattle.shown_plan.proofs.Segments.Ordered.{displays_in, page_content, region_content, clut_content, objects_are, regions_in, cluts_in, contents_are}
+use Rattle.shown_plan.proofs.Segments.ReadSets.{plain, IsReadSet, objects_of}
+use Rattle.shown_plan.proofs.Steps.SetDepths.{depths_fit}
+use Rattle.shown_plan.proofs.Steps.SetFits.{shapes_stay}
 use Rattle.shown_plan.proofs.Steps.SetNodes.{listings_within, cluts_within, entries_within}
 use Rattle.shown_plan.proofs.Steps.SetPixels.{ids_of, own_region, AreKnownIds, known_ids, ids_within, pixels_fit}
 use Rattle.shown_plan.proofs.Segments.SetView.{segments_more}
@@ -61,11 +62,10 @@ page_value script epoch set =
 pub page_is : (script : Script) (epoch : Epoch) (set : PlannedSet) (contents : List Content)
     → IsReadSet script epoch set contents → page_in_set contents ≡ Some (page_value script epoch set)
 page_is script epoch set contents is =
-    ap page_in_set (contents_are script epoch set contents is)
+    ap page_in_set (contents_are is)
     ∙ first_given-append page_of (displays_in script set)
     (page_content script epoch set
-    ∷ (map (region_content epoch) set.regions
-    ++ (map (clut_content epoch) set.cluts ++ (is.objects ++ plain end_of_set ∷ []))))
+    ∷ (regions_in is ++ (cluts_in is ++ (is.objects ++ plain end_of_set ∷ []))))
     ∙ ap (λ found. option_or found (Some (page_value script epoch set))) (by set.state)
   where
     by : (state : State) → first_given page_of (map plain (display_segments script state)) ≡ None
@@ -78,11 +78,10 @@ display_is : (script : Script) (epoch : Epoch) (set : PlannedSet) (contents : Li
     → IsReadSet script epoch set contents
     → display_in_set contents ≡ cond (is_entry_state set.state) (Some (display_of_script script)) None
 display_is script epoch set contents is =
-    ap display_in_set (contents_are script epoch set contents is)
+    ap display_in_set (contents_are is)
     ∙ first_given-append display_of (displays_in script set)
     (page_content script epoch set
-    ∷ (map (region_content epoch) set.regions
-    ++ (map (clut_content epoch) set.cluts ++ (is.objects ++ plain end_of_set ∷ []))))
+    ∷ (regions_in is ++ (cluts_in is ++ (is.objects ++ plain end_of_set ∷ []))))
     ∙ ap (option_or (first_given display_of (displays_in script set))) none ∙ by set.state
   where
     none_of : {X : Type 0} (found : Option X) → is_some found ≡ false → found ≡ None
@@ -93,28 +92,26 @@ display_is script epoch set contents is =
     no_cluts [] = refl
     no_cluts (one ∷ sent) = no_cluts sent
 
-    no_regions : (sent : List SentRegion) → first_given display_of (map (region_content epoch) sent) ≡ None
+    no_regions : (sent : List SentRegion) → first_given display_of (map (region_content is.names epoch) sent) ≡ None
     no_regions [] = refl
     no_regions (one ∷ sent) = no_regions sent
 
     none : first_given display_of
         (page_content script epoch set
-        ∷ (map (region_content epoch) set.regions
-        ++ (map (clut_content epoch) set.cluts ++ (is.objects ++ plain end_of_set ∷ [])))) ≡ None
+        ∷ (regions_in is ++ (cluts_in is ++ (is.objects ++ plain end_of_set ∷ [])))) ≡ None
     none =
-        first_given-append display_of (map (region_content epoch) set.regions)
-        (map (clut_content epoch) set.cluts ++ (is.objects ++ plain end_of_set ∷ []))
+        first_given-append display_of (regions_in is) (cluts_in is ++ (is.objects ++ plain end_of_set ∷ []))
         ∙ ap (λ found. option_or found
-        (first_given display_of (map (clut_content epoch) set.cluts ++ (is.objects ++ plain end_of_set ∷ []))))
+        (first_given display_of (cluts_in is ++ (is.objects ++ plain end_of_set ∷ []))))
         (no_regions set.regions)
-        ∙ first_given-append display_of (map (clut_content epoch) set.cluts) (is.objects ++ plain end_of_set ∷ [])
+        ∙ first_given-append display_of (cluts_in is) (is.objects ++ plain end_of_set ∷ [])
         ∙ ap (λ found. option_or found (first_given display_of (is.objects ++ plain end_of_set ∷ [])))
-        (no_cluts set.cluts)
+        (no_cluts is.cluts)
         ∙ first_given-append display_of is.objects (plain end_of_set ∷ [])
         ∙ ap (λ found. option_or found None)
         (first_given-all_none display_of is.objects
         (λ k d within. none_of (display_of (get_or is.objects k d))
-        (objects_are script.pictures epoch set.cues is.objects is.drawn k d within).display_is))
+        (objects_are is.objects (objects_of is) k d within).display_is))
 
     by : (state : State)
         → option_or (first_given display_of (map plain (display_segments script state))) None
@@ -167,12 +164,13 @@ regions_known script epoch tick earlier segments (id ∷ shown) kept has =
         (there (last_region id segments) (taken_region_version id segments))
 
 -- the nodes that a receiver has behind a set are no more than the plan counts
-pub nodes_within : (script : Script) (epoch : Epoch) (set : PlannedSet) (earlier : List ℕ) (segments : List Content)
-    (page : Page) → IsFairEpoch script.width script.height script.pictures epoch → IsPlannedIn epoch set earlier
-    → Keeps script epoch set.pts earlier segments → page ≡ page_value script epoch set
-    → nodes_of (taken_of segments) page ≤ node_need epoch (set.pts ∷ earlier) (length set.shown)
-nodes_within script epoch set earlier segments page is_fair planned kept page_of_set =
-    omega (arith, entries, regions, listings, cluts, in_tables)
+pub nodes_within : {script : Script} {epoch : Epoch} {set : PlannedSet} {earlier : List ℕ} {segments : List Content}
+    → IsFairEpoch script.width script.height script.pictures epoch → IsPlannedIn epoch set earlier
+    → Keeps script epoch set.pts earlier segments
+    → nodes_of (taken_of segments) (page_value script epoch set)
+    ≤ node_need epoch (set.pts ∷ earlier) (length set.shown)
+nodes_within {script} {epoch} {set} {earlier} {segments} is_fair planned kept =
+    omega (arith, length-map set.shown (page_entry_of epoch), regions, listings, cluts, in_tables)
   where
     taken : List Content
     taken = taken_among segments
@@ -182,9 +180,6 @@ nodes_within script epoch set earlier segments page is_fair planned kept page_of
 
     are : AreKnownIds epoch taken
     are = known_ids epoch set.pts taken sent
-
-    entries : length page.entries ≡ length set.shown
-    entries = ap (λ (p : Page). length p.entries) page_of_set ∙ length-map set.shown (page_entry_of epoch)
 
     regions : length (region_ids (taken_of segments)) ≤ length epoch.regions
     regions =
@@ -204,28 +199,29 @@ nodes_within script epoch set earlier segments page is_fair planned kept page_of
     cluts : length (clut_ids (taken_of segments)) ≤ length (sent_cluts epoch.colours true (set.pts ∷ earlier))
     cluts =
         cluts_within epoch set.pts earlier taken is_fair.cluts
-        (λ clut. rows_seen script.width script.height script.pictures epoch clut set.pts earlier is_fair planned.seen)
+        (λ clut. rows_seen clut is_fair planned.seen)
         kept.cluts
 
     in_tables : length (table_entries (taken_of segments))
         ≤ sum_by (λ (sent : SentClut). length sent.rows) (sent_cluts epoch.colours true (set.pts ∷ earlier))
     in_tables =
         entries_within epoch set.pts earlier taken is_fair.cluts
-        (λ clut. rows_seen script.width script.height script.pictures epoch clut set.pts earlier is_fair planned.seen)
+        (λ clut. rows_seen clut is_fair planned.seen)
         sent
 
-nodes_fit : (script : Script) (epoch : Epoch) (set : PlannedSet) (earlier : List ℕ) (contents : List Content)
-    (segments : List Content) (page : Page) (profile : Profile) → IsReadIn script epoch set earlier contents
+nodes_fit : {script : Script} {epoch : Epoch} {set : PlannedSet} {earlier : List ℕ} {contents : List Content}
+    (segments : List Content) (profile : Profile) → IsReadIn script epoch set earlier contents
     → Keeps script epoch set.pts earlier segments
-    → page ≡ page_value script epoch set
     → node_need epoch (set.pts ∷ earlier) (length set.shown) ≤ profile.nodes
-    → composition_fault profile (taken_of segments) page ≡ None
-nodes_fit script epoch set earlier contents segments page profile is kept page_of_set enough =
-    let within = nodes_within script epoch set earlier segments page is.fair is.planned kept page_of_set in
-    let test : nat_lt profile.nodes (nodes_of (taken_of segments) page) ≡ false =
-    (let low : nodes_of (taken_of segments) page
-    ≤ profile.nodes = omega (arith, within, enough) in grind (arith, nat_tests)) in
-    ap (λ b. cond b (Some (CompositionFull (nodes_of (taken_of segments) page))) None) test
+    → composition_fault profile (taken_of segments) (page_value script epoch set) ≡ None
+nodes_fit {script} {epoch} {set} segments profile is kept enough =
+    let within = nodes_within is.fair is.planned kept in
+    let test : nat_lt profile.nodes nodes ≡ false =
+    (let low : nodes ≤ profile.nodes = omega (arith, within, enough) in grind (arith, nat_tests)) in
+    ap (λ b. cond b (Some (CompositionFull nodes)) None) test
+  where
+    nodes : ℕ
+    nodes = nodes_of (taken_of segments) (page_value script epoch set)
 
 -- ---- all of them
 
@@ -236,13 +232,14 @@ pub record HasRoom (script : Script) (epoch : Epoch) (set : PlannedSet) (earlier
   pub pixels : pixel_need epoch.regions ≤ profile.pixels
   pub nodes : node_need epoch (set.pts ∷ earlier) (length set.shown) ≤ profile.nodes
 
-pub set_fits : (script : Script) (epoch : Epoch) (set : PlannedSet) (earlier : List ℕ) (contents : List Content)
-    (sets : List (List Content)) (page : Page) (profile : Profile) → IsReadIn script epoch set earlier contents
-    → HasRoom script epoch set earlier profile
+-- with the page of a set, and what a receiver has of the epoch before it and with it
+pub set_fits : {script : Script} {epoch : Epoch} {set : PlannedSet} {earlier : List ℕ} {contents : List Content}
+    {profile : Profile} (sets : List (List Content)) (page : Page) → IsReadIn script epoch set earlier contents
+    → HasRoom script epoch set earlier profile → KeepsBefore script epoch earlier sets
     → Keeps script epoch set.pts earlier (segments_of (contents ∷ sets)) → page_in_set contents ≡ Some page
     → epoch_fault profile sets contents page ≡ None
 unfolding epoch_fault
-set_fits script epoch set earlier contents sets page profile is room kept found =
+set_fits {script} {epoch} {set} {earlier} {contents} {profile} sets page is room before kept found =
     six_none
     (option_and_then (display_fault profile) (display_in_set contents))
     (page_fault (segments_of (contents ∷ sets)) page)
@@ -256,9 +253,9 @@ set_fits script epoch set earlier contents sets page profile is room kept found 
     is.planned.sendable.shown)
     (shapes_stay epoch set.pts (segments_of sets) contents sent)
     (pixels_fit epoch profile set.pts (segments_of sets) contents is.fair.apart room.pixels sent)
-    (nodes_fit script epoch set earlier contents (segments_of (contents ∷ sets)) page profile is kept page_of_set
-    room.nodes)
-    (depths_fit epoch set.pts (segments_of sets) contents sent)
+    (ap (λ (p : Page). composition_fault profile (taken_of (segments_of (contents ∷ sets))) p) page_of_set
+    ∙ nodes_fit (segments_of (contents ∷ sets)) profile is kept room.nodes)
+    (depths_fit is sets before)
   where
     page_of_set : page ≡ page_value script epoch set
     page_of_set =

@@ -1,5 +1,5 @@
 -- What the taken segments of an epoch are behind one of its sets, in a receiver that has had the sets from one on.
-use Rattle.std.proofs.Common.{◌≡◌, ℕ, ◌<◌, ◌≤◌, true, List, [], ◌∷◌, length, map, Some, None, unwrap_or}
+use Rattle.std.proofs.Common.{◌≡◌, ℕ, ◌<◌, ◌≤◌, true, List, [], ◌∷◌, length, Some, unwrap_or}
 use Rattle.std.specs.Prelude.{All, IsSome}
 use Rattle.std.specs.List.{AllPairs}
 use Rattle.std.specs.Option.{option_map}
@@ -7,7 +7,7 @@ use Rattle.sub_base.specs.Depth.{code_count}
 use Rattle.sub_base.specs.Lists.{first_given, has_some}
 use Rattle.sub_base.specs.Picture.{Picture}
 use Rattle.sub_base.specs.declared.depth.Depth.{Depth}
-use Rattle.stream_syntax.specs.Segments.{SegmentValue, of_page, of_region, of_clut, of_object, of_display, end_of_set, passed_over, Region, Object}
+use Rattle.stream_syntax.specs.Segments.{SegmentValue, of_page, of_region, of_clut, of_object, of_display, end_of_set, passed_over, Region}
 use Rattle.stream_syntax.specs.declared.clut.ClutEntry.{ClutEntry}
 use Rattle.cue_list.specs.Authored.{authored_code, live_cues}
 use Rattle.cue_list.specs.declared.epoch.ColourRow.{ColourRow}
@@ -15,13 +15,12 @@ use Rattle.cue_list.specs.declared.epoch.Epoch.{Epoch}
 use Rattle.cue_list.specs.declared.epoch.Region.{Region as AuthoredRegion}
 use Rattle.cue_list.specs.declared.script.Script.{Script}
 use Rattle.page_epoch.specs.EpochStates.{changed_version}
-use Rattle.page_epoch.specs.Live.{cue_at, live_places}
+use Rattle.page_epoch.specs.Live.{live_places}
 use Rattle.page_epoch.specs.Sendable.{HasRegion, HasColour}
 use Rattle.page_epoch.specs.SentCluts.{row_at}
 use Rattle.page_epoch.specs.SentRegions.{region_version, drawn_count}
-use Rattle.set_coder.specs.SetSegments.{epoch_region, listing_of, clut_entry_of, depth_of_cue, display_of_script}
+use Rattle.set_coder.specs.SetSegments.{epoch_region, clut_entry_of, display_of_script}
 use Rattle.decoder_model.specs.Contents.{object_named}
-use Rattle.decoder_model.specs.Faults.{too_deep_at}
 use Rattle.decoder_model.specs.Ink.{colour_by_segment}
 use Rattle.decoder_model.specs.Pixels.{last_code, since_region}
 use Rattle.decoder_model.specs.Readings.{Content}
@@ -39,18 +38,13 @@ AreRising places = AllPairs (λ (before later : ℕ). before < later) places
 
 -- ---- what each segment of the epoch is, by itself
 
--- a region segment: its region is one of the epoch, with its sides, depth and CLUT, and lists cues of its own
+-- a region segment: its region is one of the epoch, with its sides, depth and CLUT; what it lists is told by its set
 pub record IsSentRegion (epoch : Epoch) (value : Region) : Type 0 where
   pub own : HasRegion epoch value.head.region
   pub width : value.head.width ≡ (epoch_region epoch value.head.region).width
   pub height : value.head.height ≡ (epoch_region epoch value.head.region).height
   pub depth : value.head.depth ≡ (epoch_region epoch value.head.region).depth
   pub clut : value.head.clut ≡ (epoch_region epoch value.head.region).clut
-  pub codes : (value.head.code8 ≡ 0) × (value.head.code4 ≡ 0) × (value.head.code2 ≡ 0)
-  pub places : List ℕ
-  pub rise : AreRising places
-  pub listed : value.listings ≡ map (listing_of epoch) places
-  pub cues : All (λ place. (cue_at epoch.cues place).region ≡ value.head.region) places
 
 -- an entry of a CLUT: that of a colour row that has come
 pub record IsSentEntry (epoch : Epoch) (tick clut : ℕ) (entry : ClutEntry) : Type 0 where
@@ -60,24 +54,19 @@ pub record IsSentEntry (epoch : Epoch) (tick clut : ℕ) (entry : ClutEntry) : T
   pub come : (row_at epoch.colours place).tick ≤ tick
   pub is : entry ≡ clut_entry_of epoch place
 
--- an object: of version 0, and not too deep for the region of its cue
-pub record IsSentObject (epoch : Epoch) (value : Object) (content : Content) : Type 0 where
-  pub version : value.version ≡ 0
-  pub top_depth : too_deep_at (depth_of_cue epoch value.object) content.top ≡ None
-  pub bottom_depth : too_deep_at (depth_of_cue epoch value.object) content.bottom ≡ None
-
-abbrev pub IsSentBy : Epoch → ℕ → Content → SegmentValue → Type 0
-IsSentBy epoch tick content (of_page value) = Unit {0}
-IsSentBy epoch tick content (of_region value) = IsSentRegion epoch value
-IsSentBy epoch tick content (of_clut value) = All (IsSentEntry epoch tick value.clut) value.entries
-IsSentBy epoch tick content (of_object value) = IsSentObject epoch value content
-IsSentBy epoch tick content (of_display value) = Unit {0}
-IsSentBy epoch tick content end_of_set = Unit {0}
-IsSentBy epoch tick content passed_over = Unit {0}
+-- an object has version 0, whatever its number
+abbrev pub IsSentBy : Epoch → ℕ → SegmentValue → Type 0
+IsSentBy epoch tick (of_page value) = Unit {0}
+IsSentBy epoch tick (of_region value) = IsSentRegion epoch value
+IsSentBy epoch tick (of_clut value) = All (IsSentEntry epoch tick value.clut) value.entries
+IsSentBy epoch tick (of_object value) = value.version ≡ 0
+IsSentBy epoch tick (of_display value) = Unit {0}
+IsSentBy epoch tick end_of_set = Unit {0}
+IsSentBy epoch tick passed_over = Unit {0}
 
 -- a segment of a set of the epoch up to a tick
 abbrev pub IsSent : Epoch → ℕ → Content → Type 0
-IsSent epoch tick content = IsSentBy epoch tick content content.value
+IsSent epoch tick content = IsSentBy epoch tick content.value
 
 -- ---- what all of them together are
 
@@ -85,8 +74,9 @@ IsSent epoch tick content = IsSentBy epoch tick content content.value
 abbrev pub HasObject : ℕ → List Content → ℕ → Type 0
 HasObject id taken object = IsSome (first_given (object_named object) (since_region id (record { segments = taken })))
 
--- a region, by its last taken segment: its version, how many listings it has, that all of them have had their object,
--- and its codes where it has live cues
+-- A region, by its last taken segment: its version, how many listings it has, that all of them have had their object,
+-- and its codes where it has live cues. Objects have version 0, so none that comes now paints one of these listings,
+-- even if it has a number that an earlier set gave another cue.
 pub record KeepsRegion (pictures : List Picture) (epoch : Epoch) (tick : ℕ) (earlier : List ℕ)
     (taken : List Content) (region : AuthoredRegion) : Type 0 where
   pub last : Region

@@ -1,10 +1,11 @@
 -- One set of the plan more: what a receiver has of the epoch is as the plan says, behind it as behind the set before.
 use Rattle.std.proofs.Common.{◌≡◌, ◌⊎◌, inl, inr, ℕ, zero, suc, ◌==◌, ◌<◌, ◌≤◌, Bool, true, false, List, [], ◌∷◌, ◌++◌, length, map, reverse, get_or, refl, sym, subst, arith}
 use Rattle.std.specs.Prelude.{All}
-use Rattle.std.specs.List.{AllPairs, AllZip, Contains, flat_map}
+use Rattle.std.specs.List.{AllPairs, Contains, flat_map}
 use Rattle.std.proofs.lemmas.Bool.Decides.{nat_tests}
 use Rattle.std.proofs.lemmas.List.{length-map, get_or-map}
 use Rattle.std.proofs.lemmas.List.Elements.{All-cons, All-append, All-map, All-filter, All-contains_itself, Contains-append_left, Contains-append_right}
+use Rattle.std.proofs.lemmas.List.Sorted.{IsPermutation-map, All-permutation}
 use Rattle.sub_base.specs.Picture.{Picture}
 use Rattle.stream_syntax.specs.Segments.{SegmentValue, of_page, of_region, of_clut, of_object, of_display, end_of_set, passed_over, is_entry_state}
 use Rattle.stream_syntax.specs.declared.page.State.{State}
@@ -24,15 +25,15 @@ use Rattle.page_epoch.specs.declared.planned_set.SentClut.{SentClut}
 use Rattle.page_epoch.specs.declared.planned_set.SentRegion.{SentRegion}
 use Rattle.set_coder.specs.SetSegments.{display_segments, clut_entry_of}
 use Rattle.decoder_model.specs.Readings.{Content}
-use Rattle.shown_plan.proofs.Segments.CarriedSets.{ListsOwn, all_list_own}
-use Rattle.shown_plan.proofs.Steps.ClutChanges.{AreBetween}
+use Rattle.shown_plan.specs.NamedSets.{Names}
+use Rattle.shown_plan.proofs.Steps.ClutChanges.{AreBetween, IsNextFor}
 use Rattle.shown_plan.proofs.Steps.ClutRows.{AreSeenRows, defined_own}
 use Rattle.shown_plan.proofs.Steps.Fair.{IsFairEpoch}
 use Rattle.shown_plan.proofs.Steps.Keeps.{IsSentEntry, IsSentBy, IsSent}
 use Rattle.shown_plan.proofs.Segments.Lists.{all_at, kept_pass}
 use Rattle.shown_plan.proofs.Segments.Ordered.{displays_in, page_content, region_content, clut_content}
-use Rattle.shown_plan.proofs.Segments.ReadSets.{plain, IsDrawnObject}
-use Rattle.shown_plan.proofs.Segments.SetView.{newest, reversed_all, reverse_map}
+use Rattle.shown_plan.proofs.Segments.ReadSets.{plain, IsObject, IsReadSet, objects_of}
+use Rattle.shown_plan.proofs.Segments.SetView.{new_cluts, new_regions, newest, reversed_all, reverse_map}
 
 -- ---- what is used of a script and its plan
 
@@ -66,10 +67,10 @@ row_named epoch clut place there =
           (λ (row : ColourRow). row.tick) epoch.colours place no_row (row_at epoch.colours place).tick within,
     ))
 
-pub rows_seen : (width height : ℕ) (pictures : List Picture) (epoch : Epoch) (clut tick : ℕ) (earlier : List ℕ)
-    → IsFairEpoch width height pictures epoch → AreSeen epoch tick earlier
+pub rows_seen : {width height : ℕ} {pictures : List Picture} {epoch : Epoch} {tick : ℕ} {earlier : List ℕ}
+    (clut : ℕ) → IsFairEpoch width height pictures epoch → AreSeen epoch tick earlier
     → AreSeenRows epoch.colours clut tick earlier
-rows_seen width height pictures epoch clut tick earlier fair seen =
+rows_seen {epoch = epoch} {tick = tick} {earlier = earlier} clut fair seen =
     record {
       seen =
           λ k d within by_then. seen.all (row_at epoch.colours (get_or (rows_of_clut epoch.colours clut) k d)).tick
@@ -83,7 +84,7 @@ rows_seen width height pictures epoch clut tick earlier fair seen =
           (λ k d within. (let less = seen.falls 0 (suc k) d (omega arith) (omega arith) in omega (arith, less)));
     }
 
-pub rows_between : (epoch : Epoch) (clut tick before : ℕ) (more : List ℕ) → AreSeen epoch tick (before ∷ more)
+rows_between : (epoch : Epoch) (clut tick before : ℕ) (more : List ℕ) → AreSeen epoch tick (before ∷ more)
     → AreBetween epoch.colours clut before tick
 rows_between epoch clut tick before more seen k d within by_then =
     by (seen.all (row_at epoch.colours (get_or (rows_of_clut epoch.colours clut) k d)).tick
@@ -97,29 +98,30 @@ rows_between epoch clut tick before more seen k d within by_then =
         inr (let less = seen.falls 1 (suc (suc k)) time (omega arith) (omega (arith, within)) in let same : get_or more
         k time ≡ time = is in omega (arith, less, same))
 
+-- the next instant, as a CLUT sees it
+pub next_instant : {width height : ℕ} {pictures : List Picture} {epoch : Epoch} {tick before : ℕ} {more : List ℕ}
+    (clut : ℕ) → IsFairEpoch width height pictures epoch → AreSeen epoch tick (before ∷ more)
+    → IsNextFor epoch.colours clut tick before more
+next_instant {epoch = epoch} {tick = tick} {before = before} {more = more} clut fair seen =
+    record {
+      rise = seen.falls 0 1 0 (omega arith) (omega arith);
+      between = rows_between epoch clut tick before more seen;
+      rows = rows_seen clut fair seen;
+    }
+
 -- ---- each segment by itself
 
-regions_sent : (epoch : Epoch) (tick : ℕ) (sent : List SentRegion) → All (IsSendableRegion epoch) sent
-    → All (ListsOwn epoch) sent → All (IsSent epoch tick) (map (region_content epoch) sent)
-regions_sent epoch tick sent sendable lists =
-    All-map (IsSent epoch tick) (region_content epoch) sent
-    (λ k d within. of_region_sent (get_or sent k d) (sendable k d within) (lists k d within))
-  where
-    of_region_sent : (one : SentRegion) → IsSendableRegion epoch one → ListsOwn epoch one
-        → IsSent epoch tick (region_content epoch one)
-    of_region_sent one sendable lists =
-        record {
-          own = sendable.region;
-          width = refl;
-          height = refl;
-          depth = refl;
-          clut = refl;
-          codes = (refl, refl, refl);
-          places = one.cues;
-          rise = lists.rise;
-          listed = refl;
-          cues = λ k d within. (let own = lists.own k d within in grind (arith, nat_tests));
-        }
+regions_sent : (names : Names) (epoch : Epoch) (tick : ℕ) (sent : List SentRegion)
+    → All (IsSendableRegion epoch) sent → All (IsSent epoch tick) (map (region_content names epoch) sent)
+regions_sent names epoch tick sent sendable =
+    All-map (IsSent epoch tick) (region_content names epoch) sent
+    (λ k d within. record {
+      own = (sendable k d within).region;
+      width = refl;
+      height = refl;
+      depth = refl;
+      clut = refl;
+    })
 
 -- all rows that a set sends of a CLUT are the CLUT's, and have come
 rows_sent : (colours : List ColourRow) (whole : Bool) (tick clut : ℕ)
@@ -176,16 +178,10 @@ cluts_sent epoch whole tick earlier =
         (rows_from epoch.colours whole tick (defined_rows epoch.colours clut tick))
         (rows_sent epoch.colours whole tick clut)
 
-objects_sent : (pictures : List Picture) (epoch : Epoch) (tick : ℕ) (cues : List ℕ) (objects : List Content)
-    → AllZip (IsDrawnObject pictures epoch) cues objects → All (IsSent epoch tick) objects
-objects_sent pictures epoch tick [] [] drawn = All-none _
-objects_sent pictures epoch tick [] (o ∷ objects) drawn = absurd drawn
-objects_sent pictures epoch tick (place ∷ cues) [] drawn = absurd drawn
-objects_sent pictures epoch tick (place ∷ cues) (o ∷ objects) drawn =
-    All-cons (IsSent epoch tick) o objects
-    (subst (IsSentBy epoch tick o) (sym drawn.0.value_is)
-    (record { version = refl; top_depth = drawn.0.top_depth; bottom_depth = drawn.0.bottom_depth }))
-    (objects_sent pictures epoch tick cues objects drawn.1)
+objects_sent : (epoch : Epoch) (tick : ℕ) (objects : List Content) → All IsObject objects
+    → All (IsSent epoch tick) objects
+objects_sent epoch tick objects all =
+    λ k d within. (let object = all k d within in subst (IsSentBy epoch tick) (sym object.is) object.version)
 
 displays_sent : (script : Script) (epoch : Epoch) (tick : ℕ) (state : State)
     → All (IsSent epoch tick) (map plain (display_segments script state))
@@ -198,8 +194,8 @@ pub later_sent : (epoch : Epoch) (before tick : ℕ) (content : Content) → bef
     → IsSent epoch before content → IsSent epoch tick content
 later_sent epoch before tick content order sent = by content.value sent
   where
-    by : (value : SegmentValue) → IsSentBy epoch before content value → IsSentBy epoch tick content value
-    by value sent = elim value as (λ v. IsSentBy epoch before content v → IsSentBy epoch tick content v) [
+    by : (value : SegmentValue) → IsSentBy epoch before value → IsSentBy epoch tick value
+    by value sent = elim value as (λ v. IsSentBy epoch before v → IsSentBy epoch tick v) [
       | of_page v ↦ λ sent. tt
       | of_region v ↦ λ sent. sent
       | of_clut v ↦ λ sent k d
@@ -217,22 +213,25 @@ later_sent epoch before tick content order sent = by content.value sent
       | passed_over ↦ λ sent. tt
     ] sent
 
-pub newest_sent : (script : Script) (epoch : Epoch) (set : PlannedSet) (earlier : List ℕ) (objects : List Content)
-    → IsPlannedIn epoch set earlier → AllZip (IsDrawnObject script.pictures epoch) set.cues objects
-    → All (IsSent epoch set.pts) (newest script epoch set objects)
-newest_sent script epoch set earlier objects planned drawn =
-    All-append (IsSent epoch set.pts) (reverse objects) _
-    (reversed_all (IsSent epoch set.pts) objects
-    (objects_sent script.pictures epoch set.pts set.cues objects drawn))
-    (All-append (IsSent epoch set.pts) (map (clut_content epoch) (reverse set.cluts)) _
-    (subst (All (IsSent epoch set.pts)) (reverse_map (clut_content epoch) set.cluts)
-    (reversed_all (IsSent epoch set.pts) (map (clut_content epoch) set.cluts)
-    (subst (λ (cluts : List SentClut). All (IsSent epoch set.pts) (map (clut_content epoch) cluts))
-    (sym planned.carried.cluts) (cluts_sent epoch (is_entry_state set.state) set.pts earlier))))
-    (All-append (IsSent epoch set.pts) (map (region_content epoch) (reverse set.regions)) _
-    (regions_sent epoch set.pts (reverse set.regions)
-    (reversed_all (IsSendableRegion epoch) set.regions planned.sendable.regions)
-    (reversed_all (ListsOwn epoch) set.regions
-    (all_list_own epoch (is_entry_state set.state) (set.pts ∷ earlier) set.regions planned.carried.regions)))
+pub newest_sent : {script : Script} {epoch : Epoch} {set : PlannedSet} {contents : List Content}
+    (is : IsReadSet script epoch set contents) (earlier : List ℕ) → IsPlannedIn epoch set earlier
+    → All (IsSent epoch set.pts) (newest is)
+newest_sent {script} {epoch} {set} {contents} is earlier planned =
+    All-append (IsSent epoch set.pts) (reverse is.objects) _
+    (reversed_all (IsSent epoch set.pts) is.objects (objects_sent epoch set.pts is.objects (objects_of is)))
+    (All-append (IsSent epoch set.pts) (new_cluts is) _
+    (subst (All (IsSent epoch set.pts)) (reverse_map (clut_content epoch) is.cluts)
+    (reversed_all (IsSent epoch set.pts) (map (clut_content epoch) is.cluts) cluts))
+    (All-append (IsSent epoch set.pts) (new_regions is) _
+    (regions_sent is.names epoch set.pts (reverse set.regions)
+    (reversed_all (IsSendableRegion epoch) set.regions planned.sendable.regions))
     (All-cons (IsSent epoch set.pts) (page_content script epoch set) (reverse (displays_in script set)) tt
     (reversed_all (IsSent epoch set.pts) (displays_in script set) (displays_sent script epoch set.pts set.state)))))
+  where
+    -- the CLUTs of the plan are, and so those that are sent in another order
+    cluts : All (IsSent epoch set.pts) (map (clut_content epoch) is.cluts)
+    cluts =
+        All-permutation (IsSent epoch set.pts) (map (clut_content epoch) set.cluts) (map (clut_content epoch) is.cluts)
+        (IsPermutation-map (clut_content epoch) set.cluts is.cluts is.permuted)
+        (subst (λ (cluts : List SentClut). All (IsSent epoch set.pts) (map (clut_content epoch) cluts))
+        (sym planned.carried.cluts) (cluts_sent epoch (is_entry_state set.state) set.pts earlier))

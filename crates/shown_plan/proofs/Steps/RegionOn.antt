@@ -1,5 +1,5 @@
 -- A region behind one set of the plan more is as the plan counts it.
-use Rattle.std.proofs.Common.{◌≡◌, ◌≢◌, ◌∙◌, inl, inr, ℕ, ◌+◌, ◌%◌, ◌==◌, ◌<◌, ◌≤◌, Bool, true, false, not, ◌&&◌, cond, eqb, List, [], ◌∷◌, ◌++◌, length, map, get_or, drop, Option, Some, None, unwrap_or, refl, sym, ap, subst, arith}
+use Rattle.std.proofs.Common.{◌≡◌, ◌∙◌, inl, inr, ℕ, ◌==◌, ◌≤◌, Bool, true, false, not, ◌&&◌, cond, eqb, List, [], ◌∷◌, ◌++◌, length, map, get_or, drop, Option, Some, None, unwrap_or, refl, sym, ap, subst, arith}
 use Rattle.std.specs.Prelude.{All, IsSome}
 use Rattle.std.specs.List.{list_any}
 use Rattle.std.specs.Option.{option_or}
@@ -18,9 +18,8 @@ use Rattle.cue_list.specs.declared.epoch.Epoch.{Epoch}
 use Rattle.cue_list.specs.declared.epoch.Region.{Region as AuthoredRegion}
 use Rattle.page_epoch.proofs.RegionLaws.{version-more, drawn_count-more}
 use Rattle.page_epoch.specs.Live.{cue_at, are_same_places, live_places}
-use Rattle.page_epoch.specs.SentRegions.{is_redrawn, region_version, live_before, drawn_count, filled, extended}
+use Rattle.page_epoch.specs.SentRegions.{is_redrawn, region_version, drawn_count, filled, extended}
 use Rattle.page_epoch.specs.declared.planned_set.SentRegion.{SentRegion}
-use Rattle.set_coder.specs.SetSegments.{listing_of}
 use Rattle.decoder_model.specs.Contents.{where_passes, region_named, object_named, object_of}
 use Rattle.decoder_model.specs.Pixels.{since_region, last_code, code_by_fill, fill_code}
 use Rattle.decoder_model.specs.Readings.{Content}
@@ -28,7 +27,8 @@ use Rattle.decoder_model.specs.Taken.{last_region}
 use Rattle.decoder_model.proofs.IdleSegments.{HasHad, IsUsedUp, IsIdle, idle_code}
 use Rattle.decoder_model.proofs.Searches.{first_given-append, last_given-append}
 use Rattle.decoder_model.proofs.TakenSets.{since_behind, last_behind}
-use Rattle.shown_plan.proofs.Steps.Keeps.{HasObject, KeepsRegion, last_code_or_zero}
+use Rattle.shown_plan.specs.NamedSets.{Names, named_listing}
+use Rattle.shown_plan.proofs.Steps.Keeps.{HasObject, KeepsRegion}
 use Rattle.shown_plan.proofs.Pictures.Painted.{code_by_cue, live_are, authored_last}
 use Rattle.shown_plan.proofs.Steps.RegionSteps.{IsTakenRegion, sent_value, some_or_second}
 
@@ -84,30 +84,44 @@ had_from id number taken zeros there = by (first_given (object_named number) sin
           (named_object number (get_or since k d) o is)) e,
     )
 
--- an object of version 0 changes nothing in a region whose listings have all had theirs
-pub idle_object : (id : ℕ) (taken : List Content) (content : Content) (last : Region)
-    → last_region id taken ≡ Some last
-    → All (λ (listing : Listing). HasObject id taken listing.object) last.listings
-    → All HasVersionZero taken → HasVersionZero content → region_named id content ≡ None
-    → IsIdle id taken content
-idle_object id taken content last known painted zeros own other =
+-- all objects have version 0, and a region has had those of all listings of its last segment
+pub record HaveHadAll (id : ℕ) (taken : List Content) : Type 0 where
+  pub zeros : All HasVersionZero taken
+  pub had : (last : Region) → last_region id taken ≡ Some last
+      → All (λ (listing : Listing). HasObject id taken listing.object) last.listings
+
+-- as a region has that is as the plan counts it
+pub have_had : {pictures : List Picture} {epoch : Epoch} {tick : ℕ} {earlier : List ℕ} {taken : List Content}
+    {region : AuthoredRegion} → All HasVersionZero taken → KeepsRegion pictures epoch tick earlier taken region
+    → HaveHadAll region.id taken
+have_had {taken = taken} {region = region} zeros kept =
+    record {
+      zeros = zeros;
+      had = λ last known.
+          (let both : Some kept.last ≡ Some last = sym kept.known ∙ known in
+          let same : kept.last ≡ last = cc in
+          subst (λ (r : Region). All (λ (listing : Listing). HasObject region.id taken listing.object) r.listings)
+          same
+          kept.painted);
+    }
+
+-- an object of version 0 changes nothing in such a region
+pub idle_object : {id : ℕ} {taken : List Content} → HaveHadAll id taken → (content : Content)
+    → HasVersionZero content → region_named id content ≡ None → IsIdle id taken content
+idle_object {id} {taken} all content own other =
     record {
       other = other;
       version = own;
-      object =
-          λ object is region found. by object.object region
+      object = λ object is region found. by object.object region
           (list_any (λ (listing : Listing). listing.object == object.object) region.listings) refl
-          (let same : last
-          ≡ region = (let both : Some last ≡ Some region = sym known ∙ found in cc) in subst
-          (λ (r : Region). All (λ (listing : Listing). HasObject id taken listing.object) r.listings) same
-          painted);
+          (all.had region found);
     }
   where
     listed : (number : ℕ) (listings : List Listing)
         → list_any (λ (listing : Listing). listing.object == number) listings ≡ true
         → All (λ (listing : Listing). HasObject id taken listing.object) listings → HasObject id taken number
-    listed number [] e all = absurd (let no : false ≡ true = e in cc)
-    listed number (listing ∷ listings) e all = one (eqb listing.object number) refl e (listed number listings)
+    listed number [] e have = absurd (let no : false ≡ true = e in cc)
+    listed number (listing ∷ listings) e have = one (eqb listing.object number) refl e (listed number listings)
       where
         one : (b : Bool) → eqb listing.object number ≡ b
             → list_any (λ (listing : Listing). listing.object == number) (listing ∷ listings) ≡ true
@@ -115,45 +129,35 @@ idle_object id taken content last known painted zeros own other =
             → All (λ (listing : Listing). HasObject id taken listing.object) listings
             → HasObject id taken number) → HasObject id taken number
         one true t e again =
-            (let same : listing.object
-            ≡ number = grind (arith, nat_tests) in subst (HasObject id taken) same
-            (All-head (λ (listing : Listing). HasObject id taken listing.object) listing listings all))
+            (let same : listing.object ≡ number = grind (arith, nat_tests) in
+            subst (HasObject id taken) same
+            (All-head (λ (listing : Listing). HasObject id taken listing.object) listing listings have))
         one false t e again =
-            again (let rest : list_any (λ (listing : Listing). listing.object == number) listings
-            ≡ true = rw t at e in rest)
-            (All-tail (λ (listing : Listing). HasObject id taken listing.object) listing listings all)
+            again (let rest : list_any (λ (listing : Listing). listing.object == number) listings ≡ true =
+            rw t at e in rest)
+            (All-tail (λ (listing : Listing). HasObject id taken listing.object) listing listings have)
 
     by : (number : ℕ) (region : Region) (b : Bool)
         → list_any (λ (listing : Listing). listing.object == number) region.listings ≡ b
         → All (λ (listing : Listing). HasObject id taken listing.object) region.listings
         → IsUsedUp id taken number region
-    by number region false e all = inl e
-    by number region true e all = inr (had_from id number taken zeros (listed number region.listings e all))
+    by number region false e have = inl e
+    by number region true e have = inr (had_from id number taken all.zeros (listed number region.listings e have))
 
 -- ---- versions and listings
 
--- what a set sends of a region, by the cues that were live and are live
-abbrev old_of : Epoch → ℕ → List ℕ → List ℕ
-old_of epoch id earlier = live_before epoch.cues id earlier
-
-next_differs : (version : ℕ) → version < 16 → (version + 1) % 16 ≢ version
-next_differs version small e = omega (arith, small, e)
-
-version_small : (epoch : Epoch) (id : ℕ) (seen : List ℕ) → region_version epoch.cues id seen < 16
-version_small epoch id seen = omega arith
-
--- a region is drawn_count by as many listings at least as it lists
-few_listed : (epoch : Epoch) (id tick : ℕ) (earlier places : List ℕ)
+-- a region is drawn by as many listings at least as it lists
+few_listed : (names : Names) (epoch : Epoch) (id tick : ℕ) (earlier places : List ℕ)
     → length places ≤ length (live_places epoch.cues id tick)
-    → length (map (listing_of epoch) places) ≤ drawn_count epoch.cues id (tick ∷ earlier)
-few_listed epoch id tick earlier places few = by (live_places epoch.cues id tick) refl few
+    → length (map (named_listing names epoch) places) ≤ drawn_count epoch.cues id (tick ∷ earlier)
+few_listed names epoch id tick earlier places few = by (live_places epoch.cues id tick) refl few
   where
-    listings : length (map (listing_of epoch) places) ≡ length places
-    listings = length-map places (listing_of epoch)
+    listings : length (map (named_listing names epoch) places) ≡ length places
+    listings = length-map places (named_listing names epoch)
 
     by : (new : List ℕ) → live_places epoch.cues id tick ≡ new
         → length places ≤ length (live_places epoch.cues id tick)
-        → length (map (listing_of epoch) places) ≤ drawn_count epoch.cues id (tick ∷ earlier)
+        → length (map (named_listing names epoch) places) ≤ drawn_count epoch.cues id (tick ∷ earlier)
     by [] e few =
         let none : length (live_places epoch.cues id tick) ≡ 0 = ap length e in omega (arith, listings, few, none)
     by (place ∷ new) e few =
@@ -162,22 +166,23 @@ few_listed epoch id tick earlier places few = by (live_places epoch.cues id tick
         omega (arith, listings, few, all)
 
 -- the code that a fill leaves
-fill_zero : (epoch : Epoch) (sent : SentRegion) → sent.fill ≡ true
-    → code_by_fill sent.id (sent_value epoch sent).head ≡ Some 0
-fill_zero epoch sent fills =
+fill_zero : (names : Names) (epoch : Epoch) (sent : SentRegion) → sent.fill ≡ true
+    → code_by_fill sent.id (sent_value names epoch sent).head ≡ Some 0
+fill_zero names epoch sent fills =
     let mine : eqb sent.id sent.id ≡ true = grind (arith, nat_tests) in
     let both : (eqb sent.id sent.id && sent.fill) ≡ true = rw (mine, fills) refl in
-    ap (λ b. cond b (Some (fill_code (sent_value epoch sent).head.depth (sent_value epoch sent).head)) None) both
-    ∙ by (sent_value epoch sent).head.depth
+    ap (λ b. cond b (Some (fill_code (sent_value names epoch sent).head.depth (sent_value names epoch sent).head))
+    None)
+    both ∙ by (sent_value names epoch sent).head.depth
   where
-    by : (depth : Depth) → Some (fill_code depth (sent_value epoch sent).head) ≡ Some 0
+    by : (depth : Depth) → Some (fill_code depth (sent_value names epoch sent).head) ≡ Some 0
     by Two = refl
     by Four = refl
     by Eight = refl
 
-fill_none : (epoch : Epoch) (sent : SentRegion) → sent.fill ≡ false
-    → code_by_fill sent.id (sent_value epoch sent).head ≡ None
-fill_none epoch sent fills =
+fill_none : (names : Names) (epoch : Epoch) (sent : SentRegion) → sent.fill ≡ false
+    → code_by_fill sent.id (sent_value names epoch sent).head ≡ None
+fill_none names epoch sent fills =
     let mine : eqb sent.id sent.id ≡ true = grind (arith, nat_tests) in
     rw (mine, fills) refl
 
@@ -192,97 +197,97 @@ upon_same (Some code) below other same = refl
 
 -- ---- drawn anew
 
-pub drawn_anew : (pictures : List Picture) (epoch : Epoch) (region : AuthoredRegion) (tick : ℕ)
-    (earlier cues : List ℕ) (objects above below taken now : List Content) (sent : SentRegion)
-    → sent ≡ filled region.id (region_version epoch.cues region.id (tick ∷ earlier))
-    (live_places epoch.cues region.id tick)
-    → IsTakenRegion pictures epoch sent objects above below taken now
+-- a region as it is sent with all of its live cues
+abbrev pub anew_at : Epoch → ℕ → ℕ → List ℕ → SentRegion
+anew_at epoch id tick earlier =
+    filled id (region_version epoch.cues id (tick ∷ earlier)) (live_places epoch.cues id tick)
+
+pub drawn_anew : {names : Names} {pictures : List Picture} {epoch : Epoch} {taken now : List Content}
+    (region : AuthoredRegion) (tick : ℕ) (earlier : List ℕ)
+    → IsTakenRegion names pictures epoch (anew_at epoch region.id tick earlier) taken now
     → KeepsRegion pictures epoch tick earlier now region
-drawn_anew pictures epoch region tick earlier cues objects above below taken now sent is has =
-    let number : sent.id ≡ region.id = ap (λ (s : SentRegion). s.id) is in
-    let listed : sent.cues ≡ live_places epoch.cues region.id tick = ap (λ (s : SentRegion). s.cues) is in
+drawn_anew {names} {pictures} {epoch} {taken} {now} region tick earlier has =
     record {
-      last = sent_value epoch sent;
-      known = subst (λ (id : ℕ). last_region id now ≡ Some (sent_value epoch sent)) number has.known;
-      version = ap (λ (s : SentRegion). s.version) is;
-      few = few_listed epoch region.id tick earlier sent.cues (omega (arith, ap length listed));
-      painted =
-          subst (λ (id : ℕ). All (λ (listing : Listing). HasObject id now listing.object)
-          (map (listing_of epoch) sent.cues)) number has.painted;
-      codes = λ live x y.
-          ap (λ (id : ℕ). last_code_or_zero now id x y) (sym number)
-          ∙ ap (λ code. unwrap_or code 0) (has.codes x y)
+      last = sent_value names epoch sent;
+      known = has.known;
+      version = refl;
+      few = few_listed names epoch region.id tick earlier live (omega arith);
+      painted = has.painted;
+      codes = λ some x y.
+          ap (λ code. unwrap_or code 0) (has.codes x y)
           ∙ ap (λ below_it. unwrap_or
-          (option_or (last_given (code_by_cue pictures epoch x y) sent.cues)
-          (option_or below_it (last_code taken sent.id x y))) 0)
-          (fill_zero epoch sent (ap (λ (s : SentRegion). s.fill) is))
-          ∙ upon_zero (last_given (code_by_cue pictures epoch x y) sent.cues)
-          ∙ ap (λ places. unwrap_or (last_given (code_by_cue pictures epoch x y) places) 0) listed
+          (option_or (last_given (code_by_cue pictures epoch x y) live)
+          (option_or below_it (last_code taken region.id x y))) 0)
+          (fill_zero names epoch sent refl)
+          ∙ upon_zero (last_given (code_by_cue pictures epoch x y) live)
           ∙ sym (authored_last pictures epoch region.id tick x y);
     }
+  where
+    sent : SentRegion
+    sent = anew_at epoch region.id tick earlier
+
+    live : List ℕ
+    live = live_places epoch.cues region.id tick
 
 -- ---- drawn on
 
-pub drawn_on : (pictures : List Picture) (epoch : Epoch) (region : AuthoredRegion) (tick before : ℕ)
-    (more cues : List ℕ) (objects above below taken now : List Content) (sent : SentRegion)
-    → sent ≡ extended region.id (region_version epoch.cues region.id (tick ∷ before ∷ more))
-    (live_places epoch.cues region.id before) (live_places epoch.cues region.id tick)
-    → has_some (live_places epoch.cues region.id before) ≡ true
-    → live_places epoch.cues region.id tick ≡ live_places epoch.cues region.id before
-    ++ drop (length (live_places epoch.cues region.id before)) (live_places epoch.cues region.id tick)
+-- some cues were live, and new ones come behind them
+abbrev pub IsJoined : List ℕ → List ℕ → Type 0
+IsJoined old new = (has_some old ≡ true) × (new ≡ old ++ drop (length old) new)
+
+-- a region as it is sent with its new cues alone
+abbrev pub onward_at : Epoch → ℕ → ℕ → ℕ → List ℕ → SentRegion
+onward_at epoch id tick before more =
+    extended id (region_version epoch.cues id (tick ∷ before ∷ more)) (live_places epoch.cues id before)
+    (live_places epoch.cues id tick)
+
+pub drawn_on : {names : Names} {pictures : List Picture} {epoch : Epoch} {taken now : List Content}
+    {region : AuthoredRegion} {before : ℕ} {more : List ℕ} (tick : ℕ)
+    → IsJoined (live_places epoch.cues region.id before) (live_places epoch.cues region.id tick)
     → KeepsRegion pictures epoch before more taken region
-    → IsTakenRegion pictures epoch sent objects above below taken now
+    → IsTakenRegion names pictures epoch (onward_at epoch region.id tick before more) taken now
     → KeepsRegion pictures epoch tick (before ∷ more) now region
-drawn_on pictures epoch region tick before more cues objects above below taken now sent is some joined kept has =
-    let number : sent.id ≡ region.id = ap (λ (s : SentRegion). s.id) is in
-    let listed : sent.cues
-    ≡ drop (length (live_places epoch.cues region.id before)) (live_places epoch.cues region.id tick) = ap
-    (λ (s : SentRegion). s.cues) is in
+drawn_on {names} {pictures} {epoch} {taken} {now} {region} {before} {more} tick joined kept has =
     record {
-      last = sent_value epoch sent;
-      known = subst (λ (id : ℕ). last_region id now ≡ Some (sent_value epoch sent)) number has.known;
-      version = ap (λ (s : SentRegion). s.version) is;
+      last = sent_value names epoch sent;
+      known = has.known;
+      version = refl;
       few =
-          few_listed epoch region.id tick (before ∷ more) sent.cues
-          (omega (
-            arith,
-            ap length listed,
-            length-drop (length (live_places epoch.cues region.id before))
-                (live_places epoch.cues region.id tick),
-          ));
-      painted =
-          subst (λ (id : ℕ). All (λ (listing : Listing). HasObject id now listing.object)
-          (map (listing_of epoch) sent.cues)) number has.painted;
-      codes = λ live x y.
-          ap (λ (id : ℕ). last_code_or_zero now id x y) (sym number)
-          ∙ ap (λ code. unwrap_or code 0) (has.codes x y)
+          few_listed names epoch region.id tick (before ∷ more) sent.cues
+          (omega (arith, length-drop (length old) live));
+      painted = has.painted;
+      codes = λ some x y.
+          ap (λ code. unwrap_or code 0) (has.codes x y)
           ∙ ap (λ below_it. unwrap_or
           (option_or (last_given (code_by_cue pictures epoch x y) sent.cues)
-          (option_or below_it (last_code taken sent.id x y))) 0)
-          (fill_none epoch sent (ap (λ (s : SentRegion). s.fill) is))
-          ∙ upon_same (last_given (code_by_cue pictures epoch x y) sent.cues) (last_code taken sent.id x y)
-          (last_given (code_by_cue pictures epoch x y) (live_places epoch.cues region.id before))
-          (ap (λ (id : ℕ). last_code_or_zero taken id x y) number ∙ kept.codes some x y
-          ∙ authored_last pictures epoch region.id before x y)
-          ∙ ap (λ places. unwrap_or
-          (option_or (last_given (code_by_cue pictures epoch x y) places)
-          (last_given (code_by_cue pictures epoch x y) (live_places epoch.cues region.id before))) 0) listed
+          (option_or below_it (last_code taken region.id x y))) 0)
+          (fill_none names epoch sent refl)
+          ∙ upon_same (last_given (code_by_cue pictures epoch x y) sent.cues) (last_code taken region.id x y)
+          (last_given (code_by_cue pictures epoch x y) old)
+          (kept.codes joined.0 x y ∙ authored_last pictures epoch region.id before x y)
           ∙ ap (λ code. unwrap_or code 0)
-          (sym (last_given-append (code_by_cue pictures epoch x y) (live_places epoch.cues region.id before)
-          (drop (length (live_places epoch.cues region.id before)) (live_places epoch.cues region.id tick))))
-          ∙ ap (λ places. unwrap_or (last_given (code_by_cue pictures epoch x y) places) 0) (sym joined)
+          (sym (last_given-append (code_by_cue pictures epoch x y) old (drop (length old) live)))
+          ∙ ap (λ places. unwrap_or (last_given (code_by_cue pictures epoch x y) places) 0) (sym joined.1)
           ∙ sym (authored_last pictures epoch region.id tick x y);
     }
+  where
+    sent : SentRegion
+    sent = onward_at epoch region.id tick before more
+
+    old : List ℕ
+    old = live_places epoch.cues region.id before
+
+    live : List ℕ
+    live = live_places epoch.cues region.id tick
 
 -- ---- left as it was
 
-pub left_still : (pictures : List Picture) (epoch : Epoch) (region : AuthoredRegion) (tick before : ℕ)
-    (more : List ℕ) (new taken : List Content)
-    → All (IsIdle region.id taken) new
+pub left_still : {pictures : List Picture} {epoch : Epoch} {before : ℕ} {more : List ℕ} {taken : List Content}
+    {region : AuthoredRegion} (tick : ℕ) (new : List Content) → All (IsIdle region.id taken) new
     → is_redrawn (live_places epoch.cues region.id before) (live_places epoch.cues region.id tick) ≡ false
     → KeepsRegion pictures epoch before more taken region
     → KeepsRegion pictures epoch tick (before ∷ more) (new ++ taken) region
-left_still pictures epoch region tick before more new taken idle still kept =
+left_still {pictures} {epoch} {before} {more} {taken} {region} tick new idle still kept =
     record {
       last = kept.last;
       known = last_behind region.id new taken no_region ∙ kept.known;

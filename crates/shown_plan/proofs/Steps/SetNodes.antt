@@ -350,11 +350,11 @@ all_entries_defined epoch tick earlier (content ∷ taken) small rows sent =
         All (Contains (defined_entries epoch (tick ∷ earlier)))
         (flat_map entries_of_clut (cons_option found (filter_map clut_of taken)))
 
-    by : (value : SegmentValue) → content.value ≡ value → IsSentBy epoch tick content value
+    by : (value : SegmentValue) → content.value ≡ value → IsSentBy epoch tick value
         → All (Contains (defined_entries epoch (tick ∷ earlier)))
         (flat_map entries_of_clut (filter_map clut_of taken)) → Goal (clut_of content)
     by value e own again =
-        elim value as (λ v. content.value ≡ v → IsSentBy epoch tick content v → Goal (clut_of content)) [
+        elim value as (λ v. content.value ≡ v → IsSentBy epoch tick v → Goal (clut_of content)) [
           | of_page v ↦ λ e own. rw e again
           | of_region v ↦ λ e own. rw e again
           | of_clut v ↦ λ e own. rw e

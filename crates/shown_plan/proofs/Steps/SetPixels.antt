@@ -259,11 +259,11 @@ none_too_large epoch profile tick earlier content apart enough sent own = by con
         either true = refl
         either false = refl
 
-    by : (value : SegmentValue) → content.value ≡ value → IsSentBy epoch tick content value
+    by : (value : SegmentValue) → content.value ≡ value → IsSentBy epoch tick value
         → pixels_full profile earlier content ≡ None
     by value e own =
         elim value as
-        (λ v. content.value ≡ v → IsSentBy epoch tick content v → pixels_full profile earlier content ≡ None) [
+        (λ v. content.value ≡ v → IsSentBy epoch tick v → pixels_full profile earlier content ≡ None) [
           | of_page v ↦ λ e own. rw e refl
           | of_region v ↦ λ e own. rw e (fits v own (last_region v.head.region taken) refl)
           | of_clut v ↦ λ e own. rw e refl

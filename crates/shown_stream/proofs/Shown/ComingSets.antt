@@ -1,7 +1,8 @@
 -- The sets of a plan that come whole, as a receiver reads them.
-use Rattle.std.proofs.Common.{◌≡◌, ◌∙◌, ℕ, suc, ◌%◌, List, [], ◌∷◌, ◌++◌, map, reverse, Some, None, refl, sym, ap, subst, append_assoc}
+use Rattle.std.proofs.Common.{◌≡◌, ◌∙◌, ℕ, suc, ◌%◌, ◌==◌, cond, eqb, List, [], ◌∷◌, ◌++◌, map, reverse, get_or, Some, None, refl, sym, ap, subst, append_assoc, arith}
 use Rattle.std.specs.Prelude.{All, slice_get}
 use Rattle.std.specs.List.{AllZip}
+use Rattle.std.proofs.lemmas.Bool.Decides.{nat_tests}
 use Rattle.std.proofs.lemmas.List.{reverse-append}
 use Rattle.sub_base.specs.declared.profile.Profile.{Profile}
 use Rattle.stream_syntax.specs.declared.wire.TheConstants.{TIME_ROUND}
@@ -10,17 +11,21 @@ use Rattle.cue_list.specs.declared.script.Script.{Script}
 use Rattle.page_epoch.specs.Plan.{IsPlan}
 use Rattle.page_epoch.specs.Sendable.{HasCue}
 use Rattle.page_epoch.specs.declared.planned_set.PlannedSet.{PlannedSet}
+use Rattle.page_epoch.specs.declared.planned_set.SentRegion.{SentRegion}
 use Rattle.decoder_model.specs.Faults.{contents_in, segment_fault}
 use Rattle.decoder_model.specs.Readings.{Content, Reading, read, AreReadings, IsDeliveryRead}
 use Rattle.decoder_model.specs.Sets.{Delivery, whole}
 use Rattle.decoder_model.proofs.SentSets.{TimedSet, all_segments, size_of_units, delivered}
 use Rattle.shown_plan.proofs.Steps.Fair.{fair}
+use Rattle.shown_plan.proofs.Segments.ByPlace.{set_is_named}
+use Rattle.shown_plan.proofs.Segments.Lists.{sum_same}
+use Rattle.shown_plan.proofs.Segments.OwnIds.{AreSingle}
 use Rattle.shown_plan.proofs.Segments.PlannedSets.{IsInEpoch}
 use Rattle.shown_plan.proofs.Segments.ReadSets.{IsReadSet}
 use Rattle.shown_plan.proofs.Pictures.Runs.{at_place}
 use Rattle.shown_stream.proofs.Sent.CompiledSets.{IsSentAs, AreSentAs}
-use Rattle.shown_stream.proofs.Late.LateRest.{IsPlannedWell}
-use Rattle.shown_stream.proofs.Shown.ReadSegments.{AreShallow, fair_shallow, set_is_read}
+use Rattle.shown_stream.proofs.Late.LateRest.{HaveNumbers, IsPlannedWell}
+use Rattle.shown_stream.proofs.Shown.ReadSegments.{written_on, AreShallow, fair_shallow, set_is_read}
 
 -- a set of a plan that comes whole, with what it is read as
 pub record SetComes (script : Script) (set : PlannedSet) (sent : TimedSet) : Type 0 where
@@ -43,6 +48,20 @@ pub is_read : {script : Script} {set : PlannedSet} {sent : TimedSet} (comes : Se
     → IsDeliveryRead (delivered sent) (reading_of comes)
 is_read comes = (comes.readings, comes.are, refl)
 
+-- the regions of a set that have different numbers are told apart by them
+single_numbers : (sent : List SentRegion) → HaveNumbers sent → AreSingle (λ (one : SentRegion). one.id) sent
+single_numbers sent differ id =
+    omega (
+      arith,
+      differ id,
+      sum_same (λ (one : SentRegion). cond {A = ℕ} (one.id == id) 1 0)
+          (λ (one : SentRegion). cond {A = ℕ} (eqb id one.id) 1 0) sent
+          (λ k d within. ap (λ b. cond {A = ℕ} b 1 0) (turned (get_or sent k d).id)),
+    )
+  where
+    turned : (other : ℕ) → (other == id) ≡ eqb id other
+    turned other = grind (arith, nat_tests)
+
 -- each set of a plan does
 pub set_comes : (script : Script) (profile : Profile) (past : List PlannedSet) (page : ℕ) (set : PlannedSet)
     (packets : List (List ℕ)) (sent : TimedSet) → IsInEpoch script profile past set → IsPlannedWell set
@@ -53,7 +72,8 @@ set_comes script profile past page set packets sent place well is =
     let same : place.epoch ≡ carried.epoch =
     (let both : Some place.epoch ≡ Some carried.epoch = sym place.place.found ∙ carried.found in cc) in
     let was =
-    set_is_read script page set is.segments carried well
+    set_is_read (set_is_named script page set is.segments carried) (written_on page is.segments carried.fit)
+    (single_numbers set.regions well.numbers)
     (subst (AreShallow script.pictures) same (fair_shallow script.pictures place.epoch place.fair.cues))
     (subst (λ (epoch : Epoch). All (HasCue epoch) set.cues) same place.planned.sendable.cues) in
     record {

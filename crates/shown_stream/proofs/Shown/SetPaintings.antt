@@ -1,10 +1,10 @@
 -- How long the sets of a plan are painted in a receiver: those that come whole as the plan says.
 use Rattle.std.proofs.Common.{◌≡◌, ◌∙◌, ◌⊎◌, inl, inr, ℕ, ◌+◌, List, [], ◌∷◌, ◌++◌, map, Option, Some, None, refl, ap, arith}
-use Rattle.std.specs.Prelude.{filter_map}
-use Rattle.std.specs.List.{AllByRecursion, AllZip, sum_by, cons_option}
+use Rattle.std.specs.Prelude.{All, filter_map}
+use Rattle.std.specs.List.{AllByRecursion, sum_by, cons_option}
+use Rattle.std.proofs.lemmas.List.Elements.{All-head, All-tail}
 use Rattle.std.proofs.lemmas.List.Sums.{sum_by-cons}
 use Rattle.sub_base.specs.Lists.{with_earlier}
-use Rattle.sub_base.specs.Picture.{Picture}
 use Rattle.sub_base.specs.declared.profile.Profile.{Profile}
 use Rattle.stream_syntax.specs.Segments.{SegmentValue, Region as RegionValue, end_of_set}
 use Rattle.stream_syntax.specs.declared.page.State.{State}
@@ -26,10 +26,12 @@ use Rattle.decoder_model.specs.Sets.{Delivery}
 use Rattle.decoder_model.specs.Verdict.{verdict_of}
 use Rattle.decoder_model.specs.declared.set_end.SetEnd.TheVariants.{Shown, Waiting}
 use Rattle.decoder_model.proofs.SentSets.{TimedSet}
-use Rattle.shown_plan.proofs.Segments.ReadSets.{plain, IsDrawnObject, IsReadSet}
+use Rattle.shown_plan.specs.NamedSets.{Names, named_region}
+use Rattle.shown_plan.proofs.Segments.ReadSets.{plain, IsObject, IsReadSet, objects_of}
+use Rattle.shown_plan.proofs.Steps.RegionSteps.{sent_value}
 use Rattle.received_level_laws.specs.StreamCalls.{call_by, set_call}
 use Rattle.shown_stream.proofs.Shown.ComingSets.{SetComes, reading_of}
-use Rattle.shown_stream.proofs.Late.LateRest.{IsNoRegion, region_with}
+use Rattle.shown_stream.proofs.Late.LateRest.{IsNoRegion}
 
 -- ---- the contents of a set
 
@@ -54,29 +56,28 @@ cluts_none : (epoch : Epoch) (sent : List SentClut)
 cluts_none epoch [] = tt
 cluts_none epoch (one ∷ sent) = (refl, cluts_none epoch sent)
 
--- regions are painted as the plan says
-regions_painted : (epoch : Epoch) (sent : List SentRegion) (behind : List SegmentValue) (more : List Content)
-    → paint (map plain (map (planned.region_segment_of epoch) sent ++ behind) ++ more)
+-- regions are painted as the plan says, whatever the numbers of the objects that they list
+regions_painted : (names : Names) (epoch : Epoch) (sent : List SentRegion) (behind : List SegmentValue)
+    (more : List Content)
+    → paint (map plain (map (named_region names epoch) sent ++ behind) ++ more)
     ≡ sum_by (sent_painting epoch) sent + paint (map plain behind ++ more)
-regions_painted epoch [] behind more = omega arith
-regions_painted epoch (one ∷ sent) behind more =
+regions_painted names epoch [] behind more = omega arith
+regions_painted names epoch (one ∷ sent) behind more =
     omega (
       arith,
-      sum_by-cons region_painting (region_with epoch one)
-          (filter_map region_of (map plain (map (planned.region_segment_of epoch) sent ++ behind) ++ more)),
+      sum_by-cons region_painting (sent_value names epoch one)
+          (filter_map region_of (map plain (map (named_region names epoch) sent ++ behind) ++ more)),
       sum_by-cons (sent_painting epoch) one sent,
-      regions_painted epoch sent behind more,
+      regions_painted names epoch sent behind more,
     )
 
-objects_none : (pictures : List Picture) (epoch : Epoch) (places : List ℕ) (objects : List Content)
-    → AllZip (IsDrawnObject pictures epoch) places objects → paint (objects ++ plain end_of_set ∷ []) ≡ 0
-objects_none pictures epoch [] [] drawn = refl
-objects_none pictures epoch [] (object ∷ objects) drawn = absurd drawn
-objects_none pictures epoch (place ∷ places) [] drawn = absurd drawn
-objects_none pictures epoch (place ∷ places) (object ∷ objects) drawn =
+objects_none : (objects : List Content) → All IsObject objects → paint (objects ++ plain end_of_set ∷ []) ≡ 0
+objects_none [] all = refl
+objects_none (object ∷ objects) all =
     ap (λ found. sum_by region_painting
     (cons_option found (filter_map region_of (objects ++ plain end_of_set ∷ []))))
-    (ap region_in drawn.0.value_is) ∙ objects_none pictures epoch places objects drawn.1
+    (ap region_in (All-head IsObject object objects all).is)
+    ∙ objects_none objects (All-tail IsObject object objects all)
 
 behind_display : (script : Script) (state : State) (values : List SegmentValue) (more : List Content)
     → paint (map plain (planned.display_segments script state ++ values) ++ more) ≡ paint (map plain values ++ more)
@@ -89,17 +90,12 @@ pub set_painted : (script : Script) (epoch : Epoch) (set : PlannedSet) (contents
     → IsReadSet script epoch set contents
     → set_painting contents ≡ sum_by (sent_painting epoch) set.regions
 set_painted script epoch set contents is =
-    let cluts = map (planned.clut_segment_of epoch) set.cluts in
+    let cluts = map (planned.clut_segment_of epoch) is.cluts in
     let back = is.objects ++ plain end_of_set ∷ [] in
     ap set_painting is.are
     ∙ behind_display script set.state _ back
-    ∙ regions_painted epoch set.regions cluts back
-    ∙ omega (
-      arith,
-      none_painted cluts back (cluts_none epoch set.cluts),
-      objects_none script.pictures epoch set.cues
-          is.objects is.drawn,
-    )
+    ∙ regions_painted is.names epoch set.regions cluts back
+    ∙ omega (arith, none_painted cluts back (cluts_none epoch is.cluts), objects_none is.objects (objects_of is))
 
 -- ---- the call of a set
 
