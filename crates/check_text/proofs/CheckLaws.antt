@@ -16,7 +16,7 @@ use Rattle.display_sets.specs.Gathered.{ReadySet, ready_sets}
 use Rattle.display_sets.specs.Standing.{AreReady}
 use Rattle.display_sets.proofs.PacketLaws.{none_arrived}
 use Rattle.packet_walk.specs.Told.{TellsOne}
-use Rattle.receiver.specs.Receiving.{AreLosses, IsSame, Receiving, Stands}
+use Rattle.set_receiver.specs.Receiving.{AreLosses, IsSame, Receiving, Reception, Stands, reception, sets_received}
 use Rattle.received_level_laws.specs.StreamCalls.{calls_of_packet}
 use Rattle.received_level_laws.specs.ToldSets.{ToldCall, calls_told, of_no_set, told_of}
 use Rattle.received_level_laws.proofs.ToldLaws.{end_tells, losses_tell, packet_tells}
@@ -31,11 +31,10 @@ use Rattle.sub_base.specs.declared.profile.ProfileName.{ProfileName}
 use Rattle.sub_base.specs.declared.profile.ProfileName.TheVariants.{Hd, Large, Sd, Wide}
 use Rattle.sub_base.specs.declared.pace.Pace.{Pace}
 use Rattle.sub_base.specs.declared.profile.Profile.{Profile}
-use Rattle.check_text.specs.CheckText.{IsCheckText, check_text, end_text, sets_text}
-use Rattle.receiver.specs.Taking.{AllTaken, AreBytes}
-use Rattle.check_text.specs.Checking.{Checking, HasChecked, IsAt, IsMadeFor, Purpose, PutsEnd, TakesCalls, TakesSets, told_with}
+use Rattle.check_text.specs.CheckText.{IsCheckTextIn, check_text, end_text, sets_text}
+use Rattle.set_receiver.specs.Taking.{AllTaken, AreBytes}
+use Rattle.check_text.specs.Checking.{Checking, HasChecked, HasCheckedIn, IsAt, PutsEnd, TakesCalls, TakesSets, told_with}
 use Rattle.check_text.proofs.ReadLaws.{AreLost, losses_read}
-use Rattle.check_text.proofs.SetLaws.{still_made}
 use Rattle.check_text.proofs.StepLaws.{with_both}
 
 -- ---- before the first packet
@@ -59,21 +58,13 @@ none_received profile pid pages =
     (sym (none_yet profile.coded pid pages false)) tt
 
 pub nothing_checked : (receiving : Receiving) (meter : Meter) → Stands false [] [] receiving
-    → meters.Stands [] meter → meter.pace ≡ pace_of receiving.showing.core.anchor receiving.showing.core.profile
-    → meter.next ≡ 0
-    → HasChecked (record { receiving = receiving; meter = meter }) [] []
+    → meters.Stands [] meter → meter.pace ≡ pace_of (reception receiving).anchor (reception receiving).profile
+    → meter.next ≡ 0 → HasChecked (record { receiving = receiving; meter = meter }) [] []
 nothing_checked receiving meter stands metered pace next = record {
-  made =
-      record {
-        profile = receiving.showing.core.profile;
-        pid = receiving.demux.pid;
-        pages = receiving.sets.pages;
-        origin = receiving.showing.core.anchor;
-      };
   past = [];
   told = [];
   at = record {
-    own = record { profile = refl; pid = refl; pages = refl; origin = refl };
+    own = refl;
     bytes = All-nil AreBytes;
     given = [];
     stands = stands;
@@ -82,7 +73,7 @@ nothing_checked receiving meter stands metered pace next = record {
     metered = metered;
     whole = refl;
   };
-  received = none_received receiving.showing.core.profile receiving.demux.pid receiving.sets.pages;
+  received = none_received (reception receiving).profile (reception receiving).pid (reception receiving).pages;
   are = refl;
   next = omega (arith, next);
 }
@@ -94,13 +85,13 @@ pub bytes_of : (packet : List ℕ) → ((k : ℕ) → get_or packet k 0 < 256) �
 bytes_of packet small k d within = omega (arith, small k, get_or_default packet k d 0 within)
 
 -- a packet was fed
-pub record IsFed (made : Purpose) (receiving : Receiving) (meter : Meter) (packets : List (List ℕ))
+pub record IsFed (made : Reception) (receiving : Receiving) (meter : Meter) (packets : List (List ℕ))
     (past : List (Delivery Reading)) (told : List ToldCall) (text : List ℕ) : Type 0 where
   pub more : List (Delivery Reading)
   pub are_lost : AreLost more
   pub at : IsAt made false receiving meter packets (more ++ past) told text
 
-pub fed_at : (made : Purpose) (old new : Receiving) (meter : Meter) (packets : List (List ℕ)) (packet : List ℕ)
+pub fed_at : (made : Reception) (old new : Receiving) (meter : Meter) (packets : List (List ℕ)) (packet : List ℕ)
     (past : List (Delivery Reading)) (told : List ToldCall) (text : List ℕ) → AreBytes packet → IsSame old new
     → ((fed : List (List ℕ)) (given : List (Delivery (List ℕ))) → Stands false fed given old
     → (losses : List (Delivery (List ℕ))) × AreLosses losses
@@ -114,7 +105,7 @@ fed_at made old new meter packets packet past told text bytes same feeds at =
       more = read.more;
       are_lost = read.are_lost;
       at = record {
-        own = still_made made old new same at.own;
+        own = same ∙ at.own;
         bytes = All-push AreBytes packets packet at.bytes bytes;
         given = at.given ++ fed.0;
         stands = fed.2;
@@ -126,18 +117,17 @@ fed_at made old new meter packets packet past told text bytes same feeds at =
     }
 
 -- what was taken is all that was received
-pub received_at : (made : Purpose) (ended : Bool) (receiving : Receiving) (meter : Meter) (packets : List (List ℕ))
+pub received_at : (made : Reception) (ended : Bool) (receiving : Receiving) (meter : Meter) (packets : List (List ℕ))
     (past : List (Delivery Reading)) (told : List ToldCall) (text : List ℕ)
     → AllTaken receiving → IsAt made ended receiving meter packets past told text
     → HasReceived made.profile made.pid made.pages ended packets past
 received_at made ended receiving meter packets past told text all at =
-    let here : sets_of made.profile.coded made.pid made.pages ended packets ≡ at.given =
-    (λ i. sets_of (sym at.own.profile i).coded (sym at.own.pid i) (sym at.own.pages i) ended packets)
-    ∙ all packets ended at.given at.stands in
+    let here : sets_received made ended packets ≡ at.given =
+    (λ i. sets_received (sym at.own i) ended packets) ∙ all packets ended at.given at.stands in
     subst (λ (sets : List (Delivery (List ℕ))). AreDeliveriesRead (reverse sets) past) (sym here) at.read
 
 -- the calls of a packet come behind those of the packets before it
-told_packet : (made : Purpose) (packets : List (List ℕ)) (packet : List ℕ)
+told_packet : (made : Reception) (packets : List (List ℕ)) (packet : List ℕ)
     (past lost more : List (Delivery Reading)) (told : List ToldCall) (event : Event) (arrival : PacketArrival)
     (place : ℕ)
     → packets_taken made.pid packets ≡ packets → packet_fault made.pid packet ≡ None
@@ -147,85 +137,86 @@ told_packet : (made : Purpose) (packets : List (List ℕ)) (packet : List ℕ)
     → event ≡ event_at made.pid made.profile.coded packets packet
     → arrival ≡ packet_arrival made.profile.coded made.pid made.pages packets packet
     → length packets ≡ place
-    → told ≡ told_of made.profile made.pid made.pages made.origin 0 packets past
+    → told ≡ told_of made.profile made.pid made.pages made.anchor 0 packets past
     → told ++ calls_of_packet of_no_set event arrival place (told_with made (lost ++ past) more)
-    ≡ told_of made.profile made.pid made.pages made.origin 0 (packets ++ packet ∷ []) (more ++ (lost ++ past))
+    ≡ told_of made.profile made.pid made.pages made.anchor 0 (packets ++ packet ∷ []) (more ++ (lost ++ past))
 told_packet made packets packet past lost more told event arrival place taken sound before behind are_lost event_is
     arrival_is count told_is =
     let calls : told_with made (lost ++ past) more ≡ told_with made past (more ++ lost) =
     sym (with_both made past lost more
     ∙ ap (λ (none : List ToldCall). none ++ told_with made (lost ++ past) more)
-    (losses_tell made.profile made.origin past lost are_lost)) in
+    (losses_tell made.profile made.anchor past lost are_lost)) in
     let own : HasReceived made.profile made.pid made.pages false (packets ++ packet ∷ []) ((more ++ lost) ++ past) =
     subst (λ (all : List (Delivery Reading)). HasReceived made.profile made.pid made.pages false
     (packets ++ packet ∷ []) all) (sym (append_assoc more lost past)) behind in
     let slot : place ≡ 0 + length packets = omega (arith, count) in
     (λ i. told_is i ++ calls_of_packet of_no_set (event_is i) (arrival_is i) (slot i) (calls i))
-    ∙ sym (packet_tells made.profile made.pid made.pages made.origin 0 packets packet past (more ++ lost) taken sound
+    ∙ sym (packet_tells made.profile made.pid made.pages made.anchor 0 packets packet past (more ++ lost) taken sound
     before own)
-    ∙ ap (told_of made.profile made.pid made.pages made.origin 0 (packets ++ packet ∷ []))
+    ∙ ap (told_of made.profile made.pid made.pages made.anchor 0 (packets ++ packet ∷ []))
     (append_assoc more lost past)
 
 module _ (old mid new : Receiving) (was is : Meter) (packet : List ℕ) (event : Event) (arrival : PacketArrival)
     (place : ℕ) (before now : Received) (old_buffer new_buffer : Buffered)
     (bytes : AreBytes packet) (same : IsSame old mid)
-    (sound : packet_fault old.demux.pid packet ≡ None)
+    (sound : packet_fault (reception old).pid packet ≡ None)
     (feeds : (fed : List (List ℕ)) (given : List (Delivery (List ℕ))) → Stands false fed given old
     → (losses : List (Delivery (List ℕ))) × AreLosses losses
     × Stands false (fed ++ packet ∷ []) (given ++ losses) mid)
     (events : (fed : List (List ℕ)) (given : List (Delivery (List ℕ))) → Stands false fed given old
-    → event ≡ event_at old.demux.pid old.showing.core.profile.coded fed packet)
+    → event ≡ event_at (reception old).pid (reception old).profile.coded fed packet)
     (arrivals : (fed : List (List ℕ)) (given : List (Delivery (List ℕ))) → Stands false fed given old
-    → mid.arrival ≡ packet_arrival old.showing.core.profile.coded old.demux.pid old.sets.pages fed packet)
-    (arrival_is : arrival ≡ mid.arrival)
+    → mid.collecting.arrival
+    ≡ packet_arrival (reception old).profile.coded (reception old).pid (reception old).pages fed packet)
+    (arrival_is : arrival ≡ mid.collecting.arrival)
     (calls : TakesCalls event arrival place before now mid new was is old_buffer new_buffer)
     (all : AllTaken new)
     (next : is.next ≤ place + 1) where
-  told_so : (packets : List (List ℕ)) (text line : List ℕ)
+  -- what the receiver is for
+  abbrev fed_for : Reception
+  fed_for = reception old
+
+  told_so : (packets : List (List ℕ)) (text : List ℕ)
       (has : HasChecked (record { receiving = old; meter = was }) packets text) (lost more : List (Delivery Reading))
       → length packets ≡ place → AreLost lost
-      → HasReceived has.made.profile has.made.pid has.made.pages false (packets ++ packet ∷ [])
+      → HasReceived fed_for.profile fed_for.pid fed_for.pages false (packets ++ packet ∷ [])
       (more ++ (lost ++ has.past))
-      → has.told ++ calls_of_packet of_no_set event arrival place (told_with has.made (lost ++ has.past) more)
-      ≡ told_of has.made.profile has.made.pid has.made.pages has.made.origin 0 (packets ++ packet ∷ [])
+      → has.told ++ calls_of_packet of_no_set event arrival place (told_with fed_for (lost ++ has.past) more)
+      ≡ told_of fed_for.profile fed_for.pid fed_for.pages fed_for.anchor 0 (packets ++ packet ∷ [])
       (more ++ (lost ++ has.past))
-  told_so packets text line has lost more count are_lost behind =
-      let own = has.at.own in
-      told_packet has.made packets packet has.past lost more has.told event arrival place
-      (ap (λ (pid : ℕ). packets_taken pid packets) (sym own.pid) ∙ has.at.stands.taken)
-      (ap (λ (pid : ℕ). packet_fault pid packet) (sym own.pid) ∙ sound)
-      has.received behind are_lost
-      (events packets has.at.given has.at.stands ∙ (λ i. event_at (own.pid i) (own.profile i).coded packets packet))
-      (arrival_is ∙ arrivals packets has.at.given has.at.stands
-      ∙ (λ i. packet_arrival (own.profile i).coded (own.pid i) (own.pages i) packets packet))
-      count has.are
+  told_so packets text has lost more count are_lost behind =
+      told_packet fed_for packets packet has.past lost more has.told event arrival place has.at.stands.reads.taken sound
+      has.received behind are_lost (events packets has.at.given has.at.stands)
+      (arrival_is ∙ arrivals packets has.at.given has.at.stands) count has.are
 
   checked_so : (packets : List (List ℕ)) (text line : List ℕ)
       (has : HasChecked (record { receiving = old; meter = was }) packets text) (lost more : List (Delivery Reading))
       → length packets ≡ place → AreLost lost
-      → IsAt has.made false new is (packets ++ packet ∷ []) (more ++ (lost ++ has.past))
-      (has.told ++ calls_of_packet of_no_set event arrival place (told_with has.made (lost ++ has.past) more))
+      → IsAt fed_for false new is (packets ++ packet ∷ []) (more ++ (lost ++ has.past))
+      (has.told ++ calls_of_packet of_no_set event arrival place (told_with fed_for (lost ++ has.past) more))
       (text ++ line)
       → HasChecked (record { receiving = new; meter = is }) (packets ++ packet ∷ []) (text ++ line)
   checked_so packets text line has lost more count are_lost at =
-      let behind = received_at has.made false new is (packets ++ packet ∷ []) _ _ _ all at in
-      record {
-        made = has.made;
+      let behind = received_at fed_for false new is (packets ++ packet ∷ []) _ _ _ all at in
+      subst
+      (λ (one : Reception). HasCheckedIn one (record { receiving = new; meter = is }) (packets ++ packet ∷ [])
+      (text ++ line)) (sym at.own)
+      (record {
         past = more ++ (lost ++ has.past);
-        told = has.told ++ calls_of_packet of_no_set event arrival place (told_with has.made (lost ++ has.past) more);
+        told = has.told ++ calls_of_packet of_no_set event arrival place (told_with fed_for (lost ++ has.past) more);
         at = at;
         received = behind;
-        are = told_so packets text line has lost more count are_lost behind;
+        are = told_so packets text has lost more count are_lost behind;
         next = omega (arith, next, count, length-append packets (packet ∷ []));
-      }
+      })
 
   -- a packet more
   pub packet_told : TellsOne HasChecked before now (record { receiving = old; meter = was })
       (record { receiving = new; meter = is }) old_buffer new_buffer place packet
   packet_told = record {
     goes = λ packets text. λ count has.
-        let fed = fed_at has.made old mid was packets packet has.past has.told text bytes same feeds has.at in
-        let taken = calls.goes has.made (packets ++ packet ∷ []) (fed.more ++ has.past) has.told text fed.at in (
+        let fed = fed_at fed_for old mid was packets packet has.past has.told text bytes same feeds has.at in
+        let taken = calls.goes fed_for (packets ++ packet ∷ []) (fed.more ++ has.past) has.told text fed.at in (
           taken.1,
           checked_so packets text taken.1 has fed.more taken.0 count fed.are_lost taken.2,
           taken.3,
@@ -247,11 +238,11 @@ module _ (old mid new : Receiving) (was is : Meter) (before half now : Received)
     (sets : TakesSets before half mid new was is old_buffer mid_buffer)
     (all : AllTaken new)
     (last : PutsEnd is half now mid_buffer new_buffer) where
-  at_end : (made : Purpose) (packets : List (List ℕ)) (past : List (Delivery Reading)) (told : List ToldCall)
+  at_end : (made : Reception) (packets : List (List ℕ)) (past : List (Delivery Reading)) (told : List ToldCall)
       (text : List ℕ) → IsAt made false old was packets past told text
       → IsAt made true mid was packets past told text
   at_end made packets past told text at = record {
-    own = still_made made old mid same at.own;
+    own = same ∙ at.own;
     bytes = at.bytes;
     given = at.given;
     stands = ends packets at.given at.stands;
@@ -261,38 +252,44 @@ module _ (old mid new : Receiving) (was is : Meter) (before half now : Received)
     whole = at.whole;
   }
 
+  -- what the receiver is for
+  abbrev ended_for : Reception
+  ended_for = reception old
+
   told_end : (packets : List (List ℕ)) (text line : List ℕ)
       (has : HasChecked (record { receiving = old; meter = was }) packets text) (more : List (Delivery Reading))
-      → IsAt has.made true new is packets (more ++ has.past) (has.told ++ told_with has.made has.past more)
+      → IsAt ended_for true new is packets (more ++ has.past) (has.told ++ told_with ended_for has.past more)
       (text ++ line)
-      → IsCheckText has.made.profile has.made.origin has.made.pid has.made.pages true packets
+      → IsCheckTextIn ended_for true packets
       (text ++ (line
-      ++ end_text (pace_of has.made.origin has.made.profile) (has.told ++ told_with has.made has.past more)))
+      ++ end_text (pace_of ended_for.anchor ended_for.profile) (has.told ++ told_with ended_for has.past more)))
   told_end packets text line has more at =
-      let taken : packets_taken has.made.pid packets ≡ packets =
-      ap (λ (pid : ℕ). packets_taken pid packets) (sym has.at.own.pid) ∙ has.at.stands.taken in
+      let taken : packets_taken ended_for.pid packets ≡ packets = has.at.stands.reads.taken in
       record {
-        told = has.told ++ told_with has.made has.past more;
+        told = has.told ++ told_with ended_for has.past more;
         are = record {
           past = more ++ has.past;
-          received = received_at has.made true new is packets _ _ _ all at;
-          are = ap (λ (calls : List ToldCall). calls ++ told_with has.made has.past more) has.are
-              ∙ sym (end_tells has.made.profile has.made.pid has.made.pages has.made.origin 0 packets has.past more
-              taken has.received)
-              ∙ ap (λ (all : List (List ℕ)). told_of has.made.profile has.made.pid has.made.pages has.made.origin 0
-              all (more ++ has.past)) (sym taken);
+          received = received_at ended_for true new is packets _ _ _ all at;
+          are =
+              ap (λ (calls : List ToldCall). calls ++ told_with ended_for has.past more) has.are
+              ∙ sym (end_tells ended_for.profile ended_for.pid ended_for.pages ended_for.anchor 0 packets has.past
+              more taken has.received)
+              ∙ ap (λ (all : List (List ℕ)). told_of ended_for.profile ended_for.pid ended_for.pages
+              ended_for.anchor 0 all
+              (more ++ has.past)) (sym taken);
         };
         whole =
             sym (append_assoc text line
-            (end_text (pace_of has.made.origin has.made.profile) (has.told ++ told_with has.made has.past more)))
-            ∙ ended_text (pace_of has.made.origin has.made.profile) (has.told ++ told_with has.made has.past more)
-            (text ++ line) at.whole;
+            (end_text (pace_of ended_for.anchor ended_for.profile) (has.told ++ told_with ended_for has.past more)))
+            ∙ ended_text (pace_of ended_for.anchor ended_for.profile) (has.told ++ told_with ended_for has.past more)
+            (text ++ line)
+            at.whole;
       }
 
-  puts_end : (made : Purpose) (packets : List (List ℕ)) (past : List (Delivery Reading)) (told : List ToldCall)
+  puts_end : (made : Reception) (packets : List (List ℕ)) (past : List (Delivery Reading)) (told : List ToldCall)
       (text line : List ℕ) → IsAt made true new is packets past told text
       → PutsOut before half old_buffer mid_buffer line
-      → PutsOut before now old_buffer new_buffer (line ++ end_text (pace_of made.origin made.profile) told)
+      → PutsOut before now old_buffer new_buffer (line ++ end_text (pace_of made.anchor made.profile) told)
   puts_end made packets past told text line at puts =
       PutsOut-both before half now old_buffer mid_buffer new_buffer line _ puts
       (subst (λ (pace : Pace). PutsOut half now mid_buffer new_buffer (end_text pace told)) at.pace
@@ -301,58 +298,32 @@ module _ (old mid new : Receiving) (was is : Meter) (before half now : Received)
   -- the stream has ended
   pub end_told : (packets : List (List ℕ)) (text : List ℕ)
       → HasChecked (record { receiving = old; meter = was }) packets text
-      → (more : List ℕ)
-      × IsCheckText old.showing.core.profile old.showing.core.anchor old.demux.pid old.sets.pages true packets
-      (text ++ more)
+      → (more : List ℕ) × IsCheckTextIn ended_for true packets (text ++ more)
       × PutsOut before now old_buffer new_buffer more
   end_told packets text has =
       let taken =
-      sets.goes has.made true packets has.past has.told text (at_end has.made packets has.past has.told text has.at)
-      in
-      let more : List ℕ =
-      taken.1 ++ end_text (pace_of has.made.origin has.made.profile)
-      (has.told ++ told_with has.made has.past taken.0) in (
-        more,
-        in_receiver has.at.own (text ++ more) (told_end packets text taken.1 has taken.0 taken.3),
-        puts_end has.made packets _ _ _ taken.1 taken.3 taken.4,
+      sets.goes ended_for true packets has.past has.told text
+      (at_end ended_for packets has.past has.told text has.at) in (
+        taken.1 ++ end_text (pace_of ended_for.anchor ended_for.profile)
+            (has.told ++ told_with ended_for has.past taken.0),
+        told_end packets text taken.1 has taken.0 taken.3,
+        puts_end ended_for packets _ _ _ taken.1 taken.3 taken.4,
       )
-    where
-      in_receiver : IsMadeFor has.made old → (all : List ℕ)
-          → IsCheckText has.made.profile has.made.origin has.made.pid has.made.pages true packets all
-          → IsCheckText old.showing.core.profile old.showing.core.anchor old.demux.pid old.sets.pages true packets all
-      in_receiver own all is =
-          subst (λ (profile : Profile). IsCheckText profile old.showing.core.anchor old.demux.pid old.sets.pages true
-          packets all) (sym own.profile)
-          (subst (λ (origin : ℕ). IsCheckText has.made.profile origin old.demux.pid old.sets.pages true packets all)
-          (sym own.origin)
-          (subst (λ (pid : ℕ). IsCheckText has.made.profile has.made.origin pid old.sets.pages true packets all)
-          (sym own.pid)
-          (subst (λ (pages : Pages). IsCheckText has.made.profile has.made.origin has.made.pid pages true packets all)
-          (sym own.pages) is)))
 
 -- what was told of packets, where the stream does not end with them
 pub text_so_far : (checking : Checking) (packets : List (List ℕ)) (text : List ℕ)
-    → HasChecked checking packets text
-    → IsCheckText checking.receiving.showing.core.profile checking.receiving.showing.core.anchor
-    checking.receiving.demux.pid checking.receiving.sets.pages false packets text
+    → HasChecked checking packets text → IsCheckTextIn (reception checking.receiving) false packets text
 text_so_far checking packets text has =
-    subst (λ (profile : Profile). IsCheckText profile checking.receiving.showing.core.anchor
-    checking.receiving.demux.pid checking.receiving.sets.pages false packets text) (sym has.at.own.profile)
-    (subst (λ (origin : ℕ). IsCheckText has.made.profile origin checking.receiving.demux.pid
-    checking.receiving.sets.pages false packets text) (sym has.at.own.origin)
-    (subst (λ (pid : ℕ). IsCheckText has.made.profile has.made.origin pid checking.receiving.sets.pages false packets
-    text) (sym has.at.own.pid)
-    (subst (λ (pages : Pages). IsCheckText has.made.profile has.made.origin has.made.pid pages false packets text)
-    (sym has.at.own.pages) (record {
+    let made = reception checking.receiving in
+    record {
       told = has.told;
       are = record {
         past = has.past;
         received = has.received;
         are =
-            has.are ∙ ap
-            (λ (all : List (List ℕ)). told_of has.made.profile has.made.pid has.made.pages has.made.origin 0 all
-            has.past)
-            (sym (ap (λ (pid : ℕ). packets_taken pid packets) (sym has.at.own.pid) ∙ has.at.stands.taken));
+            has.are
+            ∙ ap (λ (all : List (List ℕ)). told_of made.profile made.pid made.pages made.anchor 0 all has.past)
+            (sym has.at.stands.reads.taken);
       };
       whole = has.at.whole;
-    }))))
+    }

@@ -4,8 +4,8 @@ use Rattle.std.specs.List.{AllByRecursion}
 use Rattle.decoder_model.specs.Readings.{AreDeliveriesRead, IsDeliveryRead, Reading}
 use Rattle.decoder_model.specs.Sets.{Delivery, lost}
 use Rattle.decoder_model.proofs.SentSets.{all-append}
-use Rattle.receiver.specs.Receiving.{AreLosses}
-use Rattle.receiver.proofs.TakenSets.{read_more}
+use Rattle.set_receiver.specs.Receiving.{AreLosses}
+use Rattle.set_receiver.proofs.TakenSets.{read_more}
 
 -- nothing but losses
 abbrev pub AreLost : List (Delivery Reading) → Type 0

@@ -15,7 +15,7 @@ use Rattle.decoder_model.specs.Verdict.{verdict_of}
 use Rattle.decoder_model.specs.declared.set_end.SetEnd.{SetEnd}
 use Rattle.display_sets.specs.Gathered.{ReadySet, first_ready, ready_sets, sets_behind}
 use Rattle.reading_laws.proofs.PacketsRead.{packets_read}
-use Rattle.receiver.specs.Receiving.{IsNext, IsSame, Receiving, Stands}
+use Rattle.set_receiver.specs.Receiving.{IsNext, IsSame, Receiving, Reception, Stands, reception}
 use Rattle.received_level_laws.specs.StreamCalls.{arrived_in, calls_of_packet, drop_where}
 use Rattle.received_level_laws.specs.ToldSets.{ToldCall, call_of_end, calls_told, done_by, of_no_set}
 use Rattle.received_level_laws.proofs.ToldLaws.{calls_more}
@@ -26,18 +26,10 @@ use Rattle.sub_base.specs.declared.load.SetLoad.{SetLoad}
 use Rattle.sub_base.specs.declared.pace.Pace.{Pace}
 use Rattle.sub_base.specs.declared.profile.Profile.{Profile}
 use Rattle.check_text.specs.CheckText.{set_line}
-use Rattle.receiver.specs.Taking.{HasNext}
-use Rattle.receiver.proofs.TakenSets.{next_read, read_more, same_both, same_itself}
-use Rattle.check_text.specs.Checking.{Counts, IsAt, IsMadeFor, Purpose, TakesCalls, TakesSets, behind_first, told_with}
+use Rattle.set_receiver.specs.Taking.{HasNext}
+use Rattle.set_receiver.proofs.TakenSets.{next_read, read_more}
+use Rattle.check_text.specs.Checking.{Counts, IsAt, TakesCalls, TakesSets, behind_first, told_with}
 use Rattle.check_text.proofs.StepLaws.{arrived_silent, counted, drop_silent, one_told, text_one, told_one, with_both}
-
-pub still_made : (made : Purpose) (old new : Receiving) → IsSame old new → IsMadeFor made old → IsMadeFor made new
-still_made made old new same own = record {
-  profile = same.core.profile ∙ own.profile;
-  pid = same.pid ∙ own.pid;
-  pages = same.pages ∙ own.pages;
-  origin = same.core.anchor ∙ own.origin;
-}
 
 -- ---- one set
 
@@ -55,16 +47,16 @@ module _ (old new : Receiving) (start fin : Meter) (before now : Received) (was 
     (delivery : Delivery (List ℕ)) (past : List (Delivery Reading)) (one : Delivery Reading)
     → IsNext ended packets given delivery rest old → AreDeliveriesRead (reverse given) past
     → IsDeliveryRead delivery one
-    → Some end ≡ verdict_of old.showing.core.profile old.showing.core.anchor past one)
+    → Some end ≡ verdict_of (reception old).profile (reception old).anchor past one)
     (loads : (ended : Bool) (packets : List (List ℕ)) (given rest : List (Delivery (List ℕ)))
     (delivery : Delivery (List ℕ)) (past : List (Delivery Reading)) (one : Delivery Reading)
     → IsNext ended packets given delivery rest old → AreDeliveriesRead (reverse given) past
     → IsDeliveryRead delivery one
-    → Some new.load ≡ set_load old.showing.core.profile old.showing.core.anchor past one)
+    → Some new.load ≡ set_load (reception old).profile (reception old).anchor past one)
     (load_is : load ≡ new.load)
     (same : IsSame old new)
-    (some : IsSome (first_ready (ready_sets old.sets)))
-    (left : ready_sets new.sets ≡ sets_behind (ready_sets old.sets))
+    (some : IsSome (first_ready (ready_sets old.collecting.sets)))
+    (left : ready_sets new.collecting.sets ≡ sets_behind (ready_sets old.collecting.sets))
     (counts : (past : List Call) → meters.Stands past start → meters.Stands (call_of_end end load ∷ past) fin)
     (done_at : (past : List Call) → meters.Stands past start
     → done ≡ done_by start.pace past (call_of_end end load))
@@ -72,7 +64,7 @@ module _ (old new : Receiving) (start fin : Meter) (before now : Received) (was 
     (puts : PutsOut before now was is
     (set_line (record { set = record { end = end; load = load }; done = done }))) where
   -- the set that comes next, as it is read
-  record Comes (made : Purpose) (ended : Bool) (packets : List (List ℕ)) (given : List (Delivery (List ℕ)))
+  record Comes (made : Reception) (ended : Bool) (packets : List (List ℕ)) (given : List (Delivery (List ℕ)))
       (past : List (Delivery Reading)) : Type 0 where
     delivery : Delivery (List ℕ)
     one : Delivery Reading
@@ -80,27 +72,23 @@ module _ (old new : Receiving) (start fin : Meter) (before now : Received) (was 
     read : AreDeliveriesRead (reverse (given ++ delivery ∷ [])) (one ∷ past)
     told : told_with made past (one ∷ []) ≡ told_one end load ∷ []
 
-  told_so : (made : Purpose) (past : List (Delivery Reading)) (one : Delivery Reading) → IsMadeFor made old
-      → Some end ≡ verdict_of old.showing.core.profile old.showing.core.anchor past one
-      → Some new.load ≡ set_load old.showing.core.profile old.showing.core.anchor past one
+  told_so : (made : Reception) (past : List (Delivery Reading)) (one : Delivery Reading) → reception old ≡ made
+      → Some end ≡ verdict_of (reception old).profile (reception old).anchor past one
+      → Some new.load ≡ set_load (reception old).profile (reception old).anchor past one
       → told_with made past (one ∷ []) ≡ told_one end load ∷ []
   told_so made past one own is_end is_load =
       one_told made past one end load
-      (is_end ∙ ap (λ (profile : Profile). verdict_of profile old.showing.core.anchor past one) own.profile
-      ∙ ap (λ (anchor : ℕ). verdict_of made.profile anchor past one) own.origin)
-      (ap Some load_is ∙ is_load
-      ∙ ap (λ (profile : Profile). set_load profile old.showing.core.anchor past one) own.profile
-      ∙ ap (λ (anchor : ℕ). set_load made.profile anchor past one) own.origin)
+      (is_end ∙ (λ i. verdict_of (own i).profile (own i).anchor past one))
+      (ap Some load_is ∙ is_load ∙ (λ i. set_load (own i).profile (own i).anchor past one))
 
-  comes : (made : Purpose) (ended : Bool) (packets : List (List ℕ)) (past : List (Delivery Reading))
+  comes : (made : Reception) (ended : Bool) (packets : List (List ℕ)) (past : List (Delivery Reading))
       (told : List ToldCall) (text : List ℕ) (at : IsAt made ended old start packets past told text)
       → Comes made ended packets at.given past
   comes made ended packets past told text at =
       let next = has_next ended packets at.given at.stands in
-      let all = packets_read old.showing.core.profile old.demux.pid old.sets.pages ended packets at.bytes in
+      let all = packets_read (reception old).profile (reception old).pid (reception old).pages ended packets at.bytes in
       let found =
-      next_read old.showing.core.profile old.demux.pid old.sets.pages ended packets at.given next.1 next.0 all.0
-      all.1 next.2.all in
+      next_read (reception old) ended packets at.given next.1 next.0 all.0 all.1 next.2.all in
       record {
         delivery = next.0;
         one = found.0;
@@ -112,13 +100,13 @@ module _ (old new : Receiving) (start fin : Meter) (before now : Received) (was 
             (loads ended packets at.given next.1 next.0 past found.0 next.2 at.read found.1);
       }
 
-  at_one : (made : Purpose) (ended : Bool) (packets : List (List ℕ)) (past : List (Delivery Reading))
+  at_one : (made : Reception) (ended : Bool) (packets : List (List ℕ)) (past : List (Delivery Reading))
       (told : List ToldCall) (text : List ℕ) (at : IsAt made ended old start packets past told text)
       (next : Comes made ended packets at.given past)
       → IsAt made ended new fin packets (next.one ∷ past) (told ++ told_one end load ∷ [])
       (text ++ set_line (record { set = record { end = end; load = load }; done = done }))
   at_one made ended packets past told text at next = record {
-    own = still_made made old new same at.own;
+    own = same ∙ at.own;
     bytes = at.bytes;
     given = at.given ++ next.delivery ∷ [];
     stands = next.stands;
@@ -127,20 +115,20 @@ module _ (old new : Receiving) (start fin : Meter) (before now : Received) (was 
     metered =
         subst (λ (calls : List Call). meters.Stands calls fin) (sym (calls_more told (told_one end load ∷ [])))
         (counts (calls_told told) at.metered);
-    whole = text_one (pace_of made.origin made.profile) told text end load done
+    whole = text_one (pace_of made.anchor made.profile) told text end load done
         (done_at (calls_told told) at.metered
         ∙ ap (λ (p : Pace). done_by p (calls_told told) (call_of_end end load)) at.pace) at.whole;
   }
 
   count_one : (calls : List ToldCall) → calls ≡ told_one end load ∷ []
-      → length calls + length (ready_sets new.sets) ≡ length (ready_sets old.sets)
+      → length calls + length (ready_sets new.collecting.sets) ≡ length (ready_sets old.collecting.sets)
   count_one calls is =
       omega (
         arith,
         ap (λ (l : List ToldCall). length l) is,
         ap (λ (l : List ReadySet). length l) left,
         one_less
-            (ready_sets old.sets) some,
+            (ready_sets old.collecting.sets) some,
       )
 
   -- the set that is ready was taken
@@ -175,7 +163,7 @@ taken_nothing shown receiving meter buffer = record {
   );
 }
 
-at_both : (made : Purpose) (ended : Bool) (receiving : Receiving) (meter : Meter) (packets : List (List ℕ))
+at_both : (made : Reception) (ended : Bool) (receiving : Receiving) (meter : Meter) (packets : List (List ℕ))
     (past more later : List (Delivery Reading)) (told : List ToldCall) (text first second : List ℕ)
     → IsAt made ended receiving meter packets (later ++ (more ++ past))
     ((told ++ told_with made past more) ++ told_with made (more ++ past) later) ((text ++ first) ++ second)
@@ -192,7 +180,7 @@ at_both made ended receiving meter packets past more later told text first secon
     ((told ++ told_with made past more) ++ told_with made (more ++ past) later) line)
     (append_assoc text first second) at))
 
-count_both : (made : Purpose) (past more later : List (Delivery Reading)) (a b c : ℕ)
+count_both : (made : Reception) (past more later : List (Delivery Reading)) (a b c : ℕ)
     → length (told_with made past more) + b ≡ a → length (told_with made (more ++ past) later) + c ≡ b
     → length (told_with made past (later ++ more)) + c ≡ a
 count_both made past more later a b c one other =
@@ -272,13 +260,13 @@ module _ (event : Event) (arrival : PacketArrival) (slot : ℕ) where
   module _ (a b c : Received) (old mid new : Receiving) (m0 m1 m2 m3 m4 m5 : Meter) (was half is : Buffered)
       (broken : Counts m0 m1 breaks)
       (one : TakesSets a b old mid m1 m2 was half)
-      (left : ready_sets mid.sets ≡ behind_first arrival.before (ready_sets old.sets))
+      (left : ready_sets mid.collecting.sets ≡ behind_first arrival.before (ready_sets old.collecting.sets))
       (arrived : Counts m2 m3 arrives)
       (other : TakesSets b c mid new m3 m4 half is)
-      (none : ready_sets new.sets ≡ [])
+      (none : ready_sets new.collecting.sets ≡ [])
       (dropped : Counts m4 m5 drops) where
     -- what comes of the whole packet
-    abbrev Comes_of : (made : Purpose) (packets : List (List ℕ)) (past : List (Delivery Reading))
+    abbrev Comes_of : (made : Reception) (packets : List (List ℕ)) (past : List (Delivery Reading))
         (told : List ToldCall) (text : List ℕ) → Type 0
     Comes_of made packets past told text =
         (more : List (Delivery Reading)) × (line : List ℕ)
@@ -286,10 +274,12 @@ module _ (event : Event) (arrival : PacketArrival) (slot : ℕ) where
         (told ++ calls_of_packet of_no_set event arrival slot (told_with made past more)) (text ++ line)
         × PutsOut a c was is line
 
-    second : (made : Purpose) (packets : List (List ℕ)) (past more later : List (Delivery Reading))
+    second : (made : Reception) (packets : List (List ℕ)) (past more later : List (Delivery Reading))
         (told : List ToldCall) (text line after : List ℕ)
-        → length (told_with made past more) + length (ready_sets mid.sets) ≡ length (ready_sets old.sets)
-        → length (told_with made (more ++ past) later) + length (ready_sets new.sets) ≡ length (ready_sets mid.sets)
+        → length (told_with made past more) + length (ready_sets mid.collecting.sets)
+        ≡ length (ready_sets old.collecting.sets)
+        → length (told_with made (more ++ past) later) + length (ready_sets new.collecting.sets)
+        ≡ length (ready_sets mid.collecting.sets)
         → IsAt made false new m4 packets (later ++ (more ++ past))
         ((((told ++ breaks) ++ told_with made past more) ++ arrives) ++ told_with made (more ++ past) later)
         ((text ++ line) ++ after)
@@ -297,7 +287,7 @@ module _ (event : Event) (arrival : PacketArrival) (slot : ℕ) where
     second made packets past more later told text line after few fewer at puts more_puts =
         let first_calls : List ToldCall = told_with made past more in
         let other_calls : List ToldCall = told_with made (more ++ past) later in
-        let rest : length other_calls + 0 ≡ length (ready_sets mid.sets) =
+        let rest : length other_calls + 0 ≡ length (ready_sets mid.collecting.sets) =
         omega (arith, fewer, ap (λ (l : List ReadySet). length l) none) in (
           later ++ more,
           line ++ after,
@@ -313,7 +303,8 @@ module _ (event : Event) (arrival : PacketArrival) (slot : ℕ) where
               ∙ ap (λ (calls : List ToldCall). told ++ calls)
               (packet_calls (told_with made past (later ++ more)) first_calls other_calls
               (with_both made past more later)
-              (parted arrival.before (ready_sets old.sets) (ready_sets mid.sets) first_calls other_calls left few
+              (parted arrival.before (ready_sets old.collecting.sets) (ready_sets mid.collecting.sets) first_calls
+              other_calls left few
               rest)))
               (counted made false new m4 m5 packets (later ++ (more ++ past))
               ((((told ++ breaks) ++ first_calls) ++ arrives) ++ other_calls) drops ((text ++ line) ++ after)
@@ -321,9 +312,10 @@ module _ (event : Event) (arrival : PacketArrival) (slot : ℕ) where
           PutsOut-both a b c was half is line after puts more_puts,
         )
 
-    first : (made : Purpose) (packets : List (List ℕ)) (past more : List (Delivery Reading)) (told : List ToldCall)
+    first : (made : Reception) (packets : List (List ℕ)) (past more : List (Delivery Reading)) (told : List ToldCall)
         (text line : List ℕ)
-        → length (told_with made past more) + length (ready_sets mid.sets) ≡ length (ready_sets old.sets)
+        → length (told_with made past more) + length (ready_sets mid.collecting.sets)
+        ≡ length (ready_sets old.collecting.sets)
         → IsAt made false mid m2 packets (more ++ past) ((told ++ breaks) ++ told_with made past more) (text ++ line)
         → PutsOut a b was half line → Comes_of made packets past told text
     first made packets past more told text line few at puts =

@@ -11,7 +11,7 @@ use Rattle.decoder_model.specs.Readings.{Reading}
 use Rattle.decoder_model.specs.Sets.{Delivery}
 use Rattle.decoder_model.specs.Verdict.{verdict_of}
 use Rattle.decoder_model.specs.declared.set_end.SetEnd.{SetEnd}
-use Rattle.receiver.specs.Receiving.{Receiving}
+use Rattle.set_receiver.specs.Receiving.{Receiving, Reception}
 use Rattle.received_level_laws.specs.StreamCalls.{arrived_in, drop_where}
 use Rattle.received_level_laws.specs.ToldSets.{DoneSet, ToldCall, call_of_end, calls_told, done_by, of_no_set, of_set, set_told, told_call, told_sets, told_sets_behind}
 use Rattle.received_level_laws.proofs.SetCalls.{set_tells}
@@ -20,7 +20,7 @@ use Rattle.sub_base.specs.Pace.{pace_of}
 use Rattle.sub_base.specs.declared.load.SetLoad.{SetLoad}
 use Rattle.sub_base.specs.declared.pace.Pace.{Pace}
 use Rattle.check_text.specs.CheckText.{set_line, sets_text}
-use Rattle.check_text.specs.Checking.{Counts, IsAt, Purpose, told_with}
+use Rattle.check_text.specs.Checking.{Counts, IsAt, told_with}
 
 -- ---- texts
 
@@ -57,7 +57,7 @@ text_same pace told more silent =
 -- ---- calls
 
 -- calls of no set were told
-pub counted : (made : Purpose) (ended : Bool) (receiving : Receiving) (old new : Meter) (packets : List (List ℕ))
+pub counted : (made : Reception) (ended : Bool) (receiving : Receiving) (old new : Meter) (packets : List (List ℕ))
     (past : List (Delivery Reading)) (told more : List ToldCall) (text : List ℕ)
     → AreSilent more → Counts old new more → IsAt made ended receiving old packets past told text
     → IsAt made ended receiving new packets past (told ++ more) text
@@ -71,7 +71,7 @@ counted made ended receiving old new packets past told more text silent counts a
   metered =
       subst (λ (calls : List Call). meters.Stands calls new) (sym (calls_more told more))
       (counts.stands (calls_told told) at.metered);
-  whole = at.whole ∙ sym (text_same (pace_of made.origin made.profile) told more silent);
+  whole = at.whole ∙ sym (text_same (pace_of made.anchor made.profile) told more silent);
 }
 
 -- ---- sets
@@ -90,14 +90,14 @@ abbrev pub told_one : SetEnd → SetLoad → ToldCall
 told_one end load = of_set (set_told (Some end) (Some load)) (call_of_end end load)
 
 -- a set that comes next is told as one call
-pub one_told : (made : Purpose) (past : List (Delivery Reading)) (one : Delivery Reading) (end : SetEnd)
+pub one_told : (made : Reception) (past : List (Delivery Reading)) (one : Delivery Reading) (end : SetEnd)
     (load : SetLoad)
-    → Some end ≡ verdict_of made.profile made.origin past one
-    → Some load ≡ set_load made.profile made.origin past one
+    → Some end ≡ verdict_of made.profile made.anchor past one
+    → Some load ≡ set_load made.profile made.anchor past one
     → told_with made past (one ∷ []) ≡ told_one end load ∷ []
 one_told made past one end load is_end is_load =
-    one_more_tells made.profile made.origin past [] one
-    ∙ set_tells made.profile made.origin past one end load is_end is_load
+    one_more_tells made.profile made.anchor past [] one
+    ∙ set_tells made.profile made.anchor past one end load is_end is_load
 
 -- its line comes behind those before
 pub text_one : (pace : Pace) (told : List ToldCall) (text : List ℕ) (end : SetEnd) (load : SetLoad) (done : ℕ)
@@ -123,17 +123,17 @@ text_one pace told text end load done done_is whole =
 -- ---- several sets
 
 -- those of more sets and losses come behind those before
-pub with_both : (made : Purpose) (past more later : List (Delivery Reading))
+pub with_both : (made : Reception) (past more later : List (Delivery Reading))
     → told_with made past (later ++ more) ≡ told_with made past more ++ told_with made (more ++ past) later
 with_both made past more [] = sym (append-nil (told_with made past more))
 with_both made past more (one ∷ later) =
-    one_more_tells made.profile made.origin past (later ++ more) one
-    ∙ ap (λ (calls : List ToldCall). calls ++ told_call made.profile made.origin ((later ++ more) ++ past) one)
+    one_more_tells made.profile made.anchor past (later ++ more) one
+    ∙ ap (λ (calls : List ToldCall). calls ++ told_call made.profile made.anchor ((later ++ more) ++ past) one)
     (with_both made past more later)
     ∙ append_assoc (told_with made past more) (told_with made (more ++ past) later)
-    (told_call made.profile made.origin ((later ++ more) ++ past) one)
+    (told_call made.profile made.anchor ((later ++ more) ++ past) one)
     ∙ ap (λ (all : List (Delivery Reading)). told_with made past more
-    ++ (told_with made (more ++ past) later ++ told_call made.profile made.origin all one))
+    ++ (told_with made (more ++ past) later ++ told_call made.profile made.anchor all one))
     (append_assoc later more past)
     ∙ ap (λ (calls : List ToldCall). told_with made past more ++ calls)
-    (sym (one_more_tells made.profile made.origin (more ++ past) later one))
+    (sym (one_more_tells made.profile made.anchor (more ++ past) later one))

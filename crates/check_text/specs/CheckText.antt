@@ -11,6 +11,7 @@ use Rattle.decoder_model.specs.declared.set_end.SetEnd.{SetEnd}
 use Rattle.decoder_model.specs.declared.set_end.SetEnd.TheVariants.{Shown, Waiting, Broken, NotLater}
 use Rattle.received_level_laws.specs.StreamCalls.{AreCallsOf}
 use Rattle.received_level_laws.specs.ToldSets.{AreToldCalls, DoneSet, ToldCall, calls_told, told_sets}
+use Rattle.set_receiver.specs.Receiving.{Reception}
 use Rattle.sub_base.specs.Pace.{pace_of}
 use Rattle.sub_base.specs.declared.pace.Pace.{Pace}
 use Rattle.sub_base.specs.declared.profile.Profile.{Profile}
@@ -64,6 +65,11 @@ pub record IsCheckText (profile : Profile) (origin pid : ℕ) (pages : Pages) (e
   pub are : AreToldCalls profile pid pages origin 0 ended packets told
   pub whole : text ≡ check_text ended (pace_of origin profile) told
 
+-- the same, in a receiver that is for that
+abbrev pub IsCheckTextIn : Reception → Bool → List (List ℕ) → List ℕ → Type 0
+IsCheckTextIn reception ended packets text =
+    IsCheckText reception.profile reception.anchor reception.pid reception.pages ended packets text
+
 -- the greatest level of the coded data buffer over these packets, the first of them in slot 0 at the origin, in such a
 -- receiver; more packets may come
 pub record IsPeak (profile : Profile) (pid : ℕ) (pages : Pages) (origin : ℕ) (packets : List (List ℕ))
@@ -71,3 +77,8 @@ pub record IsPeak (profile : Profile) (pid : ℕ) (pages : Pages) (origin : ℕ)
   pub calls : List Call
   pub called : AreCallsOf profile pid pages origin 0 false packets calls
   pub peak_is : peak ≡ greatest (pace_of origin profile) calls
+
+-- the same, in a receiver that is for that
+abbrev pub IsPeakIn : Reception → List (List ℕ) → ℕ → Type 0
+IsPeakIn reception packets peak =
+    IsPeak reception.profile reception.pid reception.pages reception.anchor packets peak

@@ -5,20 +5,18 @@ use Rattle.buffer_model.specs.Calls.{Call, first_breach_of, greatest}
 use Rattle.buffer_model.specs.Meters as meters
 use Rattle.buffer_model.specs.Meters.{Meter}
 use Rattle.command_text.specs.Putting.{Buffered, PutsOut}
-use Rattle.decoder_model.specs.declared.pages.Pages.{Pages}
 use Rattle.decoder_model.specs.PacketArrivals.{PacketArrival}
 use Rattle.decoder_model.specs.Readings.{AreDeliveriesRead, Reading}
 use Rattle.decoder_model.specs.Received.{HasReceived}
-use Rattle.decoder_model.specs.Sets.{Delivery, sets_of}
+use Rattle.decoder_model.specs.Sets.{Delivery}
 use Rattle.display_sets.specs.Gathered.{ReadySet, ready_sets, sets_behind}
-use Rattle.receiver.specs.Receiving.{IsSame, Receiving, Stands}
-use Rattle.receiver.specs.Taking.{AreBytes}
+use Rattle.set_receiver.specs.Receiving.{Receiving, Reception, Stands, reception}
+use Rattle.set_receiver.specs.Taking.{AreBytes}
 use Rattle.received_level_laws.specs.StreamCalls.{calls_of_packet}
 use Rattle.received_level_laws.specs.ToldSets.{ToldCall, calls_told, of_no_set, told_behind, told_of}
 use Rattle.stream_syntax.specs.declared.transport.Event.{Event}
 use Rattle.sub_base.specs.Endpoints.{Received}
 use Rattle.sub_base.specs.Pace.{pace_of}
-use Rattle.sub_base.specs.declared.profile.Profile.{Profile}
 use Rattle.check_text.specs.CheckText.{breach_line, peak_line, sets_text}
 use Rattle.sub_base.specs.Lists.{all_of}
 
@@ -31,49 +29,38 @@ pub record Checking : Type 0 where
 
 -- no set is ready, and the coded data buffer is no larger than that of any profile
 pub record IsChecking (checking : Checking) : Type 0 where
-  pub none : ready_sets checking.receiving.sets ≡ []
-  pub coded : checking.receiving.showing.core.profile.coded ≤ 2 ^ 18
+  pub none : ready_sets checking.receiving.collecting.sets ≡ []
+  pub coded : (reception checking.receiving).profile.coded ≤ 2 ^ 18
 
 -- ---- what it has to do with the packets
 
--- what a receiver is made for: a profile, a PID, its pages, and the tick at which lifted times begin and the first
--- packet arrives
-pub record Purpose : Type 0 where
-  pub profile : Profile
-  pub pid : ℕ
-  pub pages : Pages
-  pub origin : ℕ
-
--- the receiver is one for that
-pub record IsMadeFor (made : Purpose) (receiving : Receiving) : Type 0 where
-  pub profile : receiving.showing.core.profile ≡ made.profile
-  pub pid : receiving.demux.pid ≡ made.pid
-  pub pages : receiving.sets.pages ≡ made.pages
-  pub origin : receiving.showing.core.anchor ≡ made.origin
-
 -- the receiver was fed the packets, which are of bytes, and this past was taken from it, the latest first; the meter is
 -- that of the told calls; and the text is of their sets
-pub record IsAt (made : Purpose) (ended : Bool) (receiving : Receiving) (meter : Meter) (packets : List (List ℕ))
+pub record IsAt (made : Reception) (ended : Bool) (receiving : Receiving) (meter : Meter) (packets : List (List ℕ))
     (past : List (Delivery Reading)) (told : List ToldCall) (text : List ℕ) : Type 0 where
-  pub own : IsMadeFor made receiving
+  pub own : reception receiving ≡ made
   pub bytes : All AreBytes packets
   pub given : List (Delivery (List ℕ))
   pub stands : Stands ended packets given receiving
   pub read : AreDeliveriesRead (reverse given) past
-  pub pace : meter.pace ≡ pace_of made.origin made.profile
+  pub pace : meter.pace ≡ pace_of made.anchor made.profile
   pub metered : meters.Stands (calls_told told) meter
-  pub whole : text ≡ sets_text (pace_of made.origin made.profile) told
+  pub whole : text ≡ sets_text (pace_of made.anchor made.profile) told
 
 -- the packets were taken with all sets that they make ready, and the text is of these sets; the packet behind them may
 -- arrive in the slot of its place
-pub record HasChecked (checking : Checking) (packets : List (List ℕ)) (text : List ℕ) : Type 0 where
-  pub made : Purpose
+pub record HasCheckedIn (made : Reception) (checking : Checking) (packets : List (List ℕ))
+    (text : List ℕ) : Type 0 where
   pub past : List (Delivery Reading)
   pub told : List ToldCall
   pub at : IsAt made false checking.receiving checking.meter packets past told text
   pub received : HasReceived made.profile made.pid made.pages false packets past
-  pub are : told ≡ told_of made.profile made.pid made.pages made.origin 0 packets past
+  pub are : told ≡ told_of made.profile made.pid made.pages made.anchor 0 packets past
   pub next : checking.meter.next ≤ length packets
+
+-- the same in the receiver that it has
+abbrev pub HasChecked : Checking → List (List ℕ) → List ℕ → Type 0
+HasChecked checking packets text = HasCheckedIn (reception checking.receiving) checking packets text
 
 -- ---- steps
 
@@ -83,17 +70,18 @@ pub record Counts (old new : Meter) (more : List ToldCall) : Type 0 where
   pub pace : new.pace ≡ old.pace
 
 -- the told calls of sets and losses behind a past, the latest first
-abbrev pub told_with : Purpose → List (Delivery Reading) → List (Delivery Reading) → List ToldCall
-told_with made past more = all_of (told_behind made.profile made.origin past (reverse more))
+abbrev pub told_with : Reception → List (Delivery Reading) → List (Delivery Reading) → List ToldCall
+told_with made past more = all_of (told_behind made.profile made.anchor past (reverse more))
 
 -- sets were taken, as many as are ready no more: each was told as a call, and their lines were put out
 pub record TakesSets (before now : Received) (old new : Receiving) (start end : Meter) (was is : Buffered)
     : Type 0 where
-  pub goes : (made : Purpose) (ended : Bool) (packets : List (List ℕ)) (past : List (Delivery Reading))
+  pub goes : (made : Reception) (ended : Bool) (packets : List (List ℕ)) (past : List (Delivery Reading))
       (told : List ToldCall) (text : List ℕ)
       → IsAt made ended old start packets past told text
       → (more : List (Delivery Reading)) × (line : List ℕ)
-      × (length (told_with made past more) + length (ready_sets new.sets) ≡ length (ready_sets old.sets))
+      × (length (told_with made past more) + length (ready_sets new.collecting.sets)
+      ≡ length (ready_sets old.collecting.sets))
       × IsAt made ended new end packets (more ++ past) (told ++ told_with made past more) (text ++ line)
       × PutsOut before now was is line
 
@@ -104,7 +92,7 @@ behind_first first sets = if first then sets_behind sets else sets
 -- a packet's calls were told, with those of the sets that come with it, and the lines of these were put out
 pub record TakesCalls (event : Event) (arrival : PacketArrival) (slot : ℕ) (before now : Received)
     (old new : Receiving) (start end : Meter) (was is : Buffered) : Type 0 where
-  pub goes : (made : Purpose) (packets : List (List ℕ)) (past : List (Delivery Reading)) (told : List ToldCall)
+  pub goes : (made : Reception) (packets : List (List ℕ)) (past : List (Delivery Reading)) (told : List ToldCall)
       (text : List ℕ)
       → IsAt made false old start packets past told text
       → (more : List (Delivery Reading)) × (line : List ℕ)
@@ -117,7 +105,3 @@ pub record PutsEnd (meter : Meter) (before now : Received) (was is : Buffered) :
   pub puts : (past : List Call) → meters.Stands past meter
       → PutsOut before now was is
       (peak_line (greatest meter.pace past) ++ breach_line (first_breach_of meter.pace past))
-
--- the same receiver
-pub record IsSameCheck (old new : Checking) : Type 0 where
-  pub receiver : IsSame old.receiving new.receiving

@@ -7,12 +7,12 @@ ghost use Rattle.buffer_model.specs.Meters.{Stands};
 ghost use Rattle.decoder_model.specs.PacketArrivals.{is_break};
 ghost use Rattle.display_sets.specs.Gathered.{first_ready, ready_sets, sets_behind};
 ghost use Rattle.packet_source.specs.declared.limits.TheConstants.{STREAM_LIMIT};
-ghost use Rattle.receiver.specs.Arrived.{arrival_value};
-ghost use Rattle.receiver.specs.Receiving.{IsSame};
+ghost use Rattle.set_reader.specs.Arrived.{arrival_value};
+ghost use Rattle.set_receiver.specs.Receiving.{IsSame, reception};
 ghost use Rattle.received_level_laws.specs.StreamCalls.{arrived_in, drop_where as drop_calls};
 ghost use Rattle.received_level_laws.specs.ToldSets.{call_of_end, done_by, of_no_set};
 ghost use Rattle.stream_syntax.specs.declared.wire.TheConstants.{PAYLOAD_LENGTH};
-ghost use Rattle.receiver.specs.Taking.{AllTaken, HasNext};
+ghost use Rattle.set_receiver.specs.Taking.{AllTaken, HasNext};
 ghost use Rattle.check_text.specs.Checking.{Counts, TakesCalls, TakesSets};
 ghost use Rattle.check_text.specs.Checking.{behind_first};
 
@@ -20,26 +20,23 @@ use crate::lines::set_line;
 use buffer_model::Levels;
 use command_text::{TextBuffer, put};
 use decoder_model::SetEnd;
-use receiver::{Arrival, Receiver};
-use std::thread::Threads;
+use set_receiver::{Arrival, SetReceiver};
 use stream_syntax::Event;
-use sub_base::{BandGate, SetLoad, Sink};
+use sub_base::{SetLoad, Sink};
 
 /// Tells the meter the calls of the packet of that place, by its event and what it brought, with
 /// those of the sets that come with it, whose lines are put out. The set that a unit of another
 /// time makes ready stands before the packet's bytes.
-pub(crate) fn take_calls<R: Threads + Sync, G: BandGate + Sync, K: Sink>(
-    rt: &R,
-    gate: &G,
+pub(crate) fn take_calls<K: Sink>(
     out: &mut K,
     buffer: &mut TextBuffer,
-    receiver: &mut Receiver,
+    receiver: &mut SetReceiver,
     levels: &mut Levels,
     place: u64,
     event: Event,
     arrival: Arrival,
 )
-    requires coded { receiver.old.showing.core.profile.coded ≤ 2 ^ 18 }
+    requires coded { (reception receiver.old).profile.coded ≤ 2 ^ 18 }
     requires place { place < STREAM_LIMIT }
     requires next { levels.old.next ≤ place }
     requires short { arrival.bytes ≤ PAYLOAD_LENGTH }
@@ -47,15 +44,15 @@ pub(crate) fn take_calls<R: Threads + Sync, G: BandGate + Sync, K: Sink>(
         (K.received out.old)
         (K.received out.new)
         receiver.old receiver.new levels.old levels.new buffer.old buffer.new }
-    ensures none { ready_sets receiver.new.sets ≡ [] }
+    ensures none { ready_sets receiver.new.collecting.sets ≡ [] }
     ensures all { AllTaken receiver.new }
     ensures same { IsSame receiver.old receiver.new }
     ensures next { levels.new.next ≤ place + 1 }
 {
     drop_where(levels, is_broken_off(event));
-    take_first(rt, gate, out, buffer, receiver, levels, arrival.before);
+    take_first(out, buffer, receiver, levels, arrival.before);
     arrive(levels, place, u64::from(arrival.bytes));
-    take_ready(rt, gate, out, buffer, receiver, levels);
+    take_ready(out, buffer, receiver, levels);
     drop_where(levels, arrival.dropped);
 }
 
@@ -98,77 +95,72 @@ fn arrive(levels: &mut Levels, place: u64, bytes: u64)
 }
 
 /// Takes the first of the sets that are ready, where it is to be taken and there is one.
-fn take_first<R: Threads + Sync, G: BandGate + Sync, K: Sink>(
-    rt: &R,
-    gate: &G,
+fn take_first<K: Sink>(
     out: &mut K,
     buffer: &mut TextBuffer,
-    receiver: &mut Receiver,
+    receiver: &mut SetReceiver,
     levels: &mut Levels,
     first: bool,
 )
-    requires coded { receiver.old.showing.core.profile.coded ≤ 2 ^ 18 }
+    requires coded { (reception receiver.old).profile.coded ≤ 2 ^ 18 }
     ensures sets { TakesSets
         (K.received out.old)
         (K.received out.new)
         receiver.old receiver.new levels.old levels.new buffer.old buffer.new }
-    ensures left { ready_sets receiver.new.sets
-        ≡ behind_first first (ready_sets receiver.old.sets) }
+    ensures left { ready_sets receiver.new.collecting.sets
+        ≡ behind_first first (ready_sets receiver.old.collecting.sets) }
     ensures same { IsSame receiver.old receiver.new }
     ensures next { levels.new.next ≡ levels.old.next }
 {
     if first {
         if let Some(_) = receiver.ready() {
-            take_next(rt, gate, out, buffer, receiver, levels);
+            take_next(out, buffer, receiver, levels);
         }
     }
 }
 
 /// Takes the sets that are ready, one after the other, and puts out their lines.
-pub(crate) fn take_ready<R: Threads + Sync, G: BandGate + Sync, K: Sink>(
-    rt: &R,
-    gate: &G,
+pub(crate) fn take_ready<K: Sink>(
     out: &mut K,
     buffer: &mut TextBuffer,
-    receiver: &mut Receiver,
+    receiver: &mut SetReceiver,
     levels: &mut Levels,
 )
-    requires coded { receiver.old.showing.core.profile.coded ≤ 2 ^ 18 }
+    requires coded { (reception receiver.old).profile.coded ≤ 2 ^ 18 }
     ensures sets { TakesSets
         (K.received out.old)
         (K.received out.new)
         receiver.old receiver.new levels.old levels.new buffer.old buffer.new }
-    ensures none { ready_sets receiver.new.sets ≡ [] }
+    ensures none { ready_sets receiver.new.collecting.sets ≡ [] }
     ensures all { AllTaken receiver.new }
     ensures same { IsSame receiver.old receiver.new }
     ensures next { levels.new.next ≡ levels.old.next }
 {
     while let Some(_) = receiver.ready() {
-        take_next(rt, gate, out, buffer, receiver, levels);
+        take_next(out, buffer, receiver, levels);
     }
 }
 
 /// The same of one set.
-fn take_next<R: Threads + Sync, G: BandGate + Sync, K: Sink>(
-    rt: &R,
-    gate: &G,
+fn take_next<K: Sink>(
     out: &mut K,
     buffer: &mut TextBuffer,
-    receiver: &mut Receiver,
+    receiver: &mut SetReceiver,
     levels: &mut Levels,
 )
-    requires ready { IsSome (first_ready (ready_sets receiver.old.sets)) }
+    requires ready { IsSome (first_ready (ready_sets receiver.old.collecting.sets)) }
     requires next { HasNext receiver.old }
-    requires coded { receiver.old.showing.core.profile.coded ≤ 2 ^ 18 }
+    requires coded { (reception receiver.old).profile.coded ≤ 2 ^ 18 }
     ensures sets { TakesSets
         (K.received out.old)
         (K.received out.new)
         receiver.old receiver.new levels.old levels.new buffer.old buffer.new }
-    ensures left { ready_sets receiver.new.sets ≡ sets_behind (ready_sets receiver.old.sets) }
+    ensures left { ready_sets receiver.new.collecting.sets
+        ≡ sets_behind (ready_sets receiver.old.collecting.sets) }
     ensures same { IsSame receiver.old receiver.new }
     ensures next { levels.new.next ≡ levels.old.next }
 {
-    let end = receiver.take(rt, 1, gate);
+    let end = receiver.take();
     let load = receiver.load();
     let done = count_set(levels, end, load);
     put(out, buffer, set_line(end, load, done).as_bytes());

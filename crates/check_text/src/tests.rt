@@ -4,11 +4,10 @@ use super::*;
 use command_text::{TextBuffer, flush};
 use decoder_model::Pages;
 use packet_source::{PacketSource, StreamEnd};
-use packet_walk::WalkEnd;
+use packet_walk::{WalkEnd, walk_packets};
 use std::alloc::Global;
 use std::test::Fail;
-use std::thread::Threads;
-use sub_base::{MemSink, MemSource, NoGate, Profile, ProfileName};
+use sub_base::{MemSink, MemSource, Profile, ProfileName};
 
 /// A page without regions that begins an epoch, and no end of its set.
 const OPEN: [u8; 8] = [0x0F, 0x10, 0x00, 0x01, 0x00, 0x02, 0x0C, 0x0B];
@@ -100,20 +99,16 @@ fn joined(alloc: Global, packets: &[[u8; 188]]) -> Result<Vec<u8>, Fail> {
 }
 
 /// What is told of the packets to the end of the stream, of page 1 out of PID 256 from tick 0 on.
-fn told_of<R: Threads + Sync>(
-    rt: &R,
-    alloc: Global,
-    packets: &[[u8; 188]],
-) -> Result<MemSink, Fail> {
+fn told_of(alloc: Global, packets: &[[u8; 188]]) -> Result<MemSink, Fail> {
     let bytes = joined(alloc, packets)?;
     let mut stream = MemSource::make(alloc, bytes, 100_000, Vec::new(alloc));
     let mut out = MemSink::make(alloc, 100_000, Vec::new(alloc));
     let mut check = Check::make(alloc, &Profile::of(ProfileName::Sd), 0, 256, Pages::only(1))?;
     let mut buffer = TextBuffer::make(alloc)?;
     let mut source = PacketSource::make(alloc)?;
-    let end = check.walk(rt, &NoGate, &mut stream, &mut out, &mut buffer, &mut source);
+    let end = walk_packets(&mut stream, &mut out, &mut buffer, &mut check, &mut source);
     if let WalkEnd::Stream(StreamEnd::Whole { .. }) = end {
-        check.finish(rt, &NoGate, &mut out, &mut buffer);
+        check.finish(&mut out, &mut buffer);
         flush(&mut out, &mut buffer);
         Ok(out)
     } else {
@@ -130,7 +125,7 @@ fn what_becomes_of_sets(rt: HostRuntime) -> Result<(), Fail> {
         packet_of(4, 45_000, &FILLED),
     ];
     assert_eq!(rt;
-        told_of(&rt, rt.alloc(), &packets)?.written(),
+        told_of(rt.alloc(), &packets)?.written(),
         ALL_ENDS.as_bytes()
     );
     Ok(())
@@ -143,19 +138,13 @@ fn set_stands_before_bytes_of_another_time(rt: HostRuntime) -> Result<(), Fail> 
         null_packet(),
         packet_of(1, 180_000, &FILLED),
     ];
-    assert_eq!(rt;
-        told_of(&rt, rt.alloc(), &packets)?.written(),
-        BEFORE.as_bytes()
-    );
+    assert_eq!(rt; told_of(rt.alloc(), &packets)?.written(), BEFORE.as_bytes());
     Ok(())
 }
 
 #[test]
 fn set_is_late(rt: HostRuntime) -> Result<(), Fail> {
     let packets = [packet_of(0, 64, &FILLED), packet_of(1, 90_000, &OPEN)];
-    assert_eq!(rt;
-        told_of(&rt, rt.alloc(), &packets)?.written(),
-        AT_END.as_bytes()
-    );
+    assert_eq!(rt; told_of(rt.alloc(), &packets)?.written(), AT_END.as_bytes());
     Ok(())
 }

@@ -1,28 +1,26 @@
 -- What `dump` has told, behind one more set.
-use Rattle.std.proofs.Common.{◌≡◌, ◌∙◌, ℕ, zero, suc, ◌<◌, ◌≤◌, Bool, true, false, List, [], ◌∷◌, ◌++◌, length, take, get_or, reverse, append-nil, append_assoc, Option, Some, None, refl, sym, ap, subst, arith}
+use Rattle.std.proofs.Common.{◌≡◌, ◌∙◌, ℕ, zero, suc, ◌≤◌, Bool, true, false, List, [], ◌∷◌, ◌++◌, length, take, get_or, reverse, append-nil, append_assoc, Option, Some, None, refl, sym, ap, subst, arith}
 use Rattle.std.specs.Prelude.{unwrap_or}
-use Rattle.std.proofs.lemmas.List.{reverse-append, take_all}
+use Rattle.std.proofs.lemmas.List.{take_all}
 use Rattle.std.proofs.lemmas.List.Elements.{All-nil, All-push}
 use Rattle.command_text.specs.Putting.{Buffered, PutsOut}
 use Rattle.command_text.proofs.PutLaws.{PutsOut-both, PutsOut-nothing}
 use Rattle.decoder_model.specs.declared.pages.Pages.{Pages}
 use Rattle.decoder_model.specs.Kept.{last_time, lifted_time}
 use Rattle.decoder_model.specs.Readings.{AreDeliveriesRead, IsDeliveryRead, Reading}
-use Rattle.decoder_model.specs.Received.{HasReceived}
 use Rattle.decoder_model.specs.Sets.{Delivery, has_ended, lost, runs_of, sets_in, sets_of}
-use Rattle.decoder_model.specs.Arrivals.{Arrival, arrivals_of}
-use Rattle.display_sets.specs.Gathered.{ReadySet, ready_sets}
-use Rattle.display_sets.specs.Standing.{AreReady}
+use Rattle.decoder_model.specs.Arrivals.{Arrival}
 use Rattle.display_sets.proofs.PacketLaws.{none_arrived, sets_of_packets}
-use Rattle.page_core.specs.Memory.{IsSameReceiver}
 use Rattle.reading_laws.proofs.PacketsRead.{packets_read}
-use Rattle.receiver.specs.Receiving.{AreLosses, IsNext, IsSame, Receiving, Stands}
-use Rattle.receiver.specs.Taking.{AllTaken, AreBytes, HasNext}
-use Rattle.receiver.proofs.TakenSets.{next_read, none_at_first, read_more, same_both, same_itself}
+use Rattle.set_receiver.specs.Receiving.{AreLosses, Reception}
+use Rattle.set_receiver.specs.Taking.{AreBytes}
+use Rattle.set_receiver.proofs.TakenSets.{next_read, read_more}
+use Rattle.receiver.specs.Receiving.{IsNext, IsSame, Receiving, Stands, reception}
+use Rattle.receiver.specs.Taking.{AllTaken, HasNext}
 use Rattle.sub_base.specs.Endpoints.{Received}
 use Rattle.sub_base.specs.declared.profile.Profile.{Profile}
 use Rattle.packet_walk.specs.Told.{TellsOne}
-use Rattle.dump_text.specs.DumpText.{IsDumpText, anchor_of, settled_ticks, shown_text, told_ticks}
+use Rattle.dump_text.specs.DumpText.{IsDumpTextIn, anchor_of, settled_ticks, shown_text, told_ticks}
 use Rattle.dump_text.specs.Dumping.{AreBefore, AreFrom, Dumping, DumpsOn, HasDumped, IsSameDump, IsSettled, IsTold, IsToldOf, PutsBetween, Settles, ticks_between}
 use Rattle.dump_text.proofs.TextLaws.{before_end, text_joined}
 use Rattle.dump_text.proofs.ToldLaws.{told_kept, told_same}
@@ -38,7 +36,7 @@ module _ (old new : Receiving) (ticks : List ℕ) (told : ℕ) (at : Option ℕ)
     (takes : (ended : Bool) (packets : List (List ℕ)) (given rest : List (Delivery (List ℕ)))
     (delivery : Delivery (List ℕ)) → IsNext ended packets given delivery rest old
     → Stands ended packets (given ++ delivery ∷ []) new)
-    (same : IsSameReceiver old.showing.core new.showing.core)
+    (same : IsSame old new)
     (within : told ≤ length ticks) where
   -- the set that comes next, as it is read
   record Comes (ended : Bool) (packets : List (List ℕ)) (given : List (Delivery (List ℕ)))
@@ -55,8 +53,7 @@ module _ (old new : Receiving) (ticks : List ℕ) (told : ℕ) (at : Option ℕ)
       let next = has_next ended packets is.given is.stands in
       let all = packets_read old.showing.core.profile old.demux.pid old.sets.pages ended packets is.bytes in
       let found =
-      next_read old.showing.core.profile old.demux.pid old.sets.pages ended packets is.given next.1 next.0 all.0
-      all.1 next.2.all in
+      next_read (reception old) ended packets is.given next.1 next.0 all.0 all.1 next.2.all in
       record {
         delivery = next.0;
         one = found.0;
@@ -70,9 +67,7 @@ module _ (old new : Receiving) (ticks : List ℕ) (told : ℕ) (at : Option ℕ)
       → IsToldOf old.showing.core.profile old.showing.core.anchor ticks next past text
       → IsToldOf new.showing.core.profile new.showing.core.anchor ticks next past text
   told_in_new next past text is =
-      subst (λ (anchor : ℕ). IsToldOf new.showing.core.profile anchor ticks next past text) (sym same.anchor)
-      (subst (λ (profile : Profile). IsToldOf profile old.showing.core.anchor ticks next past text) (sym same.profile)
-      is)
+      subst (λ (made : Reception). IsToldOf made.profile made.anchor ticks next past text) (sym same) is
 
   -- a set that is not kept settles no tick
   dumps_none : (shown : Received) (buffer : Buffered) → at ≡ None
@@ -165,14 +160,10 @@ dumps_both a b c old mid new ticks told next last was between is one other = rec
 
 pub same_dumps : (a b c : Dumping) → IsSameDump a b → IsSameDump b c → IsSameDump a c
 same_dumps a b c one other =
-    record {
-      receiver = same_both a.receiving b.receiving c.receiving one.receiver other.receiver;
-      ticks = other.ticks
-          ∙ one.ticks;
-    }
+    record { receiver = other.receiver ∙ one.receiver; ticks = other.ticks ∙ one.ticks }
 
 pub same_dump_itself : (dumping : Dumping) → IsSameDump dumping dumping
-same_dump_itself dumping = record { receiver = same_itself dumping.receiving; ticks = refl }
+same_dump_itself dumping = record { receiver = refl; ticks = refl }
 
 -- ---- before the first packet
 
@@ -251,10 +242,7 @@ fed_told old new ticks told packets packet text within bytes same feeds is =
       past = more.0;
       read = more.1;
       of =
-          subst (λ (anchor : ℕ). IsToldOf new.showing.core.profile anchor ticks told more.0 text)
-          (sym same.core.anchor)
-          (subst (λ (profile : Profile). IsToldOf profile old.showing.core.anchor ticks told more.0 text)
-          (sym same.core.profile) more.2);
+          subst (λ (made : Reception). IsToldOf made.profile made.anchor ticks told more.0 text) (sym same) more.2;
     }
 
 -- a packet that was fed, and the sets that were taken then
@@ -273,7 +261,7 @@ packet_told before now old mid new next was is place packet within bytes same fe
       let on = dumps.goes false (packets ++ packet ∷ []) text fed in (
         on.0,
         record {
-          anchored = later.core.anchor ∙ same.core.anchor ∙ has.anchored;
+          anchored = ap (λ (made : Reception). made.anchor) (later ∙ same) ∙ has.anchored;
           within = inside;
           told = on.1;
           all = all (packets ++ packet ∷ []) false on.1.given on.1.stands;
@@ -302,8 +290,7 @@ same_text profile anchor ticks told past text (Some last) is within of =
 
 -- the text of the packets, where the stream goes on
 pub dumped_so_far : (dumping : Dumping) (packets : List (List ℕ)) (text : List ℕ) → HasDumped dumping packets text
-    → IsDumpText dumping.receiving.showing.core.profile dumping.receiving.demux.pid dumping.receiving.sets.pages
-    dumping.ticks false packets text
+    → IsDumpTextIn (reception dumping.receiving) dumping.ticks false packets text
 dumped_so_far dumping packets text has =
     let profile = dumping.receiving.showing.core.profile in
     let anchor = dumping.receiving.showing.core.anchor in
@@ -330,8 +317,8 @@ pub dumped_whole : (before mid now : Received) (old : Dumping) (fed new : Receiv
     → PutsBetween new mid now between is old.ticks next (length old.ticks)
     → (packets : List (List ℕ)) (text : List ℕ) → HasDumped old packets text
     → (more : List ℕ)
-    × IsDumpText old.receiving.showing.core.profile old.receiving.demux.pid old.receiving.sets.pages old.ticks true
-    packets (text ++ more) × PutsOut before now was is more
+    × IsDumpTextIn (reception old.receiving) old.ticks true packets (text ++ more)
+    × PutsOut before now was is more
 dumped_whole before mid now old fed new next was between is finishes same dumps later all within rest packets text has =
     let ended : IsTold true fed old.ticks old.told packets text = record {
       bytes = has.told.bytes;
@@ -340,23 +327,21 @@ dumped_whole before mid now old fed new next was between is finishes same dumps 
       past = has.told.past;
       read = has.told.read;
       of =
-          subst (λ (anchor : ℕ). IsToldOf fed.showing.core.profile anchor old.ticks old.told has.told.past text)
-          (sym same.core.anchor)
-          (subst (λ (profile : Profile). IsToldOf profile old.receiving.showing.core.anchor old.ticks old.told
-          has.told.past text) (sym same.core.profile) has.told.of);
+          subst (λ (made : Reception). IsToldOf made.profile made.anchor old.ticks old.told has.told.past text)
+          (sym same) has.told.of;
     } in
     let on = dumps.goes true packets text ended in
     let state : IsTold true new old.ticks next packets (text ++ on.0) = on.1 in
     let profile = new.showing.core.profile in
     let anchor = new.showing.core.anchor in
-    let both : IsSame old.receiving new = same_both old.receiving fed new same later in
+    let both : IsSame old.receiving new = later ∙ same in
     let others : List ℕ = shown_text profile anchor state.past (ticks_between next (length old.ticks) old.ticks) in
     let whole : (text ++ on.0) ++ others ≡ shown_text profile anchor state.past old.ticks =
     ap (λ (front : List ℕ). front ++ others) state.of.whole
     ∙ sym (text_joined profile anchor state.past next (length old.ticks) old.ticks within)
     ∙ ap (shown_text profile anchor state.past) (take_all (length old.ticks) old.ticks (omega arith)) in
-    let at_anchor : anchor ≡ anchor_of old.ticks = both.core.anchor ∙ has.anchored in
-    let is_new : IsDumpText profile new.demux.pid new.sets.pages old.ticks true packets ((text ++ on.0) ++ others) =
+    let at_anchor : anchor ≡ anchor_of old.ticks = ap (λ (made : Reception). made.anchor) both ∙ has.anchored in
+    let is_new : IsDumpTextIn (reception new) old.ticks true packets ((text ++ on.0) ++ others) =
     record {
       past = state.past;
       received =
@@ -365,14 +350,10 @@ dumped_whole before mid now old fed new next was between is finishes same dumps 
       whole = whole ∙ ap (λ (a : ℕ). shown_text profile a state.past old.ticks) at_anchor;
     } in (
       on.0 ++ others,
-      subst (λ (t : List ℕ). IsDumpText old.receiving.showing.core.profile old.receiving.demux.pid
-          old.receiving.sets.pages old.ticks true packets t) (append_assoc text on.0 others)
-          (subst (λ (pages : Pages). IsDumpText old.receiving.showing.core.profile old.receiving.demux.pid pages
-          old.ticks true packets ((text ++ on.0) ++ others)) both.pages
-          (subst (λ (pid : ℕ). IsDumpText old.receiving.showing.core.profile pid new.sets.pages old.ticks true
-          packets ((text ++ on.0) ++ others)) both.pid
-          (subst (λ (p : Profile). IsDumpText p new.demux.pid new.sets.pages old.ticks true packets
-          ((text ++ on.0) ++ others)) both.core.profile is_new))),
+      subst (λ (t : List ℕ). IsDumpTextIn (reception old.receiving) old.ticks true packets t)
+          (append_assoc text on.0 others)
+          (subst (λ (made : Reception). IsDumpTextIn made old.ticks true packets ((text ++ on.0) ++ others)) both
+          is_new),
       PutsOut-both before mid now was between is on.0 others on.2
           (rest true packets state.given state.past state.stands state.read state.of.later),
     )

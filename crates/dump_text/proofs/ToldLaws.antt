@@ -1,11 +1,11 @@
 -- What was told, with one more set or loss.
-use Rattle.std.proofs.Common.{◌≡◌, ◌∙◌, ℕ, ◌+◌, ◌<◌, ◌≤◌, List, [], ◌∷◌, ◌++◌, length, take, get_or, Option, Some, None, ◌⊎◌, inl, inr, refl, sym, ap, subst, arith}
+use Rattle.std.proofs.Common.{◌≡◌, ◌∙◌, ℕ, ◌<◌, ◌≤◌, List, [], ◌∷◌, ◌++◌, length, take, get_or, Option, Some, None, ◌⊎◌, inl, inr, refl, sym, ap, subst, arith}
 use Rattle.std.specs.Prelude.{unwrap_or}
 use Rattle.std.specs.Option.{option_or}
 use Rattle.std.proofs.lemmas.List.{get_or-take, length-take-le}
 use Rattle.decoder_model.specs.Kept.{last_time, lifted_time}
 use Rattle.decoder_model.specs.Readings.{Reading}
-use Rattle.decoder_model.specs.Sets.{Delivery, lost}
+use Rattle.decoder_model.specs.Sets.{Delivery}
 use Rattle.decoder_model.specs.Shown.{view_at}
 use Rattle.decoder_model.proofs.Later.{IsPast, view_stays}
 use Rattle.decoder_model.proofs.Views.{view_before}

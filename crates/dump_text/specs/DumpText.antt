@@ -8,6 +8,7 @@ use Rattle.decoder_model.specs.Readings.{Reading}
 use Rattle.decoder_model.specs.Received.{HasReceived}
 use Rattle.decoder_model.specs.Sets.{Delivery}
 use Rattle.decoder_model.specs.Shown.{View, nothing, plane, view_at}
+use Rattle.set_receiver.specs.Receiving.{Reception}
 use Rattle.sub_base.specs.declared.profile.Profile.{Profile}
 use Rattle.stream_syntax.specs.declared.wire.TheConstants.{HALF_ROUND}
 
@@ -43,3 +44,8 @@ pub record IsDumpText (profile : Profile) (pid : ℕ) (pages : Pages) (ticks : L
   pub received : HasReceived profile pid pages ended packets past
   pub whole : text
       ≡ shown_text profile (anchor_of ticks) past (told_ticks ended (last_time (anchor_of ticks) past) ticks)
+
+-- the same, in a receiver that is for that
+abbrev pub IsDumpTextIn : Reception → List ℕ → Bool → List (List ℕ) → List ℕ → Type 0
+IsDumpTextIn reception ticks ended packets text =
+    IsDumpText reception.profile reception.pid reception.pages ticks ended packets text

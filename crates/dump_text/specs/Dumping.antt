@@ -5,11 +5,12 @@ use Rattle.std.specs.List.Sorted.{IsStrictlyIncreasing}
 use Rattle.command_text.specs.Putting.{Buffered, PutsOut}
 use Rattle.decoder_model.specs.Kept.{last_time}
 use Rattle.decoder_model.specs.Readings.{Reading, AreDeliveriesRead}
-use Rattle.decoder_model.specs.Sets.{Delivery, sets_of}
+use Rattle.decoder_model.specs.Sets.{Delivery}
 use Rattle.decoder_model.specs.Shown.{view_at}
 use Rattle.display_sets.specs.Gathered.{ready_sets}
-use Rattle.receiver.specs.Receiving.{IsSame, Receiving, Stands}
-use Rattle.receiver.specs.Taking.{AreBytes}
+use Rattle.set_receiver.specs.Receiving.{sets_received}
+use Rattle.set_receiver.specs.Taking.{AreBytes}
+use Rattle.receiver.specs.Receiving.{IsSame, Receiving, Stands, reception}
 use Rattle.sub_base.specs.Endpoints.{Received}
 use Rattle.sub_base.specs.declared.profile.Profile.{Profile}
 use Rattle.dump_text.specs.DumpText.{anchor_of, shown_text, view_text}
@@ -73,7 +74,7 @@ pub record IsTold (ended : Bool) (receiving : Receiving) (ticks : List ℕ) (tol
   pub stands : Stands ended packets given receiving
   pub past : List (Delivery Reading)
   pub read : AreDeliveriesRead (reverse given) past
-  pub of : IsToldOf receiving.showing.core.profile receiving.showing.core.anchor ticks told past text
+  pub of : IsToldOf (reception receiving).profile (reception receiving).anchor ticks told past text
 
 -- what is shown at a tick that is no earlier than the kept sets is put out
 abbrev pub PutsShown : Receiving → Received → Received → Buffered → Buffered → ℕ → Type 0
@@ -81,9 +82,9 @@ PutsShown receiving before now was is tick =
     (ended : Bool) (packets : List (List ℕ)) (given : List (Delivery (List ℕ)))
     (past : List (Delivery Reading))
     → Stands ended packets given receiving → AreDeliveriesRead (reverse given) past
-    → unwrap_or (last_time receiving.showing.core.anchor past) 0 ≤ tick
+    → unwrap_or (last_time (reception receiving).anchor past) 0 ≤ tick
     → PutsOut before now was is
-    (view_text tick (view_at receiving.showing.core.profile receiving.showing.core.anchor tick past))
+    (view_text tick (view_at (reception receiving).profile (reception receiving).anchor tick past))
 
 -- what is shown at the ticks from a place on, up to another one, is put out, where these are no earlier than the
 -- kept sets
@@ -92,9 +93,9 @@ abbrev pub PutsBetween : Receiving → Received → Received → Buffered → Bu
 PutsBetween receiving before now was is ticks first next = (ended : Bool) (packets : List (List ℕ))
     (given : List (Delivery (List ℕ))) (past : List (Delivery Reading))
     → Stands ended packets given receiving → AreDeliveriesRead (reverse given) past
-    → AreFrom (unwrap_or (last_time receiving.showing.core.anchor past) 0) first ticks
+    → AreFrom (unwrap_or (last_time (reception receiving).anchor past) 0) first ticks
     → PutsOut before now was is
-    (shown_text receiving.showing.core.profile receiving.showing.core.anchor past (ticks_between first next ticks))
+    (shown_text (reception receiving).profile (reception receiving).anchor past (ticks_between first next ticks))
 
 -- the texts were put out of the ticks from a place on that are before a time, and the next place is that of the first
 -- one from it on
@@ -128,11 +129,10 @@ pub record DumpsOn (before now : Received) (old new : Receiving) (ticks : List �
 
 -- the packets were taken, and the text is of the ticks that they settle
 pub record HasDumped (dumping : Dumping) (packets : List (List ℕ)) (text : List ℕ) : Type 0 where
-  pub anchored : dumping.receiving.showing.core.anchor ≡ anchor_of dumping.ticks
+  pub anchored : (reception dumping.receiving).anchor ≡ anchor_of dumping.ticks
   pub within : dumping.told ≤ length dumping.ticks
   pub told : IsTold false dumping.receiving dumping.ticks dumping.told packets text
-  pub all : sets_of dumping.receiving.showing.core.profile.coded dumping.receiving.demux.pid
-      dumping.receiving.sets.pages false packets ≡ told.given
+  pub all : sets_received (reception dumping.receiving) false packets ≡ told.given
 
 -- the same receiver and the same ticks
 pub record IsSameDump (old new : Dumping) : Type 0 where

@@ -63,7 +63,8 @@ impl<'a> Dump<'a> {
     ghost use Rattle.packet_walk.specs.Walking.{IsEnd};
     ghost use Rattle.stream_syntax.specs.TransportPackets.{packet_fault};
     ghost use Rattle.sub_base.specs.Endpoints.{Supplied};
-    ghost use Rattle.dump_text.specs.DumpText.{IsDumpText};
+    ghost use Rattle.receiver.specs.Receiving.{reception};
+    ghost use Rattle.dump_text.specs.DumpText.{IsDumpTextIn};
     ghost use Rattle.dump_text.specs.Dumping.{AreAsked, HasDumped, IsSameDump};
 
     /// A receiver of a profile for a PID and these pages, which draws in so many bands, 1 to 64.
@@ -81,10 +82,10 @@ impl<'a> Dump<'a> {
         requires coded { profile.now.coded < 2 ^ 32 }
         requires nodes { profile.now.nodes < 2 ^ 31 }
         requires anchor { anchor_of ticks.now < 2 ^ 34 }
-        ensures pid { IfOk result (λ dump. dump.receiving.demux.pid ≡ pid) }
-        ensures pages { IfOk result (λ dump. dump.receiving.sets.pages ≡ pages) }
+        ensures pid { IfOk result (λ dump. (reception dump.receiving).pid ≡ pid) }
+        ensures pages { IfOk result (λ dump. (reception dump.receiving).pages ≡ pages) }
         ensures profile { IfOk result
-            (λ dump. dump.receiving.showing.core.profile ≡ profile.now) }
+            (λ dump. (reception dump.receiving).profile ≡ profile.now) }
         ensures ticks { IfOk result (λ dump. dump.ticks ≡ ticks.now) }
         ensures nothing { IfOk result (λ dump. HasDumped dump [] []) }
     {
@@ -117,7 +118,7 @@ impl<'a> Dump<'a> {
         requires nothing { packets.old ≡ nothing_read }
         requires source { (now : Supplied) → Stands now now packets.old [] }
         ensures same { IsSameDump self.old self.new }
-        ensures end { IsEnd (HasDumped self.new) self.old.receiving.demux.pid
+        ensures end { IsEnd (HasDumped self.new) (reception self.old.receiving).pid
             (A.supplied stream.old)
             (A.supplied stream.new)
             (K.received out.old)
@@ -157,15 +158,15 @@ impl<'a> Dump<'a> {
     ) -> Result<(), Refused>
         requires within { first + length packets.now ≤ STREAM_LIMIT }
         ensures same { IsSameDump self.old self.new }
-        ensures tells { OnOk result (Tells HasDumped self.old.receiving.demux.pid
+        ensures tells { OnOk result (Tells HasDumped (reception self.old.receiving).pid
             (K.received out.old)
             (K.received out.new)
             self.old self.new buffer.old buffer.new first packets.now) }
         ensures refused { IfErr result (λ refused.
             (k : ℕ) × (k < length packets.now) × (refused.packet ≡ first + k)
-            × (packet_fault self.old.receiving.demux.pid (slice_index_or packets.now k [])
+            × (packet_fault (reception self.old.receiving).pid (slice_index_or packets.now k [])
             ≡ Some refused.fault)
-            × Tells HasDumped self.old.receiving.demux.pid
+            × Tells HasDumped (reception self.old.receiving).pid
             (K.received out.old)
             (K.received out.new)
             self.old self.new buffer.old buffer.new first (take k packets.now)) }
@@ -194,8 +195,8 @@ impl<'a> Dump<'a> {
         packet: &[u8; 188],
     ) -> Result<(), PacketFault>
         ensures fault { MatchResult result
-            (λ _. packet_fault self.old.receiving.demux.pid packet.now ≡ None)
-            (λ fault. packet_fault self.old.receiving.demux.pid packet.now ≡ Some fault) }
+            (λ _. packet_fault (reception self.old.receiving).pid packet.now ≡ None)
+            (λ fault. packet_fault (reception self.old.receiving).pid packet.now ≡ Some fault) }
         ensures same { IsSameDump self.old self.new }
         ensures told { OnOk result ((place : ℕ) → TellsOne HasDumped
             (K.received out.old)
@@ -230,8 +231,8 @@ impl<'a> Dump<'a> {
     )
         ensures { (packets : List (List ℕ)) (text : List ℕ) → HasDumped self.old packets text
             → (more : List ℕ)
-            × IsDumpText self.old.receiving.showing.core.profile self.old.receiving.demux.pid
-            self.old.receiving.sets.pages self.old.ticks true packets (text ++ more)
+            × IsDumpTextIn (reception self.old.receiving) self.old.ticks true packets
+            (text ++ more)
             × PutsOut (K.received out.old) (K.received out.new) buffer.old buffer.new more }
     {
         self.receiver.finish();

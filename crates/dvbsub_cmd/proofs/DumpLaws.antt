@@ -17,10 +17,10 @@ pub tells_as_asked : (name : ProfileName) (pid page : ℕ) (ticks : List ℕ) (m
     → dump_tells walked ended packets text → dumps name pid page ticks ended packets text
 tells_as_asked name pid page ticks made walked ended packets text same profile_is pid_is pages_are ticks_are is =
     subst (λ (p : Profile). IsDumpText p pid (only page) ticks ended packets text)
-    (same.receiver.core.profile ∙ profile_is)
+    ((λ i. (same.receiver i).profile) ∙ profile_is)
     (subst (λ (n : ℕ). IsDumpText walked.receiving.showing.core.profile n (only page) ticks ended packets text)
-    (same.receiver.pid ∙ pid_is)
+    ((λ i. (same.receiver i).pid) ∙ pid_is)
     (subst (λ (pages : Pages). IsDumpText walked.receiving.showing.core.profile walked.receiving.demux.pid pages ticks
-    ended packets text) (same.receiver.pages ∙ pages_are)
+    ended packets text) ((λ i. (same.receiver i).pages) ∙ pages_are)
     (subst (λ (t : List ℕ). IsDumpText walked.receiving.showing.core.profile walked.receiving.demux.pid
     walked.receiving.sets.pages t ended packets text) (same.ticks ∙ ticks_are) is)))

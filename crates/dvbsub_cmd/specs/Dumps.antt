@@ -1,7 +1,8 @@
 -- What `dump` tells of packets.
 use Rattle.std.specs.Prelude.{ℕ, Bool, List}
-use Rattle.dump_text.specs.DumpText.{IsDumpText}
+use Rattle.dump_text.specs.DumpText.{IsDumpText, IsDumpTextIn}
 use Rattle.dump_text.specs.Dumping.{Dumping}
+use Rattle.receiver.specs.Receiving.{reception}
 use Rattle.sub_base.specs.Profile.{profile_of}
 use Rattle.sub_base.specs.declared.profile.ProfileName.{ProfileName}
 use Rattle.decoder_model.specs.Frames.{only}
@@ -14,5 +15,4 @@ dumps profile pid page ticks ended packets text =
 -- what a receiver at work tells of packets
 abbrev pub dump_tells : Dumping → Bool → List (List ℕ) → List ℕ → Type 0
 dump_tells dumping ended packets text =
-    IsDumpText dumping.receiving.showing.core.profile dumping.receiving.demux.pid dumping.receiving.sets.pages
-    dumping.ticks ended packets text
+    IsDumpTextIn (reception dumping.receiving) dumping.ticks ended packets text

@@ -12,15 +12,13 @@ use check_text::Check;
 use command_text::TextBuffer;
 use decoder_model::Pages;
 use packet_source::PacketSource;
-use packet_walk::WalkEnd;
+use packet_walk::{WalkEnd, walk_packets};
 use std::alloc::Global;
-use std::thread::Threads;
-use sub_base::{BandGate, Profile, ProfileName, Sink, Source};
+use sub_base::{Profile, ProfileName, Sink, Source};
 
 /// Writes what becomes of each display set of a stream, when it is done, and the greatest level of
 /// the coded data buffer with the first breach. All memory is taken before the first byte is read.
-pub fn check<R: Threads + Sync, A: Source, K: Sink, G: BandGate + Sync>(
-    rt: &R,
+pub fn check<A: Source, K: Sink>(
     alloc: Global,
     profile: ProfileName,
     origin: u64,
@@ -28,7 +26,6 @@ pub fn check<R: Threads + Sync, A: Source, K: Sink, G: BandGate + Sync>(
     page: u16,
     stream: &mut A,
     out: &mut K,
-    gate: &G,
 ) -> Status
     requires profile { IsCompiledFor profile }
     requires origin { origin < TIME_ROUND }
@@ -49,26 +46,19 @@ pub fn check<R: Threads + Sync, A: Source, K: Sink, G: BandGate + Sync>(
     let Ok(mut packets) = PacketSource::make(alloc) else {
         return Status::Memory;
     };
-    let end = check.walk(rt, gate, stream, out, &mut buffer, &mut packets);
-    finish(rt, gate, &mut check, out, &mut buffer, end);
+    let end = walk_packets(stream, out, &mut buffer, &mut check, &mut packets);
+    finish(&mut check, out, &mut buffer, end);
     close(out, &mut buffer, end)
 }
 
 /// Puts out what is told of a stream that has ended, where it was read to its end.
-fn finish<R: Threads + Sync, K: Sink, G: BandGate + Sync>(
-    rt: &R,
-    gate: &G,
-    check: &mut Check,
-    out: &mut K,
-    buffer: &mut TextBuffer,
-    end: WalkEnd,
-)
+fn finish<K: Sink>(check: &mut Check, out: &mut K, buffer: &mut TextBuffer, end: WalkEnd)
     ensures { Finishes (HasChecked check.old) (check_tells check.old)
         (K.received out.old)
         (K.received out.new)
         buffer.old buffer.new end }
 {
     if is_whole(end) {
-        check.finish(rt, gate, out, buffer);
+        check.finish(out, buffer);
     }
 }

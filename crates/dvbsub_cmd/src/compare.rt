@@ -15,6 +15,7 @@ use command_text::{TextBuffer, flush};
 use cue_list::Script;
 use decoder_model::Pages;
 use dump_text::Dump;
+use packet_walk::take_packets;
 use std::alloc::Global;
 use std::thread::Threads;
 use sub_base::{BandGate, MemSink, NoMemory, Profile, ProfileName};
@@ -94,13 +95,7 @@ fn authored_texts(alloc: Global, script: &Script, ticks: &[u64]) -> Result<MemSi
 
 /// The greatest level of the coded data buffer of a receiver of the profile that gets these
 /// packets.
-pub fn peak_of<R: Threads + Sync, G: BandGate + Sync>(
-    rt: &R,
-    alloc: Global,
-    profile: ProfileName,
-    packets: &[[u8; 188]],
-    gate: &G,
-) -> Result<u64, NoMemory>
+pub fn peak_of(alloc: Global, profile: ProfileName, packets: &[[u8; 188]]) -> Result<u64, NoMemory>
     requires profile { IsCompiledFor profile }
     requires packets { AreTakable packets.now }
     ensures { IfOk result
@@ -112,7 +107,7 @@ pub fn peak_of<R: Threads + Sync, G: BandGate + Sync>(
     // The lines of the sets, which nobody asks for.
     let mut lines = MemSink::make(alloc, usize::MAX, Vec::new(alloc));
     // A receiver takes all of them.
-    if let Err(_) = check.take_packets(rt, gate, &mut lines, &mut buffer, 0, packets) {
+    if let Err(_) = take_packets(&mut lines, &mut buffer, &mut check, 0, packets) {
         unreachable!()
     }
     Ok(check.peak())

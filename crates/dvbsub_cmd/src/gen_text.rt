@@ -110,7 +110,7 @@ fn tell_packets<R: Threads + Sync, G: BandGate + Sync>(
     ensures { IfOk result (AreToldAs profile generated.now packets.now) }
 {
     let count = packets.len();
-    let peak = peak_of(rt, alloc, profile, packets, gate)?;
+    let peak = peak_of(alloc, profile, packets)?;
     let whole = enter(rt, alloc, profile, generated, packets, times, 0, gate)?;
     let third = enter(
         rt,

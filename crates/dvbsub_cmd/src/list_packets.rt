@@ -42,6 +42,8 @@ impl PacketTeller for Lister {
 
     ghost stands = { λ lister. IsListed lister.demux };
 
+    ghost kept = { λ _. tt };
+
     #[inline(always)]
     fn take_packet<K: Sink>(
         &mut self,

@@ -171,7 +171,7 @@ where
                 pid,
                 page,
             },
-        ) => check(rt, alloc, profile, origin, pid, page, first, out, gate),
+        ) => check(alloc, profile, origin, pid, page, first, out),
         Some(Command::Expect { has_font }) => expect(alloc, words, has_font, first, second, out),
         Some(Command::Gen { number, profile }) => write_gen_text(
             rt, alloc, number, profile, out, gate,

@@ -6,9 +6,22 @@ use Rattle.stream_syntax.specs.TransportPackets.{packet_fault}
 use Rattle.stream_syntax.specs.declared.transport.PacketFault.{PacketFault}
 use Rattle.command_text.specs.Putting.{Buffered, IsPutOut}
 use Rattle.sub_base.specs.Endpoints.{Received}
-use Rattle.packet_walk.specs.Told.{HasTold, StaysTold, Tells, TellsOne}
+use Rattle.packet_walk.specs.Told.{HasTaken, HasTold, StaysTold, Tells, TellsOne}
 
 module _ {Teller : Type 0} (stands : Teller → List (List ℕ) → List ℕ → Type 0) where
+  -- so many packets were taken, and one more
+  pub taken_more : (a b : Received) (old new : Teller) (was is : Buffered) (place : ℕ) (packet : List ℕ)
+      → TellsOne stands a b old new was is place packet → HasTaken stands old place
+      → HasTaken stands new (place + 1)
+  taken_more a b old new was is place packet one taken =
+      let goes = one.goes taken.packets taken.text taken.counted taken.told in
+      record {
+        packets = taken.packets ++ packet ∷ [];
+        text = taken.text ++ goes.0;
+        counted = length-append taken.packets (packet ∷ []) ∙ ap (λ (n : ℕ). n + 1) taken.counted;
+        told = goes.1;
+      }
+
   -- one packet more
   pub tells_one : (pid : ℕ) (a b : Received) (old new : Teller) (was is : Buffered) (place : ℕ)
       (packet : List ℕ) → packet_fault pid packet ≡ None

@@ -13,7 +13,7 @@ use Rattle.sub_base.specs.Endpoints.{Received, Supplied}
 use Rattle.sub_base.proofs.TransferSteps.{HasRisen-since}
 use Rattle.stream_syntax.specs.TransportPackets.{packet_fault}
 use Rattle.command_text.specs.Putting.{Buffered, IsPutOut}
-use Rattle.packet_walk.specs.Told.{HasTold, Tells}
+use Rattle.packet_walk.specs.Told.{HasTaken, HasTold, Tells}
 use Rattle.packet_walk.specs.Walking.{IsEnd, IsTold}
 use Rattle.packet_walk.specs.declared.walk.Refused.{Refused}
 use Rattle.packet_walk.specs.declared.walk.WalkEnd.TheVariants as end
@@ -97,6 +97,17 @@ module _ {Teller : Type 0} (stands : Teller → List (List ℕ) → List ℕ →
     source = come.source;
     told = subst (λ (l : List (List ℕ)). HasTold stands pid start next new is (come.packets ++ l)) more_is
         (tells.extends start come.packets (come.source.count ∙ sym first_is) come.told);
+  }
+
+  -- as many packets were taken as stand before those in hand
+  pub come_taken : (pid : ℕ) (before now : Supplied) (start out : Received) (teller : Teller) (buffer : Buffered)
+      (hand : InHand) (first : ℕ) → HasCome pid before now start out teller buffer hand → first ≡ hand.first
+      → HasTaken stands teller first
+  come_taken pid before now start out teller buffer hand first come first_is = record {
+    packets = come.packets;
+    text = come.told.text;
+    counted = come.source.count ∙ sym first_is;
+    told = come.told.told;
   }
 
   -- what was told of the packets before those in hand

@@ -4,6 +4,14 @@ use Rattle.stream_syntax.specs.TransportPackets.{packet_fault}
 use Rattle.command_text.specs.Putting.{Buffered, IsPutOut, PutsOut}
 use Rattle.sub_base.specs.Endpoints.{Received}
 
+-- so many packets were taken
+pub record HasTaken {Teller : Type 0} (stands : Teller → List (List ℕ) → List ℕ → Type 0) (teller : Teller)
+    (count : ℕ) : Type 0 where
+  pub packets : List (List ℕ)
+  pub text : List ℕ
+  pub counted : length packets ≡ count
+  pub told : stands teller packets text
+
 -- a value that told of packets, so many, tells of one more, and this text was put out
 pub record TellsOne {Teller : Type 0} (stands : Teller → List (List ℕ) → List ℕ → Type 0)
     (before now : Received)

@@ -6,4 +6,4 @@ mod teller;
 mod walk;
 
 pub use teller::PacketTeller;
-pub use walk::{Refused, WalkEnd, walk_packets};
+pub use walk::{Refused, WalkEnd, take_packets, walk_packets};

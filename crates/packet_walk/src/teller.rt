@@ -1,7 +1,7 @@
 ghost use Rattle.std.specs.Prelude.{◌≡◌, ◌<◌, ℕ, List, MatchResult, None, OnErr, OnOk, Some};
 ghost use Rattle.packet_source.specs.declared.limits.TheConstants.{STREAM_LIMIT};
 ghost use Rattle.stream_syntax.specs.TransportPackets.{packet_fault};
-ghost use Rattle.packet_walk.specs.Told.{StaysTold, TellsOne};
+ghost use Rattle.packet_walk.specs.Told.{HasTaken, StaysTold, TellsOne};
 
 use command_text::TextBuffer;
 use stream_syntax::PacketFault;
@@ -15,8 +15,13 @@ pub trait PacketTeller {
     /// It took these packets, and has put out this text.
     ghost stands: { Self → List (List ℕ) → List ℕ → Type 0 };
 
-    /// Takes the packet of that place in the stream, counted from 0, and puts out what there is to
-    /// tell with it. A packet that cannot be taken changes nothing.
+    /// What no packet changes of it, where there is more than the PID.
+    ghost Kept: { Type 0 } = { Unit {0} };
+
+    ghost kept: { Self → Self.Kept };
+
+    /// Takes the packet of that place in the stream, counted from 0, where it took as many packets,
+    /// and puts out what there is to tell with it. A packet that cannot be taken changes nothing.
     fn take_packet<K: Sink>(
         &mut self,
         out: &mut K,
@@ -25,9 +30,11 @@ pub trait PacketTeller {
         packet: &[u8; 188],
     ) -> Result<(), PacketFault>
         requires place { place < STREAM_LIMIT }
+        requires taken { HasTaken stands self.old place }
         ensures fault { MatchResult result (λ _. packet_fault (pid self.old) packet.now ≡ None)
             (λ fault. packet_fault (pid self.old) packet.now ≡ Some fault) }
         ensures pid { pid self.new ≡ pid self.old }
+        ensures same { Self.kept self.new ≡ Self.kept self.old }
         ensures told { OnOk result (TellsOne stands
             (K.received out.old)
             (K.received out.new)

@@ -5,7 +5,7 @@ ghost use Rattle.packet_source.specs.Packets.{Stands};
 ghost use Rattle.packet_source.specs.declared.limits.TheConstants.{STREAM_LIMIT};
 ghost use Rattle.stream_syntax.specs.TransportPackets.{packet_fault};
 ghost use Rattle.sub_base.specs.Endpoints.{Supplied};
-ghost use Rattle.packet_walk.specs.Told.{Tells};
+ghost use Rattle.packet_walk.specs.Told.{HasTaken, Tells};
 ghost use Rattle.packet_walk.specs.Walking.{IsEnd};
 
 use crate::teller::PacketTeller;
@@ -48,6 +48,7 @@ pub fn walk_packets<T: PacketTeller, A: Source, K: Sink>(
     requires nothing { packets.old ≡ nothing_read }
     requires source { (now : Supplied) → Stands now now packets.old [] }
     ensures pid { T.pid teller.new ≡ T.pid teller.old }
+    ensures same { T.kept teller.new ≡ T.kept teller.old }
     ensures end { IsEnd (T.stands teller.new) (T.pid teller.old)
         (A.supplied stream.old)
         (A.supplied stream.new)
@@ -70,7 +71,7 @@ pub fn walk_packets<T: PacketTeller, A: Source, K: Sink>(
 }
 
 /// Takes packets, the first of that place, up to one that cannot be taken.
-fn take_packets<T: PacketTeller, K: Sink>(
+pub fn take_packets<T: PacketTeller, K: Sink>(
     out: &mut K,
     buffer: &mut TextBuffer,
     teller: &mut T,
@@ -78,7 +79,9 @@ fn take_packets<T: PacketTeller, K: Sink>(
     packets: &[[u8; 188]],
 ) -> Result<(), Refused>
     requires within { first + length packets.now ≤ STREAM_LIMIT }
+    requires taken { HasTaken T.stands teller.old first }
     ensures pid { T.pid teller.new ≡ T.pid teller.old }
+    ensures same { T.kept teller.new ≡ T.kept teller.old }
     ensures tells { OnOk result (Tells T.stands (T.pid teller.old)
         (K.received out.old)
         (K.received out.new)

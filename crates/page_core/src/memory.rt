@@ -1,6 +1,6 @@
 //! The page memory of a receiver, and what becomes of the sets that it is handed.
 
-ghost use Rattle.std.specs.Prelude.{unwrap_or, ◌≡◌, ◌<◌, ◌^◌, ◌∷◌, [], List, ℕ, Some, None, IfErr, IfOk, IfSome, OnErr, option_and_then, option_map};
+ghost use Rattle.std.specs.Prelude.{unwrap_or, ◌≡◌, ◌<◌, ◌^◌, ◌∷◌, [], List, ℕ, true, Some, None, IfErr, IfOk, IfSome, OnErr, option_and_then, option_map};
 ghost use Rattle.decoder_model.specs.Faults.{display_fault as fault_of_display, display_or_default};
 ghost use Rattle.decoder_model.specs.Free.{free_nodes_after, free_pixels_after};
 ghost use Rattle.decoder_model.specs.Kept.{lifted_time};
@@ -9,7 +9,7 @@ ghost use Rattle.decoder_model.specs.Received.{AreRead};
 ghost use Rattle.decoder_model.specs.Sets.{Delivery, lost, whole, refused};
 ghost use Rattle.decoder_model.specs.Verdict.{sets_since, verdict_of, verdict_on_kept};
 ghost use Rattle.decoder_model.specs.declared.set_end.SetEnd.{SetEnd as Verdict};
-ghost use Rattle.decoder_model.specs.declared.set_end.SetEnd.TheVariants.{Broken, NotLater};
+ghost use Rattle.decoder_model.specs.declared.set_end.SetEnd.TheVariants.{Broken, NotLater, Shown};
 ghost use Rattle.decoder_model.specs.declared.set_fault.SetFault.{SetFault as WhyBroken};
 ghost use Rattle.segments.specs.Contents.{display_value, page_value};
 ghost use Rattle.page_core.specs.Private.Judging.{fault_before_nodes as first_of_tests};
@@ -124,6 +124,7 @@ impl Core {
         ensures answer { (past : List (Delivery Reading)) (size : ℕ) → Stands past self.old
             → Some result
             ≡ verdict_of self.old.profile self.old.anchor past (refused pts size fault) }
+        ensures known { result ≡ Shown → self.new.known ≡ true }
         ensures unchanged { (time : ℕ) → result ≡ NotLater time → self.new ≡ self.old }
         ensures broken { (why : WhyBroken) → result ≡ Broken why → IsForgotten self.new }
         ensures same { IsSameReceiver self.old self.new }

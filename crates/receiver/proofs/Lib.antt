@@ -1,9 +1,6 @@
+-- The front of a plane.
 pub mod Planes
+-- What the two pictures show with one more set or loss.
 pub mod Turns
-pub mod Arrivals
-pub mod Gatherings
-pub mod Feeds
-pub mod Loads
-pub mod Takes
+-- What is shown before the time of the set that is ready.
 pub mod Views
-pub mod TakenSets

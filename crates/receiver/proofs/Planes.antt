@@ -1,5 +1,5 @@
 -- The front of a plane.
-use Rattle.std.proofs.Common.{◌≡◌, ℕ, ◌*◌, ◌≤◌, inl, inr, max, List, ◌++◌, length, take, drop, sym, ap, ◌∙◌, arith}
+use Rattle.std.proofs.Common.{◌≡◌, ℕ, ◌*◌, ◌≤◌, inl, inr, List, ◌++◌, length, take, drop, sym, ap, ◌∙◌, arith}
 use Rattle.std.proofs.Math.Nat.{mul-le-mul_left, mul_comm}
 use Rattle.std.proofs.Math.Seq.{take-append_seam}
 use Rattle.sub_base.specs.declared.profile.Profile.{Profile}

@@ -1,14 +1,14 @@
 -- What a receiver's two pictures show with one more set or loss.
-use Rattle.std.proofs.Common.{◌≡◌, ◌∙◌, ℕ, ◌+◌, ◌<◌, ◌≤◌, Bool, true, false, cond, nat_le, nat_lt, ◌&&◌, List, [], ◌∷◌, Option, Some, None, refl, sym, ap, subst, arith}
+use Rattle.std.proofs.Common.{◌≡◌, ◌∙◌, ℕ, ◌<◌, ◌≤◌, Bool, true, false, cond, nat_le, List, [], ◌∷◌, ◌++◌, reverse, Option, Some, None, refl, sym, ap, subst, arith}
 use Rattle.std.specs.Prelude.{option_and_then, unwrap_or}
 use Rattle.std.specs.Option.{is_some, option_or}
 use Rattle.std.proofs.lemmas.Bool.Decides.{nat_tests}
 use Rattle.sub_base.specs.declared.profile.Profile.{Profile}
 use Rattle.decoder_model.specs.Faults.{contents_in}
-use Rattle.decoder_model.specs.Kept.{ahead_of, lift_by, lifted_behind, lifted_after, lifted_time, last_time, time_of}
-use Rattle.decoder_model.specs.Readings.{Content, Reading}
+use Rattle.decoder_model.specs.Kept.{ahead_of, lifted_behind, lifted_time, last_time, time_of}
+use Rattle.decoder_model.specs.Readings.{AreDeliveriesRead, Content, IsDeliveryRead, Reading}
 use Rattle.decoder_model.specs.Sets.{Delivery, lost, whole, refused}
-use Rattle.decoder_model.specs.Shown.{Plane, Scene, Standing, View, nothing, plane, is_over_at, plane_of, standing_after, standing_with, until_of, view_at, view_of}
+use Rattle.decoder_model.specs.Shown.{Plane, Standing, nothing, plane, is_over_at, plane_of, standing_after, standing_with, until_of, view_at, view_of}
 use Rattle.decoder_model.specs.Verdict.{if_kept, sets_since, verdict_of, verdict_on_kept}
 use Rattle.decoder_model.specs.declared.set_end.SetEnd.{SetEnd}
 use Rattle.decoder_model.specs.declared.set_end.SetEnd.TheVariants.{Shown, Waiting, Broken, NotLater}
@@ -16,10 +16,12 @@ use Rattle.decoder_model.specs.declared.set_fault.SetFault.{SetFault}
 use Rattle.decoder_model.proofs.Later.{lift_above}
 use Rattle.decoder_model.proofs.Views.{view_without, view_before, view_with}
 use Rattle.page_core.specs.Memory as cores
-use Rattle.page_core.specs.Memory.{IsSameReceiver, Memory}
+use Rattle.page_core.specs.Memory.{Memory}
 use Rattle.page_core.specs.Scenes.{Shows, until_in}
 use Rattle.page_core.proofs.Handed.Standings.{WaitsOrShows, waits_or_shows}
-use Rattle.receiver.specs.Showing.{Slot, Showing, Stands, plane_in, shown_at, time_before_last, view_in, view_until}
+use Rattle.set_receiver.specs.Receiving.{Holds, IsSame, Receiving, Reception}
+use Rattle.set_receiver.proofs.TakenSets.{one_more, read_more}
+use Rattle.receiver.specs.Showing.{ArePictures, Slot, plane_in, time_before_last, view_in, view_until}
 
 -- ---- before the first set
 
@@ -28,17 +30,13 @@ unfolding last_time
 none_handed anchor = refl
 
 -- nothing is shown
-pub stands_nothing : (core : Memory) (pending current : Slot) → cores.Stands [] core
+pub pictures_nothing : (profile : Profile) (anchor : ℕ) (pending current : Slot)
     → pending ≡ record { time = 0; until = None; plane = None }
-    → current ≡ record { time = 0; until = None; plane = None }
-    → Stands [] (record { core = core; pending = pending; current = current })
+    → current ≡ record { time = 0; until = None; plane = None } → ArePictures profile anchor [] pending current
 unfolding view_at time_before_last
-stands_nothing core pending current stands first other = record {
-  core = stands;
+pictures_nothing profile anchor pending current first other = record {
   order = omega (arith, ap (λ (slot : Slot). slot.time) first, ap (λ (slot : Slot). slot.time) other);
-  latest =
-      ap (λ (slot : Slot). slot.time) first
-      ∙ ap (λ last. unwrap_or last 0) (sym (stands.last ∙ none_handed core.anchor));
+  latest = ap (λ (slot : Slot). slot.time) first ∙ ap (λ last. unwrap_or last 0) (sym (none_handed anchor));
   earlier = ap (λ (slot : Slot). slot.time) other;
   shows = λ tick from. both tick (nat_le pending.time tick);
 }
@@ -50,29 +48,19 @@ stands_nothing core pending current stands first other = record {
 -- ---- what is not kept
 
 -- where it is not kept, or is a loss, the pictures stay
-pub stands_on : (past : List (Delivery Reading)) (delivery : Delivery Reading) (old : Showing) (core : Memory)
-    → Stands past old → cores.Stands (delivery ∷ past) core → IsSameReceiver old.core core
-    → lifted_time old.core.anchor past delivery ≡ None
-    → Stands (delivery ∷ past) (record { core = core; pending = old.pending; current = old.current })
+pub pictures_on : (profile : Profile) (anchor : ℕ) (past : List (Delivery Reading)) (delivery : Delivery Reading)
+    (pending current : Slot) → ArePictures profile anchor past pending current
+    → lifted_time anchor past delivery ≡ None → ArePictures profile anchor (delivery ∷ past) pending current
 unfolding last_time time_before_last
-stands_on past delivery old core stands after same late =
-    let there : last_time core.anchor (delivery ∷ past) ≡ old.core.last =
-    ap (λ anchor. last_time anchor (delivery ∷ past)) same.anchor
-    ∙ ap (λ found. option_or found (last_time old.core.anchor past)) late ∙ sym stands.core.last in
-    record {
-      core = after;
-      order = stands.order;
-      latest = stands.latest ∙ ap (λ last. unwrap_or last 0) (sym (after.last ∙ there));
-      earlier = stands.earlier
-          ∙ ap (λ found. unwrap_or
-          (cond (is_some found) (last_time old.core.anchor past) (time_before_last old.core.anchor past)) 0)
-          (sym late)
-          ∙ ap (λ anchor. unwrap_or (time_before_last anchor (delivery ∷ past)) 0) (sym same.anchor);
-      shows = λ tick from.
-          stands.shows tick from ∙ sym (view_without old.core.profile old.core.anchor tick past delivery late)
-          ∙ ap (λ profile. view_at profile old.core.anchor tick (delivery ∷ past)) (sym same.profile)
-          ∙ ap (λ anchor. view_at core.profile anchor tick (delivery ∷ past)) (sym same.anchor);
-    }
+pictures_on profile anchor past delivery pending current are late = record {
+  order = are.order;
+  latest = are.latest ∙ ap (λ found. unwrap_or (option_or found (last_time anchor past)) 0) (sym late);
+  earlier =
+      are.earlier
+      ∙ ap (λ found. unwrap_or (cond (is_some found) (last_time anchor past) (time_before_last anchor past)) 0)
+      (sym late);
+  shows = λ tick from. are.shows tick from ∙ sym (view_without profile anchor tick past delivery late);
+}
 
 -- ---- a kept set
 
@@ -83,59 +71,48 @@ above anchor at None (Some time) is = omega arith
 above anchor at (Some last) (Some time) is = (let less = lift_above last (ahead_of last time) at is in omega arith)
 
 -- from its time on it decides what is shown, and before that time the picture that was pending does
-pub stands_turned : (past : List (Delivery Reading)) (delivery : Delivery Reading) (at : ℕ) (old : Showing)
-    (core : Memory) (pending current : Slot) → Stands past old → cores.Stands (delivery ∷ past) core
-    → IsSameReceiver old.core core
-    → lifted_time old.core.anchor past delivery ≡ Some at → pending.time ≡ at → current ≡ old.pending
-    → ((tick : ℕ)
-    → view_in pending tick ≡ view_of tick (standing_after old.core.profile old.core.anchor (delivery ∷ past)))
-    → Stands (delivery ∷ past) (record { core = core; pending = pending; current = current })
+pub pictures_turned : (profile : Profile) (anchor : ℕ) (past : List (Delivery Reading)) (delivery : Delivery Reading)
+    (at : ℕ) (before after pending current : Slot) → ArePictures profile anchor past before after
+    → lifted_time anchor past delivery ≡ Some at → pending.time ≡ at → current ≡ before
+    → ((tick : ℕ) → view_in pending tick ≡ view_of tick (standing_after profile anchor (delivery ∷ past)))
+    → ArePictures profile anchor (delivery ∷ past) pending current
 unfolding last_time time_before_last
-stands_turned past delivery at old core pending current stands after same lifted time was shows =
-    let last : unwrap_or old.core.last 0 ≤ at =
-    above old.core.anchor at old.core.last (time_of delivery)
-    (ap (λ found. lifted_after old.core.anchor found delivery) stands.core.last ∙ lifted) in
-    let order = stands.order in
-    let latest = stands.latest in
-    let now : current.time ≡ old.pending.time = ap (λ (slot : Slot). slot.time) was in
+pictures_turned profile anchor past delivery at before after pending current are lifted time was shows =
+    let last : unwrap_or (last_time anchor past) 0 ≤ at =
+    above anchor at (last_time anchor past) (time_of delivery) lifted in
+    let order = are.order in
+    let latest = are.latest in
+    let now : current.time ≡ before.time = ap (λ (slot : Slot). slot.time) was in
     record {
-      core = after;
       order = omega (arith, now, time, latest, last);
-      latest = time ∙ ap (λ found. unwrap_or found 0)
-          (sym (after.last ∙ ap (λ anchor. last_time anchor (delivery ∷ past)) same.anchor
-          ∙ ap (λ found. option_or found (last_time old.core.anchor past)) lifted));
-      earlier = now ∙ latest ∙ ap (λ found. unwrap_or found 0) stands.core.last
-          ∙ ap (λ found. unwrap_or
-          (cond (is_some found) (last_time old.core.anchor past) (time_before_last old.core.anchor past)) 0)
-          (sym lifted)
-          ∙ ap (λ anchor. unwrap_or (time_before_last anchor (delivery ∷ past)) 0) (sym same.anchor);
-      shows = λ tick from.
-          by tick (omega (arith, from, now)) (nat_le at tick) refl
-          ∙ ap (λ profile. view_at profile old.core.anchor tick (delivery ∷ past)) (sym same.profile)
-          ∙ ap (λ anchor. view_at core.profile anchor tick (delivery ∷ past)) (sym same.anchor);
+      latest = time ∙ ap (λ found. unwrap_or (option_or found (last_time anchor past)) 0) (sym lifted);
+      earlier =
+          now ∙ latest
+          ∙ ap (λ found. unwrap_or (cond (is_some found) (last_time anchor past) (time_before_last anchor past)) 0)
+          (sym lifted);
+      shows = λ tick from. by tick (omega (arith, from, now)) (nat_le at tick) refl;
     }
   where
-    before : (tick : ℕ) → old.pending.time ≤ tick
-        → view_in current tick ≡ view_at old.core.profile old.core.anchor tick past
-    before tick from =
+    early : (tick : ℕ) → before.time ≤ tick → view_in current tick ≡ view_at profile anchor tick past
+    early tick from =
         ap (λ (slot : Slot). view_in slot tick) was
-        ∙ sym (ap (λ b. cond b (view_in old.pending tick) (view_in old.current tick))
-        (let has : nat_le old.pending.time tick ≡ true = grind (arith, nat_tests) in has))
-        ∙ stands.shows tick (let order = stands.order in omega (arith, from, order))
+        ∙ sym (ap (λ b. cond b (view_in before tick) (view_in after tick))
+        (let has : nat_le before.time tick ≡ true = grind (arith, nat_tests) in has))
+        ∙ are.shows tick (let order = are.order in omega (arith, from, order))
 
-    by : (tick : ℕ) → old.pending.time ≤ tick → (due : Bool) → nat_le at tick ≡ due
+    by : (tick : ℕ) → before.time ≤ tick → (due : Bool) → nat_le at tick ≡ due
         → cond (nat_le pending.time tick) (view_in pending tick) (view_in current tick)
-        ≡ view_at old.core.profile old.core.anchor tick (delivery ∷ past)
+        ≡ view_at profile anchor tick (delivery ∷ past)
     by tick from true is =
         ap (λ b. cond b (view_in pending tick) (view_in current tick)) (ap (λ n. nat_le n tick) time ∙ is)
         ∙ shows tick
-        ∙ sym (view_with old.core.profile old.core.anchor tick at past delivery lifted
+        ∙ sym (view_with profile anchor tick at past delivery lifted
         (let come : at ≤ tick = grind (arith, nat_tests) in come))
     by tick from false is =
         ap (λ b. cond b (view_in pending tick) (view_in current tick)) (ap (λ n. nat_le n tick) time ∙ is)
-        ∙ before tick from
-        ∙ sym (view_before old.core.profile old.core.anchor tick at past delivery lifted
-        (let early : tick < at = grind (arith, nat_tests) in early))
+        ∙ early tick from
+        ∙ sym (view_before profile anchor tick at past delivery lifted
+        (let sooner : tick < at = grind (arith, nat_tests) in sooner))
 
 -- ---- answers
 
@@ -143,10 +120,6 @@ stands_turned past delivery at old core pending current stands after same lifted
 pub none_given : (found : Option ℕ) → ((at : ℕ) → found ≡ Some at → ⊥) → found ≡ None
 none_given None not = refl
 none_given (Some at) not = absurd (not at refl)
-
--- the verdict on a set behind a past, for what is kept as contracts see it
-abbrev pub IsVerdict : List (Delivery Reading) → Delivery Reading → SetEnd → Showing → Type 0
-IsVerdict past delivery end showing = Some end ≡ verdict_of showing.core.profile showing.core.anchor past delivery
 
 -- ---- what is seen of it
 
@@ -189,6 +162,16 @@ clear_where_refused profile anchor at past pts size fault lifted =
     ∙ ap (λ found. standing_with sets (Some at) (refused pts size fault)
     (Some (if_kept found (last_time anchor past) (Broken fault))) (standing_after profile anchor past)) lifted
 
+-- so none that is kept and not shown does
+pub clear_unless_shown : (profile : Profile) (anchor at : ℕ) (past : List (Delivery Reading)) (one : Delivery Reading)
+    (end : SetEnd) → lifted_time anchor past one ≡ Some at → Some end ≡ verdict_of profile anchor past one
+    → (end ≡ Shown → ⊥) → standing_after profile anchor (one ∷ past) ≡ None
+clear_unless_shown profile anchor at past lost end lifted answer other = absurd (cc)
+clear_unless_shown profile anchor at past (whole pts size readings) end lifted answer other =
+    clear_where_not_shown profile anchor at past pts size readings end lifted answer other
+clear_unless_shown profile anchor at past (refused pts size fault) end lifted answer other =
+    clear_where_refused profile anchor at past pts size fault lifted
+
 -- an empty picture is what nothing shows
 pub shows_nothing : (slot : Slot) (profile : Profile) (anchor : ℕ) (past : List (Delivery Reading))
     → slot.plane ≡ None → standing_after profile anchor past ≡ None → (tick : ℕ)
@@ -210,13 +193,34 @@ shows_page slot memory past standing until is stands shows tick =
     same : plane_in memory ≡ plane_of standing.scene
     same i = record { width = (shows.display i).width; height = (shows.display i).height; colours = shows.picture i }
 
--- the same, of a memory that is that of the same receiver as before
-pub shows_page_of : (slot : Slot) (old memory : Memory) (past : List (Delivery Reading))
-    → slot.until ≡ until_in memory → slot.plane ≡ Some (plane_in memory) → IsSameReceiver old memory
-    → (standing : Standing) × (standing_after memory.profile memory.anchor past ≡ Some standing)
-    × Shows standing memory
-    → (tick : ℕ) → view_in slot tick ≡ view_of tick (standing_after old.profile old.anchor past)
-shows_page_of slot old memory past until is same (standing, stands, shows) tick =
-    shows_page slot memory past standing until is stands shows tick
-    ∙ ap (λ profile. view_of tick (standing_after profile memory.anchor past)) same.profile
-    ∙ ap (λ anchor. view_of tick (standing_after old.profile anchor past)) same.anchor
+-- ---- sets that are taken
+
+-- with a set that a page memory has taken, which has that lifted time and end, these two pictures become those
+abbrev pub TurnsTo : Option ℕ → SetEnd → Slot → Slot → Slot → Slot → Memory → Type 0
+TurnsTo lifted end before after pending current core = (past : List (Delivery Reading)) (one : Delivery Reading)
+    → cores.Stands (one ∷ past) core → lifted ≡ lifted_time core.anchor past one
+    → Some end ≡ verdict_of core.profile core.anchor past one
+    → ArePictures core.profile core.anchor past before after
+    → ArePictures core.profile core.anchor (one ∷ past) pending current
+
+-- so they are those after it
+pub taken_shows : (old new : Receiving) (given : List (Delivery (List ℕ))) (delivery : Delivery (List ℕ))
+    (lifted : Option ℕ) (end : SetEnd) (before after pending current : Slot) → IsSame old new
+    → ((past : List (Delivery Reading)) → AreDeliveriesRead (reverse given) past
+    → ArePictures old.core.profile old.core.anchor past before after)
+    → Holds (given ++ delivery ∷ []) new.core
+    → ((past : List (Delivery Reading)) (one : Delivery Reading) → AreDeliveriesRead (reverse given) past
+    → IsDeliveryRead delivery one → lifted ≡ lifted_time old.core.anchor past one)
+    → ((past : List (Delivery Reading)) (one : Delivery Reading) → AreDeliveriesRead (reverse given) past
+    → IsDeliveryRead delivery one → Some end ≡ verdict_of old.core.profile old.core.anchor past one)
+    → TurnsTo lifted end before after pending current new.core
+    → (past : List (Delivery Reading)) → AreDeliveriesRead (reverse (given ++ delivery ∷ [])) past
+    → ArePictures new.core.profile new.core.anchor past pending current
+taken_shows old new given delivery lifted end before after pending current same shows holds lifts answers step =
+    one_more (λ past. ArePictures old.core.profile old.core.anchor past before after)
+    (λ past. ArePictures new.core.profile new.core.anchor past pending current) given delivery shows
+    (λ past one are read pictures.
+    step past one (holds (one ∷ past) (read_more given delivery past one are read))
+    (lifts past one are read ∙ (λ i. lifted_time (sym same i).anchor past one))
+    (answers past one are read ∙ (λ i. verdict_of (sym same i).profile (sym same i).anchor past one))
+    (subst (λ (made : Reception). ArePictures made.profile made.anchor past before after) (sym same) pictures))

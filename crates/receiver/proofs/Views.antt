@@ -1,36 +1,14 @@
--- What is shown of the packets that a receiver was fed.
-use Rattle.std.proofs.Common.{◌≡◌, ◌∙◌, ℕ, ◌<◌, Bool, false, List, [], ◌∷◌, ◌++◌, reverse, append-nil, append_assoc, Some, None, refl, sym, ap, subst}
+-- What is shown before the time of the set that is ready.
+use Rattle.std.proofs.Common.{◌≡◌, ◌∙◌, ℕ, ◌<◌, List, [], ◌∷◌, ◌++◌, reverse, append_assoc, Some, refl, sym, ap, subst}
 use Rattle.std.proofs.lemmas.List.{reverse-append}
 use Rattle.decoder_model.specs.Kept.{last_time, lifted_time}
 use Rattle.decoder_model.specs.Readings.{AreDeliveriesRead, IsDeliveryRead, Reading}
-use Rattle.decoder_model.specs.Sets.{Delivery, sets_of}
+use Rattle.decoder_model.specs.Sets.{Delivery}
 use Rattle.std.specs.Option.{option_or}
-use Rattle.decoder_model.specs.Shown.{IsShown, View, view_at}
+use Rattle.decoder_model.specs.Shown.{view_at}
 use Rattle.sub_base.specs.declared.profile.Profile.{Profile}
 use Rattle.decoder_model.proofs.Later.{IsPast, view_stays}
 use Rattle.decoder_model.proofs.Views.{view_before}
-use Rattle.display_sets.specs.Gathered.{ReadySet, ready_sets}
-use Rattle.display_sets.specs.Standing.{AreReady}
-use Rattle.receiver.specs.Receiving.{IsNext, IsReceiver, Receiving, Stands}
-use Rattle.receiver.proofs.Takes.{sets_gathered}
-
--- ---- all sets are taken
-
-none_waiting : (waiting : List (Delivery (List ℕ))) (sets : List ReadySet) → AreReady waiting sets → sets ≡ []
-    → waiting ≡ []
-none_waiting [] sets are none = refl
-none_waiting (delivery ∷ waiting) [] are none = absurd are
-none_waiting (delivery ∷ waiting) (set ∷ sets) are none = absurd (cc)
-
--- where nothing is ready, the sets of the packets are those that were taken
-pub all_taken : (ended : Bool) (fed : List (List ℕ)) (given : List (Delivery (List ℕ))) (receiving : Receiving)
-    → IsReceiver receiving → Stands ended fed given receiving → ready_sets receiving.sets ≡ []
-    → sets_of receiving.showing.core.profile.coded receiving.demux.pid receiving.sets.pages ended fed ≡ given
-all_taken ended fed given receiving is stands none =
-    let sets = stands.gathers.sets in
-    sets_gathered ended fed given receiving is stands ∙ sets.sets
-    ∙ ap (λ (waiting : List (Delivery (List ℕ))). given ++ waiting)
-    (none_waiting sets.waiting (ready_sets receiving.sets) sets.are_ready none) ∙ append-nil given
 
 -- ---- a set is ready
 

@@ -1,7 +1,6 @@
 pub mod Showing
 pub mod Slots
 pub mod Lent
-pub mod Arrived
 pub mod Receiving
 pub mod Taking
 pub mod Private

@@ -1,21 +1,15 @@
 -- What a receiver keeps, and what that has to do with all packets that it was fed (EN 300 743, clauses 5.1 and 6).
-use Rattle.std.specs.Prelude.{◌≡◌, ℕ, ◌+◌, ◌^◌, ◌<◌, ◌≤◌, Bool, List, [], ◌∷◌, ◌++◌, reverse, if◌then◌else◌}
-use Rattle.std.specs.List.{AllByRecursion}
+use Rattle.std.specs.Prelude.{◌≡◌, ℕ, Bool, List, ◌∷◌, ◌++◌, reverse}
 use Rattle.sub_base.specs.declared.load.SetLoad.{SetLoad}
-use Rattle.stream_syntax.specs.Units.{is_loss}
-use Rattle.stream_syntax.specs.declared.transport.Event.{Event}
-use Rattle.stream_syntax.specs.declared.wire.TheConstants.{PAYLOAD_LENGTH}
-use Rattle.ts_packets.specs.Demuxing as packets
 use Rattle.ts_packets.specs.Demuxing.{Demuxing}
-use Rattle.decoder_model.specs.Arrivals.{Arrival, arrivals_of, packets_taken}
 use Rattle.decoder_model.specs.PacketArrivals.{PacketArrival}
 use Rattle.decoder_model.specs.Readings.{Reading, AreDeliveriesRead}
-use Rattle.decoder_model.specs.Sets.{Delivery, lost, sets_of}
-use Rattle.display_sets.specs.Gathered.{Gathered, IsSmall, ReadySet}
-use Rattle.page_core.specs.Memory.{IsSameReceiver}
-use Rattle.display_sets.specs.Standing as sets
-use Rattle.receiver.specs.Showing as pictures
-use Rattle.receiver.specs.Showing.{Showing}
+use Rattle.decoder_model.specs.Sets.{Delivery}
+use Rattle.decoder_model.specs.Shown.{IsShown, View}
+use Rattle.display_sets.specs.Gathered.{Gathered}
+use Rattle.receiver.specs.Showing.{ArePictures, Showing, Slot}
+use Rattle.set_receiver.specs.Receiving as held
+use Rattle.set_receiver.specs.Receiving.{Reception, sets_received}
 
 -- ---- what is kept
 
@@ -28,58 +22,51 @@ pub record Receiving : Type 0 where
   pub arrival : PacketArrival
   pub load : SetLoad
 
--- a set asks less than 2^62 ticks, and has less than 2^32 bytes of units for each byte of the coded data buffer, and
--- for the unit with which it ends
-pub record IsLoadOf (coded : ℕ) (load : SetLoad) : Type 0 where
-  pub pts : load.pts < 2 ^ 62
-  pub painted : load.painted < 2 ^ 62
-  pub size : IsSmall coded load.size
+-- all of it but the pictures
+abbrev pub without_pictures : Receiving → held.Receiving
+without_pictures receiving = record {
+  collecting = record { demux = receiving.demux; sets = receiving.sets; arrival = receiving.arrival };
+  core = receiving.showing.core;
+  load = receiving.load;
+}
 
--- the parts are those of one receiver, a packet brought no more than its payload, and a set asked no more than it can
-pub record IsReceiver (receiving : Receiving) : Type 0 where
-  pub size : receiving.demux.size ≡ receiving.showing.core.profile.coded
-  pub coded : receiving.sets.coded ≡ receiving.showing.core.profile.coded
-  pub page : receiving.sets.pages.composition ≡ receiving.showing.core.page
-  pub short : receiving.arrival.bytes ≤ PAYLOAD_LENGTH
-  pub load : IsLoadOf receiving.showing.core.profile.coded receiving.load
+-- with these pictures
+abbrev pub with_pictures : held.Receiving → Slot → Slot → Receiving
+with_pictures receiving pending current = record {
+  demux = receiving.collecting.demux;
+  sets = receiving.collecting.sets;
+  showing = record { core = receiving.core; pending = pending; current = current };
+  arrival = receiving.collecting.arrival;
+  load = receiving.load;
+}
+
+-- what the receiver is for
+abbrev pub reception : Receiving → Reception
+reception receiving = held.reception (without_pictures receiving)
 
 -- ---- what it has to do with all that came
 
--- sets were gathered from these arrivals, of which these sets and losses were given, and the pictures are those after
--- these
-pub record Gathers (arrivals : List Arrival) (ended : Bool) (given : List (Delivery (List ℕ))) (gathered : Gathered)
-    (showing : Showing) : Type 0 where
-  pub sets : sets.Stands arrivals ended given gathered
-  pub shows : (past : List (Delivery Reading)) → AreDeliveriesRead (reverse given) past
-      → pictures.Stands past showing
+-- the pictures are those after these sets and losses, however they are read
+abbrev pub Shows : List (Delivery (List ℕ)) → Receiving → Type 0
+Shows given receiving = (past : List (Delivery Reading)) → AreDeliveriesRead (reverse given) past
+    → ArePictures (reception receiving).profile (reception receiving).anchor past receiving.showing.pending
+    receiving.showing.current
 
 -- the receiver was fed these packets, each of which it took, and the stream has ended with them or not; these sets and
 -- losses were taken from it
 pub record Stands (ended : Bool) (fed : List (List ℕ)) (given : List (Delivery (List ℕ)))
     (receiving : Receiving) : Type 0 where
-  pub taken : packets_taken receiving.demux.pid fed ≡ fed
-  pub demux : packets.Stands receiving.demux fed
-  pub gathers : Gathers
-      (arrivals_of receiving.showing.core.profile.coded receiving.demux.pid receiving.sets.pages fed)
-      ended given receiving.sets receiving.showing
+  pub sets : held.Stands ended fed given (without_pictures receiving)
+  pub shows : Shows given receiving
 
--- nothing but losses
-abbrev pub AreLosses : List (Delivery (List ℕ)) → Type 0
-AreLosses deliveries = AllByRecursion (λ delivery. delivery ≡ lost) deliveries
+-- this is shown of packets at a tick
+abbrev pub IsShownIn : Reception → Bool → List (List ℕ) → ℕ → View → Type 0
+IsShownIn reception ended fed tick shown =
+    IsShown reception.profile reception.pid reception.pages reception.anchor ended fed tick shown
 
--- the loss that an event means
-abbrev pub lost_with : Event → List (Delivery (List ℕ))
-lost_with event = if is_loss event then lost ∷ [] else []
-
--- the same receiver: its PID, pages, profile and anchor
-pub record IsSame (old new : Receiving) : Type 0 where
-  pub pid : new.demux.pid ≡ old.demux.pid
-  pub pages : new.sets.pages ≡ old.sets.pages
-  pub core : IsSameReceiver old.showing.core new.showing.core
-
--- the time of a set that is ready, as read
-abbrev pub set_time : ReadySet → ℕ
-set_time set = set.time
+-- it is for the same
+abbrev pub IsSame : Receiving → Receiving → Type 0
+IsSame old new = reception new ≡ reception old
 
 -- a receiver that was fed these packets, of which these sets and losses were taken, has this set or loss next, and then
 -- the rest
@@ -87,5 +74,4 @@ pub record IsNext (ended : Bool) (fed : List (List ℕ)) (given : List (Delivery
     (next : Delivery (List ℕ))
     (rest : List (Delivery (List ℕ))) (receiving : Receiving) : Type 0 where
   pub stands : Stands ended fed given receiving
-  pub all : sets_of receiving.showing.core.profile.coded receiving.demux.pid receiving.sets.pages ended fed
-      ≡ given ++ next ∷ rest
+  pub all : sets_received (reception receiving) ended fed ≡ given ++ next ∷ rest

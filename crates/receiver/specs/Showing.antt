@@ -8,7 +8,6 @@ use Rattle.decoder_model.specs.Kept.{last_time, lifted_time}
 use Rattle.decoder_model.specs.Readings.{Reading}
 use Rattle.decoder_model.specs.Sets.{Delivery}
 use Rattle.decoder_model.specs.Shown.{Plane, View, nothing, plane, is_over_at, view_at}
-use Rattle.page_core.specs.Memory as cores
 use Rattle.page_core.specs.Memory.{Memory}
 use Rattle.page_core.specs.Rows.{picture_in}
 
@@ -23,6 +22,12 @@ pub record Slot : Type 0 where
 -- the page memory, the picture of the last kept set, and that of the one before it
 pub record Showing : Type 0 where
   pub core : Memory
+  pub pending : Slot
+  pub current : Slot
+
+-- the two pictures, and how many places the plane of each has
+pub record Pictures : Type 0 where
+  pub places : ℕ
   pub pending : Slot
   pub current : Slot
 
@@ -44,10 +49,9 @@ view_until until tick (Some picture) = if is_over_at tick until then nothing els
 abbrev pub view_in : Slot → ℕ → View
 view_in slot tick = view_until slot.until tick slot.plane
 
--- what is shown at a tick from the current picture's time on
-abbrev pub shown_at : Showing → ℕ → View
-shown_at showing tick =
-    if nat_le showing.pending.time tick then view_in showing.pending tick else view_in showing.current tick
+-- what is shown at a tick from the current picture's time on, of the pending picture and the current one
+abbrev pub shown_at : Slot → Slot → ℕ → View
+shown_at pending current tick = if nat_le pending.time tick then view_in pending tick else view_in current tick
 
 -- ---- what it has to do with all that was handed
 
@@ -57,12 +61,12 @@ time_before_last anchor [] = None
 time_before_last anchor (delivery ∷ past) =
     if is_some (lifted_time anchor past delivery) then last_time anchor past else time_before_last anchor past
 
--- the pictures are those after this past, the latest first
-pub record Stands (past : List (Delivery Reading)) (showing : Showing) : Type 0 where
-  pub core : cores.Stands past showing.core
-  pub order : showing.current.time ≤ showing.pending.time
+-- the two pictures are those after this past, the latest first, in a receiver of a profile with an anchor
+pub record ArePictures (profile : Profile) (anchor : ℕ) (past : List (Delivery Reading))
+    (pending current : Slot) : Type 0 where
+  pub order : current.time ≤ pending.time
   -- the pending picture is that of the last kept set, and the current one that of the kept set before it
-  pub latest : showing.pending.time ≡ unwrap_or showing.core.last 0
-  pub earlier : showing.current.time ≡ unwrap_or (time_before_last showing.core.anchor past) 0
-  pub shows : (tick : ℕ) → showing.current.time ≤ tick
-      → shown_at showing tick ≡ view_at showing.core.profile showing.core.anchor tick past
+  pub latest : pending.time ≡ unwrap_or (last_time anchor past) 0
+  pub earlier : current.time ≡ unwrap_or (time_before_last anchor past) 0
+  pub shows : (tick : ℕ) → current.time ≤ tick
+      → shown_at pending current tick ≡ view_at profile anchor tick past

@@ -1,5 +1,5 @@
 -- A picture that is kept, as contracts see it.
-use Rattle.std.specs.Prelude.{◌≡◌, ℕ, ◌*◌, ◌≤◌, Bool, true, List, take, Option, Some, None, vec_len, if◌then◌else◌}
+use Rattle.std.specs.Prelude.{◌≡◌, ℕ, ◌*◌, ◌≤◌, true, List, take, Some, None, vec_len, if◌then◌else◌}
 use Rattle.sub_base.specs.declared.colour.Colour.{Colour}
 use Rattle.sub_base.specs.declared.profile.Profile.{Profile}
 use Rattle.decoder_model.specs.Shown.{Plane}

@@ -1,11 +1,8 @@
 -- Sets that are taken from a receiver, whatever it was fed.
-use Rattle.std.specs.Prelude.{◌≡◌, ℕ, ◌<◌, Bool, List, All}
-use Rattle.decoder_model.specs.Sets.{Delivery, sets_of}
-use Rattle.receiver.specs.Receiving.{IsNext, Receiving, Stands}
-
--- each of these numbers is a byte
-abbrev pub AreBytes : List ℕ → Type 0
-AreBytes numbers = All (λ number. number < 256) numbers
+use Rattle.std.specs.Prelude.{◌≡◌, ℕ, Bool, List}
+use Rattle.decoder_model.specs.Sets.{Delivery}
+use Rattle.receiver.specs.Receiving.{IsNext, Receiving, Stands, reception}
+use Rattle.set_receiver.specs.Receiving.{sets_received}
 
 -- a set or loss comes next, where anything was fed
 abbrev pub HasNext : Receiving → Type 0
@@ -18,4 +15,4 @@ HasNext receiving = (ended : Bool) (packets : List (List ℕ)) (given : List (De
 abbrev pub AllTaken : Receiving → Type 0
 AllTaken receiving = (fed : List (List ℕ)) (ended : Bool) (given : List (Delivery (List ℕ)))
     → Stands ended fed given receiving
-    → sets_of receiving.showing.core.profile.coded receiving.demux.pid receiving.sets.pages ended fed ≡ given
+    → sets_received (reception receiving) ended fed ≡ given

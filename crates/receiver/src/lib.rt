@@ -1,17 +1,13 @@
 //! A receiver of DVB subtitles: from transport packets to the pictures that are shown.
 #![tactic(auto)]
 
-mod arrival;
-mod feeding;
 mod picture;
 mod receiver;
 mod screen;
-mod taking;
-mod units;
 mod view;
 
-pub use arrival::Arrival;
 pub use receiver::Receiver;
+pub use set_receiver::Arrival;
 pub use view::View;
 
 #[cfg(test)]

@@ -2,20 +2,16 @@
 
 ghost use Rattle.std.specs.Prelude.{◌≡◌};
 
-use crate::arrival::Arrival;
-use crate::feeding::feed;
 use crate::screen::Screen;
-use crate::taking::take;
 use crate::view::View;
 use decoder_model::Pages;
-use display_sets::Gathering;
 use page_core::{Core, SetEnd};
+use set_receiver::{Arrival, SetReceiver};
 use std::alloc::Global;
 use std::marker::Model;
 use std::thread::Threads;
 use stream_syntax::{Event, PacketFault};
 use sub_base::{BandGate, NoMemory, Profile, SetLoad};
-use ts_packets::Demux;
 
 /// A receiver of the subtitles of one service, out of the transport packets of one PID: of its
 /// composition page and, where it has one, of its ancillary page. Sets that are
@@ -23,37 +19,20 @@ use ts_packets::Demux;
 /// that of the last set, and that of the set before it.
 #[derive(Drop)]
 pub struct Receiver {
-    /// The bytes of the coded data buffer.
-    coded: u64,
-    demux: Demux,
-    sets: Gathering,
+    sets: SetReceiver,
     screen: Screen,
-    arrival: Arrival,
-    load: SetLoad,
 }
 
 impl Model for Receiver {
     ghost use Rattle.std.specs.Prelude.{◌≡◌};
-    ghost use Rattle.receiver.specs.Arrived.{arrival_value};
-    ghost use Rattle.receiver.specs.Receiving.{IsReceiver, Receiving};
+    ghost use Rattle.receiver.specs.Receiving.{Receiving, with_pictures};
+    ghost use Rattle.receiver.specs.Showing.{places_of};
 
     ghost Value = { Receiving };
 
-    ghost view = { λ r. record {
-      demux = r.demux;
-      sets = r.sets;
-      showing = r.screen;
-      arrival = arrival_value r.arrival;
-      load = r.load;
-    } };
+    ghost view = { λ r. with_pictures r.sets r.screen.pending r.screen.current };
 
-    ghost invariant = { λ r. IsReceiver (record {
-      demux = r.demux;
-      sets = r.sets;
-      showing = r.screen;
-      arrival = arrival_value r.arrival;
-      load = r.load;
-    }) × (r.coded ≡ r.screen.core.profile.coded) };
+    ghost invariant = { λ r. r.screen.places ≡ places_of r.sets.core.profile };
 }
 
 impl Receiver {
@@ -70,13 +49,14 @@ impl Receiver {
     ghost use Rattle.decoder_model.specs.Verdict.{verdict_of};
     ghost use Rattle.decoder_model.specs.PacketArrivals.{packet_arrival};
     ghost use Rattle.decoder_model.specs.Readings.{AreDeliveriesRead, IsDeliveryRead, Reading};
-    ghost use Rattle.decoder_model.specs.Sets.{Delivery, sets_of};
-    ghost use Rattle.decoder_model.specs.Shown.{IsShown, view_at};
+    ghost use Rattle.decoder_model.specs.Sets.{Delivery};
+    ghost use Rattle.decoder_model.specs.Shown.{view_at};
     ghost use Rattle.decoder_model.specs.Shown.{View as Shows};
     ghost use Rattle.display_sets.specs.Gathered.{first_ready, ready_sets, sets_behind};
-    ghost use Rattle.receiver.specs.Arrived.{arrival_value};
+    ghost use Rattle.set_reader.specs.Arrived.{arrival_value};
     ghost use Rattle.receiver.specs.Lent.{IsWholeView, view_lent};
-    ghost use Rattle.receiver.specs.Receiving.{AreLosses, IsNext, IsSame, Stands, set_time};
+    ghost use Rattle.receiver.specs.Receiving.{IsNext, IsSame, IsShownIn, Stands, reception};
+    ghost use Rattle.set_receiver.specs.Receiving.{AreLosses, sets_received, set_time};
     ghost use Rattle.receiver.specs.Showing.{time_before_last};
 
     /// A receiver of a profile, for a service without an ancillary page, that was fed nothing.
@@ -123,20 +103,8 @@ impl Receiver {
         ensures anchor { IfOk result (λ receiver. receiver.showing.core.anchor ≡ anchor) }
     {
         Ok(Receiver {
-            coded: profile.coded,
-            demux: Demux::make(alloc, pid, profile.coded)?,
-            sets: Gathering::make(alloc, pages, profile.coded as u32)?,
-            screen: Screen::make(alloc, profile, pages.composition, anchor)?,
-            arrival: Arrival {
-                bytes: 0,
-                before: false,
-                dropped: false,
-            },
-            load: SetLoad {
-                pts: 0,
-                size: 0,
-                painted: 0,
-            },
+            sets: SetReceiver::make(alloc, profile, pid, pages, anchor)?,
+            screen: Screen::clear(alloc, profile)?,
         })
     }
 
@@ -145,8 +113,8 @@ impl Receiver {
     pub fn feed(&mut self, packet: &[u8; 188]) -> Result<Event, PacketFault>
         requires none { ready_sets self.old.sets ≡ [] }
         ensures fault { MatchResult result
-            (λ _. packet_fault self.old.demux.pid packet.now ≡ None)
-            (λ fault. packet_fault self.old.demux.pid packet.now ≡ Some fault) }
+            (λ _. packet_fault (reception self.old).pid packet.now ≡ None)
+            (λ fault. packet_fault (reception self.old).pid packet.now ≡ Some fault) }
         ensures unchanged { IfErr result (λ _. self.new ≡ self.old) }
         ensures stands { OnOk result ((fed : List (List ℕ)) (given : List (Delivery (List ℕ)))
             → Stands false fed given self.old
@@ -155,18 +123,17 @@ impl Receiver {
         ensures event { IfOk result (λ event.
             (fed : List (List ℕ)) (given : List (Delivery (List ℕ)))
             → Stands false fed given self.old
-            → event ≡ event_at self.old.demux.pid self.old.showing.core.profile.coded
+            → event ≡ event_at (reception self.old).pid (reception self.old).profile.coded
             fed packet.now) }
         ensures arrival { OnOk result ((fed : List (List ℕ)) (given : List (Delivery (List ℕ)))
             → Stands false fed given self.old
-            → self.new.arrival ≡ packet_arrival self.old.showing.core.profile.coded
-            self.old.demux.pid self.old.sets.pages fed packet.now) }
+            → self.new.arrival ≡ packet_arrival (reception self.old).profile.coded
+            (reception self.old).pid (reception self.old).pages fed packet.now) }
         ensures load { self.new.load ≡ self.old.load }
         ensures same { IsSame self.old self.new }
     {
-        let outcome = feed(&mut self.demux, &mut self.sets, &mut self.screen, packet)?;
-        self.arrival = outcome.arrival(self.coded, packet);
-        Ok(outcome.event)
+        let event = self.sets.feed(packet)?;
+        Ok(event)
     }
 
     /// The stream has ended: a set in hand without its end is ready as it stands.
@@ -188,16 +155,15 @@ impl Receiver {
         ensures all { result ≡ None
             → (fed : List (List ℕ)) (ended : Bool) (given : List (Delivery (List ℕ)))
             → Stands ended fed given self.now
-            → sets_of self.now.showing.core.profile.coded self.now.demux.pid
-            self.now.sets.pages ended fed ≡ given }
+            → sets_received (reception self.now) ended fed ≡ given }
         ensures next { IfSome result (λ time.
             (fed : List (List ℕ)) (ended : Bool) (given : List (Delivery (List ℕ)))
             → Stands ended fed given self.now
             → (delivery : Delivery (List ℕ)) × (rest : List (Delivery (List ℕ)))
             × IsNext ended fed given delivery rest self.now × (time_of delivery ≡ Some time)) }
     {
-        let ready = self.sets.ready()?;
-        Some(ready.time)
+        let time = self.sets.ready()?;
+        Some(time)
     }
 
     /// The lifted time of the set that is ready. `None` exactly where none is ready, or where it
@@ -207,18 +173,17 @@ impl Receiver {
             (past : List (Delivery Reading))
             → Stands ended fed given self.now → AreDeliveriesRead (reverse given) past
             → result ≡ option_and_then
-            (lifted_behind self.now.showing.core.anchor
-            (last_time self.now.showing.core.anchor past))
+            (lifted_behind (reception self.now).anchor
+            (last_time (reception self.now).anchor past))
             (option_map set_time (first_ready (ready_sets self.now.sets))) }
         ensures next { (fed : List (List ℕ)) (ended : Bool)
             (given rest : List (Delivery (List ℕ)))
             (next : Delivery (List ℕ)) (past : List (Delivery Reading)) (one : Delivery Reading)
             → IsNext ended fed given next rest self.now → AreDeliveriesRead (reverse given) past
             → IsDeliveryRead next one
-            → result ≡ lifted_time self.now.showing.core.anchor past one }
+            → result ≡ lifted_time (reception self.now).anchor past one }
     {
-        let ready = self.sets.ready()?;
-        self.screen.core().lift(ready.time)
+        self.sets.ready_at()
     }
 
     /// Takes the set that is ready: the page memory has it, its picture is drawn in so many bands,
@@ -244,7 +209,7 @@ impl Receiver {
             → AreDeliveriesRead (reverse given) past
             → IsDeliveryRead delivery one
             → Some result
-            ≡ verdict_of self.old.showing.core.profile self.old.showing.core.anchor
+            ≡ verdict_of (reception self.old).profile (reception self.old).anchor
             past one }
         ensures load { (ended : Bool) (fed : List (List ℕ))
             (given rest : List (Delivery (List ℕ))) (delivery : Delivery (List ℕ))
@@ -252,21 +217,17 @@ impl Receiver {
             → IsNext ended fed given delivery rest self.old
             → AreDeliveriesRead (reverse given) past
             → IsDeliveryRead delivery one
-            → Some self.new.load ≡ set_load self.old.showing.core.profile
-            self.old.showing.core.anchor past one }
+            → Some self.new.load ≡ set_load (reception self.old).profile
+            (reception self.old).anchor past one }
         ensures left { ready_sets self.new.sets ≡ sets_behind (ready_sets self.old.sets) }
         ensures arrival { self.new.arrival ≡ self.old.arrival }
         ensures same { IsSame self.old self.new }
     {
-        match self.sets.ready() {
-            None => SetEnd::Waiting, // There is one.
-            Some(ready) => {
-                let taken = take(ready, &mut self.screen, rt, bands, gate);
-                self.load = taken.load;
-                self.sets.give();
-                taken.end
-            }
-        }
+        let lifted = self.sets.ready_at();
+        let end = self.sets.take();
+        self.screen
+            .take(rt, bands, gate, self.sets.core(), lifted, end);
+        end
     }
 
     /// The lifted time of the current picture, that of the kept set before the last one, from which
@@ -277,11 +238,11 @@ impl Receiver {
             (given : List (Delivery (List ℕ)))
             (past : List (Delivery Reading))
             → Stands ended fed given self.now → AreDeliveriesRead (reverse given) past
-            → result ≡ unwrap_or (time_before_last self.now.showing.core.anchor past) 0 }
+            → result ≡ unwrap_or (time_before_last (reception self.now).anchor past) 0 }
         ensures before { (fed : List (List ℕ)) (ended : Bool) (given : List (Delivery (List ℕ)))
             (past : List (Delivery Reading))
             → Stands ended fed given self.now → AreDeliveriesRead (reverse given) past
-            → result ≤ unwrap_or (last_time self.now.showing.core.anchor past) 0 }
+            → result ≤ unwrap_or (last_time (reception self.now).anchor past) 0 }
     {
         self.screen.from()
     }
@@ -293,13 +254,12 @@ impl Receiver {
         ensures taken { (fed : List (List ℕ)) (ended : Bool) (given : List (Delivery (List ℕ)))
             (past : List (Delivery Reading))
             → Stands ended fed given self.now → AreDeliveriesRead (reverse given) past
-            → view_lent result ≡ view_at self.now.showing.core.profile
-            self.now.showing.core.anchor tick past }
+            → view_lent result ≡ view_at (reception self.now).profile
+            (reception self.now).anchor tick past }
         ensures shown { (fed : List (List ℕ)) (ended : Bool) (given : List (Delivery (List ℕ)))
             (shown : Shows)
             → Stands ended fed given self.now → ready_sets self.now.sets ≡ []
-            → IsShown self.now.showing.core.profile self.now.demux.pid self.now.sets.pages
-            self.now.showing.core.anchor ended fed tick shown
+            → IsShownIn (reception self.now) ended fed tick shown
             → view_lent result ≡ shown }
         ensures ahead { (fed : List (List ℕ)) (ended : Bool)
             (given rest : List (Delivery (List ℕ)))
@@ -307,10 +267,9 @@ impl Receiver {
             → IsNext ended fed given next rest self.now
             → ((past : List (Delivery Reading)) (one : Delivery Reading)
             → AreDeliveriesRead (reverse given) past → IsDeliveryRead next one
-            → lifted_time self.now.showing.core.anchor past one ≡ Some lifted)
+            → lifted_time (reception self.now).anchor past one ≡ Some lifted)
             → tick < lifted
-            → IsShown self.now.showing.core.profile self.now.demux.pid self.now.sets.pages
-            self.now.showing.core.anchor ended fed tick shown
+            → IsShownIn (reception self.now) ended fed tick shown
             → view_lent result ≡ shown }
         ensures whole { IsWholeView result }
     {
@@ -322,10 +281,10 @@ impl Receiver {
     pub fn load(&self) -> SetLoad
         ensures load { result ≡ self.now.load }
         ensures pts { result.pts < 2 ^ 62 }
-        ensures size { self.now.showing.core.profile.coded ≤ 2 ^ 18 → result.size < 2 ^ 62 }
+        ensures size { (reception self.now).profile.coded ≤ 2 ^ 18 → result.size < 2 ^ 62 }
         ensures painted { result.painted < 2 ^ 62 }
     {
-        self.load
+        self.sets.load()
     }
 
     /// What the last packet brought to the coded data buffer.
@@ -333,13 +292,13 @@ impl Receiver {
         ensures arrival { arrival_value result ≡ self.now.arrival }
         ensures short { result.bytes ≤ PAYLOAD_LENGTH }
     {
-        self.arrival
+        self.sets.arrival()
     }
 
     /// The page memory.
     pub fn core(&self) -> &Core
         ensures { result.now ≡ self.now.showing.core }
     {
-        self.screen.core()
+        self.sets.core()
     }
 }

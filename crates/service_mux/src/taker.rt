@@ -88,6 +88,8 @@ impl PacketTeller for Taker {
 
     ghost stands = { IsTaking };
 
+    ghost kept = { λ _. tt };
+
     fn take_packet<K: Sink>(
         &mut self,
         out: &mut K,

@@ -59,7 +59,7 @@ pub struct Fed<'a> {
 
 /// What becomes of a unit of which so many bytes are there.
 #[derive(Clone, Copy)]
-enum Fate {
+pub(crate) enum Fate {
     /// It waits for more.
     Waits,
     /// It is handed out with so many bytes.
@@ -117,6 +117,13 @@ impl Demux {
             → unit_at self.now.pid self.now.size packets packet.now ≡ None }
     {
         is_other(self.pid, packet)
+    }
+
+    /// Units with a length of more bytes are dropped.
+    pub(crate) fn size(&self) -> u64
+        ensures { result ≡ self.now.size }
+    {
+        self.size
     }
 
     /// Takes the next packet: what becomes of it, and the unit that it ends, as it stands in the
@@ -330,7 +337,7 @@ impl Fate {
 /// What becomes of a unit of which these bytes are there.
 #[tactic(auto, unfolding(stream_syntax::specs::Units::fate_of))]
 #[inline(always)]
-fn fate_of_unit(size: u64, bytes: &[u8]) -> Fate
+pub(crate) fn fate_of_unit(size: u64, bytes: &[u8]) -> Fate
     requires { length bytes.now ≤ longest_unit }
     ensures fate { IsFate size bytes.now (fate_of size bytes.now) result }
     ensures short { IsShort result }

@@ -1,5 +1,6 @@
 ghost use Rattle.std.specs.Prelude.{◌≡◌, ℕ, ◌<◌, ◌≤◌, ◌==◌, ◌↔◌, false, length, drop, IsTrue, MatchResult, None, Some};
-ghost use Rattle.stream_syntax.specs.TransportPackets.{packet_fault, pid_of, counter_of, has_start_flag};
+ghost use Rattle.stream_syntax.specs.TransportPackets.{packet_fault, payload_of, pid_of, counter_of, has_start_flag};
+ghost use Rattle.stream_syntax.specs.declared.wire.TheConstants.{PAYLOAD_LENGTH};
 ghost use Rattle.ts_packets.specs.Private.Kinds.{IsKind};
 
 use crate::packetiser::HEAD_LENGTH;
@@ -90,4 +91,17 @@ fn payload_from(packet: &[u8; 188], place: usize) -> Payload<'_>
         start: packet[1] >> 6 & 1 == 1,
         bytes: &packet[place..],
     }
+}
+
+/// What stands in a packet behind its head and its adaptation field.
+pub fn payload_bytes(packet: &[u8; 188]) -> &[u8]
+    ensures payload { result.now ≡ payload_of packet.now }
+    ensures short { length result.now ≤ PAYLOAD_LENGTH }
+{
+    let start = if packet[3] / 16 % 4 == 3 {
+        HEAD_LENGTH + 1 + usize::from(packet[4])
+    } else {
+        HEAD_LENGTH
+    };
+    packet.get(start..).unwrap_or(&[])
 }

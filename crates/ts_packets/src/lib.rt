@@ -5,13 +5,15 @@
 // Packets out of a unit.
 mod packetiser;
 
-// Units and losses out of packets.
+// Units and losses out of packets, and what a packet brings to a unit.
+mod brought;
 mod demux;
 mod kind;
 
 // That every way to cut a unit gives it again.
 mod laws;
 
+pub use brought::Brought;
 pub use demux::{Demux, Fed};
 pub use kind::is_of_pid;
 pub use laws::every_cutting_gives_its_unit;

@@ -1,11 +1,19 @@
 -- What the fields of a screen mean.
-use Rattle.page_core.specs.Memory.{Memory}
-use Rattle.receiver.specs.Slots.{HasPlaces, IsInPlane}
+use Rattle.std.specs.Prelude.{◌≡◌, vec_len}
+use Rattle.receiver.specs.Showing.{Pictures}
+use Rattle.receiver.specs.Slots.{IsInPlane, slot_of}
 use Rattle.receiver.specs.declared.picture.Picture.{Picture}
 
--- each of the two pictures has a plane with room for each picture of the profile, and shows the front of it
-pub record IsScreen (core : Memory) (pending current : Picture) : Type 0 where
-  pub pending_places : HasPlaces core.profile pending
+-- the two pictures as plain values
+abbrev pub pictures_of : Picture → Picture → Pictures
+pictures_of pending current = record {
+  places = vec_len pending.plane;
+  pending = slot_of pending;
+  current = slot_of current;
+}
+
+-- both planes have as many places, and each picture is the front of its plane
+pub record IsScreen (pending current : Picture) : Type 0 where
+  pub places : vec_len current.plane ≡ vec_len pending.plane
   pub pending_inside : IsInPlane pending
-  pub current_places : HasPlaces core.profile current
   pub current_inside : IsInPlane current

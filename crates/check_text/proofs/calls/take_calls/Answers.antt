@@ -1,5 +1,5 @@
 use Rattle.std.proofs.Common.{ℕ, Bool, subst}
-use Rattle.receiver.specs.Arrived.{arrival_value}
+use Rattle.set_reader.specs.Arrived.{arrival_value}
 use Rattle.received_level_laws.specs.StreamCalls.{arrived_in, drop_where}
 use Rattle.received_level_laws.specs.ToldSets.{of_no_set}
 use Rattle.check_text.specs.Checking.{Counts}

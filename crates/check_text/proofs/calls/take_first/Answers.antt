@@ -2,8 +2,8 @@ use Rattle.check_text.proofs.SetLaws.{taken_nothing}
 use Rattle.check_text.proofs.calls.take_first.Goals as goal
 
 pub take_next-requires-clause-next : goal.take_next-requires-clause-next
-take_next-requires-clause-next g c κs within =
-    λ ended packets given. λ stands. let next = c.in-Some.ensures.next packets ended given stands in
+take_next-requires-clause-next g c ended packets given stands =
+    let next = c.in-Some.ensures.next packets ended given stands in
     (next.0, next.1, next.2)
 
 pub returns-in_default-clause-sets : goal.returns-in_default-clause-sets

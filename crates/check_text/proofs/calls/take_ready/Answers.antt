@@ -1,18 +1,17 @@
 use Rattle.std.proofs.Common.{◌∙◌, refl}
-use Rattle.receiver.proofs.TakenSets.{same_both, same_itself}
 use Rattle.check_text.proofs.SetLaws.{taken_both, taken_nothing}
 use Rattle.check_text.proofs.calls.take_ready.Goals as goal
 
 pub loop-out-init : goal.loop-out-init
 loop-out-init g c = record {
   sets = taken_nothing _ c.args.receiver.now c.args.levels.now c.args.buffer.now;
-  same = same_itself c.args.receiver.now;
+  same = refl;
   next = refl;
 }
 
 pub take_next-requires-clause-next : goal.take_next-requires-clause-next
-take_next-requires-clause-next g c κs within =
-    λ ended packets given. λ stands. let next = c.in-Some.ensures.next packets ended given stands in
+take_next-requires-clause-next g c ended packets given stands =
+    let next = c.in-Some.ensures.next packets ended given stands in
     (next.0, next.1, next.2)
 
 pub loop-out-preserved : goal.loop-out-preserved
@@ -22,8 +21,7 @@ loop-out-preserved g c = record {
       c.loop-out.levels c.take_next.new.levels c.args.buffer.now c.loop-out.buffer c.take_next.new.buffer
       c.loop-out.invariant.sets c.take_next.ensures.sets;
   same =
-      same_both c.args.receiver.now c.loop-out.receiver c.take_next.new.receiver c.loop-out.invariant.same
-      c.take_next.ensures.same;
+      c.take_next.ensures.same ∙ c.loop-out.invariant.same;
   next = c.take_next.ensures.next ∙ c.loop-out.invariant.next;
 }
 

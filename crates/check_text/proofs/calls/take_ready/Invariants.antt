@@ -1,6 +1,6 @@
 use Rattle.std.proofs.Common.{◌≡◌, length}
 use Rattle.display_sets.specs.Gathered.{ready_sets}
-use Rattle.receiver.specs.Receiving.{IsSame}
+use Rattle.set_receiver.specs.Receiving.{IsSame}
 use Rattle.check_text.specs.Checking.{TakesSets}
 use Rattle.check_text.proofs.calls.take_ready.Given as goal
 
@@ -16,4 +16,4 @@ invariant-loop-out g l =
     }
 
 abbrev pub decreases-loop-out : goal.decreases-loop-out
-decreases-loop-out g l = length (ready_sets l.receiver.sets)
+decreases-loop-out g l = length (ready_sets l.receiver.collecting.sets)

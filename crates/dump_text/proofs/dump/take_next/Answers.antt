@@ -8,5 +8,5 @@ returns-clause-dumps g c =
     (λ packets ended given rest next past one is are read. c.ready_at-time.ensures.next packets ended given rest next
     past one is are read)
     (λ ended packets given rest delivery is. c.take.ensures.stands ended packets given rest delivery is)
-    c.take.ensures.same.core c.requires.within _ _ c.args.buffer.now c.put_settled-told.new.buffer
+    c.take.ensures.same c.requires.within _ _ c.args.buffer.now c.put_settled-told.new.buffer
     c.put_settled-told.result c.ready_at-time.result refl c.put_settled-told.ensures.settles

@@ -1,5 +1,4 @@
-use Rattle.std.proofs.Common.{refl}
-use Rattle.receiver.proofs.TakenSets.{same_both, same_itself}
+use Rattle.std.proofs.Common.{◌∙◌, refl}
 use Rattle.dump_text.proofs.DumpLaws.{dumps_both, dumps_nothing}
 use Rattle.dump_text.proofs.dump.take_ready.Goals as goal
 
@@ -7,7 +6,7 @@ pub loop-out-init : goal.loop-out-init
 loop-out-init g c = record {
   dumps = dumps_nothing _ c.args.receiver.now c.args.ticks.now c.args.told c.args.buffer.now;
   within = c.requires.within;
-  same = same_itself c.args.receiver.now;
+  same = refl;
 }
 
 pub take_next-told-requires-clause-next : goal.take_next-told-requires-clause-next
@@ -23,9 +22,7 @@ loop-out-preserved g c = record {
       c.take_next-told.new.buffer
       c.loop-out.invariant.dumps c.take_next-told.ensures.dumps;
   within = c.take_next-told.ensures.within;
-  same =
-      same_both c.args.receiver.now c.loop-out.receiver c.take_next-told.new.receiver c.loop-out.invariant.same
-      c.take_next-told.ensures.same;
+  same = c.take_next-told.ensures.same ∙ c.loop-out.invariant.same;
 }
 
 pub returns-clause-all : goal.returns-clause-all

@@ -1,4 +1,4 @@
-use Rattle.std.proofs.Common.{◌≡◌, ◌∙◌, ℕ, List, ap, subst, max, ◌≤◌, arith}
+use Rattle.std.proofs.Common.{◌≡◌, ◌∙◌, ℕ, List, ap, subst, arith}
 use Rattle.command_text.specs.Putting.{PutsOut}
 use Rattle.decoder_model.specs.Shown.{view_at}
 use Rattle.dump_text.specs.DumpText.{view_text}

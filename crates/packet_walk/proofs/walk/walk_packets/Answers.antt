@@ -1,13 +1,14 @@
 use Rattle.std.proofs.Common.{◌≡◌, ◌∙◌, ℕ, List, Err, ap, refl, sym, subst, arith}
 use Rattle.packet_source.specs.declared.stream_end.StreamEnd.{StreamEnd}
 use Rattle.packet_walk.specs.Told.{Tells}
-use Rattle.packet_walk.proofs.WalkLaws.{RefusesAt, come_refused, come_to_end, come_told, few_in_hand, nothing_walked, nothing_within, walked_on, walked_unwritten}
+use Rattle.packet_walk.proofs.WalkLaws.{RefusesAt, come_refused, come_taken, come_to_end, come_told, few_in_hand, nothing_walked, nothing_within, walked_on, walked_unwritten}
 use Rattle.packet_walk.proofs.walk.walk_packets.Goals as goal
 
 pub loop-end-init : goal.loop-end-init
 loop-end-init g c = record {
   within = nothing_within c.args.packets.now c.requires.nothing;
   kept = omega arith;
+  same = refl;
   pid = refl;
   walked =
       nothing_walked g.T.PacketTeller.stands (g.T.PacketTeller.pid c.args.teller.now) _ _ c.args.teller.now
@@ -15,11 +16,15 @@ loop-end-init g c = record {
 }
 
 pub take_packets-requires : goal.take_packets-requires
-take_packets-requires g c =
-    record {
-      within = few_in_hand c.fill.new.self _ _ c.first-first.ensures c.packets.ensures
-          c.in_default.ensures.more.within;
-    }
+take_packets-requires g c = record {
+  within = few_in_hand c.fill.new.self _ _ c.first-first.ensures c.packets.ensures c.in_default.ensures.more.within;
+  taken =
+      come_taken g.T.PacketTeller.stands (g.T.PacketTeller.pid c.args.teller.now) _ _ _ _ c.loop-end.teller
+      c.loop-end.buffer c.fill.new.self c.first-first.result
+      (walked_on g.T.PacketTeller.stands (g.T.PacketTeller.pid c.args.teller.now) _ _ _ _ _ c.loop-end.teller
+      c.loop-end.buffer c.loop-end.packets c.fill.new.self c.loop-end.invariant.walked
+      c.in_default.ensures.stands) c.first-first.ensures;
+}
 
 pub returns-in-Err-clause-end : goal.returns-in-Err-clause-end
 returns-in-Err-clause-end g c =
@@ -69,6 +74,7 @@ loop-end-preserved g c =
     record {
       within = c.in_default.ensures.more.within;
       kept = omega (arith, c.loop-end.invariant.kept, c.in_default.ensures.kept);
+      same = c.take_packets.ensures.same ∙ c.loop-end.invariant.same;
       pid = c.take_packets.ensures.pid ∙ c.loop-end.invariant.pid;
       walked =
           come_told g.T.PacketTeller.stands pid _ _ _ _ _ c.loop-end.teller c.take_packets.new.teller c.loop-end.buffer

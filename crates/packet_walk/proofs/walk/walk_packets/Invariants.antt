@@ -9,6 +9,7 @@ invariant-loop-end g l =
     record {
       within : read_count l.packets ≤ STREAM_LIMIT;
       kept : (g.A.Source.supplied l.fn.stream).faults ≤ (g.A.Source.supplied l.stream).faults;
+      same : g.T.PacketTeller.kept l.teller ≡ g.T.PacketTeller.kept l.fn.teller;
       pid : g.T.PacketTeller.pid l.teller ≡ g.T.PacketTeller.pid l.fn.teller;
       walked : HasWalked g.T.PacketTeller.stands (g.T.PacketTeller.pid l.fn.teller)
           (g.A.Source.supplied l.fn.stream)

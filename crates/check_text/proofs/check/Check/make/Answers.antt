@@ -1,22 +1,23 @@
+-- A check that was fed nothing.
 use Rattle.std.proofs.Common.{◌∙◌, ◌≤◌, ◌^◌, sym, subst}
+use Rattle.set_receiver.specs.Receiving.{Reception}
+use Rattle.set_receiver.proofs.TakenSets.{none_at_first}
 use Rattle.sub_base.specs.Pace.{pace_of}
-use Rattle.sub_base.specs.declared.profile.Profile.{Profile}
-use Rattle.receiver.proofs.TakenSets.{none_at_first}
 use Rattle.check_text.proofs.CheckLaws.{few_in_profile, nothing_checked}
 use Rattle.check_text.proofs.check.Check.make.Goals as goal
 
 pub invariant_of-result : goal.invariant_of-result
 invariant_of-result c = record {
-  none = none_at_first c.in_ok-of_pages.field-0 c.in_ok-of_pages.ensures.stands;
+  none = none_at_first c.in_ok-make.field-0.collecting c.in_ok-make.ensures.stands.reads;
   coded =
-      subst (λ (profile : Profile). profile.coded ≤ 2 ^ 18) (sym c.in_ok-of_pages.ensures.profile)
+      subst (λ (made : Reception). made.profile.coded ≤ 2 ^ 18) (sym c.in_ok-make.ensures.made)
       (few_in_profile c.args.profile.now c.requires.profile).0;
 }
 
 pub returns-clause-nothing : goal.returns-clause-nothing
 returns-clause-nothing c =
-    nothing_checked c.in_ok-of_pages.field-0 c.in_ok-make.field-0 c.in_ok-of_pages.ensures.stands
-    c.in_ok-make.ensures.stands
-    (c.in_ok-make.ensures.pace
-    ∙ (λ i. pace_of (sym c.in_ok-of_pages.ensures.anchor i) (sym c.in_ok-of_pages.ensures.profile i)))
-    c.in_ok-make.ensures.next
+    nothing_checked c.in_ok-make.field-0 c.in_ok-make-2.field-0 c.in_ok-make.ensures.stands
+    c.in_ok-make-2.ensures.stands
+    (c.in_ok-make-2.ensures.pace
+    ∙ (λ i. pace_of (sym c.in_ok-make.ensures.made i).anchor (sym c.in_ok-make.ensures.made i).profile))
+    c.in_ok-make-2.ensures.next

@@ -1,4 +1,4 @@
-use Rattle.std.proofs.Common.{◌≡◌, ◌∙◌, ℕ, Some, None, subst, get_or, [], arith}
+use Rattle.std.proofs.Common.{◌≡◌, ℕ, Some, None, subst, get_or, [], arith}
 use Rattle.stream_syntax.specs.TransportPackets.{packet_fault}
 use Rattle.packet_walk.proofs.TellLaws.{tells_one_more, tells_refused}
 use Rattle.dump_text.specs.Dumping.{HasDumped}
@@ -11,7 +11,7 @@ returns-in-Err-clause-refused g c =
     c.loop-packet.packet-index c.args.packets.now c.in-Err.fault
     c.loop-packet.invariant.told c.in-Err.ensures.kept c.loop-packet-test.true c.loop-packet.invariant.place
     (subst (λ (p : ℕ). packet_fault p (get_or c.args.packets.now c.loop-packet.packet-index [])
-    ≡ Some c.in-Err.fault) c.loop-packet.invariant.same.receiver.pid c.in-Err.ensures.fault)
+    ≡ Some c.in-Err.fault) (λ i. (c.loop-packet.invariant.same.receiver i).pid) c.in-Err.ensures.fault)
 
 pub loop-packet-preserved : goal.loop-packet-preserved
 loop-packet-preserved g c = record {
@@ -24,6 +24,6 @@ loop-packet-preserved g c = record {
       c.loop-packet.packet-index c.args.packets.now
       c.loop-packet.invariant.told
       (subst (λ (p : ℕ). packet_fault p (get_or c.args.packets.now c.loop-packet.packet-index []) ≡ None)
-      c.loop-packet.invariant.same.receiver.pid c.in_default.ensures.fault)
+      (λ i. (c.loop-packet.invariant.same.receiver i).pid) c.in_default.ensures.fault)
       (c.in_default.ensures.told c.loop-packet.place) c.loop-packet-test.true c.loop-packet.invariant.place;
 }

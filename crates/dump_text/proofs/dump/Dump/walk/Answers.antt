@@ -1,4 +1,4 @@
-use Rattle.std.proofs.Common.{◌≡◌, ◌∙◌, ℕ, Err, ap, sym, subst, arith}
+use Rattle.std.proofs.Common.{◌∙◌, ℕ, Err, ap, sym, subst, arith}
 use Rattle.packet_source.specs.declared.stream_end.StreamEnd.{StreamEnd}
 use Rattle.packet_walk.specs.Told.{Tells}
 use Rattle.packet_walk.proofs.WalkLaws.{RefusesAt, come_refused, come_to_end, come_told, few_in_hand, nothing_walked, nothing_within, walked_on, walked_unwritten}
@@ -40,7 +40,7 @@ returns-in-Err-take_packets-clause-end g c =
     (subst (λ (p : ℕ). RefusesAt HasDumped p (g.K.Sink.received c.loop-end.out)
     (g.K.Sink.received c.take_packets.new.out) c.loop-end.self c.take_packets.new.self c.loop-end.buffer
     c.take_packets.new.buffer c.in-Err-take_packets.refused c.first-first.result c.packets.result.now)
-    c.loop-end.invariant.same.receiver.pid c.in-Err-take_packets.ensures.refused)
+    (λ i. (c.loop-end.invariant.same.receiver i).pid) c.in-Err-take_packets.ensures.refused)
 
 pub returns-then-has_failed-clause-end : goal.returns-then-has_failed-clause-end
 returns-then-has_failed-clause-end g c =
@@ -55,7 +55,7 @@ returns-then-has_failed-clause-end g c =
     (subst (λ (p : ℕ). Tells HasDumped p (g.K.Sink.received c.loop-end.out)
     (g.K.Sink.received c.take_packets.new.out) c.loop-end.self c.take_packets.new.self c.loop-end.buffer
     c.take_packets.new.buffer c.first-first.result c.packets.result.now)
-    c.loop-end.invariant.same.receiver.pid c.in_default-take_packets.ensures.tells) in
+    (λ i. (c.loop-end.invariant.same.receiver i).pid) c.in_default-take_packets.ensures.tells) in
     walked_unwritten HasDumped pid _ _ _ _ _ _ c.fill.new.self walked c.in_default.ensures.more.within
     (sym c.has_failed.ensures ∙ c.if-has_failed.true)
 
@@ -78,5 +78,5 @@ loop-end-preserved g c =
           (subst (λ (p : ℕ). Tells HasDumped p (g.K.Sink.received c.loop-end.out)
           (g.K.Sink.received c.take_packets.new.out) c.loop-end.self c.take_packets.new.self c.loop-end.buffer
           c.take_packets.new.buffer c.first-first.result c.packets.result.now)
-          c.loop-end.invariant.same.receiver.pid c.in_default-take_packets.ensures.tells);
+          (λ i. (c.loop-end.invariant.same.receiver i).pid) c.in_default-take_packets.ensures.tells);
     }

@@ -1,29 +1,47 @@
--- What a receiver stands for with one more packet.
-use Rattle.std.proofs.Common.{◌≡◌, false, sym, subst}
+-- What a receiver stands for with one more packet, which changes no picture.
+use Rattle.std.proofs.Common.{◌≡◌, false, refl, sym, subst}
+use Rattle.stream_syntax.specs.Units.{event_at}
 use Rattle.decoder_model.specs.PacketArrivals.{packet_arrival}
-use Rattle.receiver.specs.Arrived.{arrival_value}
-use Rattle.receiver.proofs.Feeds.{fed_arrival, fed_stands}
-use Rattle.receiver.specs.Receiving.{IsReceiver, Receiving, Stands}
+use Rattle.decoder_model.specs.Sets.{lost}
+use Rattle.set_receiver.specs.Receiving.{Reception}
+use Rattle.set_receiver.proofs.TakenSets.{all_lost}
+use Rattle.receiver.specs.Receiving.{Receiving, Stands, reception}
+use Rattle.receiver.specs.Showing.{ArePictures}
+use Rattle.receiver.proofs.Turns.{pictures_on}
 use Rattle.receiver.proofs.receiver.Receiver.feed.Goals as goal
 
 pub returns-clause-stands : goal.returns-clause-stands
 returns-clause-stands c fed given stands =
     let before = subst (Stands false fed given) (sym c.self.view_is) stands in
-    fed_stands _ _ fed c.args.packet.now given c.self.invariant.0 before c.in_ok-outcome.ensures.fault
-    c.in_ok-outcome.ensures.goes_on
-    (record {
-      pid = c.in_ok-outcome.ensures.goes_on.pid;
-      pages = c.in_ok-outcome.ensures.pages;
-      core = c.in_ok-outcome.ensures.same;
-    })
-    (c.in_ok-outcome.ensures.gathers fed _ given before.demux before.gathers)
+    let pending = c.self.inside.screen.pending in
+    let current = c.self.inside.screen.current in
+    let made = c.self.inside.sets.core in
+    let held = c.in_ok-event.ensures.stands fed given before.sets in (
+      held.0,
+      held.1,
+      record {
+        sets = held.2;
+        shows = λ past read.
+            subst (λ (one : Reception). ArePictures one.profile one.anchor past pending current)
+            (sym c.in_ok-event.ensures.same)
+            (all_lost (λ past. ArePictures made.profile made.anchor past pending current) held.0 given held.1
+            (λ past are. pictures_on made.profile made.anchor past lost pending current are refl) before.shows past
+            read);
+      },
+    )
+
+pub returns-clause-event : goal.returns-clause-event
+returns-clause-event c fed given stands =
+    let before = subst (Stands false fed given) (sym c.self.view_is) stands in
+    subst
+    (λ (old : Receiving). c.in_ok-event.event
+    ≡ event_at (reception old).pid (reception old).profile.coded fed c.args.packet.now) c.self.view_is
+    (c.in_ok-event.ensures.event fed given before.sets)
 
 pub returns-clause-arrival : goal.returns-clause-arrival
 returns-clause-arrival c fed given stands =
     let before = subst (Stands false fed given) (sym c.self.view_is) stands in
-    subst (λ (old : Receiving). arrival_value c.arrival-self-inside.result
-    ≡ packet_arrival old.showing.core.profile.coded old.demux.pid old.sets.pages fed c.args.packet.now)
-    c.self.view_is
-    (fed_arrival _ fed c.args.packet.now _ _ _ _ c.self.invariant.0 c.self.invariant.1
-    (c.in_ok-outcome.ensures.event fed before.demux)
-    (c.in_ok-outcome.ensures.end fed _ given before.demux before.gathers) c.arrival-self-inside.ensures.arrival)
+    subst
+    (λ (old : Receiving). c.feed.new.self.collecting.arrival
+    ≡ packet_arrival (reception old).profile.coded (reception old).pid (reception old).pages fed c.args.packet.now)
+    c.self.view_is (c.in_ok-event.ensures.arrival fed given before.sets)

@@ -1,42 +1,48 @@
--- The set that is ready is taken.
-use Rattle.std.proofs.Common.{◌≡◌, Some, refl, sym, subst}
+-- The set that is ready is taken, and its picture drawn.
+use Rattle.std.proofs.Common.{◌≡◌, Some, sym, subst}
 use Rattle.decoder_model.specs.Painting.{set_load}
 use Rattle.decoder_model.specs.Verdict.{verdict_of}
-use Rattle.display_sets.specs.Lent.{lent}
-use Rattle.receiver.specs.Receiving.{IsNext, Receiving}
-use Rattle.receiver.proofs.Takes.{next_gathered, next_ready, taken_stands}
+use Rattle.receiver.specs.Receiving.{IsNext, Receiving, reception}
+use Rattle.receiver.proofs.Turns.{TurnsTo, taken_shows}
 use Rattle.receiver.proofs.receiver.Receiver.take.Goals as goal
 
-pub returns-in-Some-clause-stands : goal.returns-in-Some-clause-stands
-returns-in-Some-clause-stands g c ended fed given rest delivery next =
+pub returns-clause-stands : goal.returns-clause-stands
+returns-clause-stands g c ended fed given rest delivery next =
     let before = subst (IsNext ended fed given delivery rest) (sym c.self.view_is) next in
-    let all = next_gathered ended fed given delivery rest _ c.self.invariant.0 before in
-    let ready =
-    next_ready _ given delivery rest (lent c.in-Some.ready) all
-    (c.in-Some.ensures.delivery _ ended given before.stands.gathers.sets) in
-    taken_stands ended fed given delivery rest _ _ before refl
-    (record { pid = refl; pages = c.give.ensures.pages; core = c.take-taken.ensures.same })
-    (c.give.ensures.stands _ ended given rest delivery before.stands.gathers.sets all)
-    (λ past one read stands. c.take-taken.ensures.stands past delivery one ready read stands)
+    let held = c.take-end.ensures.stands ended fed given rest delivery
+    (record { stands = before.stands.sets; all = before.all }) in
+    record {
+      sets = held;
+      shows = taken_shows c.self.inside.sets c.take-end.new.self given delivery c.ready_at-lifted.result
+          c.take-end.result c.self.inside.screen.pending c.self.inside.screen.current _ _ c.take-end.ensures.same
+          before.stands.shows held.holds
+          (λ past one are read.
+          c.ready_at-lifted.ensures.next fed ended given rest delivery past one
+          (record { stands = before.stands.sets; all = before.all }) are read)
+          (λ past one are read.
+          c.take-end.ensures.answer ended fed given rest delivery past one
+          (record { stands = before.stands.sets; all = before.all }) are read)
+          (subst
+          (TurnsTo c.ready_at-lifted.result c.take-end.result c.self.inside.screen.pending
+          c.self.inside.screen.current c.take.new.self.pending c.take.new.self.current) c.core.ensures
+          (λ past one stands lifted answer are. c.take.ensures.pictures past one stands lifted answer are));
+    }
 
-pub returns-in-Some-clause-answer : goal.returns-in-Some-clause-answer
-returns-in-Some-clause-answer g c ended fed given rest delivery past one next are read =
+pub returns-clause-answer : goal.returns-clause-answer
+returns-clause-answer g c ended fed given rest delivery past one next are read =
     let before = subst (IsNext ended fed given delivery rest) (sym c.self.view_is) next in
-    let all = next_gathered ended fed given delivery rest _ c.self.invariant.0 before in
-    let ready =
-    next_ready _ given delivery rest (lent c.in-Some.ready) all
-    (c.in-Some.ensures.delivery _ ended given before.stands.gathers.sets) in
-    subst (λ (old : Receiving). Some c.take-taken.result.end
-    ≡ verdict_of old.showing.core.profile old.showing.core.anchor past one) c.self.view_is
-    (c.take-taken.ensures.answer past delivery one ready read (before.stands.gathers.shows past are))
+    subst
+    (λ (old : Receiving). Some c.take-end.result
+    ≡ verdict_of (reception old).profile (reception old).anchor past one)
+    c.self.view_is
+    (c.take-end.ensures.answer ended fed given rest delivery past one
+    (record { stands = before.stands.sets; all = before.all }) are read)
 
-pub returns-in-Some-clause-load : goal.returns-in-Some-clause-load
-returns-in-Some-clause-load g c ended fed given rest delivery past one next are read =
+pub returns-clause-load : goal.returns-clause-load
+returns-clause-load g c ended fed given rest delivery past one next are read =
     let before = subst (IsNext ended fed given delivery rest) (sym c.self.view_is) next in
-    let all = next_gathered ended fed given delivery rest _ c.self.invariant.0 before in
-    let ready =
-    next_ready _ given delivery rest (lent c.in-Some.ready) all
-    (c.in-Some.ensures.delivery _ ended given before.stands.gathers.sets) in
-    subst (λ (old : Receiving). Some c.take-taken.result.load
-    ≡ set_load old.showing.core.profile old.showing.core.anchor past one) c.self.view_is
-    (c.take-taken.ensures.load past delivery one ready read (before.stands.gathers.shows past are))
+    subst
+    (λ (old : Receiving). Some c.take-end.new.self.load
+    ≡ set_load (reception old).profile (reception old).anchor past one) c.self.view_is
+    (c.take-end.ensures.load ended fed given rest delivery past one
+    (record { stands = before.stands.sets; all = before.all }) are read)

@@ -1,0 +1,3 @@
+pub mod Arrivals
+pub mod Gatherings
+pub mod Feeds

@@ -1,0 +1,6 @@
+-- What a set that is ready asks.
+pub mod Loads
+-- Sets that are taken, and losses, are read one by one.
+pub mod TakenSets
+-- What the receiver stands for once a set was taken.
+pub mod Takes

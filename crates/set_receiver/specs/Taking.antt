@@ -1,0 +1,20 @@
+-- Sets that are taken from a receiver, whatever it was fed.
+use Rattle.std.specs.Prelude.{◌≡◌, ℕ, ◌<◌, Bool, List, All}
+use Rattle.decoder_model.specs.Sets.{Delivery}
+use Rattle.set_receiver.specs.Receiving.{IsNext, Receiving, Stands, reception, sets_received}
+
+-- each of these numbers is a byte
+abbrev pub AreBytes : List ℕ → Type 0
+AreBytes numbers = All (λ number. number < 256) numbers
+
+-- a set or loss comes next, where anything was fed
+abbrev pub HasNext : Receiving → Type 0
+HasNext receiving = (ended : Bool) (packets : List (List ℕ)) (given : List (Delivery (List ℕ)))
+    → Stands ended packets given receiving
+    → (delivery : Delivery (List ℕ)) × (rest : List (Delivery (List ℕ)))
+    × IsNext ended packets given delivery rest receiving
+
+-- all sets and losses of what was fed were taken
+abbrev pub AllTaken : Receiving → Type 0
+AllTaken receiving = (fed : List (List ℕ)) (ended : Bool) (given : List (Delivery (List ℕ)))
+    → Stands ended fed given receiving → sets_received (reception receiving) ended fed ≡ given

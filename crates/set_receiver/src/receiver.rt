@@ -1,0 +1,234 @@
+//! The receiver without pictures.
+
+ghost use Rattle.std.specs.Prelude.{◌≡◌};
+
+use crate::losing::lose;
+use crate::taking::take;
+use decoder_model::Pages;
+use page_core::{Core, SetEnd};
+use set_reader::{Arrival, SetReader};
+use std::alloc::Global;
+use std::marker::Model;
+use stream_syntax::{Event, PacketFault};
+use sub_base::{NoMemory, Profile, SetLoad};
+
+/// A receiver of the subtitles of one service, out of the transport packets of one PID, up to its
+/// page memory: it draws no picture. Sets that are whole are ready until they are taken.
+#[derive(Drop)]
+pub struct SetReceiver {
+    reader: SetReader,
+    core: Core,
+    load: SetLoad,
+}
+
+impl Model for SetReceiver {
+    ghost use Rattle.set_receiver.specs.Receiving.{IsReceiver, Receiving};
+
+    ghost Value = { Receiving };
+
+    ghost view = { λ r. record { collecting = r.reader; core = r.core; load = r.load } };
+
+    ghost invariant = { λ r. IsReceiver (record {
+      collecting = r.reader;
+      core = r.core;
+      load = r.load;
+    }) };
+}
+
+impl SetReceiver {
+    ghost use Rattle.std.specs.Prelude.{◌≡◌, ◌<◌, ◌≤◌, ◌^◌, ℕ, Bool, true, false};
+    ghost use Rattle.std.specs.Prelude.{List, [], ◌∷◌, ◌++◌, reverse};
+    ghost use Rattle.std.specs.Prelude.{None, Some, option_and_then, option_map};
+    ghost use Rattle.std.specs.Prelude.{IfErr, IfOk, IfSome, IsSome, MatchResult, OnOk};
+    ghost use Rattle.stream_syntax.specs.TransportPackets.{packet_fault};
+    ghost use Rattle.stream_syntax.specs.Units.{event_at};
+    ghost use Rattle.stream_syntax.specs.declared.wire.TheConstants.{PAYLOAD_LENGTH};
+    ghost use Rattle.decoder_model.specs.Kept.{last_time, lifted_behind, lifted_time, time_of};
+    ghost use Rattle.decoder_model.specs.Painting.{set_load};
+    ghost use Rattle.decoder_model.specs.Verdict.{verdict_of};
+    ghost use Rattle.decoder_model.specs.PacketArrivals.{packet_arrival};
+    ghost use Rattle.decoder_model.specs.Readings.{AreDeliveriesRead, IsDeliveryRead, Reading};
+    ghost use Rattle.decoder_model.specs.Sets.{Delivery};
+    ghost use Rattle.decoder_model.specs.declared.set_end.SetEnd.TheVariants.{Shown};
+    ghost use Rattle.display_sets.specs.Gathered.{first_ready, ready_sets, sets_behind};
+    ghost use Rattle.set_reader.specs.Arrived.{arrival_value};
+    ghost use Rattle.set_receiver.specs.Receiving.{AreLosses, IsNext, IsSame, Stands};
+    ghost use Rattle.set_receiver.specs.Receiving.{reception, sets_received, set_time};
+
+    /// A receiver of a profile, for a PID and these pages, that was fed nothing. Lifted times begin
+    /// at the anchor. All memory is taken here.
+    pub fn make(
+        alloc: Global,
+        profile: &Profile,
+        pid: u16,
+        pages: Pages,
+        anchor: u64,
+    ) -> Result<SetReceiver, NoMemory>
+        requires coded { profile.now.coded < 2 ^ 32 }
+        requires nodes { profile.now.nodes < 2 ^ 31 }
+        requires anchor { anchor < 2 ^ 34 }
+        ensures stands { IfOk result (Stands false [] []) }
+        ensures made { IfOk result (λ receiver. reception receiver
+            ≡ record { profile = profile.now; pid = pid; pages = pages; anchor = anchor }) }
+        ensures page { IfOk result (λ receiver. receiver.core.page ≡ pages.composition) }
+    {
+        Ok(SetReceiver {
+            reader: SetReader::make(alloc, pid, pages, profile.coded as u32)?,
+            core: Core::make(alloc, profile, pages.composition, anchor)?,
+            load: SetLoad {
+                pts: 0,
+                size: 0,
+                painted: 0,
+            },
+        })
+    }
+
+    /// Takes the next packet, where no set is ready: what became of it. A packet that cannot be
+    /// taken leaves the receiver as it was.
+    pub fn feed(&mut self, packet: &[u8; 188]) -> Result<Event, PacketFault>
+        requires none { ready_sets self.old.collecting.sets ≡ [] }
+        ensures fault { MatchResult result
+            (λ _. packet_fault (reception self.old).pid packet.now ≡ None)
+            (λ fault. packet_fault (reception self.old).pid packet.now ≡ Some fault) }
+        ensures unchanged { IfErr result (λ _. self.new ≡ self.old) }
+        ensures stands { OnOk result ((fed : List (List ℕ)) (given : List (Delivery (List ℕ)))
+            → Stands false fed given self.old
+            → (losses : List (Delivery (List ℕ))) × AreLosses losses
+            × Stands false (fed ++ packet.now ∷ []) (given ++ losses) self.new) }
+        ensures event { IfOk result (λ event.
+            (fed : List (List ℕ)) (given : List (Delivery (List ℕ)))
+            → Stands false fed given self.old
+            → event ≡ event_at (reception self.old).pid (reception self.old).profile.coded fed
+            packet.now) }
+        ensures arrival { OnOk result ((fed : List (List ℕ)) (given : List (Delivery (List ℕ)))
+            → Stands false fed given self.old
+            → self.new.collecting.arrival ≡ packet_arrival (reception self.old).profile.coded
+            (reception self.old).pid (reception self.old).pages fed packet.now) }
+        ensures load { self.new.load ≡ self.old.load }
+        ensures same { IsSame self.old self.new }
+    {
+        let came = self.reader.feed(packet)?;
+        lose(&mut self.core, came.losses);
+        Ok(came.event)
+    }
+
+    /// The stream has ended: a set in hand without its end is ready as it stands.
+    pub fn finish(&mut self)
+        requires none { ready_sets self.old.collecting.sets ≡ [] }
+        ensures stands { (fed : List (List ℕ)) (given : List (Delivery (List ℕ)))
+            → Stands false fed given self.old → Stands true fed given self.new }
+        ensures core { self.new.core ≡ self.old.core }
+        ensures arrival { self.new.collecting.arrival ≡ self.old.collecting.arrival }
+        ensures load { self.new.load ≡ self.old.load }
+        ensures same { IsSame self.old self.new }
+    {
+        self.reader.finish();
+    }
+
+    /// The presentation time in ticks of 90 kHz, as read, of the set that is ready and was not
+    /// taken.
+    pub fn ready(&self) -> Option<u64>
+        ensures time { result ≡ option_map set_time (first_ready (ready_sets
+            self.now.collecting.sets)) }
+        ensures none { result ≡ None → ready_sets self.now.collecting.sets ≡ [] }
+        ensures all { result ≡ None
+            → (fed : List (List ℕ)) (ended : Bool) (given : List (Delivery (List ℕ)))
+            → Stands ended fed given self.now
+            → sets_received (reception self.now) ended fed ≡ given }
+        ensures next { IfSome result (λ time.
+            (fed : List (List ℕ)) (ended : Bool) (given : List (Delivery (List ℕ)))
+            → Stands ended fed given self.now
+            → (delivery : Delivery (List ℕ)) × (rest : List (Delivery (List ℕ)))
+            × IsNext ended fed given delivery rest self.now × (time_of delivery ≡ Some time)) }
+    {
+        let ready = self.reader.ready()?;
+        Some(ready.time)
+    }
+
+    /// The lifted time of the set that is ready. `None` exactly where none is ready, or where it
+    /// would not be kept.
+    pub fn ready_at(&self) -> Option<u64>
+        ensures lifted { (fed : List (List ℕ)) (ended : Bool) (given : List (Delivery (List ℕ)))
+            (past : List (Delivery Reading))
+            → Stands ended fed given self.now → AreDeliveriesRead (reverse given) past
+            → result ≡ option_and_then
+            (lifted_behind (reception self.now).anchor
+            (last_time (reception self.now).anchor past))
+            (option_map set_time (first_ready (ready_sets self.now.collecting.sets))) }
+        ensures next { (fed : List (List ℕ)) (ended : Bool)
+            (given rest : List (Delivery (List ℕ)))
+            (next : Delivery (List ℕ)) (past : List (Delivery Reading)) (one : Delivery Reading)
+            → IsNext ended fed given next rest self.now → AreDeliveriesRead (reverse given) past
+            → IsDeliveryRead next one
+            → result ≡ lifted_time (reception self.now).anchor past one }
+    {
+        let ready = self.reader.ready()?;
+        self.core.lift(ready.time)
+    }
+
+    /// Takes the set that is ready, which the page memory has from then on: what becomes of it.
+    pub fn take(&mut self) -> SetEnd
+        requires ready { IsSome (first_ready (ready_sets self.old.collecting.sets)) }
+        ensures stands { (ended : Bool) (fed : List (List ℕ))
+            (given rest : List (Delivery (List ℕ))) (delivery : Delivery (List ℕ))
+            → IsNext ended fed given delivery rest self.old
+            → Stands ended fed (given ++ delivery ∷ []) self.new }
+        ensures answer { (ended : Bool) (fed : List (List ℕ))
+            (given rest : List (Delivery (List ℕ))) (delivery : Delivery (List ℕ))
+            (past : List (Delivery Reading)) (one : Delivery Reading)
+            → IsNext ended fed given delivery rest self.old
+            → AreDeliveriesRead (reverse given) past
+            → IsDeliveryRead delivery one
+            → Some result
+            ≡ verdict_of (reception self.old).profile (reception self.old).anchor past one }
+        ensures load { (ended : Bool) (fed : List (List ℕ))
+            (given rest : List (Delivery (List ℕ))) (delivery : Delivery (List ℕ))
+            (past : List (Delivery Reading)) (one : Delivery Reading)
+            → IsNext ended fed given delivery rest self.old
+            → AreDeliveriesRead (reverse given) past
+            → IsDeliveryRead delivery one
+            → Some self.new.load
+            ≡ set_load (reception self.old).profile (reception self.old).anchor past one }
+        ensures left { ready_sets self.new.collecting.sets
+            ≡ sets_behind (ready_sets self.old.collecting.sets) }
+        ensures known { result ≡ Shown → self.new.core.known ≡ true }
+        ensures arrival { self.new.collecting.arrival ≡ self.old.collecting.arrival }
+        ensures same { IsSame self.old self.new }
+    {
+        match self.reader.ready() {
+            None => SetEnd::Waiting, // There is one.
+            Some(ready) => {
+                let taken = take(ready, &mut self.core);
+                self.load = taken.load;
+                self.reader.give();
+                taken.end
+            }
+        }
+    }
+
+    /// What the last set that was taken asked: its lifted time, or its time as read where it was
+    /// not kept, its size and the time that its painting takes.
+    pub fn load(&self) -> SetLoad
+        ensures load { result ≡ self.now.load }
+        ensures pts { result.pts < 2 ^ 62 }
+        ensures size { (reception self.now).profile.coded ≤ 2 ^ 18 → result.size < 2 ^ 62 }
+        ensures painted { result.painted < 2 ^ 62 }
+    {
+        self.load
+    }
+
+    /// What the last packet brought to the coded data buffer.
+    pub fn arrival(&self) -> Arrival
+        ensures arrival { arrival_value result ≡ self.now.collecting.arrival }
+        ensures short { result.bytes ≤ PAYLOAD_LENGTH }
+    {
+        self.reader.arrival()
+    }
+
+    /// The page memory.
+    pub fn core(&self) -> &Core
+        ensures { result.now ≡ self.now.core }
+    {
+        &self.core
+    }
+}
