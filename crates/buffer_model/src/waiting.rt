@@ -2,10 +2,11 @@ ghost use Rattle.std.specs.Prelude.{◌≡◌, ℕ, ◌+◌, ◌≤◌, All, sum
 ghost use Rattle.buffer_model.specs.declared.waiting.TheConstants.{MOST_WAITING};
 ghost use Rattle.buffer_model.specs.Meters.{held as held_bytes, held_of};
 
+use sub_base::LARGEST_BUFFER;
+
 /// More sets than can wait in the coded data buffer of any profile with a step: each has at least
-/// one of its bytes, and the largest has 262,144. A meter keeps room for so many, 16 bytes for
-/// each.
-pub const MOST_WAITING: usize = 262_144;
+/// one of its bytes. A meter keeps room for so many, 16 bytes for each.
+pub const MOST_WAITING: usize = LARGEST_BUFFER as usize;
 
 /// A set that is whole and may wait in the buffer until it is done.
 #[derive(Clone, Copy, Debug)]

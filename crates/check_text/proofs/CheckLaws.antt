@@ -1,22 +1,18 @@
 -- What `check` has told of packets.
 use Rattle.std.proofs.Common.{◌≡◌, ◌∙◌, ℕ, ◌+◌, ◌<◌, ◌≤◌, ◌^◌, Bool, true, false, List, [], ◌∷◌, ◌++◌, length, reverse, get_or, None, append_assoc, refl, sym, ap, subst, arith}
 use Rattle.std.proofs.lemmas.List.{get_or_default, length-append}
-use Rattle.std.proofs.lemmas.List.Elements.{All-nil, All-push}
 use Rattle.buffer_model.specs.Meters as meters
 use Rattle.buffer_model.specs.Meters.{Meter}
 use Rattle.command_text.specs.Putting.{Buffered, PutsOut}
 use Rattle.command_text.proofs.PutLaws.{PutsOut-both}
 use Rattle.decoder_model.specs.declared.pages.Pages.{Pages}
-use Rattle.decoder_model.specs.Arrivals.{Arrival, arrivals_of, packets_taken}
+use Rattle.decoder_model.specs.Arrivals.{packets_taken}
 use Rattle.decoder_model.specs.PacketArrivals.{PacketArrival, packet_arrival}
 use Rattle.decoder_model.specs.Readings.{AreDeliveriesRead, Reading}
 use Rattle.decoder_model.specs.Received.{HasReceived}
-use Rattle.decoder_model.specs.Sets.{Delivery, runs_of, sets_in, sets_of}
-use Rattle.display_sets.specs.Gathered.{ReadySet, ready_sets}
-use Rattle.display_sets.specs.Standing.{AreReady}
-use Rattle.display_sets.proofs.PacketLaws.{none_arrived}
+use Rattle.decoder_model.specs.Sets.{Delivery}
 use Rattle.packet_walk.specs.Told.{TellsOne}
-use Rattle.set_receiver.specs.Receiving.{AreLosses, IsSame, Receiving, Reception, Stands, reception, sets_received}
+use Rattle.set_receiver.specs.Receiving.{AreLosses, IsSame, Receiving, Reception, Stands, reception}
 use Rattle.received_level_laws.specs.StreamCalls.{calls_of_packet}
 use Rattle.received_level_laws.specs.ToldSets.{ToldCall, calls_told, of_no_set, told_of}
 use Rattle.received_level_laws.proofs.ToldLaws.{end_tells, losses_tell, packet_tells}
@@ -31,25 +27,21 @@ use Rattle.sub_base.specs.declared.profile.ProfileName.{ProfileName}
 use Rattle.sub_base.specs.declared.profile.ProfileName.TheVariants.{Hd, Large, Sd, Wide}
 use Rattle.sub_base.specs.declared.pace.Pace.{Pace}
 use Rattle.sub_base.specs.declared.profile.Profile.{Profile}
+use Rattle.set_receiver.proofs.PastLaws.{ended_past, fed_past, nothing_taken, past_received}
 use Rattle.check_text.specs.CheckText.{IsCheckTextIn, check_text, end_text, sets_text}
-use Rattle.set_receiver.specs.Taking.{AllTaken, AreBytes}
+use Rattle.set_receiver.specs.Taking.{AllTaken, AreBytes, AreLost}
 use Rattle.check_text.specs.Checking.{Checking, HasChecked, HasCheckedIn, IsAt, PutsEnd, TakesCalls, TakesSets, told_with}
-use Rattle.check_text.proofs.ReadLaws.{AreLost, losses_read}
 use Rattle.check_text.proofs.StepLaws.{with_both}
+use Rattle.sub_base.specs.declared.profile.TheConstants.{LARGEST_BUFFER}
+use Rattle.sub_base.proofs.ProfileLaws.{is_profile}
 
 -- ---- before the first packet
 
 -- the coded data buffer and the page memory of a profile with a step are of so many bytes and nodes at most
-pub few_in_profile : (profile : Profile) → IsSending profile → (profile.coded ≤ 2 ^ 18)
+pub few_in_profile : (profile : Profile) → IsSending profile → (profile.coded ≤ LARGEST_BUFFER)
     × (profile.nodes < 2 ^ 31)
 few_in_profile profile sending =
-    subst (λ (p : Profile). (p.coded ≤ 2 ^ 18) × (p.nodes < 2 ^ 31)) (sym sending.0.1) (by sending.0.0)
-  where
-    by : (name : ProfileName) → ((profile_of name).coded ≤ 2 ^ 18) × ((profile_of name).nodes < 2 ^ 31)
-    by Sd = (omega arith, omega arith)
-    by Hd = (omega arith, omega arith)
-    by Wide = (omega arith, omega arith)
-    by Large = (omega arith, omega arith)
+    let is = is_profile profile sending.0.0 sending.0.1 in (omega (arith, is.coded.1), omega (arith, is.nodes.1))
 
 -- nothing was received
 pub none_received : (profile : Profile) (pid : ℕ) (pages : Pages) → HasReceived profile pid pages false [] []
@@ -65,10 +57,7 @@ nothing_checked receiving meter stands metered pace next = record {
   told = [];
   at = record {
     own = refl;
-    bytes = All-nil AreBytes;
-    given = [];
-    stands = stands;
-    read = tt;
+    taken = nothing_taken receiving stands;
     pace = pace;
     metered = metered;
     whole = refl;
@@ -99,17 +88,13 @@ pub fed_at : (made : Reception) (old new : Receiving) (meter : Meter) (packets :
     → IsAt made false old meter packets past told text
     → IsFed made new meter (packets ++ packet ∷ []) past told text
 fed_at made old new meter packets packet past told text bytes same feeds at =
-    let fed = feeds packets at.given at.stands in
-    let read = losses_read fed.0 at.given past fed.1 at.read in
+    let fed = fed_past old new packets packet past bytes feeds at.taken in
     record {
-      more = read.more;
-      are_lost = read.are_lost;
+      more = fed.more;
+      are_lost = fed.are_lost;
       at = record {
         own = same ∙ at.own;
-        bytes = All-push AreBytes packets packet at.bytes bytes;
-        given = at.given ++ fed.0;
-        stands = fed.2;
-        read = read.read;
+        taken = fed.has;
         pace = at.pace;
         metered = at.metered;
         whole = at.whole;
@@ -122,9 +107,8 @@ pub received_at : (made : Reception) (ended : Bool) (receiving : Receiving) (met
     → AllTaken receiving → IsAt made ended receiving meter packets past told text
     → HasReceived made.profile made.pid made.pages ended packets past
 received_at made ended receiving meter packets past told text all at =
-    let here : sets_received made ended packets ≡ at.given =
-    (λ i. sets_received (sym at.own i) ended packets) ∙ all packets ended at.given at.stands in
-    subst (λ (sets : List (Delivery (List ℕ))). AreDeliveriesRead (reverse sets) past) (sym here) at.read
+    subst (λ (one : Reception). HasReceived one.profile one.pid one.pages ended packets past) at.own
+    (past_received ended packets past receiving all at.taken)
 
 -- the calls of a packet come behind those of the packets before it
 told_packet : (made : Reception) (packets : List (List ℕ)) (packet : List ℕ)
@@ -185,9 +169,10 @@ module _ (old mid new : Receiving) (was is : Meter) (packet : List ℕ) (event :
       ≡ told_of fed_for.profile fed_for.pid fed_for.pages fed_for.anchor 0 (packets ++ packet ∷ [])
       (more ++ (lost ++ has.past))
   told_so packets text has lost more count are_lost behind =
-      told_packet fed_for packets packet has.past lost more has.told event arrival place has.at.stands.reads.taken sound
-      has.received behind are_lost (events packets has.at.given has.at.stands)
-      (arrival_is ∙ arrivals packets has.at.given has.at.stands) count has.are
+      told_packet fed_for packets packet has.past lost more has.told event arrival place has.at.taken.stands.reads.taken
+      sound
+      has.received behind are_lost (events packets has.at.taken.given has.at.taken.stands)
+      (arrival_is ∙ arrivals packets has.at.taken.given has.at.taken.stands) count has.are
 
   checked_so : (packets : List (List ℕ)) (text line : List ℕ)
       (has : HasChecked (record { receiving = old; meter = was }) packets text) (lost more : List (Delivery Reading))
@@ -243,10 +228,7 @@ module _ (old mid new : Receiving) (was is : Meter) (before half now : Received)
       → IsAt made true mid was packets past told text
   at_end made packets past told text at = record {
     own = same ∙ at.own;
-    bytes = at.bytes;
-    given = at.given;
-    stands = ends packets at.given at.stands;
-    read = at.read;
+    taken = ended_past old mid packets past ends at.taken;
     pace = at.pace;
     metered = at.metered;
     whole = at.whole;
@@ -264,7 +246,7 @@ module _ (old mid new : Receiving) (was is : Meter) (before half now : Received)
       (text ++ (line
       ++ end_text (pace_of ended_for.anchor ended_for.profile) (has.told ++ told_with ended_for has.past more)))
   told_end packets text line has more at =
-      let taken : packets_taken ended_for.pid packets ≡ packets = has.at.stands.reads.taken in
+      let taken : packets_taken ended_for.pid packets ≡ packets = has.at.taken.stands.reads.taken in
       record {
         told = has.told ++ told_with ended_for has.past more;
         are = record {
@@ -323,7 +305,7 @@ text_so_far checking packets text has =
         are =
             has.are
             ∙ ap (λ (all : List (List ℕ)). told_of made.profile made.pid made.pages made.anchor 0 all has.past)
-            (sym has.at.stands.reads.taken);
+            (sym has.at.taken.stands.reads.taken);
       };
       whole = has.at.whole;
     }

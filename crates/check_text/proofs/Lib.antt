@@ -1,5 +1,4 @@
 pub mod CheckLaws
 pub mod PeakLaws
-pub mod ReadLaws
 pub mod SetLaws
 pub mod StepLaws

@@ -24,7 +24,7 @@ peak_so_far checking packets text peak has says =
         are =
             has.are
             ∙ ap (λ (all : List (List ℕ)). told_of made.profile made.pid made.pages made.anchor 0 all has.past)
-            (sym has.at.stands.reads.taken);
+            (sym has.at.taken.stands.reads.taken);
       });
       peak_is =
           says (calls_told has.told) has.at.metered

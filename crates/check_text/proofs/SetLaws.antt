@@ -14,7 +14,6 @@ use Rattle.decoder_model.specs.Sets.{Delivery}
 use Rattle.decoder_model.specs.Verdict.{verdict_of}
 use Rattle.decoder_model.specs.declared.set_end.SetEnd.{SetEnd}
 use Rattle.display_sets.specs.Gathered.{ReadySet, first_ready, ready_sets, sets_behind}
-use Rattle.reading_laws.proofs.PacketsRead.{packets_read}
 use Rattle.set_receiver.specs.Receiving.{IsNext, IsSame, Receiving, Reception, Stands, reception}
 use Rattle.received_level_laws.specs.StreamCalls.{arrived_in, calls_of_packet, drop_where}
 use Rattle.received_level_laws.specs.ToldSets.{ToldCall, call_of_end, calls_told, done_by, of_no_set}
@@ -24,10 +23,9 @@ use Rattle.sub_base.specs.Endpoints.{Received}
 use Rattle.sub_base.specs.Pace.{pace_of}
 use Rattle.sub_base.specs.declared.load.SetLoad.{SetLoad}
 use Rattle.sub_base.specs.declared.pace.Pace.{Pace}
-use Rattle.sub_base.specs.declared.profile.Profile.{Profile}
 use Rattle.check_text.specs.CheckText.{set_line}
 use Rattle.set_receiver.specs.Taking.{HasNext}
-use Rattle.set_receiver.proofs.TakenSets.{next_read, read_more}
+use Rattle.set_receiver.proofs.PastLaws.{IsTaken, taken_past}
 use Rattle.check_text.specs.Checking.{Counts, IsAt, TakesCalls, TakesSets, behind_first, told_with}
 use Rattle.check_text.proofs.StepLaws.{arrived_silent, counted, drop_silent, one_told, text_one, told_one, with_both}
 
@@ -63,15 +61,6 @@ module _ (old new : Receiving) (start fin : Meter) (before now : Received) (was 
     (pace : fin.pace ≡ start.pace)
     (puts : PutsOut before now was is
     (set_line (record { set = record { end = end; load = load }; done = done }))) where
-  -- the set that comes next, as it is read
-  record Comes (made : Reception) (ended : Bool) (packets : List (List ℕ)) (given : List (Delivery (List ℕ)))
-      (past : List (Delivery Reading)) : Type 0 where
-    delivery : Delivery (List ℕ)
-    one : Delivery Reading
-    stands : Stands ended packets (given ++ delivery ∷ []) new
-    read : AreDeliveriesRead (reverse (given ++ delivery ∷ [])) (one ∷ past)
-    told : told_with made past (one ∷ []) ≡ told_one end load ∷ []
-
   told_so : (made : Reception) (past : List (Delivery Reading)) (one : Delivery Reading) → reception old ≡ made
       → Some end ≡ verdict_of (reception old).profile (reception old).anchor past one
       → Some new.load ≡ set_load (reception old).profile (reception old).anchor past one
@@ -82,35 +71,19 @@ module _ (old new : Receiving) (start fin : Meter) (before now : Received) (was 
       (ap Some load_is ∙ is_load ∙ (λ i. set_load (own i).profile (own i).anchor past one))
 
   comes : (made : Reception) (ended : Bool) (packets : List (List ℕ)) (past : List (Delivery Reading))
-      (told : List ToldCall) (text : List ℕ) (at : IsAt made ended old start packets past told text)
-      → Comes made ended packets at.given past
+      (told : List ToldCall) (text : List ℕ) → IsAt made ended old start packets past told text
+      → IsTaken ended packets past old new end
   comes made ended packets past told text at =
-      let next = has_next ended packets at.given at.stands in
-      let all = packets_read (reception old).profile (reception old).pid (reception old).pages ended packets at.bytes in
-      let found =
-      next_read (reception old) ended packets at.given next.1 next.0 all.0 all.1 next.2.all in
-      record {
-        delivery = next.0;
-        one = found.0;
-        stands = takes ended packets at.given next.1 next.0 next.2;
-        read = read_more at.given next.0 past found.0 at.read found.1;
-        told =
-            told_so made past found.0 at.own
-            (answers ended packets at.given next.1 next.0 past found.0 next.2 at.read found.1)
-            (loads ended packets at.given next.1 next.0 past found.0 next.2 at.read found.1);
-      }
+      taken_past old new end has_next takes answers loads ended packets past at.taken
 
   at_one : (made : Reception) (ended : Bool) (packets : List (List ℕ)) (past : List (Delivery Reading))
       (told : List ToldCall) (text : List ℕ) (at : IsAt made ended old start packets past told text)
-      (next : Comes made ended packets at.given past)
+      (next : IsTaken ended packets past old new end)
       → IsAt made ended new fin packets (next.one ∷ past) (told ++ told_one end load ∷ [])
       (text ++ set_line (record { set = record { end = end; load = load }; done = done }))
   at_one made ended packets past told text at next = record {
     own = same ∙ at.own;
-    bytes = at.bytes;
-    given = at.given ++ next.delivery ∷ [];
-    stands = next.stands;
-    read = next.read;
+    taken = next.has;
     pace = pace ∙ at.pace;
     metered =
         subst (λ (calls : List Call). meters.Stands calls fin) (sym (calls_more told (told_one end load ∷ [])))
@@ -135,13 +108,14 @@ module _ (old new : Receiving) (start fin : Meter) (before now : Received) (was 
   pub set_taken : TakesSets before now old new start fin was is
   set_taken = record {
     goes = λ made ended packets past told text. λ at.
-        let next = comes made ended packets past told text at in (
+        let next = comes made ended packets past told text at in
+        let call = told_so made past next.one at.own next.verdict next.load in (
           next.one ∷ [],
           set_line (record { set = record { end = end; load = load }; done = done }),
-          count_one (told_with made past (next.one ∷ [])) next.told,
+          count_one (told_with made past (next.one ∷ [])) call,
           subst (λ (calls : List ToldCall). IsAt made ended new fin packets (next.one ∷ past) (told ++ calls)
               (text ++ set_line (record { set = record { end = end; load = load }; done = done })))
-              (sym next.told) (at_one made ended packets past told text at next),
+              (sym call) (at_one made ended packets past told text at next),
           puts,
         );
   }

@@ -63,10 +63,7 @@ pub counted : (made : Reception) (ended : Bool) (receiving : Receiving) (old new
     → IsAt made ended receiving new packets past (told ++ more) text
 counted made ended receiving old new packets past told more text silent counts at = record {
   own = at.own;
-  bytes = at.bytes;
-  given = at.given;
-  stands = at.stands;
-  read = at.read;
+  taken = at.taken;
   pace = counts.pace ∙ at.pace;
   metered =
       subst (λ (calls : List Call). meters.Stands calls new) (sym (calls_more told more))

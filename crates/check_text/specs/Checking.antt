@@ -1,17 +1,17 @@
 -- What `check` keeps, and what that has to do with the packets that it took and the text that it put out.
-use Rattle.std.specs.Prelude.{◌≡◌, ℕ, ◌+◌, ◌<◌, ◌≤◌, ◌^◌, Bool, false, if◌then◌else◌, All}
+use Rattle.std.specs.Prelude.{◌≡◌, ℕ, ◌+◌, ◌≤◌, ◌^◌, Bool, false, if◌then◌else◌}
 use Rattle.std.specs.Prelude.{List, [], ◌++◌, length, reverse}
 use Rattle.buffer_model.specs.Calls.{Call, first_breach_of, greatest}
 use Rattle.buffer_model.specs.Meters as meters
 use Rattle.buffer_model.specs.Meters.{Meter}
 use Rattle.command_text.specs.Putting.{Buffered, PutsOut}
 use Rattle.decoder_model.specs.PacketArrivals.{PacketArrival}
-use Rattle.decoder_model.specs.Readings.{AreDeliveriesRead, Reading}
+use Rattle.decoder_model.specs.Readings.{Reading}
 use Rattle.decoder_model.specs.Received.{HasReceived}
 use Rattle.decoder_model.specs.Sets.{Delivery}
 use Rattle.display_sets.specs.Gathered.{ReadySet, ready_sets, sets_behind}
-use Rattle.set_receiver.specs.Receiving.{Receiving, Reception, Stands, reception}
-use Rattle.set_receiver.specs.Taking.{AreBytes}
+use Rattle.set_receiver.specs.Receiving.{Receiving, Reception, reception}
+use Rattle.set_receiver.specs.Taking.{HasPast}
 use Rattle.received_level_laws.specs.StreamCalls.{calls_of_packet}
 use Rattle.received_level_laws.specs.ToldSets.{ToldCall, calls_told, of_no_set, told_behind, told_of}
 use Rattle.stream_syntax.specs.declared.transport.Event.{Event}
@@ -19,6 +19,7 @@ use Rattle.sub_base.specs.Endpoints.{Received}
 use Rattle.sub_base.specs.Pace.{pace_of}
 use Rattle.check_text.specs.CheckText.{breach_line, peak_line, sets_text}
 use Rattle.sub_base.specs.Lists.{all_of}
+use Rattle.sub_base.specs.declared.profile.TheConstants.{LARGEST_BUFFER}
 
 -- ---- what is kept
 
@@ -30,19 +31,16 @@ pub record Checking : Type 0 where
 -- no set is ready, and the coded data buffer is no larger than that of any profile
 pub record IsChecking (checking : Checking) : Type 0 where
   pub none : ready_sets checking.receiving.collecting.sets ≡ []
-  pub coded : (reception checking.receiving).profile.coded ≤ 2 ^ 18
+  pub coded : (reception checking.receiving).profile.coded ≤ LARGEST_BUFFER
 
 -- ---- what it has to do with the packets
 
--- the receiver was fed the packets, which are of bytes, and this past was taken from it, the latest first; the meter is
--- that of the told calls; and the text is of their sets
+-- the receiver was fed the packets, and this past was taken from it, the latest first; the meter is that of the told
+-- calls; and the text is of their sets
 pub record IsAt (made : Reception) (ended : Bool) (receiving : Receiving) (meter : Meter) (packets : List (List ℕ))
     (past : List (Delivery Reading)) (told : List ToldCall) (text : List ℕ) : Type 0 where
   pub own : reception receiving ≡ made
-  pub bytes : All AreBytes packets
-  pub given : List (Delivery (List ℕ))
-  pub stands : Stands ended packets given receiving
-  pub read : AreDeliveriesRead (reverse given) past
+  pub taken : HasPast ended packets past receiving
   pub pace : meter.pace ≡ pace_of made.anchor made.profile
   pub metered : meters.Stands (calls_told told) meter
   pub whole : text ≡ sets_text (pace_of made.anchor made.profile) told

@@ -15,6 +15,7 @@ ghost use Rattle.stream_syntax.specs.declared.wire.TheConstants.{PAYLOAD_LENGTH}
 ghost use Rattle.set_receiver.specs.Taking.{AllTaken, HasNext};
 ghost use Rattle.check_text.specs.Checking.{Counts, TakesCalls, TakesSets};
 ghost use Rattle.check_text.specs.Checking.{behind_first};
+ghost use Rattle.sub_base.specs.declared.profile.TheConstants.{LARGEST_BUFFER};
 
 use crate::lines::set_line;
 use buffer_model::Levels;
@@ -36,7 +37,7 @@ pub(crate) fn take_calls<K: Sink>(
     event: Event,
     arrival: Arrival,
 )
-    requires coded { (reception receiver.old).profile.coded ≤ 2 ^ 18 }
+    requires coded { (reception receiver.old).profile.coded ≤ LARGEST_BUFFER }
     requires place { place < STREAM_LIMIT }
     requires next { levels.old.next ≤ place }
     requires short { arrival.bytes ≤ PAYLOAD_LENGTH }
@@ -102,7 +103,7 @@ fn take_first<K: Sink>(
     levels: &mut Levels,
     first: bool,
 )
-    requires coded { (reception receiver.old).profile.coded ≤ 2 ^ 18 }
+    requires coded { (reception receiver.old).profile.coded ≤ LARGEST_BUFFER }
     ensures sets { TakesSets
         (K.received out.old)
         (K.received out.new)
@@ -126,7 +127,7 @@ pub(crate) fn take_ready<K: Sink>(
     receiver: &mut SetReceiver,
     levels: &mut Levels,
 )
-    requires coded { (reception receiver.old).profile.coded ≤ 2 ^ 18 }
+    requires coded { (reception receiver.old).profile.coded ≤ LARGEST_BUFFER }
     ensures sets { TakesSets
         (K.received out.old)
         (K.received out.new)
@@ -150,7 +151,7 @@ fn take_next<K: Sink>(
 )
     requires ready { IsSome (first_ready (ready_sets receiver.old.collecting.sets)) }
     requires next { HasNext receiver.old }
-    requires coded { (reception receiver.old).profile.coded ≤ 2 ^ 18 }
+    requires coded { (reception receiver.old).profile.coded ≤ LARGEST_BUFFER }
     ensures sets { TakesSets
         (K.received out.old)
         (K.received out.new)

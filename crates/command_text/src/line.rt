@@ -1,5 +1,6 @@
 ghost use Rattle.std.specs.Prelude.{◌≡◌, ◌+◌, ◌<◌, ◌≤◌, ◌∷◌, ◌++◌, [], length};
 ghost use Rattle.std.specs.Fmt.{decimal};
+ghost use Rattle.command_text.specs.declared.line.TheConstants.{ROOM};
 ghost use Rattle.command_text.specs.Lines.{hex_digit as hex_digit_of, then_number, two_hex};
 
 use itoa::Buffer;
@@ -11,18 +12,19 @@ const ROOM: usize = 128;
 /// A line of text that is put together without memory.
 #[derive(Drop)]
 pub struct Line {
-    bytes: [u8; 128],
+    bytes: [u8; ROOM],
     length: usize,
 }
 
 impl Model for Line {
     ghost use Rattle.std.specs.Prelude.{◌≤◌, List, ℕ, take};
+    ghost use Rattle.command_text.specs.declared.line.TheConstants.{ROOM};
 
     ghost Value = { List ℕ };
 
     ghost view = { λ line. take line.length line.bytes };
 
-    ghost invariant = { λ line. line.length ≤ 128 };
+    ghost invariant = { λ line. line.length ≤ ROOM };
 }
 
 impl Line {
@@ -56,7 +58,7 @@ impl Line {
 
     /// Puts the text at the end.
     pub fn push_text(&mut self, text: &str)
-        requires { length self.old + length text.now ≤ 128 }
+        requires { length self.old + length text.now ≤ ROOM }
         ensures line { self.new ≡ self.old ++ text.now }
         ensures length { length self.new ≡ length self.old + length text.now }
     {
@@ -68,7 +70,7 @@ impl Line {
 
     /// Puts the byte at the end.
     pub fn push_byte(&mut self, byte: u8)
-        requires { length self.old < 128 }
+        requires { length self.old < ROOM }
         ensures line { self.new ≡ self.old ++ (byte ∷ []) }
         ensures length { length self.new ≡ length self.old + 1 }
     {
@@ -79,7 +81,7 @@ impl Line {
     /// Puts the number at the end, in decimal.
     #[inline(always)]
     pub fn push_number(&mut self, number: u64)
-        requires { length self.old + 20 ≤ 128 }
+        requires { length self.old + 20 ≤ ROOM }
         ensures line { self.new ≡ self.old ++ decimal number }
         ensures length { length self.new ≤ length self.old + 20 }
     {

@@ -1,6 +1,7 @@
 ghost use Rattle.std.specs.Prelude.{◌≡◌, ◌+◌, ◌*◌, ◌≤◌, ◌∷◌, drop, length, slice_index_or};
 ghost use Rattle.std.specs.List.{flat_map, range_with_len};
 ghost use Rattle.sub_base.specs.Colour.{clear};
+ghost use Rattle.command_text.specs.declared.line.TheConstants.{ROOM};
 ghost use Rattle.command_text.specs.PictureText.{is_clear as is_clear_plane, is_same_colour as is_same, runs_of, row_line, plane_row, clear_line as clear_line_of, sides_line as sides_line_of, run_piece, picture_text};
 ghost use Rattle.command_text.specs.Putting.{PutsOut};
 
@@ -135,7 +136,7 @@ fn is_same_colour(first: Colour, second: Colour) -> bool
 /// The line of a picture that is clear everywhere.
 fn clear_line(tick: u64) -> Line
     ensures line { result ≡ clear_line_of tick }
-    ensures short { length result ≤ 128 }
+    ensures short { length result ≤ ROOM }
 {
     let mut line = Line::of("picture");
     line.push_then_number(tick);
@@ -146,7 +147,7 @@ fn clear_line(tick: u64) -> Line
 /// The first line of a picture that is not clear everywhere.
 fn sides_line(tick: u64, width: u32, height: u32) -> Line
     ensures line { result ≡ sides_line_of tick width height }
-    ensures short { length result ≤ 128 }
+    ensures short { length result ≤ ROOM }
 {
     let mut line = Line::of("picture");
     line.push_then_number(tick);
@@ -159,7 +160,7 @@ fn sides_line(tick: u64, width: u32, height: u32) -> Line
 /// A run of a colour, and what stands behind it in its row.
 fn run_line(colour: Colour, count: usize, is_last: bool) -> Line
     ensures line { result ≡ run_piece colour count is_last }
-    ensures short { length result ≤ 128 }
+    ensures short { length result ≤ ROOM }
 {
     let mut line = Line::new();
     line.push_number(count as u64);

@@ -1,4 +1,5 @@
 ghost use Rattle.std.specs.Prelude.{◌≡◌, ◌+◌, ◌≤◌, ◌++◌, ◌<◌, ◌↔◌, [], length, true, false, IsTrue, IfOk, vec_len};
+ghost use Rattle.command_text.specs.declared.text_buffer.TheConstants.{LONGEST, ROOM};
 ghost use Rattle.command_text.specs.Putting.{Buffered, PutsOut};
 
 use std::alloc::{AllocError, Global};
@@ -22,13 +23,14 @@ pub struct TextBuffer {
 
 impl Model for TextBuffer {
     ghost use Rattle.std.specs.Prelude.{◌≡◌, ◌≤◌, take, vec_len};
+    ghost use Rattle.command_text.specs.declared.text_buffer.TheConstants.{ROOM};
     ghost use Rattle.command_text.specs.Putting.{Buffered};
 
     ghost Value = { Buffered };
 
     ghost view = { λ b. record { waits = take b.filled b.bytes.items; failed = b.failed } };
 
-    ghost invariant = { λ b. (b.filled ≤ vec_len b.bytes) × (vec_len b.bytes ≡ 65536) };
+    ghost invariant = { λ b. (b.filled ≤ vec_len b.bytes) × (vec_len b.bytes ≡ ROOM) };
 }
 
 impl TextBuffer {
@@ -52,7 +54,7 @@ impl TextBuffer {
 
     /// Whether there may be no room for more text.
     fn is_full(&self) -> bool
-        ensures { IsTrue result ↔ (65536 < length self.now.waits + 188) }
+        ensures { IsTrue result ↔ (ROOM < length self.now.waits + LONGEST) }
     {
         // The longest text has to have room, so that no text is parted.
         self.bytes.len() - self.filled < LONGEST
@@ -60,7 +62,7 @@ impl TextBuffer {
 
     /// Puts the text at the end.
     fn push(&mut self, text: &[u8])
-        requires { length self.old.waits + length text.now ≤ 65536 }
+        requires { length self.old.waits + length text.now ≤ ROOM }
         ensures { self.new
             ≡ record { waits = self.old.waits ++ text.now; failed = self.old.failed } }
     {
@@ -94,7 +96,7 @@ impl TextBuffer {
 /// Puts out a text of at most 188 bytes, or a packet: it waits behind the text before it, which is
 /// written first where there is no room.
 pub fn put<K: Sink>(sink: &mut K, buffer: &mut TextBuffer, text: &[u8])
-    requires { length text.now ≤ 188 }
+    requires { length text.now ≤ LONGEST }
     ensures { PutsOut
         (K.received sink.old)
         (K.received sink.new)
@@ -108,7 +110,7 @@ pub fn put<K: Sink>(sink: &mut K, buffer: &mut TextBuffer, text: &[u8])
 
 /// Puts the text behind what waits, where the sink has not failed.
 fn append(buffer: &mut TextBuffer, text: &[u8])
-    requires { buffer.old.failed ≡ false → length buffer.old.waits + length text.now ≤ 65536 }
+    requires { buffer.old.failed ≡ false → length buffer.old.waits + length text.now ≤ ROOM }
     ensures failed { buffer.new.failed ≡ buffer.old.failed }
     ensures waits { buffer.old.failed ≡ false
         → buffer.new.waits ≡ buffer.old.waits ++ text.now }

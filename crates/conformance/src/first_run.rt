@@ -1,4 +1,4 @@
-use crate::streams::packet_of;
+use crate::streams::{packet_of, stream_of};
 use std::alloc::Global;
 use std::test::Fail;
 
@@ -40,13 +40,24 @@ pub(crate) const SECOND_UNIT: [u8; 31] = [
     0x0F, 0x10, 0x00, 0x01, 0x00, 0x02, 0x0C, 0x13, 0x0F, 0x80, 0x00, 0x01, 0x00, 0x00, 0xFF,
 ];
 
+pub(crate) const FIRST_HEAD: [u8; 6] = [0x47, 0x41, 0x00, 0x30, 0x55, 0x00];
+
+pub(crate) const SECOND_HEAD: [u8; 6] = [0x47, 0x41, 0x00, 0x31, 0x98, 0x00];
+
+/// The second packet with its counter raised by two.
+pub(crate) const LATER_HEAD: [u8; 6] = [0x47, 0x41, 0x00, 0x33, 0x98, 0x00];
+
+/// The second packet with another byte in place of its sync byte.
+pub(crate) const UNSYNCED_HEAD: [u8; 6] = [0x48, 0x41, 0x00, 0x31, 0x98, 0x00];
+
+/// The head of a packet of the unit that a usual encoder makes.
+pub(crate) const ENCODER_HEAD: [u8; 6] = [0x47, 0x41, 0x00, 0x30, 0x63, 0x00];
+
 /// The two packets that the script is compiled to.
 pub(crate) fn stream(alloc: Global) -> Result<Vec<u8>, Fail> {
-    let first = packet_of(&[0x47, 0x41, 0x00, 0x30, 0x55, 0x00], &FIRST_UNIT);
-    let second = packet_of(&[0x47, 0x41, 0x00, 0x31, 0x98, 0x00], &SECOND_UNIT);
-    let mut stream = Vec::from_slice(alloc, &first)?;
-    stream.extend_from_slice(&second)?;
-    Ok(stream)
+    let first = packet_of(&FIRST_HEAD, &FIRST_UNIT);
+    let second = packet_of(&SECOND_HEAD, &SECOND_UNIT);
+    stream_of(alloc, first, second, &[])
 }
 
 /// What is shown at both ticks.

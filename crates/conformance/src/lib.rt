@@ -24,6 +24,23 @@ mod other_services;
 #[cfg(test)]
 mod streams;
 
+// What each command of `dvbsub` tells: scripts that are compiled, and streams that are shown,
+// checked and entered.
+#[cfg(test)]
+mod compiled_scripts;
+#[cfg(test)]
+mod compiled_sets;
+#[cfg(test)]
+mod entered_streams;
+#[cfg(test)]
+mod generated_scripts;
+#[cfg(test)]
+mod lost_packets;
+#[cfg(test)]
+mod shown_pictures;
+#[cfg(test)]
+mod told_sets;
+
 // Every read and every write fails in turn, and every growth of memory may.
 #[cfg(test)]
 mod failing;

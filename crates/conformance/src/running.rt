@@ -57,7 +57,7 @@ pub(crate) struct Ended {
     pub notes: MemSink,
 }
 
-fn words_of(alloc: Global, line: &str) -> Result<Words, Fail> {
+pub(crate) fn words_of(alloc: Global, line: &str) -> Result<Words, Fail> {
     let mut words = Words::make(alloc);
     for word in line.split(' ') {
         words.push(word)?;

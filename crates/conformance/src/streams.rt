@@ -1,3 +1,4 @@
+use std::alloc::Global;
 use std::test::Fail;
 
 /// A packet that begins with this head and ends with these bytes, with FF between.
@@ -10,6 +11,19 @@ pub(crate) fn packet_of(head: &[u8], bytes: &[u8]) -> [u8; 188] {
         *byte = *given;
     }
     packet
+}
+
+/// The bytes of two packets, and so many further bytes.
+pub(crate) fn stream_of(
+    alloc: Global,
+    first: [u8; 188],
+    second: [u8; 188],
+    further: &[u8],
+) -> Result<Vec<u8>, Fail> {
+    let mut stream = Vec::from_slice(alloc, &first)?;
+    stream.extend_from_slice(&second)?;
+    stream.extend_from_slice(further)?;
+    Ok(stream)
 }
 
 /// A packet of PID 256 with a piece of a unit, of at most 184 bytes, behind an adaptation field

@@ -1,6 +1,5 @@
 -- A script and a fault of the same bytes exclude each other, and there is one fault.
 use Rattle.std.proofs.Common.{◌≡◌, ◌≢◌, ◌∙◌, ◌⊎◌, refl, sym, ap, inl, inr, ℕ, ◌+◌, ◌<◌, ◌≤◌, true, false, List, length, Option, Some, None, is_some, Result, Ok, Err, IfOk, IfErr, arith}
-use Rattle.std.specs.Prelude.{IsOkUnless}
 use Rattle.sub_base.specs.Picture.{Picture}
 use Rattle.bitmap_font.specs.Font.{FontValue}
 use Rattle.cue_list.specs.declared.epoch.Epoch.{Epoch}
@@ -80,15 +79,6 @@ one_refusal bytes font row other a b first second =
     ]
 
 -- What is answered of a file.
-
-pub every_script : {T : Type 0} (bytes : List ℕ) (font : FontValue) (result : Result T ScriptFault)
-    → IfErr result (IsScriptFault bytes font) →
-    (origin width height refresh : ℕ) (epochs : List Epoch) (pictures : List Picture) →
-    IsScript bytes font origin width height refresh epochs pictures → IsOkUnless result Memory
-every_script bytes font (Ok script) refused origin width height refresh epochs pictures is = tt
-every_script bytes font (Err Memory) refused origin width height refresh epochs pictures is = refl
-every_script bytes font (Err (Refused row kind)) refused origin width height refresh epochs pictures is =
-    absurd (script_or_fault bytes font origin width height refresh epochs pictures row kind is refused)
 
 pub every_fault : (bytes : List ℕ) (font : FontValue) (result : Result Script ScriptFault) →
     IfOk result

@@ -21,3 +21,4 @@ pub mod SceneLaws
 pub mod TicksApartLaws
 pub mod TicksLaws
 pub mod ShownLaws
+pub mod OneScript

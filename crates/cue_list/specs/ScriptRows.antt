@@ -7,6 +7,7 @@ use Rattle.cue_list.specs.declared.fault.ScriptFault.{ScriptFault}
 use Rattle.cue_list.specs.declared.fault.ScriptFault.TheVariants.{Memory, Refused}
 use Rattle.cue_list.specs.declared.fault.ScriptKind.{ScriptKind}
 use Rattle.cue_list.specs.declared.fault.ScriptKind.TheVariants as faults
+use Rattle.cue_list.specs.declared.script.Script.{Script}
 use Rattle.cue_list.specs.Drawn.{Brings}
 use Rattle.cue_list.specs.Past.{with_last, looking_back, regions_in}
 use Rattle.cue_list.specs.Records.{Record, records_of, records_before, record_at}
@@ -42,6 +43,16 @@ pub record IsScript (bytes : List ℕ) (font : FontValue) (origin width height r
   pub right : AreRight font (records_of bytes) (length (records_of bytes))
   pub lists : Lists font (records_before (records_of bytes) (length (records_of bytes))) origin width height refresh
       epochs pictures
+
+-- a script has these values
+pub record HasValues (origin width height refresh : ℕ) (epochs : List Epoch) (pictures : List Picture)
+    (script : Script) : Type 0 where
+  pub origin_is : script.origin ≡ origin
+  pub width_is : script.width ≡ width
+  pub height_is : script.height ≡ height
+  pub refresh_is : script.refresh ≡ refresh
+  pub epochs_are : script.epochs ≡ epochs
+  pub pictures_are : script.pictures ≡ pictures
 
 -- a record, counted from 1, is the first that is wrong, and for what: or all are right, but none starts an epoch
 pub record IsRefused (bytes : List ℕ) (font : FontValue) (row : ℕ) (kind : ScriptKind) : Type 0 where

@@ -1,4 +1,4 @@
-ghost use Rattle.std.specs.Prelude.{◌≡◌, ◌≢◌, ◌+◌, ◌<◌, ◌^◌, ℕ, List, [], true, length, is_some, IfOk, IfErr, IsOkUnless};
+ghost use Rattle.std.specs.Prelude.{◌≡◌, ◌≢◌, ◌+◌, ◌<◌, ◌^◌, ℕ, List, [], true, length, is_some, IfOk, IfErr, MatchResult};
 ghost use Rattle.cue_list.specs.Private.HasRead.{HasRead};
 ghost use Rattle.cue_list.specs.Records.{records_of};
 ghost use Rattle.cue_list.specs.ScriptRows.{IsRefusal, IsScriptFault};
@@ -7,7 +7,7 @@ ghost use Rattle.std.specs.Prelude.{Err, None};
 ghost use Rattle.cue_list.specs.declared.fault.ScriptKind.TheVariants.{Order};
 ghost use Rattle.cue_list.specs.declared.fault.ScriptFault.TheVariants.{Memory, Refused};
 ghost use Rattle.cue_list.specs.Past.{with_last};
-ghost use Rattle.cue_list.specs.ScriptRows.{IsScript};
+ghost use Rattle.cue_list.specs.ScriptRows.{HasValues, IsScript};
 ghost use Rattle.cue_list.specs.Sound.{IsSound};
 
 use crate::epoch::Epoch;
@@ -26,7 +26,6 @@ impl Script {
     /// by those before it. The texts of cues are set in `font`. The first faulty record is refused,
     /// by the first of its tests that fails; a script in which no epoch starts is refused at the
     /// record after its last.
-    #[tactic(auto, using(crate::proofs::AnswerLaws::every_script))]
     pub fn read(alloc: Global, bytes: &[u8], font: &Font) -> Result<Script, ScriptFault>
         ensures script { IfOk result
             (λ script. IsScript bytes.now font.now script.origin script.width script.height
@@ -37,12 +36,13 @@ impl Script {
             script.pictures) }
         ensures refused { IfErr result (IsScriptFault bytes.now font.now) }
 
-        // But for want of memory each script is read, and each faulty file is refused, for its one
-        // fault.
+        // But for want of memory each script is read, with its one list of values, and each faulty
+        // file is refused, for its one fault.
         ensures every_script { (origin width height refresh : ℕ) (epochs : List Epoch)
             (pictures : List Picture)
             → IsScript bytes.now font.now origin width height refresh epochs pictures
-            → IsOkUnless result Memory }
+            → MatchResult result (HasValues origin width height refresh epochs pictures)
+            (λ fault. fault ≡ Memory) }
         ensures every_fault { (fault : ScriptFault) → IsScriptFault bytes.now font.now fault
             → fault ≢ Memory → IsRefusal fault result }
     {

@@ -13,7 +13,7 @@ use Rattle.stream_syntax.specs.DataField.{Frame, segment, broken}
 use Rattle.decoder_model.specs.Frames.{segments_in, bytes_in, is_end, fault_of}
 use Rattle.sub_base.specs.Lists.{prefixes}
 use Rattle.decoder_model.specs.Sets.{Stretch, loss_between, run, runs_of, joined_to, Delivery, lost, has_ended, sets_of, is_ended, frames_in, size_in, units_to_end, set_of, handed, first_fault_in, excess_in, is_followed, sets_in}
-use Rattle.decoder_model.proofs.SentSets.{find-map}
+use Rattle.decoder_model.proofs.Lists.{find-map}
 use Rattle.decoder_model.proofs.SentUnits.{each_after-append}
 
 -- ---- runs grow at their end

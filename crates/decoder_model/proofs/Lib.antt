@@ -1,3 +1,4 @@
+pub mod Lists
 mod UsualEncoder
 pub mod Searches
 pub mod TakenLaws
@@ -13,8 +14,6 @@ pub mod Views
 pub mod SoleCue
 pub mod SoleCueView
 pub mod ServicePages
-pub mod FieldFrames
-pub mod SentSets
 pub mod SentUnits
 pub mod Lifts
 pub mod AfterLoss

@@ -12,7 +12,7 @@ use Rattle.sub_base.specs.Lists.{prefixes}
 use Rattle.decoder_model.specs.Sets.{Stretch, loss_between, run, runs_of, joined_to, Delivery, lost, whole, refused, has_ended, sets_of, is_ended, frames_in, set_of, handed, is_followed, sets_in}
 use Rattle.decoder_model.specs.declared.set_fault.SetFault.{SetFault}
 use Rattle.decoder_model.proofs.Growth.{ended_run, flat-append}
-use Rattle.decoder_model.proofs.SentSets.{all-append}
+use Rattle.decoder_model.proofs.Lists.{all-append}
 use Rattle.decoder_model.proofs.SentUnits.{each_after-append}
 
 -- ---- what a set is, and how many

@@ -9,7 +9,13 @@ use Rattle.stream_syntax.specs.TransportPackets.{pid_of, packet_fault}
 use Rattle.stream_syntax.specs.Units.{last_counter, part_after, parts_of, each_after, hand_after, unit_at, event_after, event_at, is_loss}
 use Rattle.stream_syntax.specs.declared.transport.Event.{Event}
 use Rattle.decoder_model.specs.Arrivals.{packets_taken}
-use Rattle.decoder_model.proofs.SentSets.{all-append, ComeWhole}
+use Rattle.decoder_model.proofs.Lists.{all-append}
+
+-- the packets hand out these units, one after another, and none of them means a loss
+pub record ComeWhole (pid size : ℕ) (packets units : List (List ℕ)) : Type 0 where
+  pub taken : packets_taken pid packets ≡ packets
+  pub no_loss : AllByRecursion (λ event. is_loss event ≡ false) (events_behind pid size [] packets)
+  pub units_are : filter_map (λ found. found) (units_behind pid size [] packets) ≡ units
 
 -- behind packets, these packets carry these units, one after another, each in pieces; other packets stand anywhere
 -- between and packets of other PIDs behind the last

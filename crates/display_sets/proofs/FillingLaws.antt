@@ -14,7 +14,7 @@ use Rattle.decoder_model.specs.Received.{IsFramed}
 use Rattle.decoder_model.specs.Sets.{is_ended, first_fault_in, excess_in}
 use Rattle.decoder_model.specs.declared.set_fault.SetFault.TheVariants.{Segment, SetTooLong}
 use Rattle.decoder_model.proofs.Growth.{segments-append}
-use Rattle.decoder_model.proofs.SentSets.{all-append}
+use Rattle.decoder_model.proofs.Lists.{all-append}
 use Rattle.display_sets.specs.Filling.{AreBytes, AreOpen, IsEnd}
 
 -- ---- sets that have not ended

@@ -6,7 +6,7 @@ use Rattle.decoder_model.specs.Arrivals.{PesUnit, Arrival, loss, refused_unit, a
 use Rattle.decoder_model.specs.PacketArrivals.{of_time, last_run}
 use Rattle.decoder_model.specs.Sets.{runs_of, sets_in, lost}
 use Rattle.decoder_model.proofs.OnePacket.{IsLossArrival, runs_loss, loss_adds, runs_aside}
-use Rattle.decoder_model.proofs.SentSets.{all-append}
+use Rattle.decoder_model.proofs.Lists.{all-append}
 use Rattle.display_sets.proofs.Runs.{HaveTime, unit_extends, last_of, AreAlike, last_extends, last_of-loss}
 use Rattle.display_sets.proofs.RunSets.{added_by, sets_extend, open_set, sets_finish}
 

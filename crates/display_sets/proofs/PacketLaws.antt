@@ -9,7 +9,7 @@ use Rattle.decoder_model.specs.declared.pages.Pages.{Pages}
 use Rattle.decoder_model.specs.Arrivals.{Arrival, arrivals_at, packets_taken, arrivals_of}
 use Rattle.decoder_model.specs.Sets.{has_ended, sets_of, sets_in, runs_of}
 use Rattle.decoder_model.proofs.Growth.{flat-append}
-use Rattle.decoder_model.proofs.SentSets.{all-append}
+use Rattle.decoder_model.proofs.Lists.{all-append}
 use Rattle.decoder_model.proofs.SentUnits.{each_after-append, all_pass}
 
 abbrev is_sound : ℕ → List ℕ → Bool

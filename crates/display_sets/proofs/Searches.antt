@@ -4,7 +4,7 @@ use Rattle.std.specs.Prelude.{find}
 use Rattle.std.specs.Option.{option_map}
 use Rattle.sub_base.specs.Lists.{prefixes}
 use Rattle.decoder_model.proofs.Growth.{found_passes, found_is_front}
-use Rattle.decoder_model.proofs.SentSets.{find-map}
+use Rattle.decoder_model.proofs.Lists.{find-map}
 
 -- where a list fails and passes with one item more, it is found with that item
 pub first_found : {X : Type 0} (test : List X → Bool)

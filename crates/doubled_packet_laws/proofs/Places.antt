@@ -14,7 +14,7 @@ use Rattle.decoder_model.specs.declared.pages.Pages.{Pages}
 use Rattle.decoder_model.specs.Arrivals.{PesUnit, Arrival, loss, refused_unit, aside, unit, unit_with, unit_from, losses_at, units_at}
 use Rattle.decoder_model.specs.Frames.{segments_in}
 use Rattle.decoder_model.specs.Sets.{Stretch, loss_between, run, runs_of, joined_to, lost, whole, is_ended, frames_in, size_in, units_to_end, set_of, handed, first_fault_in, excess_in, is_followed, sets_in}
-use Rattle.decoder_model.proofs.SentSets.{find-map}
+use Rattle.decoder_model.proofs.Lists.{find-map}
 
 -- ---- without places
 

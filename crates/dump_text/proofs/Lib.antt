@@ -1,3 +1,4 @@
+pub mod AskedLaws
 pub mod DumpLaws
 pub mod TextLaws
 pub mod ToldLaws

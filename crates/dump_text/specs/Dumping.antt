@@ -13,7 +13,7 @@ use Rattle.set_receiver.specs.Taking.{AreBytes}
 use Rattle.receiver.specs.Receiving.{IsSame, Receiving, Stands, reception}
 use Rattle.sub_base.specs.Endpoints.{Received}
 use Rattle.sub_base.specs.declared.profile.Profile.{Profile}
-use Rattle.dump_text.specs.DumpText.{anchor_of, shown_text, view_text}
+use Rattle.dump_text.specs.DumpText.{IsDumpTextIn, anchor_of, shown_text, view_text}
 
 -- ---- ticks
 
@@ -138,3 +138,8 @@ pub record HasDumped (dumping : Dumping) (packets : List (List ℕ)) (text : Lis
 pub record IsSameDump (old new : Dumping) : Type 0 where
   pub receiver : IsSame old.receiving new.receiving
   pub ticks : new.ticks ≡ old.ticks
+
+-- what a receiver at work tells of packets, with which the stream ends or not
+abbrev pub dump_tells : Dumping → Bool → List (List ℕ) → List ℕ → Type 0
+dump_tells dumping ended packets text =
+    IsDumpTextIn (reception dumping.receiving) dumping.ticks ended packets text

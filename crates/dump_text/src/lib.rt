@@ -4,6 +4,8 @@
 mod dump;
 mod laws;
 mod pictures;
+mod streaming;
 
 pub use dump::Dump;
 pub use laws::packets_are_shown;
+pub use streaming::dump_stream;

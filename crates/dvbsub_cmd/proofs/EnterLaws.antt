@@ -62,10 +62,10 @@ shown_late name script packets entry (tick ∷ ticks) shows late =
 
 module _ (name : ProfileName) (made : Generated) (packets : List (List ℕ)) (times : List ℕ)
     (of : AreOf name made packets times) (missed number : ℕ)
-    (entry : HasEntry missed made.sent.schedule made.sent.plan.sets (Some number)) where
+    (entry : HasEntry missed made.sent.table made.sent.sets (Some number)) where
   pub entry_shown : AreShown name made.script (drop missed packets) (drop number times)
   entry_shown =
-      let sent : SentSet = sent_set made.sent.schedule number entry.0 in
+      let sent : SentSet = sent_set made.sent.table number entry.0 in
       All-from_recursion
       (λ tick. Shows (profile_of name) generated_pid (only generated_page) 0 (drop missed packets) tick
       (authored_view made.script tick)) (drop number times)
@@ -73,11 +73,11 @@ module _ (name : ProfileName) (made : Generated) (packets : List (List ℕ)) (ti
       (λ tick. subst
       (λ (one : Option SentSet). ShowsFrom (profile_of name) generated_pid (only generated_page) 0
       (drop missed packets) one tick (authored_view made.script tick)) entry.2 (of.shown missed tick))
-      (later_times times made.sent.plan.sets of.times_are number entry.0 entry.1 of.told))
+      (later_times times made.sent.sets of.times_are number entry.0 entry.1 of.told))
 
   -- the first of these is the time of the entry set
   pub entry_first : slice_get (drop number times) 0
-      ≡ entry_time (entry_set missed (sent_sets made.sent.schedule made.sent.plan.sets))
+      ≡ entry_time (entry_set missed (sent_sets made.sent.table made.sent.sets))
   entry_first =
       ap (λ (ticks : List ℕ). slice_get ticks 0)
-      (times_behind times made.sent.plan.sets of.times_are number entry.0 entry.1) ∙ sym (ap entry_time entry.2)
+      (times_behind times made.sent.sets of.times_are number entry.0 entry.1) ∙ sym (ap entry_time entry.2)

@@ -21,12 +21,13 @@ use Rattle.schedule.proofs.SumLaws.{sum_below-suc, sum_below-zero}
 use Rattle.set_coder.specs.SetSizes.{IsSetLoad}
 use Rattle.shown_stream.specs.Compiled.{all_units, IsCompiledFor, IsCompiledTo}
 use Rattle.slot_stream.specs.SlotStream.{Piece, packet_of, all_pieces}
-use Rattle.shown_stream.proofs.Sent.CompiledPackets.{packets_in, count_pieces}
+use Rattle.shown_stream.proofs.Sent.CompiledPackets.{packets_in}
 use Rattle.slot_stream.proofs.LaidPackets.{laid, behind, IsAhead}
 use Rattle.shown_stream.proofs.Sent.PlannedTimes.{pts_of, times_in_span}
-use Rattle.shown_stream.proofs.Sent.RisingSlots.{slots_rise}
 use Rattle.std.proofs.lemmas.Bool.{false≢true}
 use Rattle.std.proofs.lemmas.Nat.{mul-le}
+use Rattle.sent_sets.proofs.PacketCounts.{count_pieces}
+use Rattle.sent_sets.proofs.RisingSlots.{slots_rise}
 
 -- ---- the last slot
 

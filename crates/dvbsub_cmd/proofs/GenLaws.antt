@@ -1,10 +1,10 @@
 -- The packets of a generated script, as they stand in memory: they are taken by a receiver, which shows what the script
 -- authors from its entry set on.
-use Rattle.std.proofs.Common.{◌≡◌, ◌∙◌, ℕ, ◌+◌, ◌*◌, ◌/◌, ◌<◌, ◌≤◌, true, false, None, List, [], ◌∷◌, ◌++◌, length, reverse, take_all, All, refl, sym, ap, subst, arith}
-use Rattle.std.specs.List.{AllByRecursion, concat, filter, list_any}
-use Rattle.std.specs.Prelude.{codes, nat_le}
+use Rattle.std.proofs.Common.{◌≡◌, ◌∙◌, ℕ, ◌+◌, ◌*◌, ◌/◌, ◌≤◌, true, false, None, List, [], ◌++◌, length, reverse, take_all, All, refl, sym, ap, subst, arith}
+use Rattle.std.specs.List.{AllByRecursion, concat}
+use Rattle.std.specs.Prelude.{codes}
 use Rattle.std.specs.List.Sorted.{IsStrictlyIncreasing}
-use Rattle.std.proofs.lemmas.List.Elements.{All-filter, All-from_recursion, All-map}
+use Rattle.std.proofs.lemmas.List.Elements.{All-from_recursion}
 use Rattle.buffer_model.specs.Calls.{Call}
 use Rattle.check_text.specs.CheckText.{IsPeak}
 use Rattle.cue_list.specs.Sound.{IsTick}
@@ -13,10 +13,9 @@ use Rattle.decoder_model.specs.Frames.{only}
 use Rattle.decoder_model.specs.Arrivals.{packets_taken}
 use Rattle.decoder_model.specs.Readings.{Reading}
 use Rattle.decoder_model.specs.Sets.{Delivery, sets_of}
-use Rattle.decoder_model.specs.Streams.{SentSet, entered_at, entry_set}
-use Rattle.dvbsub_cmd.proofs.JoinedPackets.{whole_packets-concat}
+use Rattle.decoder_model.specs.Streams.{entered_at, entry_set}
+use Rattle.packet_source.proofs.JoinedPackets.{whole_packets-concat}
 use Rattle.packet_source.specs.InHand.{whole_packets}
-use Rattle.page_epoch.specs.Plan.{IsPlan}
 use Rattle.page_epoch.specs.declared.planned_set.PlannedSet.{PlannedSet}
 use Rattle.reading_laws.proofs.OneReading.{same_past}
 use Rattle.schedule.specs.Slots.{Timetable}
@@ -29,7 +28,7 @@ use Rattle.shown_stream.proofs.Sent.PlannedTimes.{pts_of, pts_rise, times_in_spa
 use Rattle.slot_stream.proofs.SentPieces.{IsFree, none_refused}
 use Rattle.slot_stream.proofs.SentStream.{pieces_are}
 use Rattle.shown_stream.specs.Compiled.{IsCompiledFor, IsCompiledTo, all_units}
-use Rattle.shown_stream.specs.SentSets.{sent_from, sent_sets, times_from}
+use Rattle.shown_stream.specs.SentSets.{sent_sets, times_from}
 use Rattle.shown_stream.specs.Shows.{IsAnchorOf, ShowsFrom, authored_view}
 use Rattle.slot_stream.specs.SlotStream.{all_pieces}
 use Rattle.received_level_laws.specs.StreamCalls.{AreCallsOf, calls_from, itself, set_calls}
@@ -38,8 +37,8 @@ use Rattle.sub_base.specs.Profile.{profile_of}
 use Rattle.sub_base.specs.declared.profile.Profile.{Profile}
 use Rattle.sub_base.specs.declared.profile.ProfileName.{ProfileName}
 use Rattle.sub_base.specs.declared.profile.ProfileName.TheVariants.{Sd, Hd, Wide, Large}
-use Rattle.dvbsub_cmd.proofs.HeadlineLaws.{compiled_to, is_free}
-use Rattle.dvbsub_cmd.proofs.UnitLaws.{AllZip-length}
+use Rattle.script_stream.proofs.ShownLaws.{anchor_suits, compiled_is_shown, compiled_to, is_free}
+use Rattle.script_stream.proofs.UnitLaws.{AllZip-length}
 use Rattle.dvbsub_cmd.specs.GenText.{IsGenText, IsGeneratedFor, entry_line, entry_time, generated_page, generated_pid, number_line}
 use Rattle.dvbsub_cmd.specs.Private.Generating.{AreOf, AreToldAs, IsCompiledFrom, entry_behind, told_lines}
 use Rattle.dvbsub_cmd.specs.declared.gen_text.Entry.{Entry}
@@ -54,27 +53,6 @@ sends Wide is_for = absurd is_for
 sends Large is_for = absurd is_for
 
 -- ---- times
-
--- the time of each set is that of its place
-times_early : (origin number : ℕ) (table : Timetable) (sets : List PlannedSet)
-    → AllByRecursion (IsTick origin) (pts_of sets)
-    → AllByRecursion (λ (set : SentSet). IsTick origin set.time) (sent_from table number sets)
-times_early origin number table [] all = tt
-times_early origin number table (set ∷ sets) all = (all.0, times_early origin (number + 1) table sets all.1)
-
--- where a script begins at the tick 0, lifted times may begin there
-pub from_zero : (name : ProfileName) (script : Script) (table : Timetable) (sets : List PlannedSet) (missed : ℕ)
-    → IsPlan script (profile_of name) sets → script.origin ≡ 0
-    → IsAnchorOf (times_from missed (sent_sets table sets)) 0
-from_zero name script table sets missed plan zero_is =
-    let own = λ (set : SentSet). (0 ≤ set.time) × (set.time < 0 + 8589934592) in
-    let all =
-    All-from_recursion (λ (set : SentSet). IsTick script.origin set.time) (sent_sets table sets)
-    (times_early script.origin 0 table sets (times_in_span script (profile_of name) sets plan)) in
-    All-map (λ time. (0 ≤ time) × (time < 0 + 8589934592)) (λ (set : SentSet). set.time)
-    (filter (λ (set : SentSet). list_any (λ at. nat_le missed at) set.places) (sent_sets table sets))
-    (All-filter (λ (set : SentSet). list_any (λ at. nat_le missed at) set.places) own (sent_sets table sets)
-    (λ k d inside. let early = (all k d inside).early in (omega arith, omega (arith, early, zero_is))))
 
 -- the times of such a script are early
 early_times : (origin : ℕ) (times : List ℕ) → AllByRecursion (IsTick origin) times → origin ≡ 0
@@ -113,7 +91,9 @@ module _ (name : ProfileName) (script : Script) (bytes : List ℕ) (is_for : IsG
   packets_sent = packets_in name generated_pid generated_page script bytes compiled
 
   suits : (missed : ℕ) → IsAnchorOf (times_from missed (sent_sets compiled.table compiled.sets)) 0
-  suits missed = from_zero name script compiled.table compiled.sets missed compiled.planned.plan zero_is
+  suits missed =
+      anchor_suits name script compiled.table compiled.sets missed 0 compiled.planned.plan (omega arith)
+      (omega (arith, zero_is))
 
   shows : (missed tick : ℕ)
       → ShowsFrom (profile_of name) generated_pid (only generated_page) 0 (entered_at missed packets_sent)
@@ -156,7 +136,7 @@ module _ (name : ProfileName) (script : Script) (bytes : List ℕ) (is_for : IsG
 pub are_of : (name : ProfileName) (made : Generated) (number : ℕ) → IsGeneratedFor name
     → IsCompiledFrom number name made → (packets : List (List ℕ)) (times : List ℕ)
     → packets ≡ whole_packets made.stream.written
-    → times ≡ pts_of made.sent.plan.sets → AreOf name made packets times
+    → times ≡ pts_of made.sent.sets → AreOf name made packets times
 are_of name made number is_for is packets times are times_are =
     let compiled = is.compiled in
     let zero_is = is.generated.origin in
@@ -185,7 +165,7 @@ are_of name made number is_for is packets times are times_are =
       };
       shown = λ missed tick.
           subst (λ (sets : List PlannedSet). ShowsFrom (profile_of name) generated_pid (only generated_page) 0
-          (entered_at missed packets) (entry_set missed (sent_sets made.sent.schedule sets)) tick
+          (entered_at missed packets) (entry_set missed (sent_sets made.sent.table sets)) tick
           (authored_view made.script tick)) is.sets
           (subst (λ (table : Timetable). ShowsFrom (profile_of name) generated_pid (only generated_page) 0
           (entered_at missed packets) (entry_set missed (sent_sets table compiled.sets)) tick
@@ -226,14 +206,18 @@ gen_text_of name made number is_for is packets are told is_told =
     let last : told.two_thirds ≡ entry_of compiled.table compiled.sets (2 * length all / 3) =
     is_told.two_thirds_are ∙ entry (2 * length packets / 3)
     ∙ ap (λ (p : List (List ℕ)). entry_of compiled.table compiled.sets (2 * length p / 3)) same in
+    let joined =
+    compiled_to name generated_pid generated_page made.script made.stream.written (concat all) its.joined compiled
+    in
     record {
       script = made.script;
       generated = is.generated;
       packets = all;
       whole = its.whole;
-      compiled =
-          compiled_to name generated_pid generated_page made.script made.stream.written (concat all) its.joined
-          compiled;
+      compiled = joined;
+      shown =
+          compiled_is_shown name generated_pid generated_page made.script (concat all) (omega arith)
+          (sends name is_for) joined;
       calls = own.calls;
       called = ended_calls name made.script made.stream.written is_for zero_is compiled told.peak own;
       text_is = λ i. number_line (codes "sets") (sets_is i) ++ number_line (codes "packets") (packets_is i) ++ number_line (codes "peak") (own.peak_is i)

@@ -1,70 +1,43 @@
--- What a receiver shows of a compiled script.
-use Rattle.std.specs.List.{concat}
-use Rattle.std.proofs.Common.{◌≡◌, ◌∙◌, ℕ, ◌<◌, Bool, List, Option, Some, None, inl, inr, sym, subst, arith}
-use Rattle.std.specs.Io.KnownBytes.{Appends}
-use Rattle.cue_list.specs.declared.script.Script.{Script}
-use Rattle.shown_stream.specs.Compiled.{IsCompiledFor, IsCompiledTo}
-use Rattle.shown_stream.proofs.Sent.CompiledPackets.{packets_in, are_packets}
-use Rattle.shown_stream.proofs.Shown.CompiledShown.{compiled_entered}
-use Rattle.shown_stream.proofs.Calls.CompiledStays.{compiled_stays, compiled_scheduled}
-use Rattle.shown_stream.proofs.Lost.LostShown.{compiled_cut}
-use Rattle.slot_stream.proofs.SentPieces.{IsFree}
-use Rattle.sub_base.specs.declared.profile.ProfileName.{ProfileName}
-use Rattle.dvbsub_cmd.specs.Headline.{ShowsScript, OnDone, IsShownBy}
-use Rattle.dvbsub_cmd.specs.Outcome.{Tells, untold}
-use Rattle.dvbsub_cmd.specs.ReadScript.{ReadsScript}
+-- What was compiled is shown, and told.
+use Rattle.std.proofs.Common.{Bool, List, ℕ, Option, Some, None, inl, inr, sym, subst}
 use Rattle.sub_base.specs.Endpoints.{Received}
 use Rattle.sub_base.specs.Seen.{Seen}
+use Rattle.sub_base.specs.declared.profile.ProfileName.{ProfileName}
+use Rattle.dvbsub_cmd.specs.CompileOutcome.{IsCompileCause, ShowsScript}
+use Rattle.dvbsub_cmd.specs.Headline.{OnDone, IsShownBy}
+use Rattle.dvbsub_cmd.specs.Outcome.{HasCause, IsCausedBy, Tells, untold}
+use Rattle.dvbsub_cmd.specs.Command.{command_of}
 use Rattle.dvbsub_cmd.specs.declared.command.Command.{Command}
 use Rattle.dvbsub_cmd.specs.declared.command.Command.TheVariants as command
 use Rattle.dvbsub_cmd.specs.declared.status.Status.{Status}
 use Rattle.dvbsub_cmd.specs.declared.status.Status.TheVariants as status
-use Rattle.stream_syntax.specs.declared.wire.TheConstants.{NULL_PID}
 
-pub is_free : (pid : ℕ) → pid < NULL_PID → IsFree pid
-is_free pid below = record { small = omega arith; no_null = λ same. omega (arith, same) }
+-- the cause of a script that was compiled says what is shown of it
+compile_shown : (profile : ProfileName) (pid page : ℕ) (has_font : Bool) (before now : Seen) (run : Status)
+    → IsCompileCause profile pid page has_font before now run
+    → OnDone run (ShowsScript profile pid page has_font before now)
+compile_shown profile pid page has_font before now (status.Done cut) cause = cause.0
+compile_shown profile pid page has_font before now status.Usage cause = tt
+compile_shown profile pid page has_font before now (status.FontRefused fault) cause = tt
+compile_shown profile pid page has_font before now (status.ScriptRefused fault) cause = tt
+compile_shown profile pid page has_font before now (status.PlanRefused fault) cause = tt
+compile_shown profile pid page has_font before now (status.ScheduleRefused row fault) cause = tt
+compile_shown profile pid page has_font before now (status.StreamRefused packet fault) cause = tt
+compile_shown profile pid page has_font before now (status.ReadFault which) cause = tt
+compile_shown profile pid page has_font before now (status.WriteFault which) cause = tt
+compile_shown profile pid page has_font before now status.Memory cause = tt
+compile_shown profile pid page has_font before now (status.InputTooLong which) cause = tt
 
--- bytes that are the same are compiled from the same sets
-abbrev pub compiled_to : (profile : ProfileName) (pid page : ℕ) (script : Script) (bytes same : List ℕ)
-    → bytes ≡ same → IsCompiledTo profile pid page script bytes → IsCompiledTo profile pid page script same
-compiled_to profile pid page script bytes same is compiled = record {
-  sets = compiled.sets;
-  loads = compiled.loads;
-  planned = compiled.planned;
-  each = compiled.each;
-  units = compiled.units;
-  carried = compiled.carried;
-  sized = compiled.sized;
-  table = compiled.table;
-  schedule = compiled.schedule;
-  on_time = compiled.on_time;
-  sent = sym is ∙ compiled.sent;
-}
-
--- the packets of a compiled script are shown
-pub shows_script : (profile : ProfileName) (pid page : ℕ) (has_font : Bool) (before now : Seen) (script : Script)
-    (bytes : List ℕ) → pid < NULL_PID → IsCompiledFor profile
-    → ReadsScript has_font before.first now.first before.second now.second script
-    → IsCompiledTo profile pid page script bytes → Appends before.out.written now.out.written bytes
-    → ShowsScript profile pid page has_font before now
-shows_script profile pid page has_font before now script bytes below made reads compiled written =
-    let free = is_free pid below in
-    let known = are_packets profile pid page script bytes free made compiled in
-    record {
-      script = script;
-      reads = reads;
-      packets = packets_in profile pid page script bytes compiled;
-      whole = known.whole;
-      compiled =
-          compiled_to profile pid page script bytes (concat (packets_in profile pid page script bytes compiled))
-          known.joined compiled;
-      written = subst (λ (all : List ℕ). Appends before.out.written now.out.written all) known.joined written;
-      entered = compiled_entered profile pid page script bytes free made compiled;
-      cut = compiled_cut profile pid page script bytes free made compiled;
-      stays =
-          λ missed anchor suits. compiled_stays profile pid page script bytes free compiled known missed anchor suits;
-      scheduled = λ anchor suits. compiled_scheduled profile pid page script bytes free compiled known anchor suits;
-    }
+run_shown : (words : List (List ℕ)) (command : Option Command) (before now : Seen) (run : Status)
+    → IsCausedBy words command before now run → IsShownBy command before now run
+run_shown words None before now run cause = tt
+run_shown words (Some (command.Compile profile pid page has_font)) before now run cause =
+    compile_shown profile pid page has_font before now run cause
+run_shown words (Some (command.List pid)) before now run cause = tt
+run_shown words (Some (command.Dump profile pid page bands)) before now run cause = tt
+run_shown words (Some (command.Check profile origin pid page)) before now run cause = tt
+run_shown words (Some (command.Expect has_font)) before now run cause = tt
+run_shown words (Some (command.Gen number profile)) before now run cause = tt
 
 -- a status whose line could not be written is not that a command was done
 untold_is_not_done : (command : Option Command) (before now : Seen) (run : Status)
@@ -91,10 +64,17 @@ untold_is_not_done (Some (command.Compile profile pid page has_font)) before now
     by (status.InputTooLong which) = tt
 
 -- what was shown of a run is shown of the answer that tells it
-pub shown_as_told : (command : Option Command) (before now : Seen) (notes_before notes_now : Received)
+shown_as_told : (command : Option Command) (before now : Seen) (notes_before notes_now : Received)
     (run answer : Status) → IsShownBy command before now run → Tells notes_before notes_now run answer
     → IsShownBy command before now answer
 shown_as_told command before now notes_before notes_now run answer is (inl line) =
     subst (IsShownBy command before now) (sym line.1) is
 shown_as_told command before now notes_before notes_now run answer is (inr front) =
     subst (IsShownBy command before now) (sym front.2) (untold_is_not_done command before now run)
+
+-- what has its cause is shown: of the script and the packets of that cause
+pub shown_by_cause : (words : List (List ℕ)) (before now : Seen) (notes_before notes_now : Received) (answer : Status)
+    → HasCause words before now notes_before notes_now answer → IsShownBy (command_of words) before now answer
+shown_by_cause words before now notes_before notes_now answer cause =
+    shown_as_told (command_of words) before now notes_before notes_now cause.0 answer
+    (run_shown words (command_of words) before now cause.0 cause.1) cause.2

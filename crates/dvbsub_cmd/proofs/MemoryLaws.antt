@@ -2,7 +2,6 @@
 use Rattle.std.proofs.Common.{◌≡◌, ℕ, List, Option, Some, None, is_some, refl, sym, true, true≢false}
 use Rattle.std.specs.Io.KnownBytes.{Keeps}
 use Rattle.dvbsub_cmd.specs.Command.{command_of}
-use Rattle.dvbsub_cmd.specs.Headline.{IsShownBy}
 use Rattle.dvbsub_cmd.specs.Outcome.{IsCaused, IsCausedBy, IsSecondKept}
 use Rattle.sub_base.specs.Seen.{Seen}
 use Rattle.dvbsub_cmd.specs.declared.command.Command.{Command}
@@ -27,16 +26,6 @@ caused_by words (Some (command.Gen number profile)) before some = (kept before.o
 pub memory_caused : (words : List (List ℕ)) (before : Seen) → is_some (command_of words) ≡ true
     → IsCaused words before before status.Memory
 memory_caused words before some = caused_by words (command_of words) before some
-
--- nothing was compiled then
-pub memory_shown : (command : Option Command) (before now : Seen) → IsShownBy command before now status.Memory
-memory_shown None before now = tt
-memory_shown (Some (command.Compile profile pid page has_font)) before now = tt
-memory_shown (Some (command.List pid)) before now = tt
-memory_shown (Some (command.Dump profile pid page bands)) before now = tt
-memory_shown (Some (command.Check profile origin pid page)) before now = tt
-memory_shown (Some (command.Expect has_font)) before now = tt
-memory_shown (Some (command.Gen number profile)) before now = tt
 
 -- a source that was not called is as before
 pub second_kept : {Origin : Type 0} (command : Option Command) (source : Origin) → IsSecondKept command source source

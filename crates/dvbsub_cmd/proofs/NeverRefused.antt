@@ -12,9 +12,13 @@ use Rattle.sub_base.specs.declared.profile.ProfileName.{ProfileName}
 use Rattle.sub_base.specs.declared.profile.ProfileName.TheVariants.{Sd, Hd, Wide, Large}
 use Rattle.generated_script_laws.proofs.PlanFaults.{no_plan_fault}
 use Rattle.generated_script_laws.proofs.GeneratedSchedule.{no_schedule_fault}
-use Rattle.dvbsub_cmd.specs.CompileOutcome.{IsSchedulable}
-use Rattle.dvbsub_cmd.specs.CompileRefused.{IsPlanRefused, IsScheduleRefused}
+use Rattle.script_stream.specs.Refused.{IsCompileEnd, IsPlanRefused, IsSchedulable, IsScheduleRefused}
+use Rattle.script_stream.specs.declared.faults.CompileFault.{CompileFault}
+use Rattle.script_stream.specs.declared.faults.CompileFault.TheVariants as compile
+use Rattle.script_stream.specs.declared.faults.SendFault.TheVariants as send
+use Rattle.sub_base.specs.Endpoints.{Received}
 use Rattle.dvbsub_cmd.specs.GenText.{IsGeneratedFor}
+use Rattle.dvbsub_cmd.specs.Private.Generating.{IsWanting}
 
 small : (name : ProfileName) → IsGeneratedFor name → (name ≡ Sd) ⊎ (name ≡ Hd)
 small Sd is_for = inl refl
@@ -43,7 +47,7 @@ no_schedule_refusal name script row (schedule.Late set done pts) none refused = 
 no_schedule_refusal name script row (schedule.SegmentFull set longest) none refused = cc
 
 -- a generated script has a plan and a schedule
-pub never_refused : (number : ℕ) (name : ProfileName) (script : Script) → IsGeneratedFor name
+never_refused : (number : ℕ) (name : ProfileName) (script : Script) → IsGeneratedFor name
     → IsGenerated number script → IsSchedulable name script
 never_refused number name script is_for is = record {
   has_plan =
@@ -53,3 +57,14 @@ never_refused number name script is_for is = record {
       (no_schedule_fault number script name refused.sets refused.loads fault (small name is_for) is refused.planned.plan
       refused.planned.asked refused.each refused.cause) refused;
 }
+
+-- so it is compiled, but for want of memory
+pub only_wanting : (number : ℕ) (name : ProfileName) (pid page : ℕ) (script : Script) (before now : Received)
+    (fault : CompileFault) → IsGeneratedFor name → IsGenerated number script
+    → IsCompileEnd name pid page script before now fault → IsWanting fault
+only_wanting number name pid page script before now (compile.Send send.Memory) is_for is ended = tt
+only_wanting number name pid page script before now (compile.Send (send.Plan refused)) is_for is ended =
+    (never_refused number name script is_for is).has_plan refused ended.0
+only_wanting number name pid page script before now (compile.Send (send.Schedule row refused)) is_for is ended =
+    (never_refused number name script is_for is).has_schedule row refused ended.0
+only_wanting number name pid page script before now compile.Write is_for is ended = tt

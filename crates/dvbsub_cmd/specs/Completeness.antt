@@ -4,18 +4,13 @@ use Rattle.sub_base.specs.Counts.{HasRisen}
 use Rattle.dvbsub_cmd.specs.Command.{command_of}
 use Rattle.dvbsub_cmd.specs.CompileOutcome.{IsCompilable}
 use Rattle.dvbsub_cmd.specs.ExpectOutcome.{IsExpectable}
-use Rattle.dvbsub_cmd.specs.StreamOutcome.{IsRightStream}
-use Rattle.sub_base.specs.Endpoints.{Supplied, Received}
+use Rattle.packet_walk.specs.ToldEnds.{IsReadable}
+use Rattle.sub_base.specs.Endpoints.{Received}
 use Rattle.sub_base.specs.Seen.{Seen}
 use Rattle.dvbsub_cmd.specs.declared.command.Command.{Command}
 use Rattle.dvbsub_cmd.specs.declared.command.Command.TheVariants as command
 use Rattle.dvbsub_cmd.specs.declared.status.Status.{Status}
 use Rattle.dvbsub_cmd.specs.declared.status.Status.TheVariants as status
-
--- a stream that was read whole, within its limit, and of which no packet is refused
-pub record IsReadable (pid : ℕ) (before now : Supplied) : Type 0 where
-  pub read : HasRisen before.faults now.faults → ⊥
-  pub right : IsRightStream pid before now
 
 -- the words are a command, and what it reads is whole, within its limits and right; `gen` reads nothing
 abbrev pub IsRightInput : Option Command → Seen → Seen → Type 0

@@ -1,8 +1,6 @@
 -- What `dump` tells of packets.
 use Rattle.std.specs.Prelude.{ℕ, Bool, List}
-use Rattle.dump_text.specs.DumpText.{IsDumpText, IsDumpTextIn}
-use Rattle.dump_text.specs.Dumping.{Dumping}
-use Rattle.receiver.specs.Receiving.{reception}
+use Rattle.dump_text.specs.DumpText.{IsDumpText}
 use Rattle.sub_base.specs.Profile.{profile_of}
 use Rattle.sub_base.specs.declared.profile.ProfileName.{ProfileName}
 use Rattle.decoder_model.specs.Frames.{only}
@@ -11,8 +9,3 @@ use Rattle.decoder_model.specs.Frames.{only}
 abbrev pub dumps : ProfileName → ℕ → ℕ → List ℕ → Bool → List (List ℕ) → List ℕ → Type 0
 dumps profile pid page ticks ended packets text =
     IsDumpText (profile_of profile) pid (only page) ticks ended packets text
-
--- what a receiver at work tells of packets
-abbrev pub dump_tells : Dumping → Bool → List (List ℕ) → List ℕ → Type 0
-dump_tells dumping ended packets text =
-    IsDumpTextIn (reception dumping.receiving) dumping.ticks ended packets text

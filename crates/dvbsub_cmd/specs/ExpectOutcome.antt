@@ -7,7 +7,8 @@ use Rattle.cue_list.specs.declared.script.Script.{Script}
 use Rattle.sub_base.specs.Counts.{HasRisen}
 use Rattle.sub_base.specs.Endpoints.{AppendsPrefix}
 use Rattle.command_text.specs.PictureText.{picture_text}
-use Rattle.dvbsub_cmd.specs.ReadScript.{ReadsScript, IsInputCause, HasRightScript}
+use Rattle.dvbsub_cmd.specs.InputStatus.{IsInputCause}
+use Rattle.script_input.specs.ReadScript.{ReadsScript, HasRightScript}
 use Rattle.sub_base.specs.Endpoints.{WroteNothing}
 use Rattle.sub_base.specs.Seen.{Seen}
 use Rattle.dvbsub_cmd.specs.declared.status.Status.{Status}

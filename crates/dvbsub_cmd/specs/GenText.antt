@@ -7,6 +7,7 @@ use Rattle.cue_list.specs.declared.script.Script.{Script}
 use Rattle.decoder_model.specs.Frames.{only}
 use Rattle.decoder_model.specs.Streams.{SentSet, entry_set}
 use Rattle.generated_script.specs.Generated.{IsGenerated}
+use Rattle.script_stream.specs.ShownRightly.{IsShownRightly}
 use Rattle.shown_stream.specs.Compiled.{IsCompiledTo}
 use Rattle.shown_stream.specs.SentSets.{sent_sets}
 use Rattle.received_level_laws.specs.StreamCalls.{AreCallsOf}
@@ -50,14 +51,16 @@ gen_lines sets packets peak time_of =
     ++ entry_line 0 (time_of 0) ++ entry_line (packets / 3) (time_of (packets / 3))
     ++ entry_line (2 * packets / 3) (time_of (2 * packets / 3))
 
--- the text of the generated script of so many cues, compiled for a profile: of the sets of its plan, its packets,
--- the buffer of a receiver that gets them all, and the entry sets
+-- the text of the generated script of so many cues, compiled for a profile, of which receivers show what it authors: of
+-- the sets of its plan, its packets, the buffer of a receiver that gets them all, and the entry sets
 pub record IsGenText (number : ℕ) (profile : ProfileName) (text : List ℕ) : Type 0 where
   pub script : Script
   pub generated : IsGenerated number script
   pub packets : List (List ℕ)
   pub whole : All (λ packet. length packet ≡ 188) packets
   pub compiled : IsCompiledTo profile generated_pid generated_page script (concat packets)
+  pub shown : IsShownRightly profile generated_pid generated_page script compiled.sets compiled.loads compiled.table
+      (concat packets)
   pub calls : List Call
   pub called : AreCallsOf (profile_of profile) generated_pid (only generated_page) 0 0 true packets calls
   pub text_is : text

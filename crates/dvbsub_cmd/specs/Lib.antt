@@ -1,7 +1,6 @@
 pub mod Checks
 pub mod Command
 pub mod CompileOutcome
-pub mod CompileRefused
 pub mod Completeness
 pub mod Headline
 pub mod KindNames
@@ -11,7 +10,7 @@ pub mod Listing
 pub mod Outcome
 pub mod StatusText
 pub mod StreamOutcome
-pub mod ReadScript
+pub mod InputStatus
 pub mod Dumps
 pub mod ExpectOutcome
 pub mod GenOutcome

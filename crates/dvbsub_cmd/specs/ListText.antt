@@ -9,11 +9,12 @@ use Rattle.stream_syntax.specs.Units.{event_at, unit_at}
 use Rattle.stream_syntax.specs.declared.pes.PesFault.{PesFault}
 use Rattle.stream_syntax.specs.declared.segment_fault.SegmentFault.{SegmentFault}
 use Rattle.stream_syntax.specs.DataField.{Frame, segment, broken, AreFrames}
+use Rattle.sub_base.specs.declared.profile.TheConstants.{LARGEST_BUFFER}
 use Rattle.dvbsub_cmd.specs.ListLines.{loss_line, unit_line, pes_line, segment_line, fault_line}
 
--- units that need more bytes are dropped: the coded data buffer of the widest profile
+-- units that need more bytes are dropped: no receiver has a larger coded data buffer
 abbrev pub unit_limit : ℕ
-unit_limit = 262144
+unit_limit = LARGEST_BUFFER
 
 -- the line of a segment at that place of its field: of what its head says, or of its first fault
 pub data IsSegmentLine : ℕ → List ℕ → List ℕ → Type 0 where

@@ -1,6 +1,5 @@
 -- What functions of this crate do inside: no other crate cites these.
 pub mod Closing
-pub mod Sending
-pub mod SetUnits
+pub mod CompileStatus
 pub mod Entries
 pub mod Generating

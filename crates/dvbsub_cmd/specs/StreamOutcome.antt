@@ -1,110 +1,35 @@
--- Why a command that reads a stream ended as it did, and what its output has received then. What a command tells of
--- packets is a relation between them and a text; the stream ends with the packets or not.
-use Rattle.std.specs.Prelude.{◌≡◌, ℕ, Bool, true, false, ◌<◌, ◌≤◌, List, ◌++◌, length, Some}
-use Rattle.std.specs.Io.KnownBytes.{Appends, IsAtEnd}
-use Rattle.packet_source.specs.Packets.{IsWithin}
-use Rattle.packet_source.specs.declared.limits.TheConstants.{STREAM_LIMIT}
-use Rattle.packet_walk.specs.Taken.{AreTaken}
-use Rattle.stream_syntax.specs.declared.wire.TheConstants.{PACKET_LENGTH}
-use Rattle.stream_syntax.specs.TransportPackets.{packet_fault}
-use Rattle.stream_syntax.specs.declared.transport.PacketFault.{PacketFault}
-use Rattle.sub_base.specs.Counts.{HasRisen, HasRisenPast, counted}
-use Rattle.sub_base.specs.Endpoints.{AppendsPrefix, Received, Supplied, WroteNothing}
+-- Why a command that reads a stream ended as it did, and what its output has received then.
+use Rattle.std.specs.Prelude.{ℕ}
+use Rattle.packet_walk.specs.ToldEnds.{IsToldEnd, Telling}
+use Rattle.packet_walk.specs.declared.told_end.ToldEnd.{ToldEnd}
+use Rattle.packet_walk.specs.declared.told_end.ToldEnd.TheVariants as told_end
+use Rattle.sub_base.specs.Endpoints.{Received, Supplied}
+use Rattle.sub_base.specs.declared.status.Which.TheVariants as which
 use Rattle.dvbsub_cmd.specs.declared.status.Status.{Status}
 use Rattle.dvbsub_cmd.specs.declared.status.Status.TheVariants as status
-use Rattle.sub_base.specs.declared.status.Which.TheVariants as which
 
--- what a command tells: whether the stream ends with the packets, the packets, and the text
-abbrev pub Telling : Type 1
-Telling = Bool → List (List ℕ) → List ℕ → Type 0
+-- the status of a command whose telling of a stream ended so
+abbrev pub status_of_end : ToldEnd → Status
+status_of_end (told_end.Done cut) = status.Done cut
+status_of_end (told_end.Refused refused) = status.StreamRefused refused.packet refused.fault
+status_of_end told_end.Unread = status.ReadFault which.First
+status_of_end told_end.TooLong = status.InputTooLong which.First
+status_of_end told_end.Unwritten = status.WriteFault which.Out
+status_of_end told_end.Memory = status.Memory
 
--- the stream was read to its end, and the output has received the text of its packets; the rest is shorter than a
--- packet
-pub record IsWhole (Told : Telling) (pid : ℕ) (before now : Supplied) (out_before out_now : Received)
-    (cut : ℕ) : Type 0 where
-  pub packets : List (List ℕ)
-  pub rest : List ℕ
-  pub taken : AreTaken pid before now packets rest
-  pub within : IsWithin packets rest
-  pub end : IsAtEnd now.left
-  pub short : length rest < PACKET_LENGTH
-  pub cut_is : cut ≡ length rest
-  pub text : List ℕ
-  pub told : Told true packets text
-  pub written : Appends out_before.written out_now.written text
-
--- the packet at that place is the first that is refused, and the output has received the text of the packets before it
-pub record IsUpToFault (Told : Telling) (pid : ℕ) (before now : Supplied) (out_before out_now : Received)
-    (place : ℕ)
-    (fault : PacketFault) : Type 0 where
-  pub packets : List (List ℕ)
-  pub refused : List ℕ
-  pub rest : List ℕ
-  pub taken : AreTaken pid before now packets (refused ++ rest)
-  pub within : IsWithin packets (refused ++ rest)
-  pub whole : length refused ≡ PACKET_LENGTH
-  pub place_is : place ≡ length packets
-  pub fault_is : packet_fault pid refused ≡ Some fault
-  pub text : List ℕ
-  pub told : Told false packets text
-  pub written : Appends out_before.written out_now.written text
-
--- the stream could not be read on, and the output has received the text of the packets that were read whole
-pub record IsUpToFailure (Told : Telling) (pid : ℕ) (before now : Supplied)
-    (out_before out_now : Received) : Type 0 where
-  pub packets : List (List ℕ)
-  pub rest : List ℕ
-  pub taken : AreTaken pid before now packets rest
-  pub within : IsWithin packets rest
-  pub short : length rest < PACKET_LENGTH
-  pub text : List ℕ
-  pub told : Told false packets text
-  pub written : Appends out_before.written out_now.written text
-
--- the output has received a front of the text of packets that the source gave; of what the end of the stream adds only
--- where the source is at its end
-pub record IsFront (Told : Telling) (pid : ℕ) (before now : Supplied) (out_before out_now : Received) : Type 0 where
-  pub packets : List (List ℕ)
-  pub rest : List ℕ
-  pub taken : AreTaken pid before now packets rest
-  pub ended : Bool
-  pub at_end : ended ≡ true → IsAtEnd now.left
-  pub text : List ℕ
-  pub told : Told ended packets text
-  pub written : AppendsPrefix out_before.written out_now.written text
-
--- the cause of each status, by the stream's source and the output before and now, and what the output has received then
+-- the cause of each status, by the stream's source and the output before and now: that of the end of its telling
 abbrev pub IsStreamCause : Telling → ℕ → Supplied → Supplied → Received → Received → Status → Type 0
 IsStreamCause Told pid before now out_before out_now (status.Done cut) =
-    IsWhole Told pid before now out_before out_now cut
-IsStreamCause Told pid before now out_before out_now status.Usage = ⊥
-IsStreamCause Told pid before now out_before out_now (status.FontRefused fault) = ⊥
-IsStreamCause Told pid before now out_before out_now (status.ScriptRefused fault) = ⊥
-IsStreamCause Told pid before now out_before out_now (status.PlanRefused fault) = ⊥
-IsStreamCause Told pid before now out_before out_now (status.ScheduleRefused row fault) = ⊥
+    IsToldEnd Told pid before now out_before out_now (told_end.Done cut)
 IsStreamCause Told pid before now out_before out_now (status.StreamRefused packet fault) =
-    IsUpToFault Told pid before now out_before out_now packet fault
+    IsToldEnd Told pid before now out_before out_now
+    (told_end.Refused (record { packet = packet; fault = fault }))
 IsStreamCause Told pid before now out_before out_now (status.ReadFault which.First) =
-    HasRisen before.faults now.faults × IsUpToFailure Told pid before now out_before out_now
-IsStreamCause Told pid before now out_before out_now (status.ReadFault which.Second) = ⊥
-IsStreamCause Told pid before now out_before out_now (status.ReadFault which.Out) = ⊥
-IsStreamCause Told pid before now out_before out_now (status.ReadFault which.Notes) = ⊥
-IsStreamCause Told pid before now out_before out_now (status.WriteFault which.Out) =
-    HasRisen out_before.faults out_now.faults × IsFront Told pid before now out_before out_now
-    × (now.given ≤ counted before.given STREAM_LIMIT)
-IsStreamCause Told pid before now out_before out_now (status.WriteFault which.First) = ⊥
-IsStreamCause Told pid before now out_before out_now (status.WriteFault which.Second) = ⊥
-IsStreamCause Told pid before now out_before out_now (status.WriteFault which.Notes) = ⊥
-IsStreamCause Told pid before now out_before out_now status.Memory = (now ≡ before) × WroteNothing out_before out_now
+    IsToldEnd Told pid before now out_before out_now told_end.Unread
 IsStreamCause Told pid before now out_before out_now (status.InputTooLong which.First) =
-    HasRisenPast STREAM_LIMIT before.given now.given × IsFront Told pid before now out_before out_now
-IsStreamCause Told pid before now out_before out_now (status.InputTooLong which.Second) = ⊥
-IsStreamCause Told pid before now out_before out_now (status.InputTooLong which.Out) = ⊥
-IsStreamCause Told pid before now out_before out_now (status.InputTooLong which.Notes) = ⊥
-
--- the stream is within its limit, and no packet of it is refused
-pub record IsRightStream (pid : ℕ) (before now : Supplied) : Type 0 where
-  pub within : HasRisenPast STREAM_LIMIT before.given now.given → ⊥
-  pub right : (packets : List (List ℕ)) (packet rest : List ℕ) (fault : PacketFault)
-      → AreTaken pid before now packets (packet ++ rest) → length packet ≡ PACKET_LENGTH
-      → packet_fault pid packet ≡ Some fault → ⊥
+    IsToldEnd Told pid before now out_before out_now told_end.TooLong
+IsStreamCause Told pid before now out_before out_now (status.WriteFault which.Out) =
+    IsToldEnd Told pid before now out_before out_now told_end.Unwritten
+IsStreamCause Told pid before now out_before out_now status.Memory =
+    IsToldEnd Told pid before now out_before out_now told_end.Memory
+IsStreamCause Told pid before now out_before out_now other = ⊥

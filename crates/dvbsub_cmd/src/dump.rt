@@ -1,19 +1,14 @@
 ghost use Rattle.std.specs.Prelude.{◌≡◌, ◌≤◌, None, drop, true};
-ghost use Rattle.dump_text.specs.Dumping.{HasDumped};
-ghost use Rattle.dvbsub_cmd.specs.Private.Closing.{Finishes};
 ghost use Rattle.command_words.specs.Ticks.{are_rising as are_ticks_rising, asked_ticks};
-ghost use Rattle.dvbsub_cmd.specs.Dumps.{dump_tells, dumps};
+ghost use Rattle.dvbsub_cmd.specs.Dumps.{dumps};
 ghost use Rattle.dvbsub_cmd.specs.StreamOutcome.{IsStreamCause};
 
-use crate::closing::{close, is_whole};
+use crate::closing::status_of_end;
 use crate::command::WORDS_OF_DUMP;
 use crate::status::Status;
-use command_text::TextBuffer;
 use command_words::ticks_of;
 use decoder_model::Pages;
-use dump_text::Dump;
-use packet_source::PacketSource;
-use packet_walk::WalkEnd;
+use dump_text::dump_stream;
 use std::alloc::Global;
 use std::thread::Threads;
 use sub_base::{BandGate, Profile, ProfileName, Sink, Source, Words};
@@ -46,36 +41,16 @@ pub fn dump<R: Threads + Sync, A: Source, K: Sink, G: BandGate + Sync>(
         return Status::Memory;
     };
     let profile = Profile::of(profile);
-    let ticks = ticks.as_slice();
-    let Ok(mut dump) = Dump::make(alloc, bands, &profile, pid, Pages::only(page), ticks) else {
-        return Status::Memory;
-    };
-    let Ok(mut buffer) = TextBuffer::make(alloc) else {
-        return Status::Memory;
-    };
-    let Ok(mut packets) = PacketSource::make(alloc) else {
-        return Status::Memory;
-    };
-    let end = dump.walk(rt, gate, stream, out, &mut buffer, &mut packets);
-    finish(rt, gate, &mut dump, out, &mut buffer, end);
-    close(out, &mut buffer, end)
-}
-
-/// Puts out the texts of all ticks that were not told, where the stream was read to its end.
-fn finish<R: Threads + Sync, K: Sink, G: BandGate + Sync>(
-    rt: &R,
-    gate: &G,
-    dump: &mut Dump<'_>,
-    out: &mut K,
-    buffer: &mut TextBuffer,
-    end: WalkEnd,
-)
-    ensures { Finishes (HasDumped dump.old) (dump_tells dump.old)
-        (K.received out.old)
-        (K.received out.new)
-        buffer.old buffer.new end }
-{
-    if is_whole(end) {
-        dump.finish(rt, gate, out, buffer);
-    }
+    status_of_end(dump_stream(
+        rt,
+        alloc,
+        &profile,
+        pid,
+        Pages::only(page),
+        bands,
+        ticks.as_slice(),
+        stream,
+        out,
+        gate,
+    ))
 }

@@ -83,7 +83,7 @@ fn tell<R: Threads + Sync, G: BandGate + Sync>(
 {
     let generated = compiled(alloc, number, profile)?;
     let packets = packets_of(generated.stream.written());
-    let times = times_of(alloc, generated.sent.plan.sets.as_slice())?;
+    let times = times_of(alloc, generated.sent.sets())?;
     tell_packets(
         rt,
         alloc,
@@ -167,7 +167,7 @@ fn enter<R: Threads + Sync, G: BandGate + Sync>(
     ensures { IfOk result (λ entry. entry ≡ entry_behind generated.now missed) }
 {
     let sent = &generated.sent;
-    let Some(first) = entry_of(sent.plan.sets.as_slice(), &sent.schedule, missed as u64) else {
+    let Some(first) = entry_of(sent.sets(), sent.schedule(), missed as u64) else {
         return Ok(Entry {
             missed: missed as u64,
             time: None,

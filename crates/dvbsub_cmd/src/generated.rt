@@ -1,10 +1,10 @@
 ghost use Rattle.std.specs.Prelude.{◌≤◌, IfOk};
 ghost use Rattle.dvbsub_cmd.specs.GenText.{IsGeneratedFor};
-ghost use Rattle.dvbsub_cmd.specs.Private.Generating.{IsCompiledFrom};
+ghost use Rattle.dvbsub_cmd.specs.Private.Generating.{IsCompiledFrom, IsWanting};
 
-use crate::compile::{SendFault, Sent, send};
 use cue_list::Script;
 use generated_script::generate;
+use script_stream::{CompileFault, ScriptStream, SendFault, compile_script};
 use std::alloc::Global;
 use sub_base::{MemSink, NoMemory, ProfileName};
 
@@ -18,7 +18,7 @@ pub const PAGE: u16 = 1;
 #[derive(Drop)]
 pub struct Generated {
     pub script: Script,
-    pub sent: Sent,
+    pub sent: ScriptStream,
     pub stream: MemSink,
 }
 
@@ -32,16 +32,25 @@ pub fn compiled(alloc: Global, number: u64, profile: ProfileName) -> Result<Gene
     let script = generate(alloc, number)?;
     // Memory takes all that is written at once.
     let mut stream = MemSink::make(alloc, usize::MAX, Vec::new(alloc));
-    match send(alloc, profile, PID, PAGE, &script, &mut stream) {
+    match compile_script(alloc, profile, PID, PAGE, &script, &mut stream) {
         Ok(sent) => Ok(Generated {
             script,
             sent,
             stream,
         }),
-        Err(SendFault::Memory) => Err(NoMemory),
-        Err(SendFault::Write) => Err(NoMemory),
-        // A generated script has a plan and a schedule for each of these profiles.
-        Err(SendFault::Plan(_)) => unreachable!(),
-        Err(SendFault::Schedule { .. }) => unreachable!(),
+        Err(fault) => Err(wanting(fault)),
+    }
+}
+
+/// Memory alone can be wanting: a generated script has a plan and a schedule for each of these
+/// profiles.
+fn wanting(fault: CompileFault) -> NoMemory
+    requires { IsWanting fault }
+{
+    match fault {
+        CompileFault::Send(SendFault::Memory) => NoMemory,
+        CompileFault::Send(SendFault::Plan(_)) => unreachable!(),
+        CompileFault::Send(SendFault::Schedule { .. }) => unreachable!(),
+        CompileFault::Write => NoMemory,
     }
 }

@@ -8,11 +8,9 @@ mod kind_names;
 mod read_command;
 mod status;
 
-// `compile`: a script, its loads, and the PES packets of its sets.
+// `compile`: a script, and its packets.
 mod compile;
-mod loads;
 mod read_script;
-mod units;
 
 // `expect`: the authored pictures.
 mod expect;
@@ -47,20 +45,6 @@ pub use sub_base::Which;
 pub use top_call::{tell, top};
 
 #[cfg(test)]
-mod check_tests;
-#[cfg(test)]
-mod compile_tests;
-#[cfg(test)]
-mod dump_tests;
-#[cfg(test)]
-mod entered_tests;
-#[cfg(test)]
-mod gen_tests;
-#[cfg(test)]
 mod list_tests;
-#[cfg(test)]
-mod loss_tests;
-#[cfg(test)]
-mod set_tests;
 #[cfg(test)]
 mod tests;

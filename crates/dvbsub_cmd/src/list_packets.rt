@@ -13,11 +13,8 @@ use command_text::{TextBuffer, put};
 use packet_walk::PacketTeller;
 use std::alloc::Global;
 use stream_syntax::{Event, PacketFault};
-use sub_base::{NoMemory, Sink};
+use sub_base::{LARGEST_BUFFER, NoMemory, Sink};
 use ts_packets::Demux;
-
-/// Units that need more bytes are dropped: the coded data buffer of the widest profile.
-const UNIT_LIMIT: u64 = 262_144;
 
 /// What tells of the losses, units and segments of a PID.
 #[derive(Drop)]
@@ -32,7 +29,8 @@ impl Lister {
         ensures nothing { IfOk result (λ lister. IsListed lister.demux [] []) }
     {
         Ok(Lister {
-            demux: Demux::make(alloc, pid, UNIT_LIMIT)?,
+            // Units that need more bytes than any receiver has are dropped.
+            demux: Demux::make(alloc, pid, LARGEST_BUFFER)?,
         })
     }
 }

@@ -1,19 +1,14 @@
-ghost use Rattle.std.specs.Prelude.{◌≡◌, false, IfOk, IfErr};
-ghost use Rattle.dvbsub_cmd.specs.ReadScript.{HasFont, ReadsScript, IsInputCause};
-ghost use Rattle.sub_base.specs.Endpoints.{Supplied};
+ghost use Rattle.std.specs.Prelude.{◌≡◌, false, IfErr, IfOk};
+ghost use Rattle.script_input.specs.ReadScript.{ReadsScript};
+ghost use Rattle.dvbsub_cmd.specs.InputStatus.{IsInputCause, source_of as source_of_text, status_of_input as status_of};
 
 use crate::status::Status;
-use bitmap_font::{Font, FontFault};
-use cue_list::{Script, ScriptFault};
+use cue_list::Script;
+use script_input::{Input, InputEnd};
 use std::alloc::Global;
-use sub_base::{ReadAllFault, Source, Which, read_all};
+use sub_base::{Source, Which};
 
-/// The most bytes of a script, and of a font.
-const TEXT_LIMIT: u64 = 67_108_864;
-
-/// The script that is in the first source, in the font that is in the second one, or in the font
-/// without glyphs where the command names none; or the status with which the command ends. The font
-/// is read first.
+/// The script of a command, or the status with which the command ends.
 pub fn read_script<A: Source, B: Source>(
     alloc: Global,
     has_font: bool,
@@ -32,51 +27,31 @@ pub fn read_script<A: Source, B: Source>(
         (B.supplied second.new)) }
     ensures second { has_font ≡ false → second.new ≡ second.old }
 {
-    // The font first, so that a faulty one is reported even where the script is faulty too.
-    let font = match font_of(alloc, has_font, second) {
-        Ok(font) => font,
-        Err(status) => return Err(status),
-    };
-    let text = match read_all(alloc, first, TEXT_LIMIT) {
-        Ok(text) => text,
-        Err(ReadAllFault::Memory) => return Err(Status::Memory),
-        Err(ReadAllFault::Read) => return Err(Status::ReadFault(Which::First)),
-        Err(ReadAllFault::TooLong) => return Err(Status::InputTooLong(Which::First)),
-    };
-    match Script::read(alloc, text.as_slice(), &font) {
+    match script_input::read_script(alloc, has_font, first, second) {
         Ok(script) => Ok(script),
-        Err(ScriptFault::Memory) => Err(Status::Memory),
-        Err(ScriptFault::Refused { row, kind }) => {
-            Err(Status::ScriptRefused(ScriptFault::Refused { row, kind }))
-        }
+        Err(end) => Err(status_of_input(end)),
     }
 }
 
-/// The font of a command.
-fn font_of<B: Source>(alloc: Global, has_font: bool, second: &mut B) -> Result<Font, Status>
-    ensures font { IfOk result (HasFont has_font
-        (B.supplied second.old)
-        (B.supplied second.new)) }
-    ensures cause { IfErr result
-        (λ status. (first : Supplied) → IsInputCause has_font first first
-        (B.supplied second.old)
-        (B.supplied second.new) status) }
-    ensures second { has_font ≡ false → second.new ≡ second.old }
+/// The status of a command whose inputs ended so.
+fn status_of_input(end: InputEnd) -> Status
+    ensures { result ≡ status_of end }
 {
-    if !has_font {
-        return Ok(Font::empty(alloc));
+    match end {
+        InputEnd::FontRefused(fault) => Status::FontRefused(fault),
+        InputEnd::ScriptRefused(fault) => Status::ScriptRefused(fault),
+        InputEnd::Unread(text) => Status::ReadFault(source_of(text)),
+        InputEnd::TooLong(text) => Status::InputTooLong(source_of(text)),
+        InputEnd::Memory => Status::Memory,
     }
-    let text = match read_all(alloc, second, TEXT_LIMIT) {
-        Ok(text) => text,
-        Err(ReadAllFault::Memory) => return Err(Status::Memory),
-        Err(ReadAllFault::Read) => return Err(Status::ReadFault(Which::Second)),
-        Err(ReadAllFault::TooLong) => return Err(Status::InputTooLong(Which::Second)),
-    };
-    match Font::read(alloc, text.as_slice()) {
-        Ok(font) => Ok(font),
-        Err(FontFault::Memory) => Err(Status::Memory),
-        Err(FontFault::Refused { line, kind }) => {
-            Err(Status::FontRefused(FontFault::Refused { line, kind }))
-        }
+}
+
+/// The source in which a text is.
+fn source_of(text: Input) -> Which
+    ensures { result ≡ source_of_text text }
+{
+    match text {
+        Input::Script => Which::First,
+        Input::Font => Which::Second,
     }
 }

@@ -82,7 +82,7 @@ pub fn tell<N: Sink>(status: Status, notes: &mut N) -> Status
 }
 
 /// Reads the command from the words and carries it out, without telling how it ended.
-#[tactic(auto, using(crate::proofs::MemoryLaws::memory_caused, crate::proofs::MemoryLaws::memory_shown, crate::proofs::MemoryLaws::second_kept))]
+#[tactic(auto, using(crate::proofs::MemoryLaws::memory_caused, crate::proofs::MemoryLaws::second_kept))]
 fn run<R, A, B, K, G>(
     rt: &R,
     alloc: Global,
@@ -99,10 +99,6 @@ where
     K: Sink,
     G: BandGate + Sync,
     ensures cause { IsCaused words.now
-        (seen (A.supplied first.old) (B.supplied second.old) (K.received out.old))
-        (seen (A.supplied first.new) (B.supplied second.new) (K.received out.new))
-        result }
-    ensures shown { IsShownBy (command_of_words words.now)
         (seen (A.supplied first.old) (B.supplied second.old) (K.received out.old))
         (seen (A.supplied first.new) (B.supplied second.new) (K.received out.new))
         result }
@@ -134,10 +130,6 @@ where
     requires command { command ≡ command_of_words words.now }
     requires range { IfSome command (IsInRange words.now) }
     ensures cause { IsCaused words.now
-        (seen (A.supplied first.old) (B.supplied second.old) (K.received out.old))
-        (seen (A.supplied first.new) (B.supplied second.new) (K.received out.new))
-        result }
-    ensures shown { IsShownBy (command_of_words words.now)
         (seen (A.supplied first.old) (B.supplied second.old) (K.received out.old))
         (seen (A.supplied first.new) (B.supplied second.new) (K.received out.new))
         result }

@@ -1,10 +1,11 @@
--- The plan of a generated script is never refused by a receiver of standard or high definition.
+-- The plan of a generated script is never refused by a receiver, whatever its profile.
 use Rattle.std.proofs.Common.{◌≡◌, ◌∙◌, ◌⊎◌, inl, inr, ℕ, ◌≤◌, true, List, length, reverse, ap, refl, arith}
 use Rattle.std.specs.List.{sum_by}
 use Rattle.sub_base.specs.declared.profile.Profile.{Profile}
 use Rattle.sub_base.specs.declared.profile.ProfileName.{ProfileName}
 use Rattle.sub_base.specs.declared.profile.ProfileName.TheVariants.{Sd, Hd}
-use Rattle.sub_base.specs.Profile.{profile_of}
+use Rattle.sub_base.specs.Profile.{profile_of, IsProfile}
+use Rattle.sub_base.proofs.ProfileLaws.{every_profile}
 use Rattle.cue_list.specs.declared.epoch.ColourRow.{ColourRow}
 use Rattle.cue_list.specs.declared.epoch.Epoch.{Epoch}
 use Rattle.cue_list.specs.declared.epoch.Region.{Region}
@@ -62,34 +63,25 @@ small number script profile row pixels nodes is unheld =
       nodes_few = omega arith;
     }
 
--- a receiver that holds what is needed
-record IsLarge (profile : Profile) : Type 0 where
-  wide : 320 ≤ profile.width
-  high : 180 ≤ profile.height
-  pixels : 4608 ≤ profile.pixels
-  nodes : 7 ≤ profile.nodes
-
-large : (name : ProfileName) → (name ≡ Sd) ⊎ (name ≡ Hd) → IsLarge (profile_of name)
-large name (inl e) = rw e (record { wide = omega arith; high = omega arith; pixels = omega arith; nodes = omega arith })
-large name (inr e) = rw e (record { wide = omega arith; high = omega arith; pixels = omega arith; nodes = omega arith })
-
-no_fault : (number : ℕ) (script : Script) (profile : Profile) (fault : PlanFault) → IsLarge profile
+-- every profile holds what is needed
+pub plan_never_refused : (number : ℕ) (script : Script) (profile : Profile) (fault : PlanFault) → IsProfile profile
     → IsGenerated number script → IsCause script profile fault → fault ≡ Memory
-no_fault number script profile Memory enough is cause = refl
-no_fault number script profile (DisplayTooLarge row) enough is cause =
+plan_never_refused number script profile Memory enough is cause = refl
+plan_never_refused number script profile (DisplayTooLarge row) enough is cause =
     let width = is.width in
     let height = is.height in
     absurd (elim cause.large [ inl wide ↦ omega (arith, enough.wide) | inr high ↦ omega (arith, enough.high) ])
-no_fault number script profile (PixelFull row need) enough is cause =
+plan_never_refused number script profile (PixelFull row need) enough is cause =
     let few = small number script profile row need cause.1.nodes is cause.1.unheld in
     let full = cause.1.full in
     absurd (omega (arith, enough.pixels, few.pixels_few))
-no_fault number script profile (CompositionFull row need) enough is cause =
+plan_never_refused number script profile (CompositionFull row need) enough is cause =
     let few = small number script profile row cause.1.pixels need is cause.1.unheld in
     let full = cause.1.full in
-    absurd (omega (arith, enough.nodes, few.nodes_few))
+    absurd (omega (arith, enough.nodes.0, few.nodes_few))
 
+-- so those of receivers of standard and of high definition
 pub no_plan_fault : (number : ℕ) (script : Script) (name : ProfileName) (fault : PlanFault) → (name ≡ Sd)
     ⊎ (name ≡ Hd) → IsGenerated number script → IsCause script (profile_of name) fault → fault ≡ Memory
 no_plan_fault number script name fault which is cause =
-    no_fault number script (profile_of name) fault (large name which) is cause
+    plan_never_refused number script (profile_of name) fault (every_profile name) is cause

@@ -18,7 +18,8 @@ use Rattle.page_epoch.specs.declared.planned_set.PlannedSet.{PlannedSet}
 use Rattle.page_epoch.specs.declared.planned_set.SentClut.{SentClut}
 use Rattle.page_epoch.specs.declared.planned_set.SentRegion.{SentRegion}
 use Rattle.set_coder.specs.SetSegments.{epoch_region, picture_of_cue, depth_of_cue}
-use Rattle.set_coder.specs.SetSizes.{display_sizes, page_size, region_size, clut_size, leading_sizes, made_even, sent_painting, IsObjectSize, AreObjectSizes, AreSegmentSizes}
+use Rattle.segments.specs.Sizes.{object_size}
+use Rattle.set_coder.specs.SetSizes.{display_sizes, page_size, region_size, clut_size, leading_sizes, sent_painting, IsObjectSize, AreObjectSizes, AreSegmentSizes}
 use Rattle.generated_script.specs.Generated.{generated_picture, IsGeneratedEpoch, IsGenerated}
 use Rattle.generated_script_laws.specs.Listed.{ListsFew}
 use Rattle.generated_script_laws.proofs.GeneratedFields.{fields_short}
@@ -27,13 +28,13 @@ use Rattle.generated_script_laws.proofs.ScriptParts.{own_region, own_painting, o
 -- ---- objects
 
 -- thirteen bytes and the two blocks, made even
-even_short : (top bottom : ℕ) → top ≤ 304 → bottom ≤ 304 → made_even (13 + top + bottom) ≤ 622
+even_short : (top bottom : ℕ) → top ≤ 304 → bottom ≤ 304 → object_size top bottom ≤ 622
 even_short top bottom h g = omega arith
 
 -- an object of a generated picture has at most 622 bytes
 object_by : (picture : Picture) (depth : Depth) (k top bottom : ℕ) → picture ≡ generated_picture k
     → depth ≡ Four
-    → AreFieldSizes picture depth top bottom → made_even (13 + top + bottom) ≤ 622
+    → AreFieldSizes picture depth top bottom → object_size top bottom ≤ 622
 object_by picture depth k top bottom is four sizes =
     let own_sizes =
     subst (λ (d : Depth). AreFieldSizes (generated_picture k) d top bottom) four

@@ -1,6 +1,6 @@
 //! Laws on the plans of generated scripts, for each number of cues.
 
-ghost use Rattle.std.specs.Prelude.{◌≡◌, ◌⊎◌, ℕ, List, Some, slice_get};
+ghost use Rattle.std.specs.Prelude.{◌≡◌, ℕ, List, Some, slice_get};
 ghost use Rattle.std.specs.List.{Contains};
 ghost use Rattle.cue_list.specs.declared.epoch.Epoch.{Epoch};
 ghost use Rattle.cue_list.specs.declared.script.Script.{Script};
@@ -13,15 +13,13 @@ ghost use Rattle.page_epoch.specs.declared.fault.PlanFault.{PlanFault};
 ghost use Rattle.page_epoch.specs.declared.fault.PlanFault.TheVariants.{Memory};
 ghost use Rattle.page_epoch.specs.declared.planned_set.PlannedSet.{PlannedSet};
 ghost use Rattle.sub_base.specs.declared.profile.Profile.{Profile};
-ghost use Rattle.sub_base.specs.declared.profile.ProfileName.{ProfileName};
-ghost use Rattle.sub_base.specs.declared.profile.ProfileName.TheVariants.{Sd, Hd};
-ghost use Rattle.sub_base.specs.Profile.{profile_of};
+ghost use Rattle.sub_base.specs.Profile.{IsProfile};
 
-/// A plan for a receiver of standard or high definition is refused for want of memory alone.
+/// A plan is refused for want of memory alone, whatever the profile.
 pub fn no_plan_is_refused()
-    ensures { (number : ℕ) (script : Script) (name : ProfileName) (fault : PlanFault)
-        → (name ≡ Sd) ⊎ (name ≡ Hd) → IsGenerated number script
-        → IsCause script (profile_of name) fault → fault ≡ Memory }
+    ensures { (number : ℕ) (script : Script) (profile : Profile) (fault : PlanFault)
+        → IsProfile profile → IsGenerated number script → IsCause script profile fault
+        → fault ≡ Memory }
 {}
 
 /// No page of a generated script is sent again: no cue lasts as long as a refresh takes.

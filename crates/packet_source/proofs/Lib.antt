@@ -1,2 +1,3 @@
 pub mod GaveLaws
+pub mod JoinedPackets
 mod ReaderLaws

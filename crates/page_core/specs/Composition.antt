@@ -61,22 +61,14 @@ taken_nodes composition =
 
 -- the first of the table entries that are set is no more among them
 abbrev pub without_colour : Composition → Composition
-without_colour composition = record {
-  size = composition.size;
-  entries = composition.entries;
-  regions = composition.regions;
-  cluts = composition.cluts;
+without_colour composition = record composition {
   set_entries = drop 1 composition.set_entries;
   free = composition.free + 1;
 }
 
 -- with these entries of the page in place of those that were there
 abbrev pub with_entries : List PageEntry → Composition → Composition
-with_entries entries composition = record {
-  size = composition.size;
+with_entries entries composition = record composition {
   entries = entries;
-  regions = composition.regions;
-  cluts = composition.cluts;
-  set_entries = composition.set_entries;
   free = composition.free + length composition.entries - length entries;
 }

@@ -68,18 +68,7 @@ ink_in inks clut depth number = slice_index_or inks (ink_place clut depth number
 
 -- the memory with that display
 abbrev pub showing : Display → Memory → Memory
-showing display memory = record {
-  profile = memory.profile;
-  page = memory.page;
-  anchor = memory.anchor;
-  last = memory.last;
-  known = memory.known;
-  time_out = memory.time_out;
-  display = display;
-  composition = memory.composition;
-  inks = memory.inks;
-  store = memory.store;
-}
+showing display memory = record memory { display = display }
 
 -- ---- what holds whatever it was handed
 

@@ -13,7 +13,6 @@ mod forget;
 mod front;
 mod inks;
 mod judging;
-mod known_objects;
 mod laws;
 mod lists;
 mod marks;

@@ -11,7 +11,6 @@ ghost use Rattle.page_core.specs.Private.RegionSteps.{IsRightHead, IsRightValue}
 ghost use Rattle.page_core.specs.Private.Walks.{IsNextFront, IsNextOf, is_clut, is_content_of, is_object, is_region};
 
 use crate::front::{Front, cut_front, read_one};
-use crate::known_objects::known_object;
 use segments::{ClutSeg, ObjectSeg, RegionSeg, Segment};
 use stream_syntax::{CLUT_DEFINITION, OBJECT_DATA, REGION_COMPOSITION};
 
@@ -105,7 +104,7 @@ pub(crate) fn next_object(bytes: &[u8]) -> Option<Next<'_, ObjectSeg<'_>>>
         (λ next. HasFieldSizes (of_object (object_value next.segment))) }
 {
     let front = next_front(bytes, OBJECT_DATA)?;
-    match known_object(front.frame.body) {
+    match front.frame.tested_object() {
         Some(segment) => Some(Next {
             segment,
             rest: front.rest,

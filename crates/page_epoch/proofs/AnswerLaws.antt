@@ -1,7 +1,7 @@
 -- A plan and a fault exclude each other, and there is one fault: what is planned up to an instant is determined, as far
 -- as a receiver's needs go.
 use Rattle.std.proofs.Common.{◌≡◌, ◌≢◌, ◌∙◌, ◌⊎◌, inl, inr, refl, sym, ap, subst, ℕ, zero, suc, ◌+◌, ◌<◌, ◌≤◌, nat_le, Bool, true, false, cond, List, [], ◌∷◌, ◌++◌, length, map, filter, reverse, take, get_or, All, Option, Some, option_map, arith, Result, Ok, Err, IfOk, IfErr}
-use Rattle.std.specs.Prelude.{slice_get, IsOkUnless, ⊤}
+use Rattle.std.specs.Prelude.{slice_get, ⊤}
 use Rattle.std.specs.List.{flat_map, Contains, take_while}
 use Rattle.std.specs.List.Sorted.{IsStrictlyIncreasing}
 use Rattle.std.proofs.lemmas.List.{length-map, length-reverse, length-take-le, get_or-take, get_or_default, take_all, take_more, reverse-append}
@@ -88,7 +88,7 @@ same_rising (x ∷ xs) (y ∷ ys) first second there back =
     cc (head, tail)
 
 -- a script has one list of instants
-same_instants : (epochs : List Epoch) (refresh : ℕ) (one other : List ℕ) → AreInstants epochs refresh one
+pub same_instants : (epochs : List Epoch) (refresh : ℕ) (one other : List ℕ) → AreInstants epochs refresh one
     → AreInstants epochs refresh other → one ≡ other
 same_instants epochs refresh one other first second =
     same_rising one other first.rise second.rise
@@ -141,7 +141,7 @@ one_row_by epochs tick a b r s true e same first second =
 one_row_by epochs tick a b r s false e same first second =
     row_before a b r s same (first.of_refresh e) (second.of_refresh e)
 
-one_row : (epochs : List Epoch) (tick time : ℕ) (a b : List PlannedSet) (r s : ℕ) → tick ≡ time →
+pub one_row : (epochs : List Epoch) (tick time : ℕ) (a b : List PlannedSet) (r s : ℕ) → tick ≡ time →
     map (λ set. set.row) a ≡ map (λ set. set.row) b → IsRow epochs a tick r → IsRow epochs b time s → r ≡ s
 one_row epochs tick time a b r s at same first second =
     let Row : ℕ → Type 0 = λ t. IsRow epochs b t s in
@@ -160,7 +160,7 @@ shown_count cues regions tick shown are =
 
 -- ---- the sets before an instant, the latest first
 
-abbrev IsPast : List Epoch → ℕ → List ℕ → List PlannedSet → Type 0
+abbrev pub IsPast : List Epoch → ℕ → List ℕ → List PlannedSet → Type 0
 IsPast epochs refresh instants [] = ⊤
 IsPast epochs refresh instants (set ∷ earlier) =
     IsNext epochs refresh earlier set × (slice_get instants (length earlier) ≡ Some set.pts)
@@ -170,7 +170,7 @@ record AreSame (a b : List PlannedSet) : Type 0 where
   times : map (λ set. set.pts) a ≡ map (λ set. set.pts) b
   rows : map (λ set. set.row) a ≡ map (λ set. set.row) b
 
-same_time : (instants : List ℕ) (m n : ℕ) (s t : PlannedSet) → m ≡ n → slice_get instants m ≡ Some s.pts
+pub same_time : (instants : List ℕ) (m n : ℕ) (s t : PlannedSet) → m ≡ n → slice_get instants m ≡ Some s.pts
     → slice_get instants n ≡ Some t.pts → s.pts ≡ t.pts
 same_time instants m n s t same first second =
     some_same s.pts t.pts (slice_get instants m) first (ap (slice_get instants) same ∙ second)
@@ -264,7 +264,7 @@ set_at epochs refresh profile instants sets n other are short =
       time = slice_get-get_or instants n 0 (omega (arith, short, are.few)) ∙ ap (λ (tick : ℕ). Some tick) here;
     }
 
-past_of : (epochs : List Epoch) (refresh : ℕ) (profile : Profile) (instants : List ℕ) (sets : List PlannedSet)
+pub past_of : (epochs : List Epoch) (refresh : ℕ) (profile : Profile) (instants : List ℕ) (sets : List PlannedSet)
     (n : ℕ) (other : PlannedSet) →
     AreFirstSets epochs refresh profile instants sets → n ≤ length sets
     → IsPast epochs refresh instants (reverse (take n sets))
@@ -470,21 +470,6 @@ one_fault script profile (CompositionFull a x) (CompositionFull b y) first secon
     inr (cc (one.of_row, one.needs.of_nodes))
 
 -- ---- what is answered
-
-pub every_plan : {T : Type 0} (script : Script) (profile : Profile) (result : Result T PlanFault)
-    → IfErr result (IsCause script profile) →
-    (sets : List PlannedSet) → IsPlan script profile sets → IsOkUnless result Memory
-every_plan script profile (Ok made) cause sets plan = tt
-every_plan script profile (Err Memory) cause sets plan = refl
-every_plan script profile (Err (DisplayTooLarge row)) cause sets plan =
-    absurd (plan_or_fault script profile sets (DisplayTooLarge row) plan cause
-    (λ e. let bad : DisplayTooLarge row ≡ Memory = e in cc))
-every_plan script profile (Err (PixelFull row need)) cause sets plan =
-    absurd (plan_or_fault script profile sets (PixelFull row need) plan cause
-    (λ e. let bad : PixelFull row need ≡ Memory = e in cc))
-every_plan script profile (Err (CompositionFull row need)) cause sets plan =
-    absurd (plan_or_fault script profile sets (CompositionFull row need) plan cause
-    (λ e. let bad : CompositionFull row need ≡ Memory = e in cc))
 
 pub every_fault : (script : Script) (profile : Profile) (result : Result Plan PlanFault)
     → IfOk result (λ plan. IsPlan script profile plan.sets) →

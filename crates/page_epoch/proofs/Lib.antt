@@ -17,3 +17,4 @@ pub mod SendLaws
 pub mod ShowLaws
 pub mod SoundLaws
 pub mod EpochWalkLaws
+pub mod OnePlan

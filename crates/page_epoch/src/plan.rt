@@ -1,4 +1,4 @@
-ghost use Rattle.std.specs.Prelude.{◌≡◌, ◌≢◌, ◌<◌, ◌≤◌, List, reverse, All, IfOk, IfErr, IsOkUnless, OnOk};
+ghost use Rattle.std.specs.Prelude.{◌≡◌, ◌≢◌, ◌<◌, ◌≤◌, List, reverse, All, IfOk, IfErr, MatchResult, OnOk};
 ghost use Rattle.page_epoch.specs.States.{state_of as state_by};
 ghost use Rattle.page_epoch.specs.Plan.{ArePlanned, IsPlan};
 ghost use Rattle.page_epoch.specs.Refusals.{IsCause, IsNeedFault, IsRefusal, IsSetCause};
@@ -29,10 +29,10 @@ impl Plan {
         ensures sendable { IfOk result (λ plan. All (IsSendable script.now) plan.sets) }
         ensures cause { IfErr result (IsCause script.now profile.now) }
 
-        // But for want of memory each script with a plan is planned, and each other one is refused,
-        // for its one fault.
+        // But for want of memory each script with a plan is planned, with its one plan, and each
+        // other one is refused, for its one fault.
         ensures every_plan { (sets : List PlannedSet) → IsPlan script.now profile.now sets
-            → IsOkUnless result PlanFault.Memory }
+            → MatchResult result (λ made. made.sets ≡ sets) (λ fault. fault ≡ PlanFault.Memory) }
         ensures every_fault { (fault : PlanFault) → IsCause script.now profile.now fault
             → fault ≢ PlanFault.Memory → IsRefusal fault result }
     {

@@ -18,3 +18,4 @@ mod RowSizes
 mod LaneRuns
 pub mod BlockParts
 pub mod OneBlock
+pub mod OneString

@@ -71,7 +71,7 @@ same_found {X} found s t a b e f =
     ∙ f in let h : ◌≡◌ {A = X × ℕ} (s, a) (t, b) = cc in
     (ap (λ (p : X × ℕ). p.0) h, ap (λ (p : X × ℕ). p.1) h)
 
-one_code : (depth : Depth) (a b : Code) → IsCode depth a → IsCode depth b
+pub one_code : (depth : Depth) (a b : Code) → IsCode depth a → IsCode depth b
     → width_of depth a ≡ width_of depth b → pixel_count depth a ≡ pixel_count depth b
     → colour_of a ≡ colour_of b → a ≡ b
 one_code depth a b h k width count colour =

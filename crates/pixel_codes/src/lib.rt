@@ -26,7 +26,7 @@ mod runs;
 mod laws;
 
 pub use block::{CodeBlock, check_block};
-pub use laws::{every_block_is_read, one_block};
+pub use laws::{every_block_is_read, one_block, one_string};
 pub use least::run_bits;
 pub use maximal::run_length;
 pub use part::is_no_deeper;

@@ -7,7 +7,7 @@ use Rattle.sub_base.specs.declared.profile.Profile.{Profile}
 use Rattle.decoder_model.specs.declared.pages.Pages.{Pages}
 use Rattle.decoder_model.specs.Readings.{Reading, AreReadings, IsDeliveryRead, AreDeliveriesRead}
 use Rattle.decoder_model.specs.Received.{HasReceived}
-use Rattle.decoder_model.proofs.SentSets.{all-append}
+use Rattle.decoder_model.proofs.Lists.{all-append}
 use Rattle.decoder_model.specs.Sets.{Delivery, lost, whole, refused, sets_of}
 use Rattle.reading_laws.proofs.ReceivedBytes.{OfBytes}
 use Rattle.reading_laws.proofs.ReceivedSets.{IsWhole, HasWhole, received_whole}

@@ -6,7 +6,7 @@ use Rattle.std.specs.Option.{option_map}
 use Rattle.std.proofs.lemmas.List.Elements.{All-nil, All-append, All-take, All-drop}
 use Rattle.stream_syntax.specs.TransportPackets.{has_error_flag, has_start_flag, has_payload, pid_of, counter_of, control_of, field_length_of, payload_of}
 use Rattle.stream_syntax.specs.Units.{Succession, Next, Again, Missing, succession, UnitPart, Begins, Adds, Breaks, payload_part, part_after, part_of, last_counter, each_after, parts_of, begins_unit, bytes_in, Fate, Waits, Whole, Over, is_unbounded, fate_of, last_unit, gathered, stays_in_hand, unit_in_hand, hand_after, joined, handed_out, unit_at}
-use Rattle.decoder_model.proofs.SentSets.{all-append}
+use Rattle.decoder_model.proofs.Lists.{all-append}
 use Rattle.stream_syntax.specs.Pes.{need_of}
 
 -- ---- of any items

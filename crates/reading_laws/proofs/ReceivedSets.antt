@@ -20,7 +20,7 @@ use Rattle.decoder_model.specs.Sets.{Stretch, loss_between, run, joined_to, runs
 use Rattle.decoder_model.specs.declared.set_fault.SetFault.{SetFault}
 use Rattle.stream_syntax.proofs.FrameLaws.{frames_are}
 use Rattle.decoder_model.proofs.Growth.{found_is_front}
-use Rattle.decoder_model.proofs.SentSets.{all-append}
+use Rattle.decoder_model.proofs.Lists.{all-append}
 use Rattle.segments.proofs.WholeSegments.{head_asks, head_passes}
 use Rattle.reading_laws.proofs.ReceivedBytes.{either_way, OfSome, OfBytes, bytes_behind, bytes_ahead, each_all, unit_bytes}
 

@@ -12,7 +12,7 @@ use Rattle.decoder_model.specs.Readings.{Reading, AreDeliveriesRead}
 use Rattle.decoder_model.specs.Received.{HasReceived}
 use Rattle.decoder_model.specs.Sets.{Stretch, loss_between, run, runs_of, Delivery, lost, has_ended, sets_of, is_ended, frames_in, set_of, is_followed, sets_in}
 use Rattle.decoder_model.proofs.Growth.{packets_add}
-use Rattle.decoder_model.proofs.SentSets.{all-append}
+use Rattle.decoder_model.proofs.Lists.{all-append}
 use Rattle.decoder_model.proofs.SentUnits.{all_taken}
 use Rattle.received_level_laws.specs.Before.{IsMoreThan}
 use Rattle.received_level_laws.proofs.TakenPackets.{sound_taken}

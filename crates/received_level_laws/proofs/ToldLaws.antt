@@ -16,7 +16,7 @@ use Rattle.decoder_model.specs.Readings.{Reading, AreDeliveriesRead}
 use Rattle.decoder_model.specs.Received.{HasReceived}
 use Rattle.decoder_model.specs.Sets.{Delivery, lost, sets_of}
 use Rattle.decoder_model.proofs.Growth.{flat-append}
-use Rattle.decoder_model.proofs.SentSets.{all-append}
+use Rattle.decoder_model.proofs.Lists.{all-append}
 use Rattle.received_level_laws.specs.StreamCalls.{set_call, each_behind, itself, calls_of_packet, calls_from, AreCallsOf}
 use Rattle.received_level_laws.specs.ToldSets.{ToldSet, ToldCall, of_no_set, of_set, told_call, told_behind, told_of, AreToldCalls, calls_told, DoneSet, done_set, told_sets, told_sets_behind}
 use Rattle.received_level_laws.proofs.EachBehind.{with_earlier-append, each_count, each_more, each_last}

@@ -57,6 +57,7 @@ impl Receiver {
     ghost use Rattle.receiver.specs.Lent.{IsWholeView, view_lent};
     ghost use Rattle.receiver.specs.Receiving.{IsNext, IsSame, IsShownIn, Stands, reception};
     ghost use Rattle.set_receiver.specs.Receiving.{AreLosses, sets_received, set_time};
+    ghost use Rattle.sub_base.specs.declared.profile.TheConstants.{LARGEST_BUFFER};
     ghost use Rattle.receiver.specs.Showing.{time_before_last};
 
     /// A receiver of a profile, for a service without an ancillary page, that was fed nothing.
@@ -77,6 +78,7 @@ impl Receiver {
         ensures pages { IfOk result (λ receiver. receiver.sets.pages ≡ only page) }
         ensures page { IfOk result (λ receiver. receiver.showing.core.page ≡ page) }
         ensures anchor { IfOk result (λ receiver. receiver.showing.core.anchor ≡ anchor) }
+        ensures none { IfOk result (λ receiver. ready_sets receiver.sets ≡ []) }
     {
         Receiver::of_pages(alloc, profile, pid, Pages::only(page), anchor)
     }
@@ -101,6 +103,7 @@ impl Receiver {
         ensures page { IfOk result
             (λ receiver. receiver.showing.core.page ≡ pages.composition) }
         ensures anchor { IfOk result (λ receiver. receiver.showing.core.anchor ≡ anchor) }
+        ensures none { IfOk result (λ receiver. ready_sets receiver.sets ≡ []) }
     {
         Ok(Receiver {
             sets: SetReceiver::make(alloc, profile, pid, pages, anchor)?,
@@ -130,6 +133,7 @@ impl Receiver {
             → self.new.arrival ≡ packet_arrival (reception self.old).profile.coded
             (reception self.old).pid (reception self.old).pages fed packet.now) }
         ensures load { self.new.load ≡ self.old.load }
+        ensures page { self.new.showing.core.page ≡ self.old.showing.core.page }
         ensures same { IsSame self.old self.new }
     {
         let event = self.sets.feed(packet)?;
@@ -143,6 +147,7 @@ impl Receiver {
             → Stands false fed given self.old → Stands true fed given self.new }
         ensures arrival { self.new.arrival ≡ self.old.arrival }
         ensures load { self.new.load ≡ self.old.load }
+        ensures page { self.new.showing.core.page ≡ self.old.showing.core.page }
         ensures same { IsSame self.old self.new }
     {
         self.sets.finish();
@@ -221,6 +226,7 @@ impl Receiver {
             (reception self.old).anchor past one }
         ensures left { ready_sets self.new.sets ≡ sets_behind (ready_sets self.old.sets) }
         ensures arrival { self.new.arrival ≡ self.old.arrival }
+        ensures page { self.new.showing.core.page ≡ self.old.showing.core.page }
         ensures same { IsSame self.old self.new }
     {
         let lifted = self.sets.ready_at();
@@ -281,7 +287,7 @@ impl Receiver {
     pub fn load(&self) -> SetLoad
         ensures load { result ≡ self.now.load }
         ensures pts { result.pts < 2 ^ 62 }
-        ensures size { (reception self.now).profile.coded ≤ 2 ^ 18 → result.size < 2 ^ 62 }
+        ensures size { (reception self.now).profile.coded ≤ LARGEST_BUFFER → result.size < 2 ^ 62 }
         ensures painted { result.painted < 2 ^ 62 }
     {
         self.sets.load()

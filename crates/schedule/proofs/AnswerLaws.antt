@@ -1,8 +1,9 @@
 -- A schedule on time and a fault exclude each other, and there is one fault.
 use Rattle.std.proofs.Common.{◌≡◌, ◌≢◌, ◌∙◌, ◌⊎◌, inl, inr, refl, sym, ap, ℕ, zero, suc, ◌+◌, ◌-◌, ◌<◌, ◌≤◌, List, length, arith, add-one, Result, Ok, Err, IfOk, IfErr, subst}
-use Rattle.std.specs.Prelude.{slice_index, All, IsOkUnless}
+use Rattle.std.specs.Prelude.{slice_index, All, MatchResult}
 use Rattle.std.specs.List.Sorted.{IsStrictlyIncreasing}
 use Rattle.std.proofs.lemmas.Bool.{cases_lt}
+use Rattle.std.proofs.lemmas.Grind.{same_number_lists}
 use Rattle.sub_base.specs.declared.load.WriteLoad.{WriteLoad}
 use Rattle.sub_base.specs.declared.pace.Pace.{Pace}
 use Rattle.schedule.specs.declared.fault.ScheduleFault.{ScheduleFault}
@@ -171,6 +172,40 @@ same_done loads n pace one other i each few at again among =
           among,
     )
 
+-- two schedules of the same sets have the same slots
+same_slot : (loads : List WriteLoad) (n : ℕ) (pace : Pace) (one other : Timetable) (p : ℕ) → All IsLoad loads
+    → n ≤ length loads →
+    IsSchedule loads n pace one → IsSchedule loads n pace other → p < first_packet loads n
+    → slice_index one.slots p ≡ slice_index other.slots p
+same_slot loads n pace one other p each few at again within =
+    let before = earliest loads n pace one each at in
+    let behind = earliest loads n pace other each again in
+    omega (
+      arith,
+      before.slots n other.slots other.dones (omega arith) few (arrives loads n pace other again) p within,
+      behind.slots n one.slots one.dones (omega arith) few (arrives loads n pace one at) p within,
+    )
+
+-- two schedules of the same sets are one
+pub one_schedule : (loads : List WriteLoad) (n : ℕ) (pace : Pace) (one other : Timetable) → All IsLoad loads
+    → n ≤ length loads →
+    IsSchedule loads n pace one → IsSchedule loads n pace other → one ≡ other
+one_schedule loads n pace one other each few at again =
+    let slots =
+    same_number_lists one.slots other.slots (omega (arith, at.packets, again.packets))
+    (λ p within. same_slot loads n pace one other p each few at again (omega (arith, within, at.packets))) in
+    let ends =
+    same_number_lists one.ends other.ends (omega (arith, at.sets.0, again.sets.0))
+    (λ i within. omega (
+      arith,
+      at.ends i (omega (arith, within, at.sets.0)),
+      again.ends i (omega (arith, within, at.sets.0)),
+    )) in
+    let dones =
+    same_number_lists one.dones other.dones (omega (arith, at.sets.1, again.sets.1))
+    (λ i within. same_done loads n pace one other i each few at again (omega (arith, within, at.sets.1))) in
+    λ i. record { slots = slots i; ends = ends i; dones = dones i }
+
 late_once : (loads : List WriteLoad) (pace : Pace) (set other done again shown time : ℕ) → All IsLoad loads
     → set ≡ other →
     IsCause loads pace (Late set done shown) → IsCause loads pace (Late other again time) → (done ≡ again)
@@ -246,19 +281,21 @@ pub no_hope : {T : Type 0} (loads : List WriteLoad) (pace : Pace) (result : Resu
 no_hope loads pace (Ok made) each cause = tt
 no_hope loads pace (Err fault) each cause = hopeless loads pace fault each cause
 
-pub every_schedule : {T : Type 0} (loads : List WriteLoad) (pace : Pace) (result : Result T ScheduleFault)
-    → All IsLoad loads → IfErr result (IsCause loads pace) →
-    (table : Timetable) → IsSchedule loads (length loads) pace table → IsOnTime loads (length loads) pace table
-    → IsOkUnless result Memory
-every_schedule loads pace (Ok made) each cause table at on_time = tt
-every_schedule loads pace (Err Memory) each cause table at on_time = refl
-every_schedule loads pace (Err (CodedFull set size)) each cause table at on_time =
+pub every_schedule : (loads : List WriteLoad) (pace : Pace) (result : Result Timetable ScheduleFault)
+    → All IsLoad loads → IfOk result (IsSchedule loads (length loads) pace) →
+    IfErr result (IsCause loads pace) → (table : Timetable) → IsSchedule loads (length loads) pace table
+    → IsOnTime loads (length loads) pace table →
+    MatchResult result (λ made. made ≡ table) (λ fault. fault ≡ Memory)
+every_schedule loads pace (Ok made) each found cause table at on_time =
+    one_schedule loads (length loads) pace made table each (omega arith) found at
+every_schedule loads pace (Err Memory) each found cause table at on_time = refl
+every_schedule loads pace (Err (CodedFull set size)) each found cause table at on_time =
     absurd (schedule_or_fault loads pace table (CodedFull set size) each at on_time
     (λ e. let bad : CodedFull set size ≡ Memory = e in cc) cause)
-every_schedule loads pace (Err (Late set done shown)) each cause table at on_time =
+every_schedule loads pace (Err (Late set done shown)) each found cause table at on_time =
     absurd (schedule_or_fault loads pace table (Late set done shown) each at on_time
     (λ e. let bad : Late set done shown ≡ Memory = e in cc) cause)
-every_schedule loads pace (Err (SegmentFull set longest)) each cause table at on_time =
+every_schedule loads pace (Err (SegmentFull set longest)) each found cause table at on_time =
     absurd (schedule_or_fault loads pace table (SegmentFull set longest) each at on_time
     (λ e. let bad : SegmentFull set longest ≡ Memory = e in cc) cause)
 

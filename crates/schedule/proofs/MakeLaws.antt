@@ -8,6 +8,7 @@ use Rattle.std.proofs.lemmas.Bool.{cases_lt}
 use Rattle.std.proofs.lemmas.List.Elements.{All-from_get_or}
 use Rattle.sub_base.specs.declared.load.WriteLoad.{WriteLoad}
 use Rattle.sub_base.specs.declared.pace.Pace.{Pace}
+use Rattle.sub_base.specs.declared.profile.TheConstants.{LONGEST_STEP}
 use Rattle.schedule.specs.declared.place.Search.{Search}
 use Rattle.sub_base.specs.declared.load.TheConstants.{UNIT_ROOM}
 use Rattle.schedule.specs.Packets.{sum_below, size_of, load_of, longest_of, first_packet, packets_of}
@@ -34,7 +35,7 @@ pub record IsScheduled (loads : List WriteLoad) (pace : Pace) (n : ℕ) (slots e
   pub between : IsBetween loads pace slots dones (length dones) search
   pub rise : IsStrictlyIncreasing slots
   pub ordered : AreOrdered dones
-  pub near : tick_of pace search.slot ≤ 2 ^ 62 + 705
+  pub near : tick_of pace search.slot ≤ 2 ^ 62 + LONGEST_STEP
   pub shown_before : (shown ≡ shown_before loads n) × (shown < 2 ^ 62)
   pub done_before : (j : ℕ) → j < length dones → slice_index dones j ≤ shown
   pub small : (m : ℕ) → m < length slots → tick_of pace (slice_index slots m) < 2 ^ 62

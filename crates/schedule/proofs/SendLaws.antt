@@ -7,6 +7,7 @@ use Rattle.std.proofs.Math.Seq.{get_or-append_seam}
 use Rattle.std.proofs.lemmas.Bool.{cases_lt}
 use Rattle.sub_base.specs.declared.load.WriteLoad.{WriteLoad}
 use Rattle.sub_base.specs.declared.pace.Pace.{Pace}
+use Rattle.sub_base.specs.declared.profile.TheConstants.{LONGEST_STEP}
 use Rattle.schedule.specs.declared.place.Search.{Search}
 use Rattle.schedule.specs.declared.limits.TheConstants.{SEND_WINDOW}
 use Rattle.schedule.specs.Packets.{sum_below, size_of, load_of, first_packet, packets_of, payload_of, bytes_with}
@@ -111,7 +112,7 @@ pub IsWithin-more : (loads : List WriteLoad) (pace : Pace) (slots dones : List �
     ≡ search.level + payload + sum_below (size_of loads) search.gone →
     placed.level ≤ pace.coded → AreDone dones placed.gone (tick_of pace placed.slot)
     → search.slot ≤ placed.slot →
-    tick_of pace placed.slot ≤ max (tick_of pace search.slot) (2 ^ 62 + 705) →
+    tick_of pace placed.slot ≤ max (tick_of pace search.slot) (2 ^ 62 + LONGEST_STEP) →
     search.level + payload + sum_below (size_of loads) search.gone
     ≤ pace.coded + sum_below (left_of loads dones (tick_of pace placed.slot)) (length dones) →
     ((slot : ℕ) → search.slot ≤ slot
@@ -168,10 +169,10 @@ IsWithin-more loads pace slots dones k payload search placed sound at is total l
 pub IsWithin-begins : (loads : List WriteLoad) (pace : Pace) (slots dones : List ℕ) (from : Search)
     (window slot : ℕ) →
     IsSound pace → IsBetween loads pace slots dones (length dones) from → IsStrictlyIncreasing slots →
-    tick_of pace from.slot ≤ 2 ^ 62 + 705 → (load_of loads (length dones)).pts < 2 ^ 62
+    tick_of pace from.slot ≤ 2 ^ 62 + LONGEST_STEP → (load_of loads (length dones)).pts < 2 ^ 62
     → slot ≡ max from.slot window →
     (load_of loads (length dones)).pts ≤ tick_of pace window + SEND_WINDOW
-    → tick_of pace window ≤ 2 ^ 62 + 705 →
+    → tick_of pace window ≤ 2 ^ 62 + LONGEST_STEP →
     ((other : ℕ) → (load_of loads (length dones)).pts ≤ tick_of pace other + SEND_WINDOW → window ≤ other) →
     IsWithin loads pace slots dones 0 (record from { slot = slot })
 IsWithin-begins loads pace slots dones from window slot sound between rise near shown is reached low first =

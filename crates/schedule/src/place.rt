@@ -1,6 +1,7 @@
 ghost use Rattle.std.specs.Prelude.{◌≡◌, ℕ, ◌+◌, ◌*◌, ◌^◌, ◌<◌, ◌≤◌, max, length, slice_index, All};
 ghost use Rattle.schedule.specs.Packets.{sum_below, size_of};
 ghost use Rattle.sub_base.specs.Pace.{tick_of, IsSound};
+ghost use Rattle.sub_base.specs.declared.profile.TheConstants.{LONGEST_STEP};
 ghost use Rattle.schedule.specs.Slots.{left_of, IsLoad};
 ghost use Rattle.schedule.specs.Private.Safe.{AreDone, AreOrdered};
 ghost use Rattle.stream_syntax.specs.declared.wire.TheConstants.{PAYLOAD_LENGTH};
@@ -42,7 +43,7 @@ pub fn place(pace: &Pace, loads: &[WriteLoad], dones: &[u64], from: Search, payl
     ensures gone { AreDone dones.now result.gone (tick_of pace.now result.slot) }
     ensures after { from.slot ≤ result.slot }
     ensures near { tick_of pace.now result.slot
-        ≤ max (tick_of pace.now from.slot) (2 ^ 62 + 705) }
+        ≤ max (tick_of pace.now from.slot) (2 ^ 62 + LONGEST_STEP) }
     ensures room { from.level + payload + sum_below (size_of loads.now) from.gone
         ≤ pace.now.coded
         + sum_below (left_of loads.now dones.now (tick_of pace.now result.slot))

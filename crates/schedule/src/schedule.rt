@@ -1,4 +1,4 @@
-ghost use Rattle.std.specs.Prelude.{◌≡◌, ◌≢◌, ℕ, ◌+◌, ◌*◌, ◌^◌, ◌<◌, ◌≤◌, max, length, slice_index, IfOk, IfErr, IsOkUnless, All};
+ghost use Rattle.std.specs.Prelude.{◌≡◌, ◌≢◌, ℕ, ◌+◌, ◌*◌, ◌^◌, ◌<◌, ◌≤◌, max, length, slice_index, IfOk, IfErr, MatchResult, All};
 ghost use Rattle.std.specs.List.Sorted.{IsStrictlyIncreasing};
 ghost use Rattle.sub_base.specs.Pace.{tick_of, pace_of, IsSending, IsSound};
 ghost use Rattle.schedule.specs.Slots.{slots_of as slots_of_set, Timetable, IsSchedule, IsOnTime, IsLoad};
@@ -38,7 +38,7 @@ impl Schedule {
     ///
     /// The sets are tested in order: a set must fit the coded data buffer, each of its segments a
     /// PES packet, and it must be done by its presentation time.
-    #[tactic(auto, using(crate::proofs::AnswerLaws::made_arrival, crate::proofs::AnswerLaws::made_earliest, crate::proofs::AnswerLaws::every_schedule, crate::proofs::AnswerLaws::every_fault))]
+    #[tactic(auto, using(crate::proofs::AnswerLaws::made_arrival, crate::proofs::AnswerLaws::made_earliest, crate::proofs::AnswerLaws::every_fault))]
     pub fn make(
         alloc: Global,
         loads: &[WriteLoad],
@@ -67,12 +67,12 @@ impl Schedule {
         ensures rise { IfOk result (λ table. IsStrictlyIncreasing table.slots) }
         ensures small { IfOk result (λ table. All (λ slot. slot < 2 ^ 56) table.slots) }
 
-        // But for want of memory sets that can be on time are scheduled, and others are refused,
-        // for their one fault.
+        // But for want of memory sets that can be on time are scheduled, in their one schedule,
+        // and others are refused, for their one fault.
         ensures every_schedule { (table : Timetable)
             → IsSchedule loads.now (length loads.now) (pace_of origin profile.now) table
             → IsOnTime loads.now (length loads.now) (pace_of origin profile.now) table
-            → IsOkUnless result Memory }
+            → MatchResult result (λ made. made ≡ table) (λ fault. fault ≡ Memory) }
         ensures every_fault { (fault : ScheduleFault)
             → IsCause loads.now (pace_of origin profile.now) fault → fault ≢ Memory
             → IsRefusal fault result }

@@ -2,6 +2,7 @@ ghost use Rattle.std.specs.Prelude.{◌≡◌, ℕ, ◌+◌, ◌*◌, ◌^◌, �
 ghost use Rattle.std.specs.List.Sorted.{IsStrictlyIncreasing};
 ghost use Rattle.schedule.specs.Packets.{size_of, packets_of, payload_of, payload_in};
 ghost use Rattle.sub_base.specs.Pace.{tick_of, IsSound};
+ghost use Rattle.sub_base.specs.declared.profile.TheConstants.{LONGEST_STEP};
 ghost use Rattle.schedule.specs.Private.Safe.{AreOrdered};
 ghost use Rattle.schedule.specs.Private.Search.{IsBetween, IsWithin, HaveStood, sent_of};
 ghost use Rattle.schedule.specs.Slots.{IsLoad};
@@ -32,7 +33,7 @@ pub fn send_set(
     requires rise { IsStrictlyIncreasing slots.old.items }
     requires between { IsBetween loads.now pace.now slots.old.items dones.now (length dones.now)
         from }
-    requires near { tick_of pace.now from.slot ≤ 2 ^ 62 + 705 }
+    requires near { tick_of pace.now from.slot ≤ 2 ^ 62 + LONGEST_STEP }
     ensures rise { IfOk result (λ _. IsStrictlyIncreasing slots.new.items) }
     ensures between { IfOk result
         (λ search. IsBetween loads.now pace.now slots.new.items dones.now (length dones.now + 1)

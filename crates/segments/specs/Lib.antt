@@ -1,6 +1,7 @@
 pub mod Contents
 pub mod Framing
 pub mod Reading
+pub mod Sizes
 pub mod Writing
 pub use Rattle.stream_syntax.specs.Fields
 pub use Rattle.stream_syntax.specs.SegmentTests

@@ -8,8 +8,11 @@ use crate::word::{is_set, read_word};
 use stream_syntax::{ClutEntry, SegmentFault};
 use sub_base::Colour;
 
+/// The bytes of a body before the entries.
+pub(crate) const FIXED: usize = 2;
+
 /// The bytes of an entry with a colour in the full range.
-const FULL: usize = 6;
+pub(crate) const FULL: usize = 6;
 
 /// The bytes of an entry with the high bits of a colour.
 const SHORT: usize = 4;
@@ -67,13 +70,13 @@ impl Iterator for ClutItems<'_> {
 pub(crate) fn clut_of(body: &[u8]) -> Result<ClutSeg<'_>, SegmentFault>
     ensures { Gives clut_value result (clut_at body.now) }
 {
-    if body.len() < 2 || !are_whole(&body[2..]) {
+    if body.len() < FIXED || !are_whole(&body[FIXED..]) {
         return Err(bad_length());
     }
     Ok(ClutSeg {
         clut: body[0],
         version: body[1] >> 4,
-        entries: &body[2..],
+        entries: &body[FIXED..],
     })
 }
 

@@ -8,7 +8,7 @@ use crate::word::{is_set, read_word};
 use stream_syntax::{SegmentFault, SegmentKind, Window};
 
 /// The bytes before the window.
-const FIXED: usize = 5;
+pub(crate) const FIXED: usize = 5;
 
 /// The bytes with a window.
 const WITH_WINDOW: usize = 13;

@@ -1,6 +1,7 @@
 //! Laws of the layout of segments, over all bytes.
 
 ghost use Rattle.std.specs.Prelude.{◌≡◌, ◌++◌, List, ℕ, length, take};
+ghost use Rattle.segments.specs.Sizes.{size_of};
 ghost use Rattle.stream_syntax.specs.Segments.{IsKindOf, IsSegment, IsWritable, SegmentValue, spelled};
 ghost use Rattle.stream_syntax.specs.Tests.{byte_at};
 
@@ -21,4 +22,10 @@ pub fn kind_of_segment()
 pub fn read_again()
     ensures { (page : ℕ) (value : SegmentValue) (rest : List ℕ) → IsWritable page value
         → IsSegment (take (length (spelled page value)) (spelled page value ++ rest)) value }
+{}
+
+/// A segment that is written has as many bytes as are counted for its kind.
+pub fn written_sizes()
+    ensures { (page : ℕ) (value : SegmentValue) → IsWritable page value
+        → length (spelled page value) ≡ size_of value }
 {}

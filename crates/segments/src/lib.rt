@@ -18,9 +18,10 @@ mod region;
 mod data_field;
 mod frame;
 
-// Reading and writing a segment, and laws on both.
+// Reading and writing a segment, how many bytes it has, and laws on these.
 mod laws;
 mod reading;
+mod size;
 mod writing;
 
 pub use clut::{ClutItems, ClutSeg};
@@ -31,6 +32,7 @@ pub use object::ObjectSeg;
 pub use page::PageSeg;
 pub use reading::{Segment, read_segment};
 pub use region::RegionSeg;
+pub use size::{DISPLAY_SIZE, END_SIZE, clut_size, object_size, page_size, region_size};
 pub use stream_syntax::{
     ClutEntry, Listing, PageEntry, RegionHead, SegmentFault, SegmentKind, State, Window,
 };

@@ -10,7 +10,7 @@ use stream_syntax::{CodeFault, SegmentFault, SegmentKind};
 use sub_base::Depth;
 
 /// The bytes before the blocks.
-const FIXED: usize = 7;
+pub(crate) const FIXED: usize = 7;
 
 /// The place of the coding method in the segment.
 const METHOD: u32 = 8;
@@ -39,6 +39,8 @@ pub(crate) fn object_of(body: &[u8]) -> Result<ObjectSeg<'_>, SegmentFault>
     ensures exact { Gives object_value result (object_at body.now) }
     ensures room { IfOk result
         (λ object. 7 + length object.top.now + length object.bottom.now ≤ length body.now) }
+    ensures fields { IfOk result
+        (λ object. (length object.top.now ≤ 65535) × (length object.bottom.now ≤ 65535)) }
 {
     // The coding method is tested before the length that pixels ask for: the body of characters is
     // another one.

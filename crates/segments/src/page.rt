@@ -6,8 +6,11 @@ use crate::fault::bad_length;
 use crate::word::{bits, read_word};
 use stream_syntax::{PageEntry, SegmentFault, SegmentKind, State};
 
+/// The bytes of a body before the entries.
+pub(crate) const FIXED: usize = 2;
+
 /// The bytes of an entry.
-const ENTRY: usize = 6;
+pub(crate) const ENTRY: usize = 6;
 
 /// A page: the regions that it lists, and its page state (EN 300 743, page composition segment).
 #[derive(Clone, Copy, Debug, PartialEq, Eq)]
@@ -50,7 +53,7 @@ impl PageSeg<'_> {
 pub(crate) fn page_of(body: &[u8]) -> Result<PageSeg<'_>, SegmentFault>
     ensures { Gives page_value result (page_at body.now) }
 {
-    if body.len() % ENTRY != 2 {
+    if body.len() % ENTRY != FIXED {
         return Err(bad_length());
     }
     let state = match bits(body[1], 2, 2) {
@@ -68,6 +71,6 @@ pub(crate) fn page_of(body: &[u8]) -> Result<PageSeg<'_>, SegmentFault>
         time_out: body[0],
         version: body[1] >> 4,
         state,
-        entries: &body[2..],
+        entries: &body[FIXED..],
     })
 }

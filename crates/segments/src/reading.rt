@@ -1,12 +1,13 @@
-ghost use Rattle.std.specs.Prelude.{◌≡◌, ◌<◌, ◌≤◌, ◌+◌, ℕ, List, None, IfErr, IfOk, IsOkAnd, OnOk, length, take};
-ghost use Rattle.segments.specs.Contents.{contents};
+ghost use Rattle.std.specs.Prelude.{◌≡◌, ◌<◌, ◌≤◌, ◌+◌, ℕ, List, None, Ok, IfErr, IfOk, IfSome, IsOkAnd, IsSomeAnd, OnOk, length, take};
+ghost use Rattle.segments.specs.Contents.{contents, object_value};
 ghost use Rattle.segments.specs.Framing.{IsFrameOf};
-ghost use Rattle.segments.specs.Reading.{value_in};
+ghost use Rattle.segments.specs.Reading.{object_at, object_in, value_in};
 ghost use Rattle.stream_syntax.specs.SegmentTests.{
   AreBlocks,
   IsBodyFault,
   IsSegmentFault,
   body_tests,
+  object_tests,
   bottom_in,
   top_in,
 };
@@ -95,6 +96,23 @@ impl<'a> Frame<'a> {
             → (fault : SegmentFault) → IsSegmentFault bytes fault → result ≡ Err fault }
     {
         by_kind(self.kind, self.body)
+    }
+
+    /// The object of a body of object data whose blocks were tested before: they are not walked
+    /// again. None where what stands before the blocks is faulty.
+    #[inline]
+    pub fn tested_object(&self) -> Option<ObjectSeg<'a>>
+        ensures value { IfSome result
+            (λ object. object_at self.now.body.now ≡ Ok (object_value object)) }
+        ensures right { first_fault (object_tests self.now.body.now) ≡ None
+            → IsSomeAnd result (λ object. object_value object ≡ object_in self.now.body.now) }
+        ensures fields { IfSome result
+            (λ object. (length object.top.now ≤ 65535) × (length object.bottom.now ≤ 65535)) }
+    {
+        match object_of(self.body) {
+            Ok(object) => Some(object),
+            Err(_) => None,
+        }
     }
 }
 

@@ -10,10 +10,10 @@ use stream_syntax::{Listing, RegionHead, SegmentFault, SegmentKind};
 use sub_base::Depth;
 
 /// The bytes before the listings.
-const FIXED: usize = 10;
+pub(crate) const FIXED: usize = 10;
 
 /// The bytes of a listing.
-const LISTING: usize = 6;
+pub(crate) const LISTING: usize = 6;
 
 /// A region: its sides in pixels, its colours, and the objects that it shows (EN 300 743, region
 /// composition segment).

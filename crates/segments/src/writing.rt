@@ -2,6 +2,7 @@ ghost use Rattle.std.specs.Prelude.{◌≡◌, ◌+◌, ◌-◌, ◌*◌, ◌<�
 ghost use Rattle.std.specs.List.{flat_map};
 ghost use Rattle.std.specs.Vec.{vec_capacity};
 ghost use Rattle.segments.specs.Contents.{object_value, value_of};
+ghost use Rattle.segments.specs.Sizes.{size_of};
 ghost use Rattle.segments.specs.Writing.{
   body_bytes,
   clut_bytes,
@@ -21,7 +22,8 @@ ghost use Rattle.stream_syntax.specs.Segments.{IsHeadedBy, IsRight, IsSegment, I
 
 use crate::append::{append, word};
 use crate::frame::HEAD;
-use crate::object::ObjectSeg;
+use crate::object::{FIXED, ObjectSeg};
+use crate::size::{DISPLAY_SIZE, END_SIZE, clut_size, object_size, page_size, region_size};
 use stream_syntax::{
     CLUT_DEFINITION, ClutEntry, DISPLAY_DEFINITION, END_OF_DISPLAY_SET, Listing, OBJECT_DATA,
     PAGE_COMPOSITION, PageEntry, REGION_COMPOSITION, RegionHead, SEGMENT_SYNC, State,
@@ -94,10 +96,13 @@ pub fn write_segment(page: u16, segment: &SegmentOut<'_>, out: &mut Vec<u8>) -> 
         ≡ 6 + byte_count (written_body (value_of segment.now))) }
     ensures kept { OnErr result (out.new.items ≡ out.old.items) }
 {
-    let size = body_size(segment);
+    let size = segment_size(segment);
     // All memory first, so that no part of a segment is left where there is none.
-    out.reserve(HEAD + size)?;
-    append(out, &frame_bytes(kind_of(segment), page, size as u16));
+    out.reserve(size)?;
+    append(
+        out,
+        &frame_bytes(kind_of(segment), page, (size - HEAD) as u16),
+    );
     put_body(out, segment);
     Ok(())
 }
@@ -116,21 +121,18 @@ fn kind_of(segment: &SegmentOut<'_>) -> u8
     }
 }
 
-/// How many bytes the body has.
-#[tactic(auto, using(crate::proofs::Sizes::page_entries_size, crate::proofs::Sizes::listings_size, crate::proofs::Sizes::clut_entries_size))]
-fn body_size(segment: &SegmentOut<'_>) -> usize
-    requires { length (body_bytes (value_of segment.now)) < 65536 }
-    ensures { result ≡ length (body_bytes (value_of segment.now)) }
+/// How many bytes the segment has, its head included.
+fn segment_size(segment: &SegmentOut<'_>) -> usize
+    requires { size_of (value_of segment.now) < 6 + 65536 }
+    ensures { result ≡ size_of (value_of segment.now) }
 {
     match segment {
-        SegmentOut::Page { entries, .. } => 2 + 6 * entries.len(),
-        SegmentOut::Region { listings, .. } => 10 + 6 * listings.len(),
-        SegmentOut::Clut { entries, .. } => 2 + 6 * entries.len(),
-        SegmentOut::Object(object) => {
-            7 + object.top.len() + object.bottom.len() + usize::from(is_odd(object))
-        }
-        SegmentOut::Display { .. } => 5,
-        SegmentOut::End => 0,
+        SegmentOut::Page { entries, .. } => page_size(entries.len()),
+        SegmentOut::Region { listings, .. } => region_size(listings.len()),
+        SegmentOut::Clut { entries, .. } => clut_size(entries.len()),
+        SegmentOut::Object(object) => object_size(object.top.len(), object.bottom.len()),
+        SegmentOut::Display { .. } => DISPLAY_SIZE,
+        SegmentOut::End => END_SIZE,
     }
 }
 
@@ -344,7 +346,7 @@ fn is_odd(object: &ObjectSeg<'_>) -> bool
     requires bottom { length object.now.bottom.now < 65536 }
     ensures { result ≡ is_odd (object_value object.now) }
 {
-    (13 + object.top.len() + object.bottom.len()) % 2 == 1
+    (HEAD + FIXED + object.top.len() + object.bottom.len()) % 2 == 1
 }
 
 /// Appends the body of a display definition, for which there is room.

@@ -5,6 +5,7 @@ pub mod KeptLaws
 pub mod MeasureLaws
 pub mod NextSizeLaws
 pub mod ObjectLaws
+pub mod OnePackets
 pub mod SampleLaws
 pub mod SetPacketLaws
 pub mod SetSizeLaws

@@ -1,8 +1,7 @@
 -- Objects of cues: that they can be written, how many bytes they have, and one after another.
-use Rattle.std.proofs.Common.{◌≡◌, ℕ, suc, ◌+◌, ◌%◌, ◌<◌, ◌≤◌, ◌^◌, eqb, Bool, true, false, List, [], ◌∷◌, ◌++◌, length, get_or, drop, refl, sym, ap, subst, ◌∙◌, append_assoc, length-append, arith}
+use Rattle.std.proofs.Common.{◌≡◌, ℕ, suc, ◌+◌, ◌<◌, ◌≤◌, ◌^◌, Bool, true, false, List, [], ◌∷◌, ◌++◌, length, get_or, drop, sym, ap, subst, ◌∙◌, append_assoc, arith}
 use Rattle.std.specs.Prelude.{All}
 use Rattle.std.specs.List.{flat_map}
-use Rattle.std.proofs.lemmas.Bool.{eqb-true, eqb-false}
 use Rattle.std.proofs.lemmas.List.{append-nil, drop_more, drop_all}
 use Rattle.std.proofs.lemmas.List.Elements.{All-cons, All-append, AllZip-get_or, length_all_zip}
 use Rattle.std.proofs.lemmas.Grind.{flat_map-append}
@@ -15,17 +14,18 @@ use Rattle.stream_syntax.specs.FieldBlocks.{AreFieldBlocks, AreFieldSizes, Draws
 use Rattle.stream_syntax.specs.Fields.{Field, FitsFields}
 use Rattle.stream_syntax.specs.SegmentTests.{AreBlocks}
 use Rattle.stream_syntax.specs.Segments.{SegmentValue, end_of_set, bytes_fields, padding, object_fields, is_odd, spelled, IsWritable}
-use Rattle.segments.specs.Writing.{padding_bytes}
+use Rattle.segments.specs.Sizes.{object_size}
+use Rattle.segments.proofs.Sizes.{body_size, written_size}
 use Rattle.cue_list.specs.declared.epoch.Cue.{Cue}
 use Rattle.cue_list.specs.declared.epoch.Epoch.{Epoch}
 use Rattle.cue_list.specs.declared.epoch.Region.{Region}
 use Rattle.page_epoch.specs.Live.{cue_at}
 use Rattle.page_epoch.specs.Sendable.{HasCue}
 use Rattle.set_coder.specs.SetSegments.{epoch_region, picture_of_cue, depth_of_cue, object_segment, IsObjectOf, AreObjectsOf}
-use Rattle.set_coder.specs.SetSizes.{made_even, IsObjectSize, AreObjectSizes}
+use Rattle.set_coder.specs.SetSizes.{IsObjectSize, AreObjectSizes}
 use Rattle.set_coder.specs.Private.Usable.{IsDrawable, AreDrawable}
 use Rattle.set_coder.proofs.FieldLaws.{field_size, one_sizes}
-use Rattle.set_coder.proofs.WritableLaws.{writable, spelled_length, flag_small}
+use Rattle.set_coder.proofs.WritableLaws.{writable, flag_small}
 
 -- bytes fit their rows
 fits_bytes : (bytes : List ℕ) (fields : List Field) → ((i : ℕ) → get_or bytes i 0 < 256) → FitsFields fields
@@ -37,22 +37,14 @@ fits_padding : (padded : Bool) → FitsFields (padding padded)
 fits_padding false = tt
 fits_padding true = (omega arith, tt)
 
--- the byte that makes a length even stands exactly where it is odd
-padding_size : (n : ℕ) → length (padding_bytes (eqb (n % 2) 1)) ≡ n % 2
-padding_size n = by (eqb (n % 2) 1) refl
-  where
-    by : (b : Bool) → eqb (n % 2) 1 ≡ b → length (padding_bytes b) ≡ n % 2
-    by true e = sym (eqb-true (n % 2) 1 e)
-    by false e = let other = eqb-false (n % 2) 1 e in omega (arith, other)
-
 -- an object that is short enough can be written, and has its head, its own seven bytes and its blocks, made even
 pub object_writable : (page object : ℕ) (see_through : Bool) (top bottom : List ℕ) → page < 2 ^ 16
     → object < 2 ^ 16 → AreBlocks top bottom → ((i : ℕ) → get_or top i 0 < 256)
     → ((i : ℕ) → get_or bottom i 0 < 256)
-    → length top + length bottom ≤ 65528 → made_even (13 + length top + length bottom) ≤ 65541
+    → length top + length bottom ≤ 65528 → object_size (length top) (length bottom) ≤ 65541
     → IsWritable page (object_segment object see_through top bottom)
     × (length (spelled page (object_segment object see_through top bottom))
-    ≡ made_even (13 + length top + length bottom))
+    ≡ object_size (length top) (length bottom))
 object_writable page object see_through top bottom page_fits object_fits blocks each_top each_bottom few even =
     let padded =
     is_odd (record { object = object; version = 0; see_through = see_through; top = top; bottom = bottom }) in
@@ -81,32 +73,17 @@ object_writable page object see_through top bottom page_fits object_fits blocks 
         ),
       ),
     ) in
-    let pad : length (padding_bytes padded) ≡ (13 + length top + length bottom) % 2 =
-    padding_size (13 + length top + length bottom) in
-    let rest : length (top ++ (bottom ++ padding_bytes padded))
-    ≡ length top
-    + (length bottom + length (padding_bytes padded)) = length-append top (bottom ++ padding_bytes padded)
-    ∙ ap (λ (n : ℕ). length top + n) (length-append bottom (padding_bytes padded)) in
-    let whole =
-    writable page (object_segment object see_through top bottom) page_fits body (omega (arith, pad, rest)) blocks tt
-    in
-    (whole, spelled_length page _ whole ∙ omega (arith, pad, rest))
+    let value = object_segment object see_through top bottom in
+    let whole = writable page value page_fits body (omega (arith, body_size value)) blocks tt in
+    (whole, written_size page value whole)
 
 -- an object that can be written has that many bytes
 pub object_length : (page object : ℕ) (see_through : Bool) (top bottom : List ℕ)
     → IsWritable page (object_segment object see_through top bottom)
     → length (spelled page (object_segment object see_through top bottom))
-    ≡ made_even (13 + length top + length bottom)
+    ≡ object_size (length top) (length bottom)
 object_length page object see_through top bottom whole =
-    let padded =
-    is_odd (record { object = object; version = 0; see_through = see_through; top = top; bottom = bottom }) in
-    let pad : length (padding_bytes padded) ≡ (13 + length top + length bottom) % 2 =
-    padding_size (13 + length top + length bottom) in
-    let rest : length (top ++ (bottom ++ padding_bytes padded))
-    ≡ length top
-    + (length bottom + length (padding_bytes padded)) = length-append top (bottom ++ padding_bytes padded)
-    ∙ ap (λ (n : ℕ). length top + n) (length-append bottom (padding_bytes padded)) in
-    spelled_length page (object_segment object see_through top bottom) whole ∙ omega (arith, pad, rest)
+    written_size page (object_segment object see_through top bottom) whole
 
 -- ---- the object of a cue
 
@@ -159,7 +136,7 @@ block_sizes picture region top bottom b = record {
 pub object_sized : (pictures : List Picture) (epoch : Epoch) (place size : ℕ) (picture : Picture) (depth : Depth)
     (top bottom : List ℕ) → picture ≡ picture_of_cue pictures epoch place → depth ≡ depth_of_cue epoch place
     → AreFieldBlocks picture depth top bottom → IsObjectSize pictures epoch place size
-    → made_even (13 + length top + length bottom) ≡ size
+    → object_size (length top) (length bottom) ≡ size
 object_sized pictures epoch place size picture depth top bottom p d blocks s =
     let here : AreFieldSizes (picture_of_cue pictures epoch place) (depth_of_cue epoch place) (length top)
     (length bottom) =
@@ -169,8 +146,7 @@ object_sized pictures epoch place size picture depth top bottom p d blocks s =
     let same =
     one_sizes (picture_of_cue pictures epoch place) (depth_of_cue epoch place) (length top) (length bottom) s.0 s.1
     here s.2 in
-    let e : 13 + length top + length bottom ≡ 13 + s.0 + s.1 = omega (arith, same.0, same.1) in
-    ap made_even e ∙ sym s.3
+    ap (λ (n : ℕ). object_size n (length bottom)) same.0 ∙ ap (object_size s.0) same.1 ∙ sym s.3
 
 -- ---- one object after another
 

@@ -1,6 +1,6 @@
 -- The sizes of a set's segments are one list, and so are the lengths of its units, its size, its longest segment and
 -- its load.
-use Rattle.std.proofs.Common.{◌≡◌, ℕ, ◌+◌, ◌≤◌, eqb, Bool, true, false, List, [], ◌∷◌, ◌++◌, map, Some, sum, refl, sym, ap, subst, ◌∙◌, arith}
+use Rattle.std.proofs.Common.{◌≡◌, ℕ, ◌≤◌, eqb, Bool, true, false, List, [], ◌∷◌, ◌++◌, map, Some, sum, refl, sym, ap, subst, ◌∙◌, arith}
 use Rattle.std.specs.Prelude.{All, sum_by, ◌||◌}
 use Rattle.std.specs.List.{list_any}
 use Rattle.std.proofs.lemmas.Bool.{eqb-true}
@@ -12,16 +12,16 @@ use Rattle.pes_packets.proofs.OneSharing.{units_same}
 use Rattle.cue_list.specs.declared.epoch.Epoch.{Epoch}
 use Rattle.cue_list.specs.declared.script.Script.{Script}
 use Rattle.page_epoch.specs.declared.planned_set.PlannedSet.{PlannedSet}
+use Rattle.segments.specs.Sizes.{object_size}
 use Rattle.set_coder.specs.SetSegments.{picture_of_cue, depth_of_cue}
-use Rattle.set_coder.specs.SetSizes.{made_even, leading_sizes, sent_painting, IsObjectSize, AreObjectSizes, AreSegmentSizes, AreUnitSizes, IsSetSize, IsLongestSegment, IsPaintedIn, IsSetLoad}
+use Rattle.set_coder.specs.SetSizes.{leading_sizes, sent_painting, IsObjectSize, AreObjectSizes, AreSegmentSizes, AreUnitSizes, IsSetSize, IsLongestSegment, IsPaintedIn, IsSetLoad}
 use Rattle.set_coder.proofs.FieldLaws.{one_sizes}
 
 one_object_size : (pictures : List Picture) (epoch : Epoch) (place size other : ℕ)
     → IsObjectSize pictures epoch place size → IsObjectSize pictures epoch place other → size ≡ other
 one_object_size pictures epoch place size other p q =
     let same = one_sizes (picture_of_cue pictures epoch place) (depth_of_cue epoch place) p.0 p.1 q.0 q.1 p.2 q.2 in
-    let e : 13 + p.0 + p.1 ≡ 13 + q.0 + q.1 = omega (arith, same.0, same.1) in
-    p.3 ∙ ap made_even e ∙ sym q.3
+    p.3 ∙ ap (λ (n : ℕ). object_size n p.1) same.0 ∙ ap (object_size q.0) same.1 ∙ sym q.3
 
 pub one_object_sizes : (pictures : List Picture) (epoch : Epoch) (places sizes others : List ℕ)
     → AreObjectSizes pictures epoch places sizes → AreObjectSizes pictures epoch places others → sizes ≡ others

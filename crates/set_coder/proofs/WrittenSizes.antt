@@ -1,5 +1,5 @@
 -- The segments of a set that are written have the sizes that are measured.
-use Rattle.std.proofs.Common.{◌≡◌, ℕ, List, [], ◌∷◌, ◌++◌, length, map, None, refl, ap, subst, ◌∙◌, arith}
+use Rattle.std.proofs.Common.{◌≡◌, ℕ, List, [], ◌∷◌, ◌++◌, length, map, None, refl, ap, subst, ◌∙◌}
 use Rattle.std.specs.Prelude.{All}
 use Rattle.std.proofs.lemmas.List.{length-map, map-append}
 use Rattle.std.proofs.lemmas.List.Elements.{All-head, All-tail, All-cons, All-nil}
@@ -7,7 +7,9 @@ use Rattle.sub_base.specs.Picture.{Picture}
 use Rattle.stream_syntax.specs.Segments.{SegmentValue, end_of_set, of_display, IsWritable}
 use Rattle.stream_syntax.specs.declared.page.State.{State}
 use Rattle.stream_syntax.specs.declared.page.State.TheVariants.{Normal, Acquisition, ModeChange}
-use Rattle.segments.proofs.Sizes.{page_entries_size, listings_size, clut_entries_size}
+use Rattle.segments.specs.Sizes as sizes
+use Rattle.segments.specs.declared.size.TheConstants.{DISPLAY_SIZE, END_SIZE}
+use Rattle.segments.proofs.Sizes.{written_size}
 use Rattle.cue_list.specs.declared.epoch.Epoch.{Epoch}
 use Rattle.cue_list.specs.declared.script.Script.{Script}
 use Rattle.page_epoch.specs.Live.{cue_at}
@@ -17,7 +19,6 @@ use Rattle.page_epoch.specs.declared.planned_set.SentRegion.{SentRegion}
 use Rattle.set_coder.specs.SetSegments.{picture_of_cue, depth_of_cue, display_segments, page_entry_of, page_segment, listing_of, region_segment_of, clut_entry_of, clut_segment_of, leading_segments, object_segment, IsObjectOf, AreObjectsOf, segment_bytes, AreSetSegments}
 use Rattle.set_coder.specs.SetSizes.{display_sizes, page_size, region_size, clut_size, leading_sizes, IsObjectSize, AreObjectSizes, AreSegmentSizes}
 use Rattle.set_coder.proofs.ObjectLaws.{object_length, block_sizes}
-use Rattle.set_coder.proofs.WritableLaws.{spelled_length}
 
 -- ---- facts of parts of a list
 
@@ -44,10 +45,10 @@ one_display : (script : Script) (page : ℕ)
     (of_display (record { version = 0; width = script.width; height = script.height; window = None }) ∷ [])
     → map (segment_bytes page)
     (of_display (record { version = 0; width = script.width; height = script.height; window = None }) ∷ [])
-    ≡ 11 ∷ []
+    ≡ DISPLAY_SIZE ∷ []
 one_display script page all =
     let value = of_display (record { version = 0; width = script.width; height = script.height; window = None }) in
-    ap (λ (n : ℕ). n ∷ []) (spelled_length page value (All-head (IsWritable page) value [] all) ∙ omega arith)
+    ap (λ (n : ℕ). n ∷ []) (written_size page value (All-head (IsWritable page) value [] all))
 
 displays_sized : (script : Script) (page : ℕ) (state : State)
     → All (IsWritable page) (display_segments script state)
@@ -60,19 +61,14 @@ page_sized : (script : Script) (epoch : Epoch) (page : ℕ) (set : PlannedSet)
     → IsWritable page (page_segment script epoch set)
     → segment_bytes page (page_segment script epoch set) ≡ page_size set
 page_sized script epoch page set whole =
-    spelled_length page (page_segment script epoch set) whole
-    ∙ omega (
-      arith,
-      page_entries_size (map (page_entry_of epoch) set.shown),
-      length-map set.shown
-          (page_entry_of epoch),
-    )
+    written_size page (page_segment script epoch set) whole
+    ∙ ap sizes.page_size (length-map set.shown (page_entry_of epoch))
 
 region_sized : (epoch : Epoch) (page : ℕ) (sent : SentRegion) → IsWritable page (region_segment_of epoch sent)
     → segment_bytes page (region_segment_of epoch sent) ≡ region_size sent
 region_sized epoch page sent whole =
-    spelled_length page (region_segment_of epoch sent) whole
-    ∙ omega (arith, listings_size (map (listing_of epoch) sent.cues), length-map sent.cues (listing_of epoch))
+    written_size page (region_segment_of epoch sent) whole
+    ∙ ap sizes.region_size (length-map sent.cues (listing_of epoch))
 
 regions_sized : (epoch : Epoch) (page : ℕ) (regions : List SentRegion)
     → All (IsWritable page) (map (region_segment_of epoch) regions)
@@ -89,13 +85,8 @@ regions_sized epoch page (sent ∷ regions) all =
 clut_sized : (epoch : Epoch) (page : ℕ) (sent : SentClut) → IsWritable page (clut_segment_of epoch sent)
     → segment_bytes page (clut_segment_of epoch sent) ≡ clut_size sent
 clut_sized epoch page sent whole =
-    spelled_length page (clut_segment_of epoch sent) whole
-    ∙ omega (
-      arith,
-      clut_entries_size (map (clut_entry_of epoch) sent.rows),
-      length-map sent.rows
-          (clut_entry_of epoch),
-    )
+    written_size page (clut_segment_of epoch sent) whole
+    ∙ ap sizes.clut_size (length-map sent.rows (clut_entry_of epoch))
 
 cluts_sized : (epoch : Epoch) (page : ℕ) (cluts : List SentClut)
     → All (IsWritable page) (map (clut_segment_of epoch) cluts)
@@ -168,10 +159,9 @@ segments_sized script page set segments s =
     let behind = s.objects ++ end_of_set ∷ [] in
     let all : All (IsWritable page) (leading ++ behind) = subst (All (IsWritable page)) s.whole s.fit in
     let later : All (IsWritable page) behind = All_back (IsWritable page) leading behind all in
-    let last =
-    spelled_length page end_of_set
+    let last : size end_of_set ≡ END_SIZE =
+    written_size page end_of_set
     (All-head (IsWritable page) end_of_set [] (All_back (IsWritable page) s.objects (end_of_set ∷ []) later)) in
-    let six : size end_of_set ≡ 6 = last ∙ omega arith in
     record {
       epoch = s.epoch;
       found = s.found;
@@ -184,5 +174,6 @@ segments_sized script page set segments s =
           ∙ ap (λ (ns : List ℕ). ns ++ map size behind)
           (leading_sized script s.epoch page set (All_front (IsWritable page) leading behind all))
           ∙ ap (λ (ns : List ℕ). leading_sizes set ++ ns)
-          (map-append size s.objects (end_of_set ∷ []) ∙ ap (λ (n : ℕ). map size s.objects ++ n ∷ []) six);
+          (map-append size s.objects (end_of_set ∷ [])
+          ∙ ap (λ (n : ℕ). map size s.objects ++ n ∷ []) last);
     }

@@ -12,11 +12,11 @@ use cue_list::{Cue, Epoch, Script};
 use indexed_picture::Indexed;
 use pixel_codes::is_no_deeper;
 use std::alloc::Global;
-use sub_base::{Depth, NoMemory};
+use sub_base::{Depth, LARGEST_BUFFER, NoMemory};
 
 /// The largest coded data buffer of a receiver. A set with more bytes is refused, so no more of a
 /// picture are kept.
-const MOST_BYTES: u64 = 262_144;
+const MOST_BYTES: u64 = LARGEST_BUFFER;
 
 /// A picture of fewer pixels has fewer bytes than that: it is not measured before it is coded.
 const FEW_PIXELS: u32 = 131_072;

@@ -1,9 +1,9 @@
-ghost use Rattle.std.specs.Prelude.{◌≡◌, ℕ, ◌≤◌, ◌^◌, [], List, length, IfSome, IfNone, option_to_list};
+ghost use Rattle.std.specs.Prelude.{◌≡◌, ℕ, ◌≤◌, [], List, length, IfSome, IfNone, option_to_list};
 ghost use Rattle.cue_list.specs.declared.limits.TheConstants.{MOST_COLOURS, MOST_CUES};
 ghost use Rattle.pes_packets.specs.Units.{IsSegmentLength};
 ghost use Rattle.page_epoch.specs.Sendable.{HasCue, IsSendable};
 ghost use Rattle.set_coder.specs.KeptBlocks.{AreCoded};
-ghost use Rattle.set_coder.specs.SetSizes.{display_sizes, region_size, clut_size, made_even, IsObjectSize, AreSegmentSizes};
+ghost use Rattle.set_coder.specs.SetSizes.{display_sizes, region_size, clut_size, IsObjectSize, AreSegmentSizes};
 ghost use Rattle.set_coder.specs.Private.SizesLeft.{AreSizesLeft, IsMeasurable, IsNextSize, segments_left};
 ghost use Rattle.set_coder.specs.Private.Usable.{AreDrawable};
 
@@ -11,12 +11,7 @@ use crate::coded_picture::BlockLookup;
 use crate::named::{cue_at, epoch_of, epoch_region};
 use cue_list::{Epoch, Script};
 use page_epoch::{PlannedSet, SentClut, SentRegion, State};
-
-/// The bytes of a display definition without a window.
-const DISPLAY: u32 = 11;
-
-/// The bytes of the end of a display set.
-const END: u32 = 6;
+use segments::{DISPLAY_SIZE, END_SIZE};
 
 /// The segments of a set that are not measured yet. None is written: the blocks of objects are
 /// measured as they would be.
@@ -53,12 +48,11 @@ impl<'a> SegmentSizes<'a> {
             kept,
             epoch: epoch_of(script, set),
             display: display_size(set.state),
-            // The head has 6 bytes, the page 2, and each entry 6.
-            page: Some(8 + 6 * set.shown.len() as u32),
+            page: Some(segments::page_size(set.shown.len()) as u32),
             regions: set.regions.as_slice(),
             cluts: set.cluts.as_slice(),
             cues: set.cues.as_slice(),
-            end: Some(END),
+            end: Some(END_SIZE as u32),
         }
     }
 
@@ -97,7 +91,7 @@ fn display_size(state: State) -> Option<u32>
 {
     match state {
         State::Normal => None,
-        State::Acquisition | State::ModeChange => Some(DISPLAY),
+        State::Acquisition | State::ModeChange => Some(DISPLAY_SIZE as u32),
     }
 }
 
@@ -106,8 +100,7 @@ fn region_size(sent: &SentRegion) -> u32
     requires { length sent.now.cues ≤ MOST_CUES }
     ensures { result ≡ region_size sent.now }
 {
-    // The head has 6 bytes, the region 10, and each listing 6.
-    16 + 6 * sent.cues.len() as u32
+    segments::region_size(sent.cues.len()) as u32
 }
 
 /// The bytes of a CLUT with its entries.
@@ -115,8 +108,7 @@ fn clut_size(sent: &SentClut) -> u32
     requires { length sent.now.rows ≤ MOST_COLOURS }
     ensures { result ≡ clut_size sent.now }
 {
-    // The head has 6 bytes, the CLUT 2, and each entry in the full range 6.
-    8 + 6 * sent.rows.len() as u32
+    segments::clut_size(sent.rows.len()) as u32
 }
 
 /// The bytes of the object of a cue.
@@ -136,13 +128,5 @@ fn object_size(script: &Script, kept: &BlockLookup<'_>, epoch: &Epoch, place: u3
         cue.picture,
         region.depth,
     );
-    made_even((13 + sizes.top + sizes.bottom) as u32)
-}
-
-/// An odd number and one more; an even number as it is.
-fn made_even(size: u32) -> u32
-    requires { size ≤ 2 ^ 30 }
-    ensures { result ≡ made_even size }
-{
-    size + size % 2
+    segments::object_size(sizes.top as usize, sizes.bottom as usize) as u32
 }

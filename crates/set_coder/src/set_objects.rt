@@ -1,13 +1,14 @@
 ghost use Rattle.std.specs.Prelude.{◌≡◌, ℕ, ◌+◌, ◌≤◌, ◌++◌, List, length, All, OnOk};
 ghost use Rattle.std.specs.List.{flat_map};
 ghost use Rattle.cue_list.specs.declared.limits.TheConstants.{MOST_CUES};
+ghost use Rattle.segments.specs.Sizes.{object_size};
 ghost use Rattle.stream_syntax.specs.FieldBlocks.{AreFieldBlocks, DrawsPicture};
 ghost use Rattle.stream_syntax.specs.SegmentTests.{AreBlocks};
 ghost use Rattle.stream_syntax.specs.Segments.{SegmentValue, spelled, IsWritable};
 ghost use Rattle.page_epoch.specs.Sendable.{HasCue};
 ghost use Rattle.set_coder.specs.Private.BothBlocks.{AreBothBlocks};
 ghost use Rattle.set_coder.specs.SetSegments.{object_segment, IsObjectOf, AreObjectsOf};
-ghost use Rattle.set_coder.specs.SetSizes.{made_even, IsObjectSize, AreObjectSizes};
+ghost use Rattle.set_coder.specs.SetSizes.{IsObjectSize, AreObjectSizes};
 ghost use Rattle.set_coder.specs.Private.Usable.{AreDrawable};
 ghost use Rattle.set_coder.specs.KeptBlocks.{AreCoded};
 ghost use Rattle.sub_base.specs.declared.load.TheConstants.{UNIT_ROOM};
@@ -115,7 +116,7 @@ fn append_blocks(
     field: &mut Vec<u8>,
 ) -> Result<(), NoMemory>
     requires blocks { AreBlocks top.now bottom.now }
-    requires short { made_even (13 + length top.now + length bottom.now) ≤ UNIT_ROOM }
+    requires short { object_size (length top.now) (length bottom.now) ≤ UNIT_ROOM }
     ensures fits { IsWritable page (object_segment object see_through top.now bottom.now) }
     ensures bytes { OnOk result
         (field.new.items ≡ field.old.items

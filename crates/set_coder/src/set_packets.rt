@@ -4,8 +4,8 @@ ghost use Rattle.pixel_codes.specs.Lists.{Extends};
 ghost use Rattle.stream_syntax.specs.Segments.{SegmentValue, spelled};
 ghost use Rattle.page_epoch.specs.Sendable.{IsSendable};
 ghost use Rattle.set_coder.specs.KeptBlocks.{AreCoded};
-ghost use Rattle.set_coder.specs.SetSegments.{AreSetSegments, AreSetPackets};
-ghost use Rattle.set_coder.specs.SetSizes.{AreUnitSizes, FitsPackets};
+ghost use Rattle.set_coder.specs.SetSegments.{AreSetSegments};
+ghost use Rattle.set_coder.specs.SetSizes.{FitsPackets, IsSetAppended};
 ghost use Rattle.set_coder.specs.Private.UnitParts.{AreUnitParts, part_packet};
 
 use crate::coded_picture::{BlockLookup, KeptBlocks};
@@ -33,9 +33,7 @@ pub fn write_set(
     requires sendable { IsSendable script.now set.now }
     requires fits { FitsPackets script.now set.now }
     ensures packets { OnOk result
-        ((packets : List (List ℕ)) × (out.new.items ≡ out.old.items ++ concat packets)
-        × AreSetPackets script.now page set.now packets
-        × AreUnitSizes script.now set.now (map length packets)) }
+        (IsSetAppended script.now page set.now out.old.items out.new.items) }
     ensures kept { OnErr result (out.new.items ≡ out.old.items) }
 {
     write_with(&BlockLookup::nothing(), script, set, page, out)
@@ -54,9 +52,7 @@ impl KeptBlocks {
         requires sendable { IsSendable script.now set.now }
         requires fits { FitsPackets script.now set.now }
         ensures packets { OnOk result
-            ((packets : List (List ℕ)) × (out.new.items ≡ out.old.items ++ concat packets)
-            × AreSetPackets script.now page set.now packets
-            × AreUnitSizes script.now set.now (map length packets)) }
+            (IsSetAppended script.now page set.now out.old.items out.new.items) }
         ensures kept { OnErr result (out.new.items ≡ out.old.items) }
     {
         write_with(&self.lookup(), script, set, page, out)
@@ -75,9 +71,7 @@ fn write_with(
     requires sendable { IsSendable script.now set.now }
     requires fits { FitsPackets script.now set.now }
     ensures packets { OnOk result
-        ((packets : List (List ℕ)) × (out.new.items ≡ out.old.items ++ concat packets)
-        × AreSetPackets script.now page set.now packets
-        × AreUnitSizes script.now set.now (map length packets)) }
+        (IsSetAppended script.now page set.now out.old.items out.new.items) }
     ensures kept { OnErr result (out.new.items ≡ out.old.items) }
 {
     let alloc = *out.allocator();

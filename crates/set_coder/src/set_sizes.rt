@@ -3,9 +3,8 @@ ghost use Rattle.cue_list.specs.declared.limits.TheConstants.{MOST_REGIONS};
 ghost use Rattle.pes_packets.specs.Units.{IsSegmentLength, AreUnitLengths};
 ghost use Rattle.page_epoch.specs.Sendable.{IsSendable, IsSendableRegion};
 ghost use Rattle.set_coder.specs.KeptBlocks.{AreCoded};
-ghost use Rattle.set_coder.specs.SetSizes.{sent_painting, AreUnitSizes, IsSetSize, IsLongestSegment, IsPaintedIn, IsSetLoad};
+ghost use Rattle.set_coder.specs.SetSizes.{sent_painting, AreUnitSizes, IsSetSize, IsLongestSegment, IsLoadAnswer, IsPaintedIn};
 ghost use Rattle.set_coder.specs.Private.Measuring.{IsMeasured, CanTake};
-ghost use Rattle.sub_base.specs.declared.load.WriteLoad.{WriteLoad as WriteLoadValue};
 
 use crate::coded_picture::{BlockLookup, KeptBlocks};
 use crate::named::{epoch_of, epoch_region};
@@ -40,18 +39,7 @@ pub fn size_of(script: &Script, set: &PlannedSet) -> u64
 /// together, the ticks that painting its regions takes, and the bytes of its longest segment.
 pub fn load_of(alloc: Global, script: &Script, set: &PlannedSet) -> Result<WriteLoad, NoMemory>
     requires { IsSendable script.now set.now }
-    ensures load { IfOk result (λ load. IsSetLoad script.now set.now load) }
-
-    // No other load is that of the set.
-    ensures only { IfOk result
-        (λ load. (other : WriteLoadValue) → IsSetLoad script.now set.now other
-        → load ≡ other) }
-
-    // What a schedule asks of a load.
-    ensures some { IfOk result (λ load. 1 ≤ load.load.size) }
-    ensures each { IfOk result (λ load. All (λ unit. 17 ≤ unit) load.units) }
-    ensures early { IfOk result (λ load. load.load.pts < 2 ^ 34) }
-    ensures short { IfOk result (λ load. load.load.painted ≤ 274877906944) }
+    ensures { IfOk result (IsLoadAnswer script.now set.now) }
 {
     load_with(alloc, &BlockLookup::nothing(), script, set)
 }
@@ -61,14 +49,7 @@ impl KeptBlocks {
     pub fn load_of(&self, script: &Script, set: &PlannedSet) -> Result<WriteLoad, NoMemory>
         requires kept { AreCoded script.now.pictures self.now.coded.items }
         requires set { IsSendable script.now set.now }
-        ensures load { IfOk result (λ load. IsSetLoad script.now set.now load) }
-        ensures only { IfOk result
-            (λ load. (other : WriteLoadValue) → IsSetLoad script.now set.now other
-            → load ≡ other) }
-        ensures some { IfOk result (λ load. 1 ≤ load.load.size) }
-        ensures each { IfOk result (λ load. All (λ unit. 17 ≤ unit) load.units) }
-        ensures early { IfOk result (λ load. load.load.pts < 2 ^ 34) }
-        ensures short { IfOk result (λ load. load.load.painted ≤ 274877906944) }
+        ensures { IfOk result (IsLoadAnswer script.now set.now) }
     {
         load_with(*self.coded.allocator(), &self.lookup(), script, set)
     }
@@ -83,14 +64,7 @@ pub(crate) fn load_with(
 ) -> Result<WriteLoad, NoMemory>
     requires kept { AreCoded script.now.pictures kept.now.coded.now }
     requires set { IsSendable script.now set.now }
-    ensures load { IfOk result (λ load. IsSetLoad script.now set.now load) }
-    ensures only { IfOk result
-        (λ load. (other : WriteLoadValue) → IsSetLoad script.now set.now other
-        → load ≡ other) }
-    ensures some { IfOk result (λ load. 1 ≤ load.load.size) }
-    ensures each { IfOk result (λ load. All (λ unit. 17 ≤ unit) load.units) }
-    ensures early { IfOk result (λ load. load.load.pts < 2 ^ 34) }
-    ensures short { IfOk result (λ load. load.load.painted ≤ 274877906944) }
+    ensures { IfOk result (IsLoadAnswer script.now set.now) }
 {
     let measured = measure(alloc, kept, script, set)?;
     Ok(WriteLoad {

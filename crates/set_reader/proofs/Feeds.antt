@@ -9,9 +9,9 @@ use Rattle.ts_packets.specs.Demuxing.{Demuxing, GoesOn}
 use Rattle.decoder_model.specs.Arrivals.{Arrival, arrivals_at, arrivals_of, packets_taken, ends_too_long}
 use Rattle.decoder_model.specs.PacketArrivals.{PacketArrival, is_dropped, makes_ready, packet_arrival, run_before, unit_ended}
 use Rattle.decoder_model.specs.Sets.{Delivery, runs_of, sets_in}
-use Rattle.display_sets.specs.Gathered.{ReadySet}
+use Rattle.display_sets.specs.Gathered.{Gathered, ReadySet, ready_sets}
 use Rattle.display_sets.specs.Standing as sets
-use Rattle.display_sets.specs.Standing.{IsFirst}
+use Rattle.display_sets.specs.Standing.{AreReady, IsFirst}
 use Rattle.display_sets.specs.declared.hand.UnitEnd.{UnitEnd}
 use Rattle.display_sets.proofs.PacketLaws.{arrivals_grow, ended_packets, none_arrived, sets_of_packets, taken_more}
 use Rattle.set_reader.specs.Collecting.{Collecting, IsCollecting, IsSameReader, Stands, sets_read}
@@ -28,6 +28,17 @@ nothing_fed collecting demux stands = record {
   sets = subst (λ (arrivals : List Arrival). sets.Stands arrivals false [] collecting.sets)
       (sym (none_arrived collecting.sets.coded collecting.demux.pid collecting.sets.pages)) stands;
 }
+
+no_sets : (sets : List ReadySet) → AreReady [] sets → sets ≡ []
+no_sets [] are = refl
+no_sets (set ∷ sets) are = absurd are
+
+-- nothing is ready
+pub none_at_first : (gathered : Gathered) → sets.Stands [] false [] gathered → ready_sets gathered ≡ []
+none_at_first gathered stands =
+    no_sets (ready_sets gathered)
+    (subst (λ (waiting : List (Delivery (List ℕ))). AreReady waiting (ready_sets gathered)) (sym stands.sets)
+    stands.are_ready)
 
 -- ---- one more packet
 

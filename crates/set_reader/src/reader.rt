@@ -75,6 +75,7 @@ impl SetReader {
         ensures pid { IfOk result (λ reader. reader.demux.pid ≡ pid) }
         ensures pages { IfOk result (λ reader. reader.sets.pages ≡ pages) }
         ensures coded { IfOk result (λ reader. reader.sets.coded ≡ coded) }
+        ensures none { IfOk result (λ reader. ready_sets reader.sets ≡ []) }
     {
         Ok(SetReader {
             demux: Demux::make(alloc, pid, u64::from(coded))?,
@@ -134,6 +135,7 @@ impl SetReader {
     /// read, the bytes of its units, and the bytes of its segments or why it is refused.
     pub fn ready(&self) -> Option<Ready<'_>>
         ensures first { option_map lent result ≡ first_ready (ready_sets self.now.sets) }
+        ensures none { result ≡ None → ready_sets self.now.sets ≡ [] }
         ensures timely { ForSome result (λ ready. ready.time < 2 ^ 33) }
         ensures small { ForSome result (λ ready. IsSmall self.now.sets.coded ready.size) }
         ensures within { ForSome result

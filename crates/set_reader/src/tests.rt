@@ -22,8 +22,8 @@ fn packet_of(counter: u8) -> [u8; 188] {
     packet
 }
 
-/// A set is ready with its segments until it is given; a packet of a scrambled unit behind a missing
-/// one means two losses; and one without a sync byte is not taken.
+/// A set is ready with its segments until it is given; a packet of a scrambled unit behind a
+/// missing one means two losses; and one without a sync byte is not taken.
 #[test]
 fn what_comes_of_packets(rt: HostRuntime) -> Result<(), Fail> {
     let mut reader = SetReader::make(rt.alloc(), 256, Pages::only(1), 24_576)?;

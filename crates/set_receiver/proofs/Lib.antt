@@ -4,3 +4,5 @@ pub mod Loads
 pub mod TakenSets
 -- What the receiver stands for once a set was taken.
 pub mod Takes
+-- What was taken from the receiver, as it is read.
+pub mod PastLaws

@@ -78,7 +78,8 @@ ready_whole set bytes (whole time size segments) one content (time_is, size_is, 
     (readings, reads, is) = (
       readings,
       bytes_read segments readings bytes
-          (subst (AreBytes segments) (let e = sym own_is ∙ content in let same : own ≡ bytes = cc in same) are) reads,
+          (subst (AreBytes segments) (let e = sym own_is ∙ content in let same : own ≡ bytes = cc in same) are)
+          reads,
       is ∙ ap (λ (n : ℕ). whole n size readings) (sym time_is)
           ∙ ap (λ (n : ℕ). whole set.time n readings) (sym size_is),
     )

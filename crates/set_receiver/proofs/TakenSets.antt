@@ -1,17 +1,12 @@
--- Sets that are taken, and losses, are read one by one, and before the first packet none is ready.
-use Rattle.std.proofs.Common.{◌≡◌, ◌∙◌, ℕ, zero, suc, ◌+◌, Bool, false, List, [], ◌∷◌, ◌++◌, reverse, append-nil, append_assoc, refl, sym, ap, subst, arith}
+-- Sets that are taken, and losses, are read one by one.
+use Rattle.std.proofs.Common.{◌≡◌, ◌∙◌, ℕ, zero, suc, ◌+◌, Bool, List, [], ◌∷◌, ◌++◌, reverse, append-nil, append_assoc, refl, sym, ap, subst, arith}
 use Rattle.std.proofs.lemmas.List.{reverse-append}
-use Rattle.decoder_model.specs.Arrivals.{Arrival, arrivals_of}
 use Rattle.decoder_model.specs.Readings.{AreDeliveriesRead, IsDeliveryRead, Reading}
 use Rattle.decoder_model.specs.Received.{HasReceived}
-use Rattle.decoder_model.specs.Sets.{Delivery, lost, runs_of, sets_in}
-use Rattle.display_sets.specs.Gathered.{ReadySet, ready_sets}
-use Rattle.display_sets.specs.Standing.{AreReady}
-use Rattle.display_sets.proofs.PacketLaws.{none_arrived}
+use Rattle.decoder_model.specs.Sets.{Delivery, lost}
 use Rattle.page_core.specs.Memory as cores
 use Rattle.page_core.specs.Memory.{IsSameReceiver, Memory}
-use Rattle.set_reader.specs.Collecting as readers
-use Rattle.set_reader.specs.Collecting.{Collecting, losses}
+use Rattle.set_reader.specs.Collecting.{losses}
 use Rattle.set_receiver.specs.Receiving.{AreLosses, Holds, Loses, Reception, sets_received}
 
 -- ---- readings of what comes next
@@ -150,21 +145,3 @@ same_core a b c one other = record {
   page = other.page ∙ one.page;
   anchor = other.anchor ∙ one.anchor;
 }
-
--- ---- before the first packet
-
-no_sets : (sets : List ReadySet) → AreReady [] sets → sets ≡ []
-no_sets [] are = refl
-no_sets (set ∷ sets) are = absurd are
-
--- nothing is ready
-pub none_at_first : (collecting : Collecting) → readers.Stands false [] [] collecting
-    → ready_sets collecting.sets ≡ []
-none_at_first collecting stands =
-    let coded = collecting.sets.coded in
-    let none : sets_in coded false (runs_of (arrivals_of coded collecting.demux.pid collecting.sets.pages [])) ≡ [] =
-    ap (λ (arrivals : List Arrival). sets_in coded false (runs_of arrivals))
-    (none_arrived coded collecting.demux.pid collecting.sets.pages) in
-    no_sets (ready_sets collecting.sets)
-    (subst (λ (waiting : List (Delivery (List ℕ))). AreReady waiting (ready_sets collecting.sets))
-    (sym stands.sets.sets ∙ none) stands.sets.are_ready)

@@ -5,6 +5,7 @@ ghost use Rattle.std.specs.Prelude.{◌≡◌};
 use crate::losing::lose;
 use crate::taking::take;
 use decoder_model::Pages;
+use display_sets::Ready;
 use page_core::{Core, SetEnd};
 use set_reader::{Arrival, SetReader};
 use std::alloc::Global;
@@ -51,8 +52,11 @@ impl SetReceiver {
     ghost use Rattle.decoder_model.specs.Sets.{Delivery};
     ghost use Rattle.decoder_model.specs.declared.set_end.SetEnd.TheVariants.{Shown};
     ghost use Rattle.display_sets.specs.Gathered.{first_ready, ready_sets, sets_behind};
+    ghost use Rattle.display_sets.specs.Lent.{lent};
+    ghost use Rattle.display_sets.specs.Standing.{IsFirst};
     ghost use Rattle.set_reader.specs.Arrived.{arrival_value};
     ghost use Rattle.set_receiver.specs.Receiving.{AreLosses, IsNext, IsSame, Stands};
+    ghost use Rattle.sub_base.specs.declared.profile.TheConstants.{LARGEST_BUFFER};
     ghost use Rattle.set_receiver.specs.Receiving.{reception, sets_received, set_time};
 
     /// A receiver of a profile, for a PID and these pages, that was fed nothing. Lifted times begin
@@ -71,6 +75,7 @@ impl SetReceiver {
         ensures made { IfOk result (λ receiver. reception receiver
             ≡ record { profile = profile.now; pid = pid; pages = pages; anchor = anchor }) }
         ensures page { IfOk result (λ receiver. receiver.core.page ≡ pages.composition) }
+        ensures none { IfOk result (λ receiver. ready_sets receiver.collecting.sets ≡ []) }
     {
         Ok(SetReceiver {
             reader: SetReader::make(alloc, pid, pages, profile.coded as u32)?,
@@ -105,6 +110,7 @@ impl SetReceiver {
             → self.new.collecting.arrival ≡ packet_arrival (reception self.old).profile.coded
             (reception self.old).pid (reception self.old).pages fed packet.now) }
         ensures load { self.new.load ≡ self.old.load }
+        ensures page { self.new.core.page ≡ self.old.core.page }
         ensures same { IsSame self.old self.new }
     {
         let came = self.reader.feed(packet)?;
@@ -120,6 +126,7 @@ impl SetReceiver {
         ensures core { self.new.core ≡ self.old.core }
         ensures arrival { self.new.collecting.arrival ≡ self.old.collecting.arrival }
         ensures load { self.new.load ≡ self.old.load }
+        ensures page { self.new.core.page ≡ self.old.core.page }
         ensures same { IsSame self.old self.new }
     {
         self.reader.finish();
@@ -143,6 +150,19 @@ impl SetReceiver {
     {
         let ready = self.reader.ready()?;
         Some(ready.time)
+    }
+
+    /// The set that is ready, with the bytes of its segments, or why it is refused.
+    pub fn ready_set(&self) -> Option<Ready<'_>>
+        ensures first { option_map lent result
+            ≡ first_ready (ready_sets self.now.collecting.sets) }
+        ensures delivery { (fed : List (List ℕ)) (ended : Bool)
+            (given : List (Delivery (List ℕ)))
+            → Stands ended fed given self.now
+            → IsFirst (sets_received (reception self.now) ended fed) given
+            (option_map lent result) }
+    {
+        self.reader.ready()
     }
 
     /// The lifted time of the set that is ready. `None` exactly where none is ready, or where it
@@ -193,6 +213,7 @@ impl SetReceiver {
             ≡ sets_behind (ready_sets self.old.collecting.sets) }
         ensures known { result ≡ Shown → self.new.core.known ≡ true }
         ensures arrival { self.new.collecting.arrival ≡ self.old.collecting.arrival }
+        ensures page { self.new.core.page ≡ self.old.core.page }
         ensures same { IsSame self.old self.new }
     {
         match self.reader.ready() {
@@ -211,7 +232,7 @@ impl SetReceiver {
     pub fn load(&self) -> SetLoad
         ensures load { result ≡ self.now.load }
         ensures pts { result.pts < 2 ^ 62 }
-        ensures size { (reception self.now).profile.coded ≤ 2 ^ 18 → result.size < 2 ^ 62 }
+        ensures size { (reception self.now).profile.coded ≤ LARGEST_BUFFER → result.size < 2 ^ 62 }
         ensures painted { result.painted < 2 ^ 62 }
     {
         self.load

@@ -22,7 +22,19 @@ fn packet_of(counter: u8) -> [u8; 188] {
     packet
 }
 
-/// A set is shown and has its load; one at the same time is not later; and with the end of the stream
+/// What becomes of the set that a packet makes ready, where one was not ready before and is then.
+fn end_with(receiver: &mut SetReceiver, packet: &[u8; 188]) -> Option<SetEnd> {
+    if receiver.ready().is_some() {
+        return None;
+    }
+    receiver.feed(packet).ok()?;
+    match receiver.ready() {
+        None => None,
+        Some(_) => Some(receiver.take()),
+    }
+}
+
+/// A set is shown, and has its segments and its load; one at the same time is not later; and
 /// nothing is left.
 #[test]
 fn what_becomes_of_sets(rt: HostRuntime) -> Result<(), Fail> {
@@ -33,15 +45,13 @@ fn what_becomes_of_sets(rt: HostRuntime) -> Result<(), Fail> {
         size: 31,
         painted: 0,
     };
-    for (counter, end) in [(0, SetEnd::Shown), (2, SetEnd::NotLater { last: 90_000 })] {
-        assert!(rt; receiver.feed(&packet_of(counter)).is_ok());
-        assert_eq!(rt; receiver.ready(), Some(90_000));
-        assert_eq!(rt; receiver.take(), end);
-        assert_eq!(rt; receiver.load(), load);
-        assert_eq!(rt; receiver.ready(), None);
-    }
-    receiver.finish();
+    assert_eq!(rt; end_with(&mut receiver, &packet_of(0)), Some(SetEnd::Shown));
+    assert_eq!(rt; receiver.load(), load);
+    let late = SetEnd::NotLater { last: 90_000 };
+    assert_eq!(rt; end_with(&mut receiver, &packet_of(2)), Some(late));
+    assert_eq!(rt; receiver.load(), load);
     assert_eq!(rt; receiver.ready_at(), None);
+    assert!(rt; receiver.ready_set().is_none());
     assert_eq!(rt; receiver.core().free_nodes(), profile.nodes);
     Ok(())
 }

@@ -11,4 +11,5 @@ pub mod RegionViews
 pub mod Lists
 pub mod NeighbourPages
 pub mod CarriedSets
+pub mod FallingTimes
 pub mod PlannedSets

@@ -17,3 +17,4 @@ pub mod SetDepths
 pub mod SetNodes
 pub mod FaultFree
 pub mod ComesBack
+pub mod NumberAgain

@@ -1,8 +1,10 @@
 -- The calls that the packets of a stream give to a receiver's buffers, packet by packet, and the levels that they mean.
 pub mod BroughtPieces
+pub mod RunsInHand
 pub mod SetsInHand
 pub mod EnteredSlots
 pub mod CallsOfPieces
+pub mod PiecePackets
 pub mod PieceSteps
 pub mod CallsOfPackets
 pub mod EarlyPackets

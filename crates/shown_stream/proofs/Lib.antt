@@ -3,3 +3,4 @@ pub mod Late
 pub mod Lost
 pub mod Shown
 pub mod Calls
+pub mod OneStream

@@ -2,7 +2,6 @@
 pub mod WrittenSets
 pub mod BlockSizes
 pub mod UnitSizes
-pub mod RisingSlots
 pub mod ScheduledLevels
 pub mod SetPackets
 pub mod CompiledSets

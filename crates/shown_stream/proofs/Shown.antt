@@ -8,6 +8,8 @@ pub mod HeldSets
 pub mod EnteredRuns
 pub mod RunViews
 pub mod EnteredTimes
+pub mod SentShown
+pub mod SentEntered
 pub mod CompiledShown
 pub mod PlannedRegions
 pub mod OneView

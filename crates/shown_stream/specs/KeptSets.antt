@@ -14,15 +14,15 @@ abbrev pub IsFromEntry : Option SentSet → ℕ → Type 0
 IsFromEntry None time = ⊥
 IsFromEntry (Some entry) time = entry.time ≤ time
 
--- among the sets that a receiver has got, the latest first, is one of the plan, at its own time: it is shown from the
--- entry set on, and else it is shown or waits
-pub record IsKept (profile : Profile) (anchor : ℕ) (entry : Option SentSet) (past : List (Delivery Reading))
+-- among the sets that a receiver has got, the latest first, is this set of the plan, at its own time: it is shown where
+-- its time is one of those that are asked for, and else it is shown or waits
+pub record IsKept (profile : Profile) (anchor : ℕ) (IsShownAt : ℕ → Type 0) (past : List (Delivery Reading))
     (set : PlannedSet) : Type 0 where
   pub later : List (Delivery Reading)
   pub delivery : Delivery Reading
   pub before : List (Delivery Reading)
   pub placed : past ≡ later ++ delivery ∷ before
   pub lifted : lifted_time anchor before delivery ≡ Some set.pts
-  pub shown : IsFromEntry entry set.pts → verdict_of profile anchor before delivery ≡ Some Shown
+  pub shown : IsShownAt set.pts → verdict_of profile anchor before delivery ≡ Some Shown
   pub kept : (verdict_of profile anchor before delivery ≡ Some Shown)
       ⊎ (verdict_of profile anchor before delivery ≡ Some Waiting)

@@ -5,3 +5,4 @@ pub mod HoldsWhole
 pub mod KeptSets
 pub mod Entered
 pub mod StaysWithin
+pub mod SentPlan

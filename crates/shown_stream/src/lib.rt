@@ -1,5 +1,6 @@
 //! The packets that a script is compiled to, and what a receiver shows of them: definitions and
-//! laws.
+//! laws. What holds of the sets of a plan wherever they are sent for a receiver's pages is a law of
+//! its own.
 //!
 //! Units that are sent in slots come whole, in order and without a loss, and the display sets of a
 //! plan with them, be they sent in one PES packet or in several. A receiver that enters behind any
@@ -9,4 +10,4 @@
 
 mod laws;
 
-pub use laws::one_view_is_shown;
+pub use laws::{one_stream, one_view_is_shown, sent_plan_is_entered};

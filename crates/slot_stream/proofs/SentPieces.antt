@@ -8,7 +8,7 @@ use Rattle.std.proofs.lemmas.Bool.Decides.{nat_tests}
 use Rattle.stream_syntax.specs.Cutting.{HasCounter, IsCut, IsUnbroken, IsGapless}
 use Rattle.stream_syntax.specs.TransportPackets.{null_packet, pid_of, counter_of, packet_fault}
 use Rattle.stream_syntax.specs.Units.{is_payload, last_counter, Next, Again, Missing, succession}
-use Rattle.decoder_model.proofs.SentSets.{all-append}
+use Rattle.decoder_model.proofs.Lists.{all-append}
 use Rattle.ts_packets.proofs.UnitLemmas.{counter_push}
 use Rattle.ts_packets.proofs.WrittenPackets.{SaysWhatWasWritten, written_says, null_is_taken}
 use Rattle.slot_stream.specs.SlotStream.{Piece, packet_of, IsPiece}

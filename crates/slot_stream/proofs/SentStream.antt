@@ -6,7 +6,7 @@ use Rattle.std.proofs.lemmas.Bool.Decides.{nat_tests}
 use Rattle.std.proofs.lemmas.List.{length-take, length-take-le, drop-drop}
 use Rattle.stream_syntax.specs.Cutting.{IsUnit, HasCounter}
 use Rattle.stream_syntax.specs.Units.{last_counter}
-use Rattle.decoder_model.proofs.SentSets.{all-append}
+use Rattle.decoder_model.proofs.Lists.{all-append}
 use Rattle.decoder_model.proofs.SentUnits.{AreSent}
 use Rattle.slot_stream.specs.SlotStream.{Piece, piece_count, piece_of, pieces_of, all_pieces, IsPiece}
 use Rattle.slot_stream.proofs.LaidPackets.{laid, behind}

@@ -1,13 +1,11 @@
 ghost use Rattle.std.specs.Prelude.{◌≡◌, ℕ, List, ◌++◌, ◌*◌, ◌<◌, ◌≤◌, length, take, drop, OnOk, All};
 ghost use Rattle.slot_stream.specs.SlotStream.{IsPiece, all_pieces, pieces_of, piece_of, piece_count};
 ghost use Rattle.slot_stream.specs.UnitBytes.{AreUnitsOf};
+ghost use Rattle.stream_syntax.specs.declared.wire.TheConstants.{PAYLOAD_LENGTH};
 
 use crate::piece::Piece;
 use stream_syntax::PAYLOAD_LENGTH;
 use sub_base::NoMemory;
-
-/// The most bytes of a piece.
-const PIECE: usize = PAYLOAD_LENGTH;
 
 /// Puts the pieces of units of these lengths, which stand one after the other, behind the others.
 pub fn push_units<'a>(
@@ -37,7 +35,7 @@ fn push_pieces<'a>(unit: &'a [u8], pieces: &mut Vec<Piece<'a>>) -> Result<(), No
     ensures pieces { OnOk result (pieces.new.items ≡ pieces.old.items ++ pieces_of unit.now) }
     ensures each { All IsPiece pieces.new.items }
 {
-    for number in 0..unit.len().div_ceil(PIECE) {
+    for number in 0..unit.len().div_ceil(PAYLOAD_LENGTH) {
         pieces.push(piece(unit, number))?;
     }
     Ok(())
@@ -58,11 +56,11 @@ fn piece(unit: &[u8], number: usize) -> Piece<'_>
 /// The bytes of the piece of a unit at that place.
 fn chunk(unit: &[u8], number: usize) -> &[u8]
     requires { number < piece_count unit.now }
-    ensures chunk { result.now ≡ take 184 (drop (184 * number) unit.now) }
+    ensures chunk { result.now ≡ take PAYLOAD_LENGTH (drop (PAYLOAD_LENGTH * number) unit.now) }
     ensures some { 1 ≤ length result.now }
-    ensures fits { length result.now ≤ 184 }
+    ensures fits { length result.now ≤ PAYLOAD_LENGTH }
 {
-    let start = PIECE * number;
-    let end = (start + PIECE).min(unit.len());
+    let start = PAYLOAD_LENGTH * number;
+    let end = (start + PAYLOAD_LENGTH).min(unit.len());
     &unit[start..end]
 }

@@ -21,7 +21,7 @@ fn packet_at(
     slots: &[u64],
     next: usize,
     slot: u64,
-    packet: &mut [u8; 188],
+    packet: &mut [u8; PACKET_LENGTH],
 ) -> usize
     requires each { All IsPiece pieces.now }
     requires pairs { length slots.now ≡ length pieces.now }
@@ -44,7 +44,12 @@ fn packet_at(
 }
 
 /// Makes the packet of a piece, the one of that number among all pieces.
-fn send(packetiser: &mut Packetiser, piece: &Piece<'_>, number: usize, packet: &mut [u8; 188])
+fn send(
+    packetiser: &mut Packetiser,
+    piece: &Piece<'_>,
+    number: usize,
+    packet: &mut [u8; PACKET_LENGTH],
+)
     requires piece { IsPiece piece.now }
     requires counter { packetiser.old.counter ≡ number % 16 }
     ensures packet { packet.new ≡ packet_of packetiser.old.pid number piece.now }

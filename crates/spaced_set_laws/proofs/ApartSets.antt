@@ -1,18 +1,17 @@
 -- Small sets that are shown far apart are spaced, in each profile in which packets are sent.
-use Rattle.std.proofs.Common.{◌≡◌, ◌∙◌, ℕ, zero, suc, ◌+◌, ◌*◌, ◌<◌, ◌≤◌, List, [], ◌∷◌, length, map, sum, refl, ap, sym, subst, arith, add-one}
-use Rattle.std.specs.Prelude.{slice_index, slice_index_or, All, IsSome}
+use Rattle.std.proofs.Common.{◌≡◌, ◌∙◌, ℕ, zero, suc, ◌+◌, ◌*◌, ◌<◌, ◌≤◌, List, [], ◌∷◌, length, map, sum, refl, ap, sym, arith, add-one}
+use Rattle.std.specs.Prelude.{slice_index, slice_index_or, All}
 use Rattle.std.specs.List.{AllZip}
 use Rattle.std.proofs.Math.Nat.{mul-le-mul}
 use Rattle.std.proofs.lemmas.List.{get_or-map, length-map}
 use Rattle.std.proofs.lemmas.List.Elements.{All-get_or}
 use Rattle.std.proofs.lemmas.List.Sums.{sum_by-cons}
 use Rattle.sub_base.specs.Pace.{IsSending, pace_of}
-use Rattle.sub_base.specs.Profile.{profile_of}
 use Rattle.sub_base.specs.declared.load.WriteLoad.{WriteLoad}
 use Rattle.sub_base.specs.declared.pace.Pace.{Pace}
 use Rattle.sub_base.specs.declared.profile.Profile.{Profile}
-use Rattle.sub_base.specs.declared.profile.ProfileName.{ProfileName}
-use Rattle.sub_base.specs.declared.profile.ProfileName.TheVariants.{Sd, Hd, Wide, Large}
+use Rattle.sub_base.specs.declared.profile.TheConstants.{LONGEST_STEP}
+use Rattle.sub_base.proofs.ProfileLaws.{is_profile, is_step}
 use Rattle.schedule.specs.declared.fault.ScheduleFault.{ScheduleFault}
 use Rattle.schedule.specs.declared.fault.ScheduleFault.TheVariants.{Memory}
 use Rattle.schedule.specs.Packets.{no_load, load_of, longest_of, size_of, packets_of, payloads_of}
@@ -44,13 +43,14 @@ pub record AsksLittle (loads : List WriteLoad) (pace : Pace) (i : ℕ) : Type 0 
 
 -- no small set asks more
 little : (loads : List WriteLoad) (pace : Pace) (i : ℕ) → All IsLoad loads → All IsSmall loads
-    → pace.step ≤ 705
+    → pace.step ≤ LONGEST_STEP
     → i < length loads → AsksLittle loads pace i
 little loads pace i each small step below =
     let is = load_at loads i each below in
     let one : IsSmall (slice_index_or loads i no_load) = All-get_or IsSmall loads i no_load below small in
     let few = few_packets (slice_index_or loads i no_load).units one.one (omega (arith, one.size, is.size)) in
-    let steps : pace.step * (packets_of loads i + 1) ≤ 705 * 12 = mul-le-mul {m₂ = 12} step (omega (arith, few)) in
+    let steps : pace.step * (packets_of loads i + 1) ≤ LONGEST_STEP * 12 =
+    mul-le-mul {m₂ = 12} step (omega (arith, few)) in
     record {
       bytes = omega (arith, one.size, is.size);
       longest = one.longest;
@@ -96,7 +96,7 @@ time_between loads times origin (suc i) are apart below =
 -- small sets that are shown far apart are spaced
 pub small_spaced : (loads : List WriteLoad) (times : List ℕ) (pace : Pace) → All IsLoad loads → All IsSmall loads
     → map (λ load. load.load.pts) loads ≡ times → AreApart pace.origin times → 1 ≤ pace.step
-    → pace.step ≤ 705
+    → pace.step ≤ LONGEST_STEP
     → 2000 ≤ pace.coded → AreSpaced loads pace
 small_spaced loads times pace each small are apart some step coded =
     record {
@@ -109,32 +109,17 @@ small_spaced loads times pace each small are apart some step coded =
           omega (arith, (little loads pace i each small step below).ticks, between.0, between.1);
     }
 
--- a step of 705 ticks at most, and room for 2,000 bytes
-pub record IsUsual (profile : Profile) : Type 0 where
-  pub some : 1 ≤ (pace_of 0 profile).step
-  pub step : (pace_of 0 profile).step ≤ 705
-  pub coded : 2000 ≤ profile.coded
-
--- each such profile has one
-usual : (profile : Profile) → IsSending profile → IsUsual profile
-usual profile sending =
-    subst IsUsual (sym sending.0.1) (by sending.0.0 (subst (λ (p : Profile). IsSome p.step) sending.0.1 sending.1))
-  where
-    by : (name : ProfileName) → IsSome (profile_of name).step → IsUsual (profile_of name)
-    by Sd some = record { some = omega arith; step = omega arith; coded = omega arith }
-    by Hd some = record { some = omega arith; step = omega arith; coded = omega arith }
-    by Wide none = absurd (grind (arith, none))
-    by Large some = record { some = omega arith; step = omega arith; coded = omega arith }
-
--- in such a profile they are spaced
+-- in a profile in which packets are sent they are spaced
 pub spaced_in_profile : (loads : List WriteLoad) (times : List ℕ) (origin : ℕ) (profile : Profile)
     → IsSending profile
     → All IsLoad loads → All IsSmall loads → map (λ load. load.load.pts) loads ≡ times
     → AreApart origin times
     → AreSpaced loads (pace_of origin profile)
 spaced_in_profile loads times origin profile sending each small are apart =
-    let is = usual profile sending in
-    small_spaced loads times (pace_of origin profile) each small are apart is.some is.step is.coded
+    let step = is_step profile sending in
+    let room = (is_profile profile sending.0.0 sending.0.1).coded.0 in
+    small_spaced loads times (pace_of origin profile) each small are apart (omega (arith, step.0)) step.1
+    (omega (arith, room))
 
 -- and their schedule is not refused
 pub never_refused : (loads : List WriteLoad) (times : List ℕ) (origin : ℕ) (profile : Profile)

@@ -1,4 +1,5 @@
 pub mod ListLaws
 pub mod NumberLaws
 pub mod PictureLaws
+pub mod ProfileLaws
 pub mod TransferSteps

@@ -4,7 +4,8 @@ use Rattle.sub_base.specs.declared.load.SetLoad.{SetLoad}
 use Rattle.sub_base.specs.declared.pace.Pace.{Pace}
 use Rattle.sub_base.specs.declared.profile.Profile.{Profile}
 use Rattle.sub_base.specs.declared.profile.ProfileName.{ProfileName}
-use Rattle.sub_base.specs.Profile.{profile_of}
+use Rattle.sub_base.specs.declared.profile.TheConstants.{LARGEST_BUFFER}
+use Rattle.sub_base.specs.Profile.{profile_of, IsStep}
 
 -- one of the profiles, and one with a step: packets are sent in it
 abbrev pub IsSending : Profile → Type 0
@@ -33,6 +34,6 @@ left_by tick done bytes = if nat_le done tick then bytes else 0
 
 -- the numbers of a profile with a step, and an origin below 2^62
 pub record IsSound (pace : Pace) : Type 0 where
-  pub step : (90 ≤ pace.step) × (pace.step ≤ 705)
-  pub coded : pace.coded ≤ 262144
+  pub step : IsStep pace.step
+  pub coded : pace.coded ≤ LARGEST_BUFFER
   pub origin : pace.origin < 2 ^ 62

@@ -38,7 +38,9 @@ pub use items::Items;
 pub use load::{SetLoad, UNIT_ROOM, WriteLoad};
 pub use number::{decimal_number, number_in};
 pub use pace::{Pace, SECOND};
-pub use profile::{Profile, ProfileName};
+pub use profile::{
+    LARGEST_BUFFER, LONGEST_STEP, Profile, ProfileName, SHORTEST_STEP, every_profile,
+};
 pub use status::{FaultName, ToolStatus, Which};
 pub use transfer::{Sink, Source, read_all, write_whole};
 pub use words::Words;

@@ -1,5 +1,15 @@
 ghost use Rattle.std.specs.Prelude.{◌≡◌};
-ghost use Rattle.sub_base.specs.Profile.{profile_of};
+ghost use Rattle.sub_base.specs.Profile.{IsProfile, profile_of};
+ghost use Rattle.sub_base.specs.declared.profile.ProfileName.{ProfileName};
+
+/// The bytes of the largest coded data buffer of a profile.
+pub const LARGEST_BUFFER: u64 = 262_144;
+
+/// The shortest time from one packet's slot to the next in a profile, in ticks of 90 kHz.
+pub const SHORTEST_STEP: u64 = 90;
+
+/// The longest time from one packet's slot to the next in a profile, in ticks of 90 kHz.
+pub const LONGEST_STEP: u64 = 705;
 
 /// The names of the receiver profiles.
 #[derive(Clone, Copy, Debug, PartialEq, Eq)]
@@ -74,3 +84,8 @@ impl Profile {
         }
     }
 }
+
+/// What holds of every profile: laws that need no more hold of a further one.
+pub fn every_profile()
+    ensures { (name : ProfileName) → IsProfile (profile_of name) }
+{}

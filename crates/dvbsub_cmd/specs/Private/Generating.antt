@@ -8,6 +8,9 @@ use Rattle.decoder_model.specs.Streams.{entered_at, entry_set}
 use Rattle.generated_script.specs.Generated.{IsGenerated}
 use Rattle.packet_source.specs.declared.limits.TheConstants.{STREAM_LIMIT}
 use Rattle.page_epoch.specs.declared.planned_set.PlannedSet.{PlannedSet}
+use Rattle.script_stream.specs.declared.faults.CompileFault.{CompileFault}
+use Rattle.script_stream.specs.declared.faults.CompileFault.TheVariants as compile
+use Rattle.script_stream.specs.declared.faults.SendFault.TheVariants as send
 use Rattle.shown_stream.specs.Compiled.{IsCompiledTo}
 use Rattle.shown_stream.specs.SentSets.{sent_sets}
 use Rattle.shown_stream.specs.Shows.{Shows, ShowsFrom, authored_view}
@@ -24,8 +27,15 @@ use Rattle.dvbsub_cmd.specs.declared.generated.Generated.{Generated}
 pub record IsCompiledFrom (number : ℕ) (profile : ProfileName) (made : Generated) : Type 0 where
   pub generated : IsGenerated number made.script
   pub compiled : IsCompiledTo profile generated_pid generated_page made.script made.stream.written
-  pub sets : compiled.sets ≡ made.sent.plan.sets
-  pub table : compiled.table ≡ made.sent.schedule
+  pub sets : compiled.sets ≡ made.sent.sets
+  pub table : compiled.table ≡ made.sent.table
+
+-- memory is wanting, for the script's stream or for its packets
+abbrev pub IsWanting : CompileFault → Type 0
+IsWanting (compile.Send send.Memory) = Unit {0}
+IsWanting (compile.Send (send.Plan fault)) = ⊥
+IsWanting (compile.Send (send.Schedule row fault)) = ⊥
+IsWanting compile.Write = Unit {0}
 
 -- packets that a receiver takes, no more than a stream may have
 pub record AreTakable (packets : List (List ℕ)) : Type 0 where
@@ -49,23 +59,23 @@ AreShown profile script packets ticks =
 pub record AreOf (profile : ProfileName) (made : Generated) (packets : List (List ℕ))
     (times : List ℕ) : Type 0 where
   pub takable : AreTakable packets
-  pub paired : length made.sent.schedule.dones ≡ length made.sent.plan.sets
-  pub times_are : times ≡ map (λ (set : PlannedSet). set.pts) made.sent.plan.sets
+  pub paired : length made.sent.table.dones ≡ length made.sent.sets
+  pub times_are : times ≡ map (λ (set : PlannedSet). set.pts) made.sent.sets
   pub told : AreTold times
   pub shown : (missed tick : ℕ)
       → ShowsFrom (profile_of profile) generated_pid (only generated_page) 0 (entered_at missed packets)
-      (entry_set missed (sent_sets made.sent.schedule made.sent.plan.sets)) tick (authored_view made.script tick)
+      (entry_set missed (sent_sets made.sent.table made.sent.sets)) tick (authored_view made.script tick)
 
 -- a receiver that gets all packets but the first so many, and the time of its entry set
 abbrev pub entry_behind : Generated → ℕ → Entry
 entry_behind made missed = record {
   missed = missed;
-  time = entry_time (entry_set missed (sent_sets made.sent.schedule made.sent.plan.sets));
+  time = entry_time (entry_set missed (sent_sets made.sent.table made.sent.sets));
 }
 
 -- what is told of the packets in memory
 pub record AreToldAs (profile : ProfileName) (made : Generated) (packets : List (List ℕ)) (told : Told) : Type 0 where
-  pub sets_are : told.sets ≡ length made.sent.plan.sets
+  pub sets_are : told.sets ≡ length made.sent.sets
   pub packets_are : told.packets ≡ length packets
   pub peak_is : IsPeak (profile_of profile) generated_pid (only generated_page) 0 packets told.peak
   pub whole_is : told.whole ≡ entry_behind made 0

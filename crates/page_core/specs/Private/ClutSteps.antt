@@ -37,14 +37,7 @@ with_version clut version (kept ∷ cluts) =
 
 -- with these CLUTs, and so many free nodes
 abbrev pub with_cluts : List KeptClut → ℕ → Composition → Composition
-with_cluts cluts free composition = record {
-  size = composition.size;
-  entries = composition.entries;
-  regions = composition.regions;
-  cluts = cluts;
-  set_entries = composition.set_entries;
-  free = free;
-}
+with_cluts cluts free composition = record composition { cluts = cluts; free = free }
 
 -- the CLUT of that id has that version: it is one that was there, or it is new and takes a node, where one is free
 abbrev pub with_clut : ℕ → ℕ → Composition → Composition
@@ -57,11 +50,7 @@ with_clut clut version composition =
 
 -- one more table entry is set
 abbrev pub with_colour : TableEntry → Composition → Composition
-with_colour entry composition = record {
-  size = composition.size;
-  entries = composition.entries;
-  regions = composition.regions;
-  cluts = composition.cluts;
+with_colour entry composition = record composition {
   set_entries = composition.set_entries ++ entry ∷ [];
   free = composition.free - 1;
 }

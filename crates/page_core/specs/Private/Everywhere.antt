@@ -83,14 +83,7 @@ painted_kept painter kept =
     record { head = kept.head; slot = kept.slot; listings = map (painted_listing painter) kept.listings }
 
 abbrev pub with_all_painted : Painter → Composition → Composition
-with_all_painted painter composition = record {
-  size = composition.size;
-  entries = composition.entries;
-  regions = map (painted_kept painter) composition.regions;
-  cluts = composition.cluts;
-  set_entries = composition.set_entries;
-  free = composition.free;
-}
+with_all_painted painter composition = record composition { regions = map (painted_kept painter) composition.regions }
 
 -- the object has no fault in any region
 abbrev pub HasNoFaults : Painter → Content → Object → PoolOf Node → Type 0

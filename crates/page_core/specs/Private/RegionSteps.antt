@@ -28,14 +28,7 @@ fresh listing = record { listing = listing; painted = None }
 
 -- the composition with other regions, and so many free nodes
 abbrev pub with_regions : List KeptRegion → ℕ → Composition → Composition
-with_regions regions free composition = record {
-  size = composition.size;
-  entries = composition.entries;
-  regions = regions;
-  cluts = composition.cluts;
-  set_entries = composition.set_entries;
-  free = free;
-}
+with_regions regions free composition = record composition { regions = regions; free = free }
 
 -- the regions of that id are changed
 abbrev pub changed_at : ℕ → (KeptRegion → KeptRegion) → KeptRegion → KeptRegion

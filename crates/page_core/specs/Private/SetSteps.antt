@@ -37,18 +37,7 @@ pub record KeepsButObjects (old new : Memory) : Type 0 where
 
 -- the same memory with another composition
 abbrev pub with_composition : Composition → Memory → Memory
-with_composition composition memory = record {
-  profile = memory.profile;
-  page = memory.page;
-  anchor = memory.anchor;
-  last = memory.last;
-  known = memory.known;
-  time_out = memory.time_out;
-  display = memory.display;
-  composition = composition;
-  inks = memory.inks;
-  store = memory.store;
-}
+with_composition composition memory = record memory { composition = composition }
 
 -- nothing but the page's entries and their nodes, its time-out, and that an epoch is known, may have changed
 pub record KeepsButPage (old new : Memory) : Type 0 where

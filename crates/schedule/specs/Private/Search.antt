@@ -3,6 +3,7 @@ use Rattle.std.specs.Prelude.{◌≡◌, ℕ, ◌+◌, ◌-◌, ◌*◌, ◌^◌
 use Rattle.std.specs.List.Sorted.{IsStrictlyIncreasing}
 use Rattle.sub_base.specs.declared.load.WriteLoad.{WriteLoad}
 use Rattle.sub_base.specs.declared.pace.Pace.{Pace}
+use Rattle.sub_base.specs.declared.profile.TheConstants.{LONGEST_STEP}
 use Rattle.schedule.specs.declared.place.Search.{Search}
 use Rattle.schedule.specs.Private.Safe.{AreDone}
 use Rattle.schedule.specs.declared.limits.TheConstants.{SEND_WINDOW}
@@ -49,5 +50,5 @@ pub record IsWithin (loads : List WriteLoad) (pace : Pace) (slots dones : List �
       ≡ sum_below (size_of loads) (length dones) + sum_below (payload_of loads (length dones)) k
   pub level : search.level ≤ pace.coded
   pub gone : AreDone dones search.gone (tick_of pace search.slot)
-  pub near : tick_of pace search.slot ≤ 2 ^ 62 + 705 * (k + 1)
+  pub near : tick_of pace search.slot ≤ 2 ^ 62 + LONGEST_STEP * (k + 1)
   pub stood : HaveStood loads pace slots dones (length dones) k

@@ -119,178 +119,245 @@ shown_cue epoch tick shown first rest are some =
 -- ---- the next named tick
 
 -- the least of some numbers that are above one
-least_above : (from : ℕ) (times : List ℕ) (time : ℕ) → Contains times time → from < time → (least : ℕ)
-    × Contains times least × (from < least) × All (λ other. (other ≤ from) ⊎ (least ≤ other)) times
-least_above from [] time there above = absurd (omega (arith, there.1))
-least_above from (first ∷ times) time there above = by (any times) (grind arith)
+record HasLeastAbove (from : ℕ) (times : List ℕ) : Type 0 where
+  least : ℕ
+  there : Contains times least
+  above : from < least
+  others : All (λ other. (other ≤ from) ⊎ (least ≤ other)) times
+
+-- one number more: it is not above, or the least, or above the least
+low_first : {from : ℕ} {times : List ℕ} (first : ℕ) → first ≤ from → HasLeastAbove from times
+    → HasLeastAbove from (first ∷ times)
+low_first {from} {times} first low found =
+    record {
+      least = found.least;
+      there = Contains-append_right (first ∷ []) times found.least found.there;
+      above = found.above;
+      others = All-cons (λ other. (other ≤ from) ⊎ (found.least ≤ other)) first times (inl low) found.others;
+    }
+
+least_first : {from : ℕ} {times : List ℕ} (first : ℕ) → from < first
+    → All (λ other. (other ≤ from) ⊎ (first ≤ other)) times → HasLeastAbove from (first ∷ times)
+least_first {from} {times} first above others =
+    record {
+      least = first;
+      there = (0, omega arith, refl);
+      above = above;
+      others = All-cons (λ other. (other ≤ from) ⊎ (first ≤ other)) first times (inr (omega arith)) others;
+    }
+
+high_first : {from : ℕ} {times : List ℕ} (first : ℕ) → from < first → HasLeastAbove from times
+    → HasLeastAbove from (first ∷ times)
+high_first {from} {times} first above found = by (grind arith)
   where
-    Found : List ℕ → Type 0
-    Found all = (least : ℕ) × Contains all least × (from < least)
-        × All (λ other. (other ≤ from) ⊎ (least ≤ other)) all
+    lower : first ≤ found.least → {other : ℕ} → (other ≤ from) ⊎ (found.least ≤ other)
+        → (other ≤ from) ⊎ (first ≤ other)
+    lower below (inl low) = inl low
+    lower below (inr up) = inr (omega (arith, below, up))
 
-    -- those behind the first one, of which some are above or none
-    any : (rest : List ℕ) → Found rest ⊎ All (λ other. other ≤ from) rest
-    any [] = inr (All-none _)
-    any (x ∷ rest) = one (any rest) (grind arith)
-      where
-        one : Found rest ⊎ All (λ other. other ≤ from) rest → (x ≤ from) ⊎ (from < x)
-            → Found (x ∷ rest) ⊎ All (λ other. other ≤ from) (x ∷ rest)
-        one (inl found) (inl low) =
-            inl (
-              found.0,
-              Contains-append_right (x ∷ []) rest found.0 found.1,
-              found.2,
-              All-cons
-                  (λ other. (other ≤ from) ⊎ (found.0 ≤ other)) x rest (inl low) found.3,
-            )
-        one (inr none) (inl low) = inr (All-cons (λ other. other ≤ from) x rest low none)
-        one (inr none) (inr high) =
-            inl (
-              x,
-              (0, omega arith, refl),
-              high,
-              All-cons (λ other. (other ≤ from) ⊎ (x ≤ other)) x rest
-                  (inr (omega arith)) (λ k d within. inl (none k d within)),
-            )
-        one (inl found) (inr high) = two (grind arith)
-          where
-            two : (x ≤ found.0) ⊎ (found.0 < x) → Found (x ∷ rest)
-                ⊎ All (λ other. other ≤ from) (x ∷ rest)
-            two (inl lower) =
-                inl (
-                  x,
-                  (0, omega arith, refl),
-                  high,
-                  All-cons (λ other. (other ≤ from) ⊎ (x ≤ other)) x rest
-                      (inr (omega arith)) (λ k d within. (let side = found.3 k d within in lower_side side)),
-                )
-              where
-                lower_side : {other : ℕ} → (other ≤ from) ⊎ (found.0 ≤ other) → (other ≤ from)
-                    ⊎ (x ≤ other)
-                lower_side (inl low) = inl low
-                lower_side (inr up) = inr (omega (arith, lower, up))
-            two (inr upper) =
-                inl (
-                  found.0,
-                  Contains-append_right (x ∷ []) rest found.0 found.1,
-                  found.2,
-                  All-cons
-                      (λ other. (other ≤ from) ⊎ (found.0 ≤ other)) x rest (inr (omega (arith, upper))) found.3,
-                )
+    by : (first ≤ found.least) ⊎ (found.least < first) → HasLeastAbove from (first ∷ times)
+    by (inl below) = least_first first above (λ k d within. lower below (found.others k d within))
+    by (inr beyond) =
+        record {
+          least = found.least;
+          there = Contains-append_right (first ∷ []) times found.least found.there;
+          above = found.above;
+          others = All-cons (λ other. (other ≤ from) ⊎ (found.least ≤ other)) first times
+              (inr (omega (arith, beyond))) found.others;
+        }
 
-    by : Found times ⊎ All (λ other. other ≤ from) times → (first ≤ from) ⊎ (from < first)
-        → Found (first ∷ times)
-    by found side = elim (any (first ∷ times)) [
-      | inl all ↦ all
+some_above : (from : ℕ) (times : List ℕ) → HasLeastAbove from times ⊎ All (λ other. other ≤ from) times
+some_above from [] = inr (All-none _)
+some_above from (first ∷ times) = by (some_above from times) (grind arith)
+  where
+    by : HasLeastAbove from times ⊎ All (λ other. other ≤ from) times → (first ≤ from) ⊎ (from < first)
+        → HasLeastAbove from (first ∷ times) ⊎ All (λ other. other ≤ from) (first ∷ times)
+    by (inl found) (inl low) = inl (low_first first low found)
+    by (inl found) (inr high) = inl (high_first first high found)
+    by (inr none) (inl low) = inr (All-cons (λ other. other ≤ from) first times low none)
+    by (inr none) (inr high) = inl (least_first first high (λ k d within. inl (none k d within)))
+
+least_above : (from : ℕ) (times : List ℕ) (time : ℕ) → Contains times time → from < time
+    → HasLeastAbove from times
+least_above from times time there above =
+    elim (some_above from times) [
+      | inl found ↦ found
       | inr none ↦ absurd
-          (let low = all_at (λ other. other ≤ from) (first ∷ times) time none there in omega (arith, low, above))
+          (let low = all_at (λ other. other ≤ from) times time none there in omega (arith, low, above))
     ]
 
 -- ---- the next set
 
--- where a set's page shows something, a set comes within a refresh and its room
-comes_soon : (script : Script) (profile : Profile) (sets front back : List PlannedSet) (set : PlannedSet) (tick : ℕ)
-    → IsFair script → IsPlan script profile sets → IsLastBy sets front back set tick → set.shown ≢ []
-    → tick < set.pts + script.refresh + REFRESH_ROOM + 1
-comes_soon script profile sets front back set tick is_fair plan last some = by set.shown refl
+-- the last set of a plan by a tick, in its epoch
+record IsLastOf (script : Script) (profile : Profile) (sets front back : List PlannedSet) (set : PlannedSet)
+    (tick : ℕ) : Type 0 where
+  fair : IsFair script
+  plan : IsPlan script profile sets
+  last : IsLastBy sets front back set tick
+  place : IsInEpoch script profile (reverse front) set
+
+-- a set comes within a refresh and its room
+abbrev IsSoon : Script → PlannedSet → ℕ → Type 0
+IsSoon script set tick = tick < set.pts + script.refresh + REFRESH_ROOM + 1
+
+-- a cue of its epoch, and one that is live at its time
+abbrev IsOwnCue : {script : Script} {profile : Profile} {sets front back : List
+    PlannedSet} {set : PlannedSet} {tick : ℕ}
+    → IsLastOf script profile sets front back set tick → Cue → Type 0
+IsOwnCue is cue = Contains is.place.epoch.cues cue
+
+own_epoch : {script : Script} {profile : Profile} {sets front back : List PlannedSet} {set : PlannedSet} {tick : ℕ}
+    (is : IsLastOf script profile sets front back set tick) → Contains script.epochs is.place.epoch
+own_epoch {script = script} {set = set} is =
+    there_at script.epochs set.epoch is.place.epoch is.place.place.found
+
+-- a cue that is live at a time is shown there
+cue_shows : {script : Script} {profile : Profile} {sets front back : List PlannedSet} {set : PlannedSet} {tick : ℕ}
+    (is : IsLastOf script profile sets front back set tick) (cue : Cue) (time : ℕ) → IsOwnCue is cue
+    → is_live time cue ≡ true → shows_cue script.epochs time ≡ true
+cue_shows {script = script} is cue time there live =
+    let epoch_there = own_epoch is in
+    list_any_at (λ (e : Epoch). list_any (is_live time) e.cues) script.epochs epoch_there.0 is.place.epoch
+    epoch_there.1
+    (ap (λ (e : Epoch). list_any (is_live time) e.cues) epoch_there.2
+    ∙ list_any_at (is_live time) is.place.epoch.cues there.0 cue there.1 (ap (is_live time) there.2 ∙ live))
+
+-- the last named tick by the set, so many refreshes before it, and the next one
+record IsBetweenNamed (script : Script) (set : PlannedSet) : Type 0 where
+  before : ℕ
+  next : ℕ
+  count : ℕ
+  neighbours : AreNeighbours (named_ticks script.epochs) before next
+  at : set.pts ≡ before + count * script.refresh
+  next_later : set.pts < next
+
+-- where no set came in that time, a refresh would have
+late_refresh : {script : Script} {profile : Profile} {sets front back : List PlannedSet} {set : PlannedSet} {tick : ℕ}
+    (is : IsLastOf script profile sets front back set tick) (cue : Cue) → IsOwnCue is cue
+    → is_live set.pts cue ≡ true → IsBetweenNamed script set → set.pts + script.refresh + REFRESH_ROOM < tick
+    → IsRefresh script.epochs script.refresh (set.pts + script.refresh)
+late_refresh {script} {profile} {sets} {front} {back} {set} {tick} is cue there live named late =
+    record {
+      last = named.before;
+      next = named.next;
+      times = named.count + 1;
+      neighbours = named.neighbours;
+      shown = cue_shows is cue named.before there live_before;
+      some = omega arith;
+      after = ap (λ (n : ℕ). n + script.refresh) named.at ∙ more named.before named.count script.refresh;
+      room = omega (arith, late, beyond);
+    }
   where
-    times : HasTimes script sets
-    times = has_times script profile sets plan.planned
+    more : (a n r : ℕ) → a + n * r + r ≡ a + (n + 1) * r
+    more a n r = grind arith
 
-    place : IsInEpoch script profile (reverse front) set
-    place = in_epoch script profile sets front back set is_fair plan last.whole
+    beyond : tick < named.next
+    beyond =
+        elim (all_at (λ time. (time ≤ set.pts) ⊎ (tick < time)) (named_ticks script.epochs) named.next
+        (named_still script profile sets front back set tick is.plan is.last) named.neighbours.has_second) [
+          | inl low ↦ absurd (let later = named.next_later in omega (arith, low, later))
+          | inr high ↦ high
+        ]
 
-    epoch : Epoch
-    epoch = place.epoch
-
-    epoch_there : Contains script.epochs epoch
-    epoch_there = there_at script.epochs set.epoch epoch place.place.found
-
-    named : List ℕ
-    named = named_ticks script.epochs
-
-    still : AreStill set.pts tick named
-    still = named_still script profile sets front back set tick plan last
-
-    -- a cue that is live at a tick is shown there
-    cue_shows : (cue : Cue) (time : ℕ) → Contains epoch.cues cue → is_live time cue ≡ true
-        → shows_cue script.epochs time ≡ true
-    cue_shows cue time there live =
-        list_any_at (λ (e : Epoch). list_any (is_live time) e.cues) script.epochs epoch_there.0 epoch epoch_there.1
-        (ap (λ (e : Epoch). list_any (is_live time) e.cues) epoch_there.2
-        ∙ list_any_at (is_live time) epoch.cues there.0 cue there.1 (ap (is_live time) there.2 ∙ live))
-
-    -- with the last named tick by the set, so many refreshes before it, and the next one
-    from_last : (cue : Cue) → Contains epoch.cues cue → is_live set.pts cue ≡ true → (before next count : ℕ)
-        → AreNeighbours named before next → set.pts ≡ before + count * script.refresh → set.pts < next
-        → (tick < set.pts + script.refresh + REFRESH_ROOM + 1) ⊎ (set.pts + script.refresh + REFRESH_ROOM < tick)
-        → tick < set.pts + script.refresh + REFRESH_ROOM + 1
-    from_last cue there live before next count neighbours at next_later (inl soon) = soon
-    from_last cue there live before next count neighbours at next_later (inr late) =
-        (let beyond : tick
-        < next = elim
-        (all_at (λ time. (time ≤ set.pts) ⊎ (tick < time)) named next still neighbours.has_second)
-        [ inl low ↦ absurd (omega (arith, low, next_later)) | inr high ↦ high ] in
-        let started : cue.start ≤ before =
-        elim (all_at (λ time. (time ≤ before) ⊎ (next ≤ time)) named cue.start neighbours.between
-        (piece_there ticks_of script.epochs epoch cue.start epoch_there (cue_start epoch cue there))) [
+    started : cue.start ≤ named.before
+    started =
+        elim (all_at (λ time. (time ≤ named.before) ⊎ (named.next ≤ time)) (named_ticks script.epochs) cue.start
+        named.neighbours.between
+        (piece_there ticks_of script.epochs is.place.epoch cue.start (own_epoch is)
+        (cue_start is.place.epoch cue there))) [
           | inl low ↦ low
           | inr high ↦ absurd
-              (let low : cue.start ≤ set.pts = grind (arith, nat_tests) in omega (arith, low, high, next_later))
-        ] in
+              (let low : cue.start ≤ set.pts = grind (arith, nat_tests) in
+              let later = named.next_later in omega (arith, low, high, later))
+        ]
+
+    live_before : is_live named.before cue ≡ true
+    live_before =
+        (let start = started in
         let ends : set.pts < cue.end = grind (arith, nat_tests) in
-        let live_before : is_live before cue ≡ true =
-        (let low : before ≤ set.pts = omega (arith, at) in grind (arith, nat_tests)) in
-        let time = set.pts + script.refresh in
-        let refresh : IsRefresh script.epochs script.refresh time = record {
-          last = before;
-          next = next;
-          times = count + 1;
-          neighbours = neighbours;
-          shown = cue_shows cue before there live_before;
-          some = omega arith;
-          after = ap (λ (n : ℕ). n + script.refresh) at ∙ more before count script.refresh;
-          room = omega (arith, late, beyond);
-        } in
-        let there_too = times.all time (inr refresh) in
-        let some_refresh = is_fair.often in
-        elim (all_at (λ other. (other ≤ set.pts) ⊎ (tick < other)) (times_of sets) time
-        (times_apart script sets front back set tick times last) there_too) [
+        let at = named.at in
+        let low : named.before ≤ set.pts = omega (arith, at) in grind (arith, nat_tests))
+
+-- so one comes
+from_last : {script : Script} {profile : Profile} {sets front back : List PlannedSet} {set : PlannedSet} {tick : ℕ}
+    (is : IsLastOf script profile sets front back set tick) (cue : Cue) → IsOwnCue is cue
+    → is_live set.pts cue ≡ true → IsBetweenNamed script set → IsSoon script set tick
+from_last {script} {profile} {sets} {front} {back} {set} {tick} is cue there live named = by (grind arith)
+  where
+    times : HasTimes script sets
+    times = has_times script profile sets is.plan.planned
+
+    by : IsSoon script set tick ⊎ (set.pts + script.refresh + REFRESH_ROOM < tick) → IsSoon script set tick
+    by (inl soon) = soon
+    by (inr late) =
+        (let some_refresh = is.fair.often in
+        elim (all_at (λ other. (other ≤ set.pts) ⊎ (tick < other)) (times_of sets) (set.pts + script.refresh)
+        (times_apart script sets front back set tick times is.last)
+        (times.all (set.pts + script.refresh) (inr (late_refresh is cue there live named late)))) [
           | inl low ↦ absurd (omega (arith, low, some_refresh))
           | inr high ↦ absurd (omega (arith, high, late))
         ])
-      where
-        more : (a n r : ℕ) → a + n * r + r ≡ a + (n + 1) * r
-        more a n r = grind arith
 
-    with_cue : (cue : Cue) → Contains epoch.cues cue → is_live set.pts cue ≡ true
-        → IsInstant script.epochs script.refresh set.pts → tick < set.pts + script.refresh + REFRESH_ROOM + 1
-    with_cue cue there live (inl is_named) =
-        (let end_named = piece_there ticks_of script.epochs epoch cue.end epoch_there (cue_end epoch cue there) in
-        let ends : set.pts < cue.end = grind (arith, nat_tests) in
-        let next = least_above set.pts named cue.end end_named ends in
-        let neighbours : AreNeighbours named set.pts next.0 =
-        record { has_first = is_named; has_second = next.1; order = next.2; between = next.3 } in
-        from_last cue there live set.pts next.0 0 neighbours (omega arith) next.2 (grind arith))
-    with_cue cue there live (inr refresh) =
-        (let room = refresh.room in from_last cue there live refresh.last refresh.next refresh.times refresh.neighbours
-        refresh.after (omega (arith, room)) (grind arith))
+-- the set is at a named tick, or a refresh behind one
+between_named : {script : Script} {profile : Profile} {sets front back : List
+    PlannedSet} {set : PlannedSet} {tick : ℕ}
+    (is : IsLastOf script profile sets front back set tick) (cue : Cue) → IsOwnCue is cue
+    → is_live set.pts cue ≡ true → IsInstant script.epochs script.refresh set.pts → IsBetweenNamed script set
+between_named {script = script} {set = set} is cue there live (inl is_named) =
+    let end_named =
+    piece_there ticks_of script.epochs is.place.epoch cue.end (own_epoch is) (cue_end is.place.epoch cue there) in
+    let ends : set.pts < cue.end = grind (arith, nat_tests) in
+    let next = least_above set.pts (named_ticks script.epochs) cue.end end_named ends in
+    record {
+      before = set.pts;
+      next = next.least;
+      count = 0;
+      neighbours = record { has_first = is_named; has_second = next.there; order = next.above; between = next.others };
+      at = omega arith;
+      next_later = next.above;
+    }
+between_named {script = script} {set = set} is cue there live (inr refresh) =
+    record {
+      before = refresh.last;
+      next = refresh.next;
+      count = refresh.times;
+      neighbours = refresh.neighbours;
+      at = refresh.after;
+      next_later = (let room = refresh.room in omega (arith, room));
+    }
 
-    by : (shown : List ℕ) → set.shown ≡ shown → tick < set.pts + script.refresh + REFRESH_ROOM + 1
-    by [] is = absurd (some is)
-    by (first ∷ rest) is =
-        (let cue = shown_cue epoch set.pts set.shown first rest place.planned.carried.shown is in
-        with_cue cue.0 cue.1 cue.2
-        (all_at (IsInstant script.epochs script.refresh) (times_of sets) set.pts times.each
+-- where a set's page shows something, a set comes within a refresh and its room
+comes_soon : {script : Script} {profile : Profile} {sets front back : List PlannedSet} {set : PlannedSet} {tick : ℕ}
+    → IsLastOf script profile sets front back set tick → set.shown ≢ [] → IsSoon script set tick
+comes_soon {script} {profile} {sets} {front} {back} {set} {tick} is some = by set.shown refl
+  where
+    times : HasTimes script sets
+    times = has_times script profile sets is.plan.planned
+
+    instant : IsInstant script.epochs script.refresh set.pts
+    instant =
+        all_at (IsInstant script.epochs script.refresh) (times_of sets) set.pts times.each
         (subst (λ (all : List ℕ). Contains all set.pts)
-        (sym (ap times_of last.whole ∙ map-append (λ (s : PlannedSet). s.pts) front (set ∷ back)))
-        (Contains-append_right (times_of front) (set.pts ∷ times_of back) set.pts (0, omega arith, refl)))))
+        (sym (ap times_of is.last.whole ∙ map-append (λ (s : PlannedSet). s.pts) front (set ∷ back)))
+        (Contains-append_right (times_of front) (set.pts ∷ times_of back) set.pts (0, omega arith, refl)))
+
+    by : (shown : List ℕ) → set.shown ≡ shown → IsSoon script set tick
+    by [] none = absurd (some none)
+    by (first ∷ rest) shown =
+        (let cue = shown_cue is.place.epoch set.pts set.shown first rest is.place.planned.carried.shown shown in
+        from_last is cue.0 cue.1 cue.2 (between_named is cue.0 cue.1 cue.2 instant))
 
 -- so before its time-out
 pub shown_in_time : (script : Script) (profile : Profile) (sets front back : List PlannedSet) (set : PlannedSet)
     (tick : ℕ) → IsFair script → IsPlan script profile sets → IsLastBy sets front back set tick
     → set.shown ≢ [] → tick < set.pts + 90000 * time_out_of script
 shown_in_time script profile sets front back set tick is_fair plan last some =
-    let soon = comes_soon script profile sets front back set tick is_fair plan last some in
+    let soon =
+    comes_soon (record {
+      fair = is_fair;
+      plan = plan;
+      last = last;
+      place = in_epoch script profile sets front back set is_fair plan last.whole;
+    }) some in
     let whole = is_fair.whole in
     omega (arith, soon, whole)

@@ -62,15 +62,20 @@ region_still pictures epoch from tick x y (Some region) order still =
 
 -- ---- one place
 
+-- at a tick from a set's time on, before the next named one, with the page of the set
+record IsSeenAt (script : Script) (set : PlannedSet) (latest : List Content) (page : Page) (tick : ℕ) : Type 0 where
+  found : page_in_set latest ≡ Some page
+  order : set.pts ≤ tick
+  still : AreStill set.pts tick (named_ticks script.epochs)
+
 -- the colour of a place of the receiver's picture is that of the script
-colour_is : (script : Script) (profile : Profile) (past : List PlannedSet) (set : PlannedSet) (latest : List Content)
-    (before : List (List Content)) (kept : RunKeeps script profile past set latest before) (page : Page)
-    (tick x y : ℕ)
-    → page_in_set latest ≡ Some page → set.pts ≤ tick → AreStill set.pts tick (named_ticks script.epochs)
+colour_is : {script : Script} {profile : Profile} {past : List PlannedSet} {set : PlannedSet} {latest : List Content}
+    {before : List (List Content)} {page : Page} {tick : ℕ}
+    (kept : RunKeeps script profile past set latest before) → IsSeenAt script set latest page tick → (x y : ℕ)
     → x < script.width → y < script.height
     → colour_at (scene_in (latest ∷ kept.older) page) x y ≡ authored_at script.epochs script.pictures tick x y
 unfolding colour_at
-colour_is script profile past set latest before kept page tick x y found order still narrow low =
+colour_is {script} {profile} {past} {set} {latest} {before} {page} {tick} kept seen x y narrow low =
     (λ i. cond (is_in_window (window_of (display i)) x y)
     (unwrap_or (last_given (colour_by_entry (taken_of segments) (window_of (display i)) x y) (entries i)) clear)
     clear)
@@ -83,12 +88,12 @@ colour_is script profile past set latest before kept page tick x y found order s
     set.shown)
     ∙ entries_give script epoch set.pts kept.place.earlier segments set.shown x y kept.place.fair kept.keeps
     kept.place.planned.carried.shown kept.place.planned.sendable.shown
-    ∙ sym (region_still script.pictures epoch set.pts tick x y (find (lies_in x y) epoch.regions) order
+    ∙ sym (region_still script.pictures epoch set.pts tick x y (find (lies_in x y) epoch.regions) seen.order
     (still_in script.epochs epoch set.pts tick (there_at script.epochs set.epoch epoch kept.place.place.found)
-    still))
+    seen.still))
     ∙ sym (ap (colour_in_epoch script.pictures tick x y)
     (epoch_is script.epochs tick set.epoch epoch
-    (epoch_still script.epochs set.pts tick set.epoch epoch order still kept.place.place)))
+    (epoch_still script.epochs set.pts tick set.epoch epoch seen.order seen.still kept.place.place)))
   where
     epoch : Epoch
     epoch = kept.place.epoch
@@ -102,7 +107,7 @@ colour_is script profile past set latest before kept page tick x y found order s
     entries : page.entries ≡ map (page_entry_of epoch) set.shown
     entries =
         ap (λ (p : Page). p.entries)
-        (let both : Some page ≡ Some (page_value script epoch set) = sym found
+        (let both : Some page ≡ Some (page_value script epoch set) = sym seen.found
         ∙ page_is script epoch set latest kept.read in let same : page ≡ page_value script epoch set = cc in same)
 
     inside : is_in_window (window_of (display_of_script script)) x y ≡ true
@@ -131,11 +136,11 @@ authored_plane script tick =
           script.epochs script.pictures tick;
     }
 
-plane_is : (script : Script) (profile : Profile) (past : List PlannedSet) (set : PlannedSet) (latest : List Content)
-    (before : List (List Content)) (kept : RunKeeps script profile past set latest before) (page : Page) (tick : ℕ)
-    → page_in_set latest ≡ Some page → set.pts ≤ tick → AreStill set.pts tick (named_ticks script.epochs)
+plane_is : {script : Script} {profile : Profile} {past : List PlannedSet} {set : PlannedSet} {latest : List Content}
+    {before : List (List Content)} {page : Page} {tick : ℕ}
+    (kept : RunKeeps script profile past set latest before) → IsSeenAt script set latest page tick
     → plane_of (scene_in (latest ∷ kept.older) page) ≡ authored_plane script tick
-plane_is script profile past set latest before kept page tick found order still =
+plane_is {script} {profile} {past} {set} {latest} {before} {page} {tick} kept seen =
     (λ i. record {
       width = (display i).width;
       height = (display i).height;
@@ -149,8 +154,7 @@ plane_is script profile past set latest before kept page tick found order still 
     script.height
     (λ j low. row_same (λ x. colour_at scene x (0 + j))
     (λ x. authored_at script.epochs script.pictures tick x (0 + j)) 0 script.width
-    (λ i narrow. colour_is script profile past set latest before kept page tick (0 + i) (0 + j) found order still
-    (omega arith) (omega arith))))
+    (λ i narrow. colour_is kept seen (0 + i) (0 + j) (omega arith) (omega arith))))
   where
     scene : Scene
     scene = scene_in (latest ∷ kept.older) page
@@ -201,7 +205,7 @@ view_of_run script profile past set latest before kept page tick found order sti
         ≡ false = (let n : time_out_of script ≢ 0 = (λ z. omega (arith, z)) in grind (arith, nat_tests)) in some)
 
     same : plane_of (scene_in (latest ∷ kept.older) page) ≡ authored_plane script tick
-    same = plane_is script profile past set latest before kept page tick found order still
+    same = plane_is kept (record { found = found; order = order; still = still })
 
     over : (shown : List ℕ) → set.shown ≡ shown
         → is_over_at tick (Some (set.pts + 90000 * time_out_of script)) ≡ true → page.entries ≡ []

@@ -1,5 +1,5 @@
 -- The pages of sets that follow each other, and their versions.
-use Rattle.std.proofs.Common.{◌≡◌, ◌≢◌, ◌∙◌, ◌⊎◌, inl, inr, ℕ, zero, suc, ◌+◌, ◌-◌, ◌%◌, ◌<◌, ◌≤◌, Bool, true, false, cond, List, [], ◌∷◌, ◌++◌, map, filter, reverse, take, length, get_or, Some, refl, sym, ap, subst, arith}
+use Rattle.std.proofs.Common.{◌≡◌, ◌≢◌, ◌∙◌, ◌⊎◌, inl, inr, ℕ, zero, suc, ◌+◌, ◌%◌, ◌<◌, ◌≤◌, Bool, true, false, cond, List, [], ◌∷◌, ◌++◌, map, filter, reverse, take, length, get_or, Some, refl, sym, ap, subst, arith}
 use Rattle.std.specs.Prelude.{All, slice_get}
 use Rattle.std.specs.List.{AllPairs, Contains}
 use Rattle.std.specs.List.Sorted.{IsNonDecreasingBy}
@@ -15,7 +15,6 @@ use Rattle.sub_base.specs.Picture.{Picture}
 use Rattle.sub_base.specs.declared.profile.Profile.{Profile}
 use Rattle.cue_list.specs.Authored.{live_cues}
 use Rattle.cue_list.specs.Sound.{IsSound, ticks_of}
-use Rattle.cue_list.specs.declared.epoch.Cue.{Cue}
 use Rattle.cue_list.specs.declared.epoch.Epoch.{Epoch}
 use Rattle.cue_list.specs.declared.epoch.Region.{Region}
 use Rattle.cue_list.specs.declared.script.Script.{Script}
@@ -26,9 +25,8 @@ use Rattle.page_epoch.proofs.PageVersions.{version_on}
 use Rattle.page_epoch.proofs.PlanLaws.{reverse_more}
 use Rattle.page_epoch.specs.Instants.{is_named, named_ticks}
 use Rattle.page_epoch.specs.Live.{cue_at, live_places}
-use Rattle.page_epoch.specs.Plan.{IsEpochAt, IsNext, IsPlan}
+use Rattle.page_epoch.specs.Plan.{IsNext, IsPlan}
 use Rattle.page_epoch.specs.SentRegions.{AreShown}
-use Rattle.page_epoch.specs.States.{page_version}
 use Rattle.page_epoch.specs.declared.planned_set.PlannedSet.{PlannedSet}
 use Rattle.set_coder.specs.SetSegments.{page_entry_of}
 use Rattle.shown_plan.specs.NeighbourPages.{AreNeighbourSets, HaveSamePage, IsPageAfter}

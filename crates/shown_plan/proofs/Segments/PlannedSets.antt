@@ -4,7 +4,7 @@ use Rattle.std.specs.Prelude.{All, slice_get, take_while}
 use Rattle.std.specs.List.{AllPairs, Contains}
 use Rattle.std.proofs.lemmas.Bool.Decides.{nat_tests}
 use Rattle.std.proofs.lemmas.List.{map-append, reverse-append, take_all}
-use Rattle.std.proofs.lemmas.List.Elements.{All-head, All-tail, All-cons, Contains-append_left, Contains-append_right, Contains-append_cases, All-contains_itself}
+use Rattle.std.proofs.lemmas.List.Elements.{All-cons, Contains-append_left, Contains-append_right, Contains-append_cases, All-contains_itself}
 use Rattle.std.proofs.lemmas.List.Kept.{AllPairs-from_increasing, AllPairs-cons}
 use Rattle.std.proofs.lemmas.List.Sums.{take_while-cons}
 use Rattle.sub_base.specs.declared.profile.Profile.{Profile}
@@ -22,98 +22,14 @@ use Rattle.page_epoch.specs.States.{is_due, last_entry, state_of, seen_of}
 use Rattle.page_epoch.specs.declared.planned_set.PlannedSet.{PlannedSet}
 use Rattle.shown_plan.proofs.Steps.Fair.{IsFairEpoch, IsFair}
 use Rattle.shown_plan.proofs.Steps.FaultFree.{HasRoom}
-use Rattle.shown_plan.proofs.Steps.KeepsOn.{IsPlannedIn}
+use Rattle.shown_plan.proofs.Steps.KeepsOn.{AreSeen, IsPlannedIn}
+use Rattle.shown_plan.proofs.Segments.FallingTimes.{AreFalling, falling_tail, kept_from, kept_all, kept_falls, kept_late}
 use Rattle.shown_plan.proofs.Segments.Lists.{all_at, piece_there}
 use Rattle.shown_plan.proofs.Segments.SetView.{reverse_map, reversed_all, pairs_append}
 
 -- the presentation times of sets
 abbrev pub times_of : List PlannedSet → List ℕ
 times_of sets = map (λ (set : PlannedSet). set.pts) sets
-
--- each is later than the one before
-abbrev AreFalling : List ℕ → Type 0
-AreFalling times = AllPairs (λ (later before : ℕ). before < later) times
-
--- ---- lists of times
-
-falling_tail : (time : ℕ) (times : List ℕ) → AreFalling (time ∷ times) → AreFalling times
-falling_tail time times falls = λ i j d before within. falls (suc i) (suc j) d (omega arith) (omega arith)
-
--- of falling times those from a start on are the first ones
-kept_from : (start : ℕ) (times : List ℕ) (time : ℕ) → AreFalling times → Contains times time
-    → start ≤ time → Contains (take_while (nat_le start) times) time
-kept_from start [] time falls there late = absurd (omega (arith, there.1))
-kept_from start (first ∷ times) time falls (zero, within, is) late =
-    let here : nat_le start first ≡ true = (let same : first ≡ time = is in grind (arith, nat_tests)) in
-    subst (λ (kept : List ℕ). Contains kept time)
-    (sym (take_while-cons (nat_le start) first times
-    ∙ ap (λ b. cond b (first ∷ take_while (nat_le start) times) []) here)) (0, omega arith, is)
-kept_from start (first ∷ times) time falls (suc k, within, is) late =
-    let less = falls 0 (suc k) time (omega arith) (omega (arith, within)) in
-    let here : nat_le start first ≡ true =
-    (let same : get_or times k time ≡ time = is in grind (arith, nat_tests)) in
-    let rest = kept_from start times time (falling_tail first times falls) (k, omega (arith, within), is) late in
-    subst (λ (kept : List ℕ). Contains kept time)
-    (sym (take_while-cons (nat_le start) first times
-    ∙ ap (λ b. cond b (first ∷ take_while (nat_le start) times) []) here))
-    (suc rest.0, omega (arith, rest.1), rest.2)
-
-kept_all : (P : ℕ → Type 0) (start : ℕ) (times : List ℕ) → All P times
-    → All P (take_while (nat_le start) times)
-kept_all P start [] all = All-none P
-kept_all P start (first ∷ times) all =
-    by (nat_le start first) refl (kept_all P start times (All-tail P first times all))
-  where
-    by : (b : Bool) → nat_le start first ≡ b → All P (take_while (nat_le start) times)
-        → All P (take_while (nat_le start) (first ∷ times))
-    by true e again =
-        subst (All P)
-        (sym (take_while-cons (nat_le start) first times
-        ∙ ap (λ b. cond b (first ∷ take_while (nat_le start) times) []) e))
-        (All-cons P first (take_while (nat_le start) times) (All-head P first times all) again)
-    by false e again =
-        subst (All P)
-        (sym (take_while-cons (nat_le start) first times
-        ∙ ap (λ b. cond b (first ∷ take_while (nat_le start) times) []) e)) (All-none P)
-
-kept_falls : (start : ℕ) (times : List ℕ) → AreFalling times → AreFalling (take_while (nat_le start) times)
-kept_falls start [] falls = falls
-kept_falls start (first ∷ times) falls =
-    by (nat_le start first) refl (kept_falls start times (falling_tail first times falls))
-  where
-    below : All (λ time. time < first) times
-    below = λ k d within. falls 0 (suc k) d (omega arith) (omega arith)
-
-    by : (b : Bool) → nat_le start first ≡ b → AreFalling (take_while (nat_le start) times)
-        → AreFalling (take_while (nat_le start) (first ∷ times))
-    by true e again =
-        subst AreFalling
-        (sym (take_while-cons (nat_le start) first times
-        ∙ ap (λ b. cond b (first ∷ take_while (nat_le start) times) []) e))
-        (AllPairs-cons (λ (later before : ℕ). before < later) first (take_while (nat_le start) times)
-        (kept_all (λ time. time < first) start times below) again)
-    by false e again =
-        subst AreFalling
-        (sym (take_while-cons (nat_le start) first times
-        ∙ ap (λ b. cond b (first ∷ take_while (nat_le start) times) []) e))
-        (λ i j d before within. absurd (omega arith))
-
--- those that are kept are from the start on
-kept_late : (start : ℕ) (times : List ℕ) → All (λ time. start ≤ time) (take_while (nat_le start) times)
-kept_late start [] = All-none _
-kept_late start (first ∷ times) = by (nat_le start first) refl (kept_late start times)
-  where
-    by : (b : Bool) → nat_le start first ≡ b → All (λ time. start ≤ time) (take_while (nat_le start) times)
-        → All (λ time. start ≤ time) (take_while (nat_le start) (first ∷ times))
-    by true e again =
-        subst (All (λ time. start ≤ time))
-        (sym (take_while-cons (nat_le start) first times
-        ∙ ap (λ b. cond b (first ∷ take_while (nat_le start) times) []) e))
-        (All-cons (λ time. start ≤ time) first (take_while (nat_le start) times) (grind (arith, nat_tests)) again)
-    by false e again =
-        subst (All (λ time. start ≤ time))
-        (sym (take_while-cons (nat_le start) first times
-        ∙ ap (λ b. cond b (first ∷ take_while (nat_le start) times) []) e)) (All-none _)
 
 -- ---- a set of the plan
 
@@ -277,130 +193,151 @@ there_at [] k x is = absurd (cc)
 there_at (y ∷ xs) zero x is = (0, omega arith, some_same is)
 there_at (y ∷ xs) (suc k) x is = (let rest = there_at xs k x is in (suc rest.0, omega (arith, rest.1), rest.2))
 
-pub in_epoch : (script : Script) (profile : Profile) (sets front back : List PlannedSet) (set : PlannedSet)
-    → IsFair script → IsPlan script profile sets → sets ≡ front ++ set ∷ back
-    → IsInEpoch script profile (reverse front) set
-in_epoch script profile sets front back set is_fair plan whole =
-    record {
-      epoch = epoch;
-      place = next.place;
-      fair = epoch_fair;
-      earlier = earlier;
-      before = refl;
-      planned = record {
-        seen = record { falls = falls; all = seen_all };
-        carried = next.carried;
-        sendable = sendable_in;
-      };
-      room = record { display = plan.display; pixels = pixels; nodes = nodes };
-      first =
-          λ none. first_by none
-          (up_to script sets front back set whole times epoch.start start_there next.place.started);
-      further =
-          λ time more is
-          e. (let late = kept_late epoch.start (times_of (reverse front)) 0 time
-          (subst (λ (all : List ℕ). 0 < length all) (sym is) (omega arith)) in
-          let head : get_or earlier 0 time ≡ time = ap (λ (all : List ℕ). get_or all 0 time) is in
-          let less : get_or earlier 0 time < set.pts =
-          falls 0 1 time (omega arith)
-          (subst (λ (all : List ℕ). 1 < length (set.pts ∷ all)) (sym is) (omega arith)) in
-          let other : (epoch.start == set.pts) ≡ false =
-          (let n : epoch.start < set.pts = omega (arith, late, head, less) in grind (arith, nat_tests)) in
-          not_begun (is_named script.epochs set.pts) (is_due script.refresh set.pts (last_entry (reverse front)))
-          (sym (ap (λ b. state_of b (is_named script.epochs set.pts)
-          (is_due script.refresh set.pts (last_entry (reverse front)))) other) ∙ sym next.state ∙ e));
-    }
+-- a set of the plan of a script, between those before it and those behind it
+record IsSetOf (script : Script) (profile : Profile) (sets front back : List PlannedSet)
+    (set : PlannedSet) : Type 0 where
+  fair : IsFair script
+  plan : IsPlan script profile sets
+  whole : sets ≡ front ++ set ∷ back
+  times : HasTimes script sets
+  next : IsNext script.epochs script.refresh (reverse front) set
+
+-- the instants of its epoch before it, the latest first
+abbrev earlier_of : {script : Script} {profile : Profile} {sets front back : List PlannedSet} {set : PlannedSet}
+    → IsSetOf script profile sets front back set → List ℕ
+earlier_of {front = front} is = take_while (nat_le is.next.epoch.start) (times_of (reverse front))
+
+epoch_there : {script : Script} {profile : Profile} {sets front back : List PlannedSet} {set : PlannedSet}
+    (is : IsSetOf script profile sets front back set) → Contains script.epochs is.next.epoch
+epoch_there {script = script} {set = set} is =
+    there_at script.epochs set.epoch is.next.epoch is.next.place.found
+
+epoch_fair : {script : Script} {profile : Profile} {sets front back : List PlannedSet} {set : PlannedSet}
+    (is : IsSetOf script profile sets front back set)
+    → IsFairEpoch script.width script.height script.pictures is.next.epoch
+epoch_fair {script = script} is =
+    all_at (IsFairEpoch script.width script.height script.pictures) script.epochs is.next.epoch is.fair.epochs
+    (epoch_there is)
+
+-- what it carries is of its epoch
+own_sendable : {script : Script} {profile : Profile} {sets front back : List PlannedSet} {set : PlannedSet}
+    (is : IsSetOf script profile sets front back set) → IsSendableIn is.next.epoch set
+own_sendable {script} {profile} {sets} {front} {back} {set} is =
+    subst (λ (e : Epoch). IsSendableIn e set) (some_same (sym sendable.found ∙ is.next.place.found)) sendable.carried
   where
-    times : HasTimes script sets
-    times = has_times script profile sets plan.planned
-
-    next : IsNext script.epochs script.refresh (reverse front) set
-    next = stands_of (IsNext script.epochs script.refresh) sets front back set whole plan.planned.first.each
-
-    epoch : Epoch
-    epoch = next.epoch
-
-    earlier : List ℕ
-    earlier = take_while (nat_le epoch.start) (times_of (reverse front))
-
     here : Contains sets set
     here =
-        subst (λ (all : List PlannedSet). Contains all set) (sym whole)
+        subst (λ (all : List PlannedSet). Contains all set) (sym is.whole)
         (Contains-append_right front (set ∷ back) set (0, omega arith, refl))
 
-    epoch_there : Contains script.epochs epoch
-    epoch_there = there_at script.epochs set.epoch epoch next.place.found
-
-    epoch_fair : IsFairEpoch script.width script.height script.pictures epoch
-    epoch_fair =
-        all_at (IsFairEpoch script.width script.height script.pictures) script.epochs epoch is_fair.epochs epoch_there
-
     sendable : IsSendable script set
-    sendable = all_at (IsSendable script) sets set (sendable_all script profile sets is_fair.plain plan.planned) here
+    sendable =
+        all_at (IsSendable script) sets set (sendable_all script profile sets is.fair.plain is.plan.planned) here
 
-    sendable_in : IsSendableIn epoch set
-    sendable_in =
-        subst (λ (e : Epoch). IsSendableIn e set) (some_same (sym sendable.found ∙ next.place.found))
-        sendable.carried
+-- the profile has what it needs
+own_room : {script : Script} {profile : Profile} {sets front back : List PlannedSet} {set : PlannedSet}
+    (is : IsSetOf script profile sets front back set) → HasRoom script is.next.epoch set (earlier_of is) profile
+own_room {script} {profile} {sets} {front} {back} {set} is =
+    record {
+      display = is.plan.display;
+      pixels =
+          (let needs : fits.pixels ≡ pixel_need epoch.regions =
+          fits.needs.pixels_are ∙ ap (λ (e : Epoch). pixel_need e.regions) need_epoch in
+          let most = fits.has_pixels in omega (arith, needs, most));
+      nodes =
+          (let needs : fits.nodes ≡ node_need epoch (set.pts ∷ earlier_of is) (length set.shown) =
+          fits.needs.nodes_are
+          ∙ ap (λ (e : Epoch). node_need e (seen_of e.start (reverse front) set.pts) (length set.shown)) need_epoch
+          in
+          let most = fits.has_nodes in omega (arith, needs, most));
+    }
+  where
+    epoch : Epoch
+    epoch = is.next.epoch
 
     fits : Fits script.epochs profile (reverse front) set
-    fits = stands_of (Fits script.epochs profile) sets front back set whole plan.planned.first.fit
+    fits = stands_of (Fits script.epochs profile) sets front back set is.whole is.plan.planned.first.fit
 
     need_epoch : fits.needs.epoch ≡ epoch
-    need_epoch = some_same (sym fits.needs.found ∙ next.place.found)
+    need_epoch = some_same (sym fits.needs.found ∙ is.next.place.found)
 
-    pixels : pixel_need epoch.regions ≤ profile.pixels
-    pixels =
-        (let is : fits.pixels ≡ pixel_need epoch.regions = fits.needs.pixels_are
-        ∙ ap (λ (e : Epoch). pixel_need e.regions) need_epoch in let most = fits.has_pixels in omega
-        (arith, is, most))
+-- the times before it fall, and those of its epoch
+times_fall : {script : Script} {profile : Profile} {sets front back : List PlannedSet} {set : PlannedSet}
+    → IsSetOf script profile sets front back set → AreFalling (set.pts ∷ times_of (reverse front))
+times_fall {script} {profile} {sets} {front} {back} {set} is =
+    past_falls script sets front back set is.whole is.times
 
-    nodes : node_need epoch (set.pts ∷ earlier) (length set.shown) ≤ profile.nodes
-    nodes =
-        (let is : fits.nodes ≡ node_need epoch (set.pts ∷ earlier) (length set.shown) = fits.needs.nodes_are
-        ∙ ap (λ (e : Epoch). node_need e (seen_of e.start (reverse front) set.pts) (length set.shown)) need_epoch in
-        let most = fits.has_nodes in omega (arith, is, most))
+earlier_fall : {script : Script} {profile : Profile} {sets front back : List PlannedSet} {set : PlannedSet}
+    (is : IsSetOf script profile sets front back set) → AreFalling (set.pts ∷ earlier_of is)
+earlier_fall {script} {profile} {sets} {front} {back} {set} is =
+    AllPairs-cons (λ (later before : ℕ). before < later) set.pts (earlier_of is)
+    (kept_all (λ time. time < set.pts) is.next.epoch.start (times_of (reverse front))
+    (λ k d within. times_fall is 0 (suc k) d (omega arith) (omega arith)))
+    (kept_falls is.next.epoch.start (times_of (reverse front))
+    (falling_tail set.pts (times_of (reverse front)) (times_fall is)))
 
-    falling : AreFalling (set.pts ∷ times_of (reverse front))
-    falling = past_falls script sets front back set whole times
+-- a time of the epoch that is not later than the set is the set's, or that of a set of the epoch before it
+is_among : {script : Script} {profile : Profile} {sets front back : List PlannedSet} {set : PlannedSet}
+    (is : IsSetOf script profile sets front back set) (named : ℕ) → Contains (ticks_of is.next.epoch) named
+    → named ≤ set.pts → (named ≡ set.pts) ⊎ Contains (earlier_of is) named
+is_among {script} {profile} {sets} {front} {back} {set} is named there by_then =
+    elim (up_to script sets front back set is.whole is.times named
+    (is.times.all named (inl (piece_there ticks_of script.epochs is.next.epoch named (epoch_there is) there)))
+    by_then) [
+      | inl same ↦ inl same
+      | inr past ↦ inr (kept_from is.next.epoch.start (times_of (reverse front)) named
+          (falling_tail set.pts (times_of (reverse front)) (times_fall is)) past
+          (all_at (λ tick. is.next.epoch.start ≤ tick) (ticks_of is.next.epoch) named (epoch_fair is).from there))
+    ]
 
-    falls : AreFalling (set.pts ∷ earlier)
-    falls =
-        AllPairs-cons (λ (later before : ℕ). before < later) set.pts earlier
-        (kept_all (λ time. time < set.pts) epoch.start (times_of (reverse front))
-        (λ k d within. falling 0 (suc k) d (omega arith) (omega arith)))
-        (kept_falls epoch.start (times_of (reverse front)) (falling_tail set.pts (times_of (reverse front)) falling))
+own_seen : {script : Script} {profile : Profile} {sets front back : List PlannedSet} {set : PlannedSet}
+    (is : IsSetOf script profile sets front back set) → AreSeen is.next.epoch set.pts (earlier_of is)
+own_seen {set = set} is =
+    record {
+      falls = earlier_fall is;
+      all = λ named there by_then. elim (is_among is named there by_then) [
+        | inl same ↦ (0, omega arith, sym same)
+        | inr past ↦ (suc past.0, omega (arith, past.1), past.2)
+      ];
+    }
 
-    named_there : (tick : ℕ) → Contains (ticks_of epoch) tick → Contains (times_of sets) tick
-    named_there tick named = times.all tick (inl (piece_there ticks_of script.epochs epoch tick epoch_there named))
-
-    seen_all : (named : ℕ) → Contains (ticks_of epoch) named → named ≤ set.pts
-        → Contains (set.pts ∷ earlier) named
-    seen_all named there by_then =
-        elim (up_to script sets front back set whole times named (named_there named there) by_then) [
-          | inl same ↦ (0, omega arith, sym same)
-          | inr past ↦
-              (let kept = kept_from epoch.start (times_of (reverse front)) named
-              (falling_tail set.pts (times_of (reverse front)) falling) past
-              (all_at (λ tick. epoch.start ≤ tick) (ticks_of epoch) named epoch_fair.from there) in
-              (suc kept.0, omega (arith, kept.1), kept.2))
-        ]
-
-    start_there : Contains (times_of sets) epoch.start
-    start_there = named_there epoch.start (0, omega arith, refl)
-
-    first_by : earlier ≡ [] → (epoch.start ≡ set.pts) ⊎ Contains (times_of (reverse front)) epoch.start
-        → set.state ≡ ModeChange
-    first_by none (inl same) =
-        next.state
+-- the first set of an epoch is a mode change
+begins_epoch : {script : Script} {profile : Profile} {sets front back : List PlannedSet} {set : PlannedSet}
+    (is : IsSetOf script profile sets front back set) → earlier_of is ≡ [] → set.state ≡ ModeChange
+begins_epoch {script} {profile} {sets} {front} {back} {set} is none =
+    by (is_among is is.next.epoch.start (0, omega arith, refl) is.next.place.started)
+  where
+    by : (is.next.epoch.start ≡ set.pts) ⊎ Contains (earlier_of is) is.next.epoch.start → set.state ≡ ModeChange
+    by (inl same) =
+        is.next.state
         ∙ ap (λ b. state_of b (is_named script.epochs set.pts)
         (is_due script.refresh set.pts (last_entry (reverse front))))
-        (let t : (epoch.start == set.pts) ≡ true = grind (arith, nat_tests) in t)
-    first_by none (inr past) =
-        absurd (let kept = kept_from epoch.start (times_of (reverse front)) epoch.start
-        (falling_tail set.pts (times_of (reverse front)) falling) past (omega arith) in
-        let no : Contains {X = ℕ} [] epoch.start = subst (λ (all : List ℕ). Contains all epoch.start) none kept in
-        omega (arith, no.1))
+        (let t : (is.next.epoch.start == set.pts) ≡ true = grind (arith, nat_tests) in t)
+    by (inr past) =
+        absurd (let no : Contains {X = ℕ} [] is.next.epoch.start =
+        subst (λ (all : List ℕ). Contains all is.next.epoch.start) none past in omega (arith, no.1))
+
+-- and the others are none
+begins_no_epoch : {script : Script} {profile : Profile} {sets front back : List PlannedSet} {set : PlannedSet}
+    (is : IsSetOf script profile sets front back set) (time : ℕ) (more : List ℕ) → earlier_of is ≡ time ∷ more
+    → set.state ≢ ModeChange
+begins_no_epoch {script} {profile} {sets} {front} {back} {set} is time more some e =
+    not_begun (is_named script.epochs set.pts) (is_due script.refresh set.pts (last_entry (reverse front)))
+    (sym (ap (λ b. state_of b (is_named script.epochs set.pts)
+    (is_due script.refresh set.pts (last_entry (reverse front)))) other) ∙ sym is.next.state ∙ e)
+  where
+    late : is.next.epoch.start ≤ get_or (earlier_of is) 0 time
+    late =
+        kept_late is.next.epoch.start (times_of (reverse front)) 0 time
+        (subst (λ (all : List ℕ). 0 < length all) (sym some) (omega arith))
+
+    less : get_or (earlier_of is) 0 time < set.pts
+    less =
+        earlier_fall is 0 1 time (omega arith)
+        (subst (λ (all : List ℕ). 1 < length (set.pts ∷ all)) (sym some) (omega arith))
+
+    other : (is.next.epoch.start == set.pts) ≡ false
+    other = (let n : is.next.epoch.start < set.pts = omega (arith, late, less) in grind (arith, nat_tests))
 
     not_begun : (named due : Bool) → state_of false named due ≡ ModeChange → ⊥
     not_begun named due e = by (not named || due) e
@@ -408,6 +345,32 @@ in_epoch script profile sets front back set is_fair plan whole =
         by : (b : Bool) → cond b Acquisition Normal ≡ ModeChange → ⊥
         by true e = absurd (cc)
         by false e = absurd (cc)
+
+pub in_epoch : (script : Script) (profile : Profile) (sets front back : List PlannedSet) (set : PlannedSet)
+    → IsFair script → IsPlan script profile sets → sets ≡ front ++ set ∷ back
+    → IsInEpoch script profile (reverse front) set
+in_epoch script profile sets front back set is_fair plan whole =
+    record {
+      epoch = is.next.epoch;
+      place = is.next.place;
+      fair = epoch_fair is;
+      earlier = earlier_of is;
+      before = refl;
+      planned = record { seen = own_seen is; carried = is.next.carried; sendable = own_sendable is };
+      room = own_room is;
+      first = begins_epoch is;
+      further = begins_no_epoch is;
+    }
+  where
+    is : IsSetOf script profile sets front back set
+    is =
+        record {
+          fair = is_fair;
+          plan = plan;
+          whole = whole;
+          times = has_times script profile sets plan.planned;
+          next = stands_of (IsNext script.epochs script.refresh) sets front back set whole plan.planned.first.each;
+        }
 
 -- ---- two neighbours
 

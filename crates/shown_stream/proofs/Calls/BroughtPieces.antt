@@ -15,8 +15,8 @@ use Rattle.ts_packets.proofs.AnyCuttingLemmas.{front_waits, unit_is_whole}
 use Rattle.ts_packets.proofs.UnitLemmas.{hand_push, counter_push}
 use Rattle.ts_packets.proofs.WrittenPackets.{SaysWhatWasWritten}
 use Rattle.slot_stream.specs.SlotStream.{Piece, packet_of, IsPiece}
-use Rattle.shown_stream.proofs.Late.LateEntry.{other_part}
 use Rattle.slot_stream.proofs.SentPieces.{IsFree, FollowsOn, says, null_is_no_payload, counter_here}
+use Rattle.sent_sets.proofs.LateEntry.{other_part}
 
 -- behind packets, a packet brings so many bytes, of a unit that it begins or continues, and ends this unit or none; it
 -- means no loss, and leaves that in hand

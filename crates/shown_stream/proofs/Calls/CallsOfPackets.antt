@@ -22,7 +22,8 @@ use Rattle.shown_stream.proofs.Calls.BroughtPieces.{null_brings}
 use Rattle.shown_stream.proofs.Calls.CallsOfPieces.{E, AreUsedUp, Add, one_more, units_in, AreLeft, Piecewise, Position, nothing_left, goes_on, dropped}
 use Rattle.shown_stream.proofs.Calls.EnteredSlots.{no_packet}
 use Rattle.slot_stream.proofs.LaidPackets.{laid, IsAhead}
-use Rattle.shown_stream.proofs.Calls.PieceSteps.{null_more, null_count, piece_step}
+use Rattle.shown_stream.proofs.Calls.PiecePackets.{null_more, null_count}
+use Rattle.shown_stream.proofs.Calls.PieceSteps.{piece_step}
 use Rattle.slot_stream.proofs.SentPieces.{IsFree}
 use Rattle.shown_stream.proofs.Calls.SetsInHand.{plain_piece}
 

@@ -11,7 +11,6 @@ use Rattle.stream_syntax.specs.Cutting.{IsUnit}
 use Rattle.stream_syntax.specs.Units.{event_at, hand_after, last_counter}
 use Rattle.decoder_model.specs.declared.pages.Pages.{Pages}
 use Rattle.decoder_model.specs.PacketArrivals.{packet_arrival}
-use Rattle.decoder_model.proofs.SentSets.{SetUnit, TimedSet, timed, IsTimedSet, IsUnitOf, HaveDifferentTimes}
 use Rattle.scheduled_level_laws.specs.EnteredCalls.{Entry, from_of, heard_load, entered_calls}
 use Rattle.slot_stream.specs.SlotStream.{Piece, all_pieces, IsPiece}
 use Rattle.received_level_laws.specs.StreamCalls.{itself, count_with, calls_of_packet, arrived_in, calls_from}
@@ -20,6 +19,8 @@ use Rattle.slot_stream.proofs.SentPieces.{AreFurther, FollowsOn}
 use Rattle.slot_stream.proofs.SentStream.{first_piece, further_of, its_pieces, its_bytes, its_first, its_further}
 use Rattle.shown_stream.proofs.Sent.SetPackets.{bytes_in}
 use Rattle.shown_stream.proofs.Calls.SetsInHand.{HaveCome, IsPlain, plain_calls}
+use Rattle.sent_sets.proofs.Runs.{HaveDifferentTimes}
+use Rattle.sent_sets.proofs.Units.{SetUnit, TimedSet, timed, IsTimedSet, IsUnitOf}
 
 -- ---- the pieces that are left of a unit
 

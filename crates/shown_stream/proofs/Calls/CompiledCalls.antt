@@ -16,7 +16,6 @@ use Rattle.stream_syntax.specs.TransportPackets.{packet_fault}
 use Rattle.decoder_model.specs.Frames.{only}
 use Rattle.decoder_model.specs.Sets.{sets_of}
 use Rattle.decoder_model.specs.Streams.{entered_at}
-use Rattle.decoder_model.proofs.SentSets.{TimedSet, timed, timed_units, IsTimedSet, IsUnitOf}
 use Rattle.decoder_model.proofs.SentUnits.{all_taken}
 use Rattle.scheduled_level_laws.specs.EnteredCalls.{Entry, entered_calls}
 use Rattle.shown_stream.specs.Compiled.{AreSizedAs, all_units, IsCompiledTo}
@@ -27,14 +26,16 @@ use Rattle.received_level_laws.proofs.PacketCalls.{none_yet}
 use Rattle.received_level_laws.proofs.ToldLaws.{as_many_received}
 use Rattle.shown_stream.proofs.Calls.CallsOfPackets.{used_up}
 use Rattle.shown_stream.proofs.Calls.CallsOfPieces.{AreSentSets, AreLeft, AreUsedUp}
-use Rattle.shown_stream.proofs.Sent.CompiledPackets.{packets_in, ArePackets, as_many, count_pieces}
+use Rattle.shown_stream.proofs.Sent.CompiledPackets.{packets_in, ArePackets}
 use Rattle.shown_stream.proofs.Sent.CompiledSets.{AreSentAs}
 use Rattle.shown_stream.proofs.Calls.LateCalls.{IsSentStream, entry_of, late_calls}
 use Rattle.shown_stream.proofs.Late.LatePlaces.{same_many}
-use Rattle.shown_stream.proofs.Sent.RisingSlots.{rises, slots_rise}
 use Rattle.slot_stream.proofs.SentPieces.{IsFree, none_refused}
 use Rattle.slot_stream.proofs.SentStream.{pieces_are}
 use Rattle.shown_stream.proofs.Sent.SetPackets.{bytes_in, set_bytes}
+use Rattle.sent_sets.proofs.PacketCounts.{as_many, count_pieces}
+use Rattle.sent_sets.proofs.RisingSlots.{rises, slots_rise}
+use Rattle.sent_sets.proofs.Units.{TimedSet, timed, timed_units, IsTimedSet, IsUnitOf}
 
 -- ---- the sets of a compiled stream as they are sent
 

@@ -19,7 +19,6 @@ use Rattle.decoder_model.specs.Readings.{Reading, AreDeliveriesRead}
 use Rattle.decoder_model.specs.Received.{HasReceived}
 use Rattle.decoder_model.specs.Sets.{Delivery, sets_of}
 use Rattle.decoder_model.specs.Streams.{entered_at}
-use Rattle.decoder_model.proofs.SentSets.{TimedSet, size_of_units, delivered, sets_come_whole}
 use Rattle.scheduled_level_laws.specs.EnteredCalls.{Entry, from_of, entered_calls}
 use Rattle.scheduled_level_laws.proofs.EnteredDone.{same_bound}
 use Rattle.scheduled_level_laws.proofs.EnteredSums.{within_slots}
@@ -40,12 +39,15 @@ use Rattle.slot_stream.proofs.LaidPackets.{laid, IsAhead}
 use Rattle.shown_stream.proofs.Calls.LateCalls.{IsSentStream, entry_not_begun}
 use Rattle.shown_stream.proofs.Late.LateCompiled.{IsEnteredLate}
 use Rattle.shown_stream.proofs.Late.LatePlaces.{count_sets}
-use Rattle.shown_stream.proofs.Late.LateSets.{sets_behind, units_behind, apart_behind}
-use Rattle.shown_stream.proofs.Late.LateStream.{entered_late}
 use Rattle.shown_stream.proofs.Calls.ReceivedLoads.{heard_painting, AreAllHeard, all_heard, first_of_all, planned_times, drop_times, calls_of_first, count_calls, read_first}
 use Rattle.slot_stream.proofs.SentPieces.{IsFree}
 use Rattle.shown_stream.proofs.Shown.SetPaintings.{painting_in}
 use Rattle.shown_stream.proofs.Calls.SetsUpTo.{sets_up_to}
+use Rattle.sent_sets.proofs.LateSets.{sets_behind, units_behind, apart_behind}
+use Rattle.sent_sets.proofs.LateStream.{entered_late}
+use Rattle.sent_sets.proofs.SetEnds.{delivered}
+use Rattle.sent_sets.proofs.SetsCome.{sets_come_whole}
+use Rattle.sent_sets.proofs.Units.{TimedSet, size_of_units}
 
 -- ---- the calls of sets
 

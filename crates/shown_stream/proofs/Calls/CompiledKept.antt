@@ -17,7 +17,6 @@ use Rattle.decoder_model.specs.Readings.{Reading, IsDeliveryRead, AreDeliveriesR
 use Rattle.decoder_model.specs.Received.{HasReceived}
 use Rattle.decoder_model.specs.Sets.{Delivery, sets_of}
 use Rattle.decoder_model.specs.Streams.{entered_at}
-use Rattle.decoder_model.proofs.SentSets.{TimedSet, size_of_units, delivered}
 use Rattle.shown_stream.specs.Compiled.{IsCompiledTo, all_units}
 use Rattle.shown_stream.specs.SentSets.{sent_sets, times_from}
 use Rattle.shown_stream.specs.Shows.{IsAnchorOf}
@@ -29,10 +28,12 @@ use Rattle.shown_stream.proofs.Calls.CompiledTimes.{compiled_ahead}
 use Rattle.shown_stream.proofs.Calls.KeptCalls.{AreTimed, IsWholeAt, each_kept}
 use Rattle.shown_stream.proofs.Calls.LateCalls.{units_missed}
 use Rattle.shown_stream.proofs.Late.LatePlaces.{same_many}
-use Rattle.shown_stream.proofs.Late.LateSets.{sets_behind}
 use Rattle.shown_stream.proofs.Sent.PlannedTimes.{pts_of}
 use Rattle.slot_stream.proofs.SentPieces.{IsFree}
 use Rattle.shown_stream.proofs.Calls.SetsUpTo.{sets_up_to, IsTimeOf, first_timed, HaveUnits, timed_from}
+use Rattle.sent_sets.proofs.LateSets.{sets_behind}
+use Rattle.sent_sets.proofs.SetEnds.{delivered}
+use Rattle.sent_sets.proofs.Units.{TimedSet, size_of_units}
 
 have_units : (script : Script) (page : ℕ) (sets : List PlannedSet) (units : List (List (List ℕ)))
     (sent : List TimedSet) → AreSentAs script page sets units sent → HaveUnits units sent

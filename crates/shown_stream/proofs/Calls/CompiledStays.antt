@@ -8,6 +8,7 @@ use Rattle.std.proofs.lemmas.Bool.{cases_lt}
 use Rattle.std.proofs.lemmas.Bool.Decides.{nat_tests}
 use Rattle.std.proofs.lemmas.List.{length-map}
 use Rattle.std.proofs.lemmas.Option.{slice_get_within}
+use Rattle.std.proofs.lemmas.List.Elements.{recursion_from_All}
 use Rattle.sub_base.specs.Pace.{pace_of}
 use Rattle.sub_base.specs.Profile.{profile_of}
 use Rattle.sub_base.specs.declared.load.WriteLoad.{WriteLoad}
@@ -25,7 +26,6 @@ use Rattle.decoder_model.specs.Readings.{AreDeliveriesRead}
 use Rattle.decoder_model.specs.Received.{HasReceived}
 use Rattle.decoder_model.specs.Sets.{Delivery}
 use Rattle.decoder_model.specs.Streams.{is_from, entered_at}
-use Rattle.decoder_model.proofs.SentSets.{have_units}
 use Rattle.scheduled_level_laws.specs.DoneSets.{DoneSet, done_sets, AreDoneNoLater, IsDecodedBy}
 use Rattle.scheduled_level_laws.specs.EnteredCalls.{Entry, is_whole, entered_calls, whole_entry, planned_painting}
 use Rattle.scheduled_level_laws.proofs.EnteredDone.{dones_no_later, set_decoded, all_dones, all_times}
@@ -41,15 +41,18 @@ use Rattle.received_level_laws.specs.StreamCalls.{itself, set_calls, calls_from,
 use Rattle.shown_stream.proofs.Calls.CompiledCalls.{compiled_stream, compiled_entry}
 use Rattle.shown_stream.proofs.Calls.CompiledHeard.{compiled_read, ended_sets, heard_calls, before_slot, packet_inside}
 use Rattle.shown_stream.proofs.Calls.CompiledKept.{cut_units}
-use Rattle.shown_stream.proofs.Sent.CompiledPackets.{packets_in, as_many, ArePackets}
+use Rattle.shown_stream.proofs.Sent.CompiledPackets.{packets_in, ArePackets}
 use Rattle.shown_stream.proofs.Sent.CompiledWithin.{compiled_holds, compiled_is_entry}
 use Rattle.shown_stream.proofs.Calls.LateCalls.{entry_behind}
-use Rattle.shown_stream.proofs.Late.LateCompiled.{have_packets, IsEnteredLate, compiled_late}
-use Rattle.shown_stream.proofs.Late.LatePlaces.{HavePackets, count_sets}
-use Rattle.shown_stream.proofs.Late.LateStream.{passed, pieces_left}
+use Rattle.sent_sets.proofs.SentLate.{have_packets}
+use Rattle.shown_stream.proofs.Late.LateCompiled.{IsEnteredLate, compiled_late}
+use Rattle.shown_stream.proofs.Late.LatePlaces.{count_sets}
 use Rattle.shown_stream.proofs.Sent.PlannedTimes.{pts_of}
 use Rattle.shown_stream.proofs.Calls.ReceivedLoads.{heard_painting, heard_from, heard_most, entry_before, planned_times}
 use Rattle.slot_stream.proofs.SentPieces.{IsFree}
+use Rattle.sent_sets.proofs.LateStream.{passed, pieces_left}
+use Rattle.sent_sets.proofs.PacketCounts.{as_many}
+use Rattle.sent_sets.proofs.SlotPlaces.{HavePackets}
 
 -- ---- the whole stream
 
@@ -89,8 +92,8 @@ whole_entered name pid page script bytes compiled known loads_are =
     in
     ap (λ n. entry_behind n 0 compiled.units) none
     ∙ entry_at_first compiled.units
-    (have_packets script page compiled.sets compiled.units known.sent known.are.are
-    (have_units coded (only page) known.sent known.are.carry.whole))
+    (have_packets compiled.loads compiled.units (recursion_from_All IsLoad compiled.loads compiled.each)
+    compiled.sized)
 
 -- and no set is cut
 none_cut : (name : ProfileName) (pid page : ℕ) (script : Script) (bytes : List ℕ)

@@ -16,15 +16,16 @@ use Rattle.shown_stream.specs.Compiled.{IsCompiledTo}
 use Rattle.shown_stream.specs.SentSets.{sent_sets, times_from}
 use Rattle.shown_stream.specs.Shows.{IsAnchorOf}
 use Rattle.shown_stream.proofs.Calls.CompiledCalls.{compiled_stream, compiled_entry}
-use Rattle.shown_stream.proofs.Sent.CompiledPackets.{ArePackets, as_many}
-use Rattle.shown_stream.proofs.Shown.CompiledShown.{low_origin}
+use Rattle.shown_stream.proofs.Sent.CompiledPackets.{ArePackets}
+use Rattle.shown_stream.proofs.Shown.SentShown.{low_origin}
 use Rattle.shown_stream.proofs.Shown.EnteredTimes.{anchor_suits, near_first, drop_within, drop_rises, found_drop}
-use Rattle.shown_stream.proofs.Late.LateAnchors.{some_from}
 use Rattle.shown_stream.proofs.Calls.LateCalls.{entry_not_begun}
 use Rattle.shown_stream.proofs.Late.LatePlaces.{count_sets}
 use Rattle.shown_stream.proofs.Sent.PlannedTimes.{times_in_span, pts_rise}
 use Rattle.shown_stream.proofs.Shown.ShownSets.{AreAheadOf}
 use Rattle.decoder_model.specs.Frames.{only}
+use Rattle.sent_sets.proofs.PacketCounts.{as_many}
+use Rattle.sent_sets.proofs.SlotPlaces.{some_from}
 
 -- a packet of the entry's set comes
 entry_comes : (name : ProfileName) (pid page : ℕ) (script : Script) (bytes : List ℕ)

@@ -13,7 +13,6 @@ use Rattle.stream_syntax.specs.Cutting.{IsUnit}
 use Rattle.stream_syntax.specs.TransportPackets.{null_packet, packet_fault}
 use Rattle.stream_syntax.specs.Units.{hand_after, last_counter}
 use Rattle.decoder_model.specs.declared.pages.Pages.{Pages}
-use Rattle.decoder_model.proofs.SentSets.{TimedSet, timed, IsTimedSet, IsUnitOf, HaveDifferentTimes}
 use Rattle.ts_packets.proofs.WrittenPackets.{null_is_taken}
 use Rattle.scheduled_level_laws.specs.EnteredCalls.{Entry, from_of}
 use Rattle.scheduled_level_laws.proofs.EnteredSums.{AreSlots, within_slots, rising}
@@ -28,6 +27,8 @@ use Rattle.slot_stream.proofs.SentPieces.{IsFree, AreFurther, FollowsOn, says}
 use Rattle.slot_stream.proofs.SentStream.{its_pieces}
 use Rattle.shown_stream.proofs.Sent.SetPackets.{bytes_in}
 use Rattle.shown_stream.proofs.Calls.SetsInHand.{HaveCome, sets_whole, no_unit_more, plain_piece, count_is}
+use Rattle.sent_sets.proofs.Runs.{HaveDifferentTimes}
+use Rattle.sent_sets.proofs.Units.{TimedSet, timed, IsTimedSet, IsUnitOf}
 
 -- ---- what stands behind the rest of a unit
 

@@ -15,13 +15,13 @@ use Rattle.schedule.proofs.PacketLaws.{payloads}
 use Rattle.schedule.proofs.SumLaws.{sum_below-same, sum_below-zero}
 use Rattle.schedule.specs.Packets.{sum_below, units_of, size_of, packets_of, payload_of, payloads_of}
 use Rattle.decoder_model.specs.declared.pages.Pages.{Pages}
-use Rattle.decoder_model.proofs.SentSets.{SetUnit, TimedSet, timed, size_of_units, IsUnitOf}
 use Rattle.scheduled_level_laws.specs.EnteredCalls.{Entry, from_of}
 use Rattle.slot_stream.specs.SlotStream.{all_pieces, pieces_of}
 use Rattle.shown_stream.proofs.Calls.CallsOfPieces.{IsSentSet, AreSentSets}
 use Rattle.shown_stream.proofs.Calls.LateCalls.{same_lengths, entry_behind}
-use Rattle.shown_stream.proofs.Late.LateSets.{rest_of_set, sets_behind, zip_behind}
 use Rattle.shown_stream.proofs.Sent.SetPackets.{bytes_in, all_bytes}
+use Rattle.sent_sets.proofs.LateSets.{rest_of_set, sets_behind, zip_behind}
+use Rattle.sent_sets.proofs.Units.{SetUnit, TimedSet, timed, size_of_units, IsUnitOf}
 
 -- ---- the bytes of the packets of units
 

@@ -14,13 +14,14 @@ use Rattle.decoder_model.specs.Painting.{painting_by}
 use Rattle.decoder_model.specs.Readings.{Reading, AreDeliveriesRead}
 use Rattle.decoder_model.specs.Sets.{Delivery, whole}
 use Rattle.decoder_model.specs.Verdict.{verdict_of}
-use Rattle.decoder_model.proofs.SentSets.{TimedSet, size_of_units, delivered}
 use Rattle.scheduled_level_laws.specs.EnteredCalls.{Entry, from_of}
 use Rattle.received_level_laws.specs.StreamCalls.{call_by, set_call}
 use Rattle.shown_stream.proofs.Calls.CallsOfPieces.{AreLeft}
 use Rattle.shown_stream.proofs.Sent.PlannedTimes.{pts_of}
 use Rattle.shown_stream.proofs.Shown.SetPaintings.{painting_in, calls_behind}
 use Rattle.shown_stream.proofs.Shown.ShownSets.{IsAheadOf, AreAheadOf, lifted_at}
+use Rattle.sent_sets.proofs.SetEnds.{delivered}
+use Rattle.sent_sets.proofs.Units.{TimedSet, size_of_units}
 
 -- the first of these planned sets are received at these times, in their order
 abbrev pub AreTimed : List PlannedSet → List TimedSet → Type 0

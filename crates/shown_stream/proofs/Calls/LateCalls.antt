@@ -13,7 +13,6 @@ use Rattle.schedule.specs.Packets.{units_of, packets_of, first_packet, payloads_
 use Rattle.schedule.proofs.SumLaws.{sum_below-suc, sum_below-zero}
 use Rattle.stream_syntax.specs.Cutting.{IsUnit}
 use Rattle.decoder_model.specs.declared.pages.Pages.{Pages}
-use Rattle.decoder_model.proofs.SentSets.{TimedSet, timed, IsUnitOf, HaveDifferentTimes}
 use Rattle.decoder_model.proofs.SentUnits.{no_hand}
 use Rattle.scheduled_level_laws.specs.EnteredCalls.{Entry, entered_calls}
 use Rattle.scheduled_level_laws.proofs.EnteredSums.{AreSlots, within_slots}
@@ -23,12 +22,14 @@ use Rattle.shown_stream.proofs.Calls.CallsOfPieces.{AreUsedUp, IsSentSet, AreSen
 use Rattle.shown_stream.proofs.Calls.EarlyPackets.{Begins, Behind, nothing_behind, begins, Early, early_walk}
 use Rattle.shown_stream.proofs.Calls.EnteredSlots.{IsNotBegun, nothing_yet}
 use Rattle.slot_stream.proofs.LaidPackets.{laid, IsAhead}
-use Rattle.shown_stream.proofs.Late.LateSets.{rest_of_set, rest_is_set, zip_behind}
-use Rattle.shown_stream.proofs.Late.LateStream.{no_counter, passed, passed_is, drop-laid, drop_units, pieces_left}
 use Rattle.slot_stream.proofs.SentPieces.{IsFree}
 use Rattle.slot_stream.proofs.SentStream.{its_pieces}
 use Rattle.shown_stream.proofs.Sent.SetPackets.{bytes_in}
 use Rattle.shown_stream.proofs.Calls.SetsInHand.{none_came}
+use Rattle.sent_sets.proofs.LateSets.{rest_of_set, rest_is_set, zip_behind}
+use Rattle.sent_sets.proofs.LateStream.{no_counter, passed, passed_is, drop-laid, drop_units, pieces_left}
+use Rattle.sent_sets.proofs.Runs.{HaveDifferentTimes}
+use Rattle.sent_sets.proofs.Units.{TimedSet, timed, IsUnitOf}
 
 -- ---- the entry
 

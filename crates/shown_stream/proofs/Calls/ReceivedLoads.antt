@@ -24,7 +24,6 @@ use Rattle.decoder_model.specs.Frames.{only}
 use Rattle.decoder_model.specs.Readings.{Reading, AreDeliveriesRead}
 use Rattle.decoder_model.specs.Sets.{Delivery, sets_of}
 use Rattle.decoder_model.specs.Streams.{entered_at}
-use Rattle.decoder_model.proofs.SentSets.{TimedSet, delivered}
 use Rattle.scheduled_level_laws.specs.EnteredCalls.{Entry, planned_painting}
 use Rattle.shown_stream.specs.Compiled.{IsCompiledTo, all_units}
 use Rattle.shown_stream.specs.SentSets.{sent_sets, times_from}
@@ -33,15 +32,17 @@ use Rattle.received_level_laws.specs.StreamCalls.{set_call, set_calls}
 use Rattle.shown_stream.proofs.Calls.CompiledCalls.{compiled_stream, compiled_entry}
 use Rattle.shown_stream.proofs.Calls.CompiledKept.{AreWholeUpTo, cut_units, read_turned}
 use Rattle.shown_stream.proofs.Sent.CompiledPackets.{packets_in, ArePackets}
-use Rattle.shown_stream.proofs.Shown.CompiledShown.{all_turned, ComesInParts, comes_in_parts}
+use Rattle.shown_stream.proofs.Shown.SentShown.{all_turned, ComesInParts, comes_in_parts}
 use Rattle.shown_stream.proofs.Shown.EnteredRuns.{turned, turned_is}
 use Rattle.shown_stream.proofs.Calls.EntrySizes.{count_behind}
-use Rattle.shown_stream.proofs.Late.LateCompiled.{IsEnteredLate}
-use Rattle.shown_stream.proofs.Late.LateSets.{IsRest, none_left, some_left, sets_behind, late_sets, zip_behind}
+use Rattle.shown_stream.proofs.Late.LateCompiled.{IsEnteredLate, compiled_plan}
 use Rattle.reading_laws.proofs.OneReading.{same_past}
 use Rattle.shown_stream.proofs.Sent.PlannedTimes.{pts_of}
 use Rattle.slot_stream.proofs.SentPieces.{IsFree}
 use Rattle.shown_stream.proofs.Shown.SetPaintings.{painting_in, calls_behind, IsPaintedAs}
+use Rattle.sent_sets.proofs.LateSets.{sets_behind, late_sets, zip_behind}
+use Rattle.sent_sets.proofs.SetEnds.{delivered}
+use Rattle.sent_sets.proofs.Units.{TimedSet}
 
 -- ---- paintings
 
@@ -149,11 +150,6 @@ pub record AreAllHeard (name : ProfileName) (pid page : ℕ) (script : Script) (
       ≡ heard_painting compiled.loads first
       ((compiled_entry name pid page script bytes compiled known loads_are missed).set + j)
 
-rest_few : (sent : List TimedSet) (first : ℕ) (rest : List TimedSet) → IsRest sent first rest
-    → length rest ≤ first
-rest_few sent first rest (none_left) = omega arith
-rest_few sent first rest (some_left found some few) = omega arith
-
 -- at most one set is cut, and it stands before the sets that come whole
 pub entry_before : (name : ProfileName) (pid page : ℕ) (script : Script) (bytes : List ℕ) → IsFree pid
     → (compiled : IsCompiledTo name pid page script bytes) (known : ArePackets name pid page script bytes compiled)
@@ -172,7 +168,7 @@ entry_before name pid page script bytes free compiled known loads_are missed lat
       arith,
       count_behind coded (only page) compiled.loads n 0 compiled.units known.sent is.sent,
       late.few,
-      rest_few known.sent late.first late.rest late.is_rest,
+      late.most,
       length-map (sets_behind n known.sent) delivered,
       length-map (late.rest ++ drop late.first known.sent) delivered,
       ap length (sym same ∙ late.come),
@@ -209,8 +205,11 @@ all_heard name pid page script bytes free compiled known loads_are missed anchor
     entry : Entry
     entry = compiled_entry name pid page script bytes compiled known loads_are missed
 
-    parts : ComesInParts name pid page script bytes compiled known.sent missed anchor late
-    parts = comes_in_parts name pid page script bytes compiled known missed anchor suits late
+    parts : ComesInParts profile script compiled.table compiled.sets known.sent late.rest late.first missed anchor
+    parts =
+        comes_in_parts profile pid (only page) script compiled.table compiled.sets
+        (packets_in name pid page script bytes compiled) known.sent
+        (compiled_plan name pid page script bytes free compiled known) missed anchor suits late
 
     past : List (Delivery Reading)
     past = parts.come.past

@@ -13,17 +13,20 @@ use Rattle.stream_syntax.specs.declared.wire.TheConstants.{TIME_ROUND}
 use Rattle.decoder_model.specs.declared.pages.Pages.{Pages}
 use Rattle.decoder_model.specs.Sets.{Delivery, sets_of}
 use Rattle.decoder_model.proofs.Growth.{packets_add}
-use Rattle.decoder_model.proofs.SentSets.{TimedSet, AreUnitsOf, HaveDifferentTimes, delivered, sets_come_whole}
 use Rattle.decoder_model.proofs.SentUnits.{all_taken}
 use Rattle.slot_stream.specs.SlotStream.{all_pieces}
 use Rattle.shown_stream.proofs.Calls.CompiledCalls.{all_drop, all_take}
 use Rattle.shown_stream.proofs.Calls.KeptCalls.{AreTimed}
 use Rattle.slot_stream.proofs.LaidPackets.{laid, IsAhead}
 use Rattle.shown_stream.proofs.Calls.LateCalls.{entry_behind, units_missed}
-use Rattle.shown_stream.proofs.Late.LateSets.{rest_of_set, sets_behind, units_behind, apart_behind}
-use Rattle.shown_stream.proofs.Late.LateStream.{entered_late}
 use Rattle.slot_stream.proofs.SentPieces.{IsFree, none_refused}
 use Rattle.slot_stream.proofs.SentStream.{pieces_are}
+use Rattle.sent_sets.proofs.LateSets.{rest_of_set, sets_behind, units_behind, apart_behind}
+use Rattle.sent_sets.proofs.LateStream.{entered_late}
+use Rattle.sent_sets.proofs.Runs.{HaveDifferentTimes}
+use Rattle.sent_sets.proofs.SetEnds.{delivered}
+use Rattle.sent_sets.proofs.SetsCome.{sets_come_whole}
+use Rattle.sent_sets.proofs.Units.{TimedSet, AreUnitsOf}
 
 -- ---- which sets
 

@@ -1,374 +1,363 @@
--- A compiled stream that is entered late gives all sets whose packets all come, whole; before them at most the later
--- units of a set, which lies before the entry set, is broken, and of which nothing is shown.
-use Rattle.std.proofs.Common.{◌≡◌, ◌∙◌, ℕ, zero, suc, ◌+◌, ◌-◌, ◌<◌, ◌≤◌, inl, inr, Bool, true, false, ◌&&◌, not, cond, List, [], ◌∷◌, ◌++◌, length, map, take, drop, get_or, Some, refl, sym, ap, subst, arith, length-append}
-use Rattle.std.specs.Prelude.{nat_le}
-use Rattle.std.specs.List.{AllByRecursion, list_all, list_any, slice_get}
-use Rattle.std.specs.List.Sorted.{IsStrictlyIncreasing}
-use Rattle.std.proofs.lemmas.Bool.{cases_lt}
-use Rattle.std.proofs.lemmas.Option.{slice_get_within}
+-- The sets of a compiled stream as sets that are sent: their segments count for its page, end with an end segment, and
+-- have the page in the first unit. Entered late, all come whole whose packets all come.
+use Rattle.std.proofs.Common.{◌≡◌, ◌∙◌, ℕ, suc, ◌≤◌, inl, inr, ◌⊎◌, true, false, List, [], ◌∷◌, length, map, drop, Some, refl, sym, ap, subst, arith}
+use Rattle.std.specs.Prelude.{slice_get}
+use Rattle.std.specs.List.{AllByRecursion, AllZip, flat_map, sum_by}
+use Rattle.std.proofs.lemmas.List.{length-map}
+use Rattle.std.proofs.lemmas.List.Elements.{recursion_from_All, All-from_recursion}
+use Rattle.std.proofs.lemmas.List.Sums.{sum_by-cons}
 use Rattle.sub_base.specs.Pace.{pace_of}
 use Rattle.sub_base.specs.Profile.{profile_of}
-use Rattle.sub_base.specs.declared.profile.Profile.{Profile}
+use Rattle.sub_base.specs.declared.load.TheConstants.{UNIT_ROOM}
 use Rattle.sub_base.specs.declared.profile.ProfileName.{ProfileName}
+use Rattle.stream_syntax.specs.Segments.{SegmentValue, spelled, IsWritable}
+use Rattle.pes_packets.specs.Units.{IsOneUnit, IsClosed, AreUnits, IsSharedOut}
+use Rattle.pes_packets.proofs.OneSharing.{units_same}
 use Rattle.cue_list.specs.declared.script.Script.{Script}
-use Rattle.page_epoch.specs.Plan.{IsPlan}
 use Rattle.page_epoch.specs.declared.planned_set.PlannedSet.{PlannedSet}
-use Rattle.schedule.specs.Packets.{first_packet}
-use Rattle.schedule.specs.Slots.{Timetable, slots_of}
-use Rattle.decoder_model.specs.Frames.{only}
-use Rattle.decoder_model.specs.Readings.{Reading, IsDeliveryRead}
-use Rattle.decoder_model.specs.Sets.{Delivery, sets_of}
-use Rattle.decoder_model.specs.Streams.{entered_at, SentSet, is_from, entry_set}
-use Rattle.decoder_model.proofs.SentSets.{TimedSet, delivered, have_units}
-use Rattle.shown_stream.specs.Compiled.{all_units, IsCompiledTo}
-use Rattle.shown_stream.specs.SentSets.{sent_set, sent_from, sent_sets}
-use Rattle.slot_stream.specs.SlotStream.{all_pieces}
-use Rattle.shown_stream.proofs.Sent.CompiledPackets.{packets_in, ArePackets, as_many, count_pieces}
-use Rattle.shown_stream.proofs.Sent.CompiledSets.{IsSentAs, AreSentAs}
-use Rattle.slot_stream.proofs.LaidPackets.{IsAhead}
-use Rattle.shown_stream.proofs.Late.LateAnchors.{pieces_rise, next_piece, some_from}
-use Rattle.shown_stream.proofs.Late.LatePlaces.{HavePackets, same_many, count_units, count_sets, unit_inside, first_of_set, some_bytes, places_from}
-use Rattle.shown_stream.proofs.Late.LateRest.{IsBrokenFirst, rest_comes_first}
-use Rattle.shown_stream.proofs.Late.LateSets.{rest_of_set, units_before, IsRest, none_left, some_left, SetsLeft, sets_left, late_sets}
-use Rattle.shown_stream.proofs.Late.LateStream.{passed, pieces_left, first_number, units_that_come}
-use Rattle.shown_stream.proofs.Shown.PlannedRegions.{planned_well}
-use Rattle.shown_stream.proofs.Sent.RisingSlots.{slots_rise}
+use Rattle.decoder_model.proofs.Lists.{all-append}
+use Rattle.decoder_model.specs.Frames.{is_of_page, only}
+use Rattle.decoder_model.specs.Received.{IsFramed}
 use Rattle.slot_stream.proofs.SentPieces.{IsFree}
-use Rattle.shown_stream.proofs.Sent.SentPlaces.{times_rise}
+use Rattle.set_coder.specs.SetSegments.{segment_bytes}
+use Rattle.sent_sets.specs.RawSets.{RawSet, raw_packet, AreRawPackets, IsSendable, counted_in, EndsLast}
+use Rattle.sent_sets.proofs.FieldFrames.{IsHead, heads_of, framed_by_head}
+use Rattle.sent_sets.proofs.RawUnits.{parts_of_all, raw_size, AreShort, IsRawSent, counted_unit}
+use Rattle.sent_sets.proofs.SentLate.{sent_sets_of}
+use Rattle.sent_sets.proofs.SetEnds.{ended_set, none_behind_end}
+use Rattle.sent_sets.proofs.SetsCome.{all_ended, all_count}
+use Rattle.sent_sets.proofs.Units.{SetUnit, TimedSet, all_segments, IsTimedSet, counted_set, counted_sets}
+use Rattle.sent_sets.proofs.Units as counting
+use Rattle.shown_stream.specs.Compiled.{IsCompiledTo}
+use Rattle.shown_plan.proofs.Segments.ByPlace.{set_is_named}
+use Rattle.shown_stream.specs.SentPlan.{IsWrittenAs, CarriesSet, AreWithoutPage, HasPageFirst}
+use Rattle.shown_stream.proofs.Late.LatePlaces.{have_as_many}
+use Rattle.shown_stream.proofs.Late.LatePlan as plan
+use Rattle.shown_stream.proofs.Late.LatePlan.{IsPlannedUnits, planned_units, IsPlanSent, plan_sent, all_counted}
+use Rattle.shown_stream.proofs.Late.LateRest.{IsPlannedWell, all_written, later_no_page}
+use Rattle.shown_stream.proofs.Late.LateSegments.{IsLater, later_are}
+use Rattle.shown_stream.proofs.Sent.CompiledPackets.{packets_in, ArePackets}
+use Rattle.shown_stream.proofs.Sent.CompiledSets.{its_segments, IsSentAs, AreSentAs}
+use Rattle.shown_stream.proofs.Sent.WrittenSets.{IsKnown, AreKnown, all_known, all_headed, unit_with, same_packet, joined_units, mapped_units, joined_mapped, packets_mapped}
+use Rattle.shown_stream.proofs.Shown.ComingSets.{IsTimedAs}
+use Rattle.shown_stream.proofs.Shown.PlannedRegions.{planned_well}
 
--- ---- a set by its number
+-- ---- units of segments, and of their bytes
 
--- the set of a plan that a set in a receiver is
-record SentNumber (script : Script) (page number : ℕ) (sets : List PlannedSet) (sent : TimedSet) : Type 0 where
-  set : PlannedSet
-  packets : List (List ℕ)
-  found : slice_get sets number ≡ Some set
-  is : IsSentAs script page set packets sent
-
-sent_at : (script : Script) (page number : ℕ) (sets : List PlannedSet) (units : List (List (List ℕ)))
-    (all : List TimedSet) (sent : TimedSet) → AreSentAs script page sets units all
-    → slice_get all number ≡ Some sent
-    → SentNumber script page number sets sent
-sent_at script page number sets units [] sent are found = absurd (cc)
-sent_at script page number [] [] (one ∷ all) sent are found = absurd are
-sent_at script page number [] (packets ∷ units) (one ∷ all) sent are found = absurd are
-sent_at script page number (set ∷ sets) [] (one ∷ all) sent are found = absurd are
-sent_at script page zero (set ∷ sets) (packets ∷ units) (one ∷ all) sent are found =
-    let same : one ≡ sent =
-    cc in record {
-      set = set;
-      packets = packets;
-      found = refl;
-      is = subst (IsSentAs script page set packets) same
-          are.0;
-    }
-sent_at script page (suc number) (set ∷ sets) (packets ∷ units) (one ∷ all) sent are found =
-    let there =
-    sent_at script page number sets units all sent are.1 found in
-    record { set = there.set; packets = there.packets; found = there.found; is = there.is }
-
-pub have_packets : (script : Script) (page : ℕ) (sets : List PlannedSet) (units : List (List (List ℕ)))
-    (sent : List TimedSet) → AreSentAs script page sets units sent
-    → AllByRecursion (λ (one : TimedSet). 1 ≤ length one.units) sent → HavePackets units
-have_packets script page [] [] sent are some = tt
-have_packets script page [] (packets ∷ units) sent are some = absurd are
-have_packets script page (set ∷ sets) [] sent are some = tt
-have_packets script page (set ∷ sets) (packets ∷ units) [] are some = absurd are
-have_packets script page (set ∷ sets) (packets ∷ units) (one ∷ sent) are some = (
-  subst (λ n. 1 ≤ n) (same_many script page set packets one are.0) some.0,
-  have_packets script page sets units
-      sent are.1 some.1,
-)
-
--- ---- times
-
-rise_on : (xs : List ℕ) (n d : ℕ) → IsStrictlyIncreasing xs → n + suc d < length xs
-    → get_or xs n 0 < get_or xs (n + suc d) 0
-rise_on xs n zero rise within = subst (λ (k : ℕ). get_or xs n 0 < get_or xs k 0) (omega arith) (rise n (omega arith))
-rise_on xs n (suc d) rise within =
-    let before = rise_on xs n d rise (omega arith) in
-    let next = rise (n + suc d) (omega arith) in
-    let same : n + suc d + 1 ≡ n + suc (suc d) = omega arith in
-    let last : get_or xs (n + suc d) 0 < get_or xs (n + suc (suc d)) 0 =
-    subst (λ (k : ℕ). get_or xs (n + suc d) 0 < get_or xs k 0) same next in
-    omega arith
-
-abbrev times_in : Timetable → List PlannedSet → List ℕ
-times_in table sets = map (λ (set : SentSet). set.time) (sent_sets table sets)
-
--- the entry set is one of which all packets come
-record FoundEntry (j : ℕ) (table : Timetable) (number : ℕ) (sets : List PlannedSet) (entry : SentSet) : Type 0 where
-  place : ℕ
-  inside : place < length sets
-  from : list_all (λ at. nat_le j at) (slots_of table (number + place)) ≡ true
-  time : get_or (map (λ (set : SentSet). set.time) (sent_from table number sets)) place 0 ≡ entry.time
-
-found_entry : (j : ℕ) (table : Timetable) (number : ℕ) (sets : List PlannedSet) (entry : SentSet)
-    → entry_set j (sent_from table number sets) ≡ Some entry → FoundEntry j table number sets entry
-found_entry j table number [] entry e = absurd (cc)
-found_entry j table number (set ∷ sets) entry e =
-    by (sent_set table number set).is_entry (is_from j (sent_set table number set)) refl e
-    (found_entry j table (number + 1) sets entry)
-  where
-    later : FoundEntry j table (number + 1) sets entry → FoundEntry j table number (set ∷ sets) entry
-    later there =
-        let inside = there.inside in
-        let same : number + suc there.place ≡ number + 1 + there.place = omega arith in
-        record {
-          place = suc there.place;
-          inside = omega arith;
-          from = ap
-              (λ n. list_all (λ at. nat_le j at) (slots_of table n)) same ∙ there.from;
-          time = there.time;
-        }
-
-    by : (begins from : Bool) → is_from j (sent_set table number set) ≡ from
-        → cond (begins && from) (Some (sent_set table number set)) (entry_set j (sent_from table (number + 1) sets))
-        ≡ Some entry
-        → (entry_set j (sent_from table (number + 1) sets) ≡ Some entry
-        → FoundEntry j table (number + 1) sets entry) → FoundEntry j table number (set ∷ sets) entry
-    by true true from e behind =
-        let same : sent_set table number set ≡ entry = cc in
-        record {
-          place = 0;
-          inside = omega arith;
-          from = ap (λ n. list_all (λ at. nat_le j at) (slots_of table n)) (omega arith) ∙ from;
-          time = ap (λ (one : SentSet). one.time) same;
-        }
-    by true false from e behind = later (behind e)
-    by false true from e behind = later (behind e)
-    by false false from e behind = later (behind e)
-
-time_at : (table : Timetable) (number place : ℕ) (sets : List PlannedSet) (set : PlannedSet)
-    → slice_get sets place ≡ Some set
-    → get_or (map (λ (one : SentSet). one.time) (sent_from table number sets)) place 0 ≡ set.pts
-time_at table number place [] set found = absurd (cc)
-time_at table number zero (first ∷ sets) set found =
-    let same : first ≡ set = cc in ap (λ (one : PlannedSet). one.pts) same
-time_at table number (suc place) (first ∷ sets) set found = time_at table (number + 1) place sets set found
-
-length_sent : (table : Timetable) (number : ℕ) (sets : List PlannedSet)
-    → length (map (λ (one : SentSet). one.time) (sent_from table number sets)) ≡ length sets
-length_sent table number [] = refl
-length_sent table number (set ∷ sets) = ap suc (length_sent table (number + 1) sets)
-
--- ---- what comes
-
--- what comes of a set of which the first packets do not: later units of it. They have no page, lie before the entry
--- set, and are broken and clear, as no set comes before them
-pub record IsCutSet (page : ℕ) (script : Script) (table : Timetable) (sets : List PlannedSet) (missed first : ℕ)
-    (rest : TimedSet) : Type 0 where
-  pub number : ℕ
-  pub next : first ≡ suc number
-  pub set : PlannedSet
-  pub found : slice_get sets number ≡ Some set
-  pub packets : List (List ℕ)
-  pub whole : TimedSet
-  pub sent : IsSentAs script page set packets whole
-  pub later : ℕ
-  pub some : 1 ≤ later
-  pub few : later < length whole.units
-  pub is : rest ≡ rest_of_set later whole
-  pub cut : is_from missed (sent_set table number set) ≡ false
-  pub come : list_any (λ at. nat_le missed at) (slots_of table number) ≡ true
-  pub earlier : (entry : SentSet) → entry_set missed (sent_sets table sets) ≡ Some entry → set.pts < entry.time
-  pub broken : (profile : Profile) (anchor : ℕ) (first : Delivery Reading) → IsDeliveryRead (delivered rest) first
-      → IsBrokenFirst profile anchor first
-
--- what a receiver gets of a compiled stream that it enters behind so many packets: all sets whose packets all come, and
--- before them at most the rest of one
-pub record IsEnteredLate (name : ProfileName) (pid page : ℕ) (script : Script) (bytes : List ℕ)
-    (compiled : IsCompiledTo name pid page script bytes) (sent : List TimedSet) (missed : ℕ) : Type 0 where
-  pub first : ℕ
-  pub few : first ≤ length sent
-  pub rest : List TimedSet
-  pub is_rest : IsRest sent first rest
-  pub come : sets_of (profile_of name).coded pid (only page) true
-      (entered_at missed (packets_in name pid page script bytes compiled)) ≡ map delivered (rest ++ drop first sent)
-  pub whole : (i : ℕ) (set : PlannedSet) → i < length compiled.sets
-      → (i < first → is_from missed (sent_set compiled.table i set) ≡ false)
-      × (first ≤ i → is_from missed (sent_set compiled.table i set) ≡ true)
-  pub cut : AllByRecursion (IsCutSet page script compiled.table compiled.sets missed first) rest
-
--- a set of which the first packet does not come lies before the entry set
-before_entry : (script : Script) (profile : Profile) (table : Timetable) (sets : List PlannedSet)
-    (missed first number : ℕ) (set : PlannedSet) → IsPlan script profile sets
-    → slice_get sets number ≡ Some set → number < first
-    → ((i : ℕ) → i < length sets → i < first
-    → list_all (λ at. nat_le missed at) (slots_of table i) ≡ false) → (entry : SentSet)
-    → entry_set missed (sent_sets table sets) ≡ Some entry → set.pts < entry.time
-before_entry script profile table sets missed first number set plan found before none entry is =
-    let there = found_entry missed table 0 sets entry is in
-    let inside = there.inside in
-    elim (cases_lt there.place first) [
-      | inl early ↦
-          let out = none there.place inside early in
-          let in_it : list_all (λ at. nat_le missed at) (slots_of table there.place) ≡ true =
-          ap (λ n. list_all (λ at. nat_le missed at) (slots_of table n)) (omega arith) ∙ there.from in
-          absurd (cc)
-      | inr late ↦
-          let times = times_rise script profile table sets plan in
-          let split : number + suc (there.place - suc number) ≡ there.place = omega arith in
-          let rises =
-          rise_on (times_in table sets) number (there.place - suc number) times
-          (omega (arith, length_sent table 0 sets)) in
-          let low : get_or (times_in table sets) number 0 ≡ set.pts = time_at table 0 number sets set found in
-          let high : get_or (times_in table sets) (number + suc (there.place - suc number)) 0 ≡ entry.time =
-          ap (λ k. get_or (times_in table sets) k 0) split ∙ there.time in
-          omega arith
-    ]
-
--- a set has units, and no more than all
-units_rise : (i : ℕ) (sent : List TimedSet) → AllByRecursion (λ (one : TimedSet). 1 ≤ length one.units) sent
-    → i < length sent → units_before i sent < units_before (suc i) sent
-units_rise i [] some inside = absurd (omega arith)
-units_rise zero (one ∷ sent) some inside = omega (arith, some.0)
-units_rise (suc i) (one ∷ sent) some inside = omega (arith, units_rise i sent some.1 (omega arith))
-
-later_units : (i : ℕ) (units : List (List (List ℕ)))
-    → length (all_units (take i units)) ≤ length (all_units units)
-later_units zero units = omega arith
-later_units (suc i) [] = omega arith
-later_units (suc i) (packets ∷ units) =
+one_mapped : (page : ℕ) (unit : List SegmentValue)
+    → sum_by length (map (spelled page) unit) ≡ sum_by (segment_bytes page) unit
+one_mapped page [] = refl
+one_mapped page (value ∷ unit) =
     omega (
       arith,
-      later_units i units,
-      length-append packets (all_units (take i units)),
-      length-append packets
-          (all_units units),
+      one_mapped page unit,
+      sum_by-cons (λ (bytes : List ℕ). length bytes) (spelled page value) (map (spelled page) unit),
+      sum_by-cons (segment_bytes page) value unit,
     )
+
+is_one_unit : (page : ℕ) (unit : List SegmentValue) → IsOneUnit (segment_bytes page) unit
+    → IsOneUnit length (map (spelled page) unit)
+is_one_unit page unit h = (omega (arith, h.0, length-map unit (spelled page)), by h.1)
+  where
+    by : (length unit ≡ 1) ⊎ (sum_by (segment_bytes page) unit ≤ UNIT_ROOM)
+        → (length (map (spelled page) unit) ≡ 1) ⊎ (sum_by length (map (spelled page) unit) ≤ UNIT_ROOM)
+    by (inl single) = inl (length-map unit (spelled page) ∙ single)
+    by (inr small) = inr (omega (arith, small, one_mapped page unit))
+
+is_closed : (page : ℕ) (unit : List SegmentValue) (units : List (List SegmentValue))
+    → IsClosed (segment_bytes page) unit units → IsClosed length (map (spelled page) unit) (mapped_units page units)
+is_closed page unit [] h = tt
+is_closed page unit ([] ∷ units) h = tt
+is_closed page unit ((next ∷ others) ∷ units) h = omega (arith, h, one_mapped page unit)
+
+are_units : (page : ℕ) (units : List (List SegmentValue)) → AreUnits (segment_bytes page) units
+    → AreUnits length (mapped_units page units)
+are_units page [] h = tt
+are_units page (unit ∷ units) h = (is_one_unit page unit h.0, is_closed page unit units h.1, are_units page units h.2)
+
+shared_mapped : (page : ℕ) (segments : List SegmentValue) (units : List (List SegmentValue))
+    → IsSharedOut (segment_bytes page) segments units
+    → IsSharedOut length (map (spelled page) segments) (mapped_units page units)
+shared_mapped page segments units h = record {
+  whole = joined_mapped page units ∙ ap (map (spelled page)) h.whole;
+  each = are_units page units h.each;
+}
+
+-- ---- a set
+
+-- the set as it is sent
+abbrev pub raw_as : ℕ → PlannedSet → List SegmentValue → RawSet
+raw_as page set values = record { time = set.pts; segments = map (spelled page) values }
+
+-- all of its segments count
+known_segments : (script : Script) (page : ℕ) (set : PlannedSet) (packets : List (List ℕ)) (one : TimedSet)
+    → (is : IsSentAs script page set packets one) → AreKnown page is.segments
+known_segments script page set packets one is =
+    let ends = its_segments script page set is.segments is.carried in
+    subst (AreKnown page) (sym ends.are) (all_known page ends.inner ends.fit ends.end)
+
+all_counted_as : (script : Script) (page : ℕ) (set : PlannedSet) (packets : List (List ℕ)) (one : TimedSet)
+    → (is : IsSentAs script page set packets one)
+    → map (spelled page) is.segments ≡ counted_in (only page) (raw_as page set is.segments)
+all_counted_as script page set packets one is =
+    counting.all_count (only page) (map (spelled page) is.segments)
+    (all_headed page is.segments (known_segments script page set packets one is))
+
+-- each of its units is what is counted of it
+same_units : (page time : ℕ) (values : List (List SegmentValue)) → AreKnown page (joined_units values)
+    → map (unit_with page time) values ≡ map (counted_unit (only page) time) (mapped_units page values)
+same_units page time [] known = refl
+same_units page time (unit ∷ values) known =
+    let parts = parts_of_all (λ value. IsWritable page value × IsKnown value) unit (joined_units values) known in
+    ap (λ size. record { size = size; segments = map (spelled page) unit } ∷ map (unit_with page time) values)
+    (ap length (same_packet page time unit))
+    ∙ ap (λ segments. record { size = length (raw_packet time (map (spelled page) unit)); segments = segments }
+    ∷ map (unit_with page time) values)
+    (counting.all_count (only page) (map (spelled page) unit) (all_headed page unit parts.0))
+    ∙ ap (λ rest. counted_unit (only page) time (map (spelled page) unit) ∷ rest)
+    (same_units page time values parts.1)
+
+sent_raw : (script : Script) (page : ℕ) (set : PlannedSet) (packets : List (List ℕ)) (one : TimedSet)
+    → (is : IsSentAs script page set packets one)
+    → IsRawSent (only page) (raw_as page set is.segments) packets one
+sent_raw script page set packets one is = record {
+  units = mapped_units page is.units;
+  shared = shared_mapped page is.segments is.units is.shared;
+  written = is.written ∙ packets_mapped page set.pts is.units;
+  time = is.time;
+  each =
+      is.each
+      ∙ same_units page set.pts is.units
+      (subst (AreKnown page) (sym is.shared.whole) (known_segments script page set packets one is));
+}
+
+-- it carries the set of the plan
+carries_as : (script : Script) (page : ℕ) (set : PlannedSet) (packets : List (List ℕ)) (one : TimedSet)
+    → (is : IsSentAs script page set packets one) → CarriesSet script (only page) set (raw_as page set is.segments)
+carries_as script page set packets one is = record {
+  time = refl;
+  values = is.segments;
+  planned = set_is_named script page set is.segments is.carried;
+  written =
+      subst (AllZip IsWrittenAs is.segments) (all_counted_as script page set packets one is)
+      (all_written page is.segments (recursion_from_All (IsWritable page) is.segments is.carried.fit));
+}
+
+-- and comes as that
+pub timed_as : (script : Script) (page : ℕ) (sets : List PlannedSet) (groups : List (List (List ℕ)))
+    (sent : List TimedSet) → AreSentAs script page sets groups sent → AllZip (IsTimedAs script) sets sent
+timed_as script page [] [] [] are = tt
+timed_as script page [] [] (one ∷ sent) are = absurd are
+timed_as script page [] (packets ∷ groups) sent are = absurd are
+timed_as script page (set ∷ sets) [] sent are = absurd are
+timed_as script page (set ∷ sets) (packets ∷ groups) [] are = absurd are
+timed_as script page (set ∷ sets) (packets ∷ groups) (one ∷ sent) are =
+    let is = are.0 in (
+      record {
+        time = is.time;
+        values = is.segments;
+        planned = set_is_named script page set is.segments is.carried;
+        written = subst (AllZip IsWrittenAs is.segments) (sym is.are)
+            (all_written page is.segments (recursion_from_All (IsWritable page) is.segments is.carried.fit));
+      },
+      timed_as script page sets groups sent are.1,
+    )
+
+-- its later units have no page
+later_without : (page : ℕ) (values : List SegmentValue)
+    → AllByRecursion (λ value. IsWritable page value × IsLater value) values
+    → AllByRecursion (λ bytes. is_of_page (0x10 ∷ []) page bytes ≡ false) (map (spelled page) values)
+later_without page [] h = tt
+later_without page (value ∷ values) h =
+    (plan.no_page_head page value h.0.0 (later_no_page value h.0.1), later_without page values h.1)
+
+units_without : (page : ℕ) (values : List (List SegmentValue))
+    → AllByRecursion (λ value. IsWritable page value × IsLater value) (joined_units values)
+    → AllByRecursion (AreWithoutPage (only page))
+    (mapped_units page values)
+units_without page [] h = tt
+units_without page (unit ∷ values) h =
+    let parts = parts_of_all (λ value. IsWritable page value × IsLater value) unit (joined_units values) h in (
+      All-from_recursion (λ bytes. is_of_page (0x10 ∷ []) page bytes ≡ false) (map (spelled page) unit)
+          (later_without page unit parts.0),
+      units_without page values parts.1,
+    )
+
+page_first_as : (script : Script) (page : ℕ) (set : PlannedSet) (packets : List (List ℕ)) (one : TimedSet)
+    → (is : IsSentAs script page set packets one) → IsPlannedWell set
+    → HasPageFirst (only page) (raw_as page set is.segments)
+page_first_as script page set packets one is well = record {
+  later_without = λ first more shared.
+      let same = units_same length (map (spelled page) is.segments) (mapped_units page is.units) (first ∷ more)
+      (shared_mapped page is.segments is.units is.shared) shared in
+      All-from_recursion (AreWithoutPage (only page)) more
+      (subst (AllByRecursion (AreWithoutPage (only page)))
+      (ap (drop 1) same)
+      (behind_first (later_are script page set packets one is well.few 0)));
+}
+  where
+    behind_first : AllByRecursion (λ value. IsWritable page value × IsLater value) (joined_units (drop 1 is.units))
+        → AllByRecursion (AreWithoutPage (only page))
+        (drop 1 (mapped_units page is.units))
+    behind_first later = by is.units later
+      where
+        by : (values : List (List SegmentValue))
+            → AllByRecursion (λ value. IsWritable page value × IsLater value) (joined_units (drop 1 values))
+            → AllByRecursion (AreWithoutPage (only page))
+            (drop 1 (mapped_units page values))
+        by [] later = tt
+        by (unit ∷ values) later = units_without page values later
+
+-- it can be sent
+all_room : (time : ℕ) (values : List (List (List ℕ))) → AreShort (map (raw_packet time) values)
+    → AllByRecursion (λ bytes. length bytes ≤ UNIT_ROOM) (flat_map (λ unit. unit) values)
+all_room time [] short = tt
+all_room time (unit ∷ values) short =
+    all-append (λ bytes. length bytes ≤ UNIT_ROOM) unit (flat_map (λ unit. unit) values)
+    (each unit (omega (arith, short.0, raw_size time unit))) (all_room time values short.1)
+  where
+    each : (unit : List (List ℕ)) → sum_by length unit ≤ UNIT_ROOM
+        → AllByRecursion (λ bytes. length bytes ≤ UNIT_ROOM) unit
+    each [] few = tt
+    each (bytes ∷ unit) few =
+        let all = sum_by-cons (λ (one : List ℕ). length one) bytes unit in
+        (omega (arith, all, few), each unit (omega (arith, all, few)))
+
+all_framed : (segments : List (List ℕ)) → AllByRecursion IsHead segments → AllByRecursion IsFramed segments
+all_framed [] h = tt
+all_framed (bytes ∷ segments) h = (framed_by_head bytes h.0, all_framed segments h.1)
+
+sendable_as : (script : Script) (page : ℕ) (set : PlannedSet) (packets : List (List ℕ)) (one : TimedSet)
+    → (is : IsSentAs script page set packets one) → AreShort packets → IsSendable (raw_as page set is.segments)
+sendable_as script page set packets one is short =
+    let segments = map (spelled page) is.segments in
+    let shared = shared_mapped page is.segments is.units is.shared in
+    record {
+      framed = All-from_recursion IsFramed segments
+          (all_framed segments (heads_of (only page) segments
+          (all_headed page is.segments (known_segments script page set packets one is))));
+      room = All-from_recursion (λ bytes. length bytes ≤ UNIT_ROOM) segments
+          (subst (AllByRecursion (λ bytes. length bytes ≤ UNIT_ROOM)) shared.whole
+          (all_room set.pts (mapped_units page is.units)
+          (subst AreShort (is.written ∙ packets_mapped page set.pts is.units) short)));
+    }
+
+-- and its last segment ends it
+ends_as : (coded : ℕ) (script : Script) (page : ℕ) (set : PlannedSet) (packets : List (List ℕ)) (one : TimedSet)
+    → (is : IsSentAs script page set packets one) → IsTimedSet coded (only page) one
+    → EndsLast (only page) (raw_as page set is.segments)
+ends_as coded script page set packets one is whole before after bytes e end =
+    none_behind_end (all_segments one) before after bytes (ended_set coded (only page) true one whole).ends
+    (is.are ∙ all_counted_as script page set packets one is ∙ e) end
+
+-- ---- all sets
+
+-- the sets as they are sent
+abbrev pub raw_sets : (script : Script) (page : ℕ) (sets : List PlannedSet) (groups : List (List (List ℕ)))
+    (sent : List TimedSet) → AreSentAs script page sets groups sent → List RawSet
+raw_sets script page [] [] [] are = []
+raw_sets script page [] [] (one ∷ sent) are = absurd are
+raw_sets script page [] (packets ∷ groups) sent are = absurd are
+raw_sets script page (set ∷ sets) [] sent are = absurd are
+raw_sets script page (set ∷ sets) (packets ∷ groups) [] are = absurd are
+raw_sets script page (set ∷ sets) (packets ∷ groups) (one ∷ sent) are =
+    raw_as page set are.0.segments ∷ raw_sets script page sets groups sent are.1
+
+-- what is known of them
+pub record AreRawOf (script : Script) (page : ℕ) (sets : List PlannedSet) (groups : List (List (List ℕ)))
+    (raw : List RawSet) : Type 0 where
+  pub carried : AllZip AreRawPackets raw groups
+  pub carries : AllZip (CarriesSet script (only page)) sets raw
+  pub sendable : AllByRecursion IsSendable raw
+  pub ends : AllByRecursion (EndsLast (only page)) raw
+  pub page_first : AllByRecursion (HasPageFirst (only page)) raw
+  pub times : map (λ (set : PlannedSet). set.pts) sets ≡ map (λ (set : RawSet). set.time) raw
+
+pub raw_of : (coded : ℕ) (script : Script) (page : ℕ) (sets : List PlannedSet) (groups : List (List (List ℕ)))
+    (sent : List TimedSet) → (are : AreSentAs script page sets groups sent)
+    → AllByRecursion (IsTimedSet coded (only page)) sent → AllByRecursion AreShort groups
+    → AllByRecursion IsPlannedWell sets
+    → AreRawOf script page sets groups (raw_sets script page sets groups sent are)
+raw_of coded script page [] [] [] are whole short well =
+    record { carried = tt; carries = tt; sendable = tt; ends = tt; page_first = tt; times = refl }
+raw_of coded script page [] [] (one ∷ sent) are whole short well = absurd are
+raw_of coded script page [] (packets ∷ groups) sent are whole short well = absurd are
+raw_of coded script page (set ∷ sets) [] sent are whole short well = absurd are
+raw_of coded script page (set ∷ sets) (packets ∷ groups) [] are whole short well = absurd are
+raw_of coded script page (set ∷ sets) (packets ∷ groups) (one ∷ sent) are whole short well =
+    let is = are.0 in
+    let raw = sent_raw script page set packets one is in
+    let more = raw_of coded script page sets groups sent are.1 whole.1 short.1 well.1 in
+    record {
+      carried = (record { units = raw.units; shared = raw.shared; are = raw.written }, more.carried);
+      carries = (carries_as script page set packets one is, more.carries);
+      sendable = (sendable_as script page set packets one is short.0, more.sendable);
+      ends = (ends_as coded script page set packets one is whole.0, more.ends);
+      page_first = (page_first_as script page set packets one is well.0, more.page_first);
+      times = ap (λ rest. set.pts ∷ rest) more.times;
+    }
+
+-- ---- the stream
+
+units_of_all : (script : Script) (page : ℕ) (sets : List PlannedSet) (groups : List (List (List ℕ)))
+    (sent : List TimedSet) → AreSentAs script page sets groups sent → AllByRecursion IsPlannedWell sets
+    → AllZip (IsPlannedUnits script) sets sent
+units_of_all script page [] [] [] are well = tt
+units_of_all script page [] [] (one ∷ sent) are well = absurd are
+units_of_all script page [] (packets ∷ groups) sent are well = absurd are
+units_of_all script page (set ∷ sets) [] sent are well = absurd are
+units_of_all script page (set ∷ sets) (packets ∷ groups) [] are well = absurd are
+units_of_all script page (set ∷ sets) (packets ∷ groups) (one ∷ sent) are well =
+    let is = are.0 in (
+      planned_units script (only page) set (raw_as page set is.segments) packets one
+          (carries_as script page set packets one is) (page_first_as script page set packets one is well.0)
+          (sent_raw script page set packets one is),
+      units_of_all script page sets groups sent are.1 well.1,
+    )
+
+pub all_well : (left : List PlannedSet)
+    → ((number : ℕ) (set : PlannedSet) → slice_get left number ≡ Some set → IsPlannedWell set)
+    → AllByRecursion IsPlannedWell left
+all_well [] well = tt
+all_well (set ∷ left) well = (well 0 set refl, all_well left (λ number other found. well (suc number) other found))
+
+-- the sets of a compiled stream are sent for a receiver of its page
+pub compiled_plan : (name : ProfileName) (pid page : ℕ) (script : Script) (bytes : List ℕ) → IsFree pid
+    → (compiled : IsCompiledTo name pid page script bytes)
+    → (known : ArePackets name pid page script bytes compiled)
+    → IsPlanSent (profile_of name).coded pid (only page) (profile_of name) script compiled.table compiled.sets
+    (packets_in name pid page script bytes compiled) known.sent
+compiled_plan name pid page script bytes free compiled known =
+    let coded = (profile_of name).coded in
+    let pace = pace_of script.origin (profile_of name) in
+    let sent = known.sent in
+    let well =
+    all_well compiled.sets
+    (λ number set found. planned_well script (profile_of name) compiled.sets number set compiled.planned.plan
+    found) in
+    let are = units_of_all script page compiled.sets compiled.units sent known.are.are well in
+    let sets =
+    sent_sets_of coded (only page) compiled.loads compiled.units pace compiled.table sent compiled.each
+    compiled.sized compiled.schedule known.units known.are.carry known.apart
+    (have_as_many script page compiled.sets compiled.units sent known.are.are) in
+    let same : map counted_set sent ≡ sent =
+    sym (all_counted script compiled.sets sent are)
+    ∙ all_count coded true sent (all_ended coded (only page) true sent known.are.carry.whole) in
+    subst (IsPlanSent coded pid (only page) (profile_of name) script compiled.table compiled.sets
+    (packets_in name pid page script bytes compiled)) same
+    (plan_sent coded pid (only page) (profile_of name) script compiled.loads compiled.units pace compiled.table
+    compiled.sets sent free known.stream sets compiled.planned.plan are)
+
+-- what a receiver gets of a compiled stream that it enters behind so many packets
+abbrev pub IsEnteredLate : (name : ProfileName) (pid page : ℕ) (script : Script) (bytes : List ℕ)
+    → IsCompiledTo name pid page script bytes → List TimedSet → ℕ → Type 0
+IsEnteredLate name pid page script bytes compiled sent missed =
+    plan.IsEnteredLate (profile_of name).coded pid (only page) script compiled.table compiled.sets
+    (packets_in name pid page script bytes compiled) sent missed
 
 pub compiled_late : (name : ProfileName) (pid page : ℕ) (script : Script) (bytes : List ℕ) → IsFree pid
     → (compiled : IsCompiledTo name pid page script bytes)
     → (known : ArePackets name pid page script bytes compiled)
     → (missed : ℕ) → IsEnteredLate name pid page script bytes compiled known.sent missed
-compiled_late name pid page script bytes free compiled known missed = record {
-  first = left.first;
-  few = left.few;
-  rest = left.rest;
-  is_rest = left.is_rest;
-  come =
-      late_sets coded pid (only page) missed units sent slots free known.units known.are.carry known.apart same ahead
-      ∙ ap (map delivered) left.are;
-  whole = λ i set inside. whole_by i inside;
-  cut = cut_by left.first left.rest left.is_rest left.ends (λ i inside. (whole_by i inside).0);
-}
-  where
-    coded : ℕ
-    coded = (profile_of name).coded
-
-    units : List (List ℕ)
-    units = all_units compiled.units
-
-    slots : List ℕ
-    slots = compiled.table.slots
-
-    sent : List TimedSet
-    sent = known.sent
-
-    ahead : IsAhead 0 slots
-    ahead =
-        slots_rise compiled.loads (length compiled.loads) (pace_of script.origin (profile_of name)) compiled.table
-        compiled.schedule
-
-    same : length (all_pieces units) ≡ length slots
-    same = sym (count_pieces compiled.loads compiled.units compiled.sized) ∙ sym compiled.schedule.packets
-
-    some_units : AllByRecursion (λ (one : TimedSet). 1 ≤ length one.units) sent
-    some_units = have_units coded (only page) sent known.are.carry.whole
-
-    some_packets : HavePackets compiled.units
-    some_packets = have_packets script page compiled.sets compiled.units sent known.are.are some_units
-
-    many : (length sent ≡ length compiled.sets) × (length compiled.units ≡ length compiled.sets)
-    many = count_sets script page compiled.sets compiled.units sent known.are.are
-
-    left : SetsLeft (pieces_left coded (passed (0 + missed) slots) units known.units).cut sent
-    left = sets_left (pieces_left coded (passed (0 + missed) slots) units known.units).cut sent some_units
-
-    whole_by : (i : ℕ) → i < length compiled.sets
-        → (i < left.first → list_all (λ at. nat_le missed at) (slots_of compiled.table i) ≡ false)
-        × (left.first ≤ i → list_all (λ at. nat_le missed at) (slots_of compiled.table i) ≡ true)
-    whole_by i inside =
-        let loads = as_many compiled.loads compiled.units compiled.sized in
-        let count = count_units script page compiled.sets compiled.units sent known.are.are i in
-        let begun = left.begun i (omega (arith, many.0)) in
-        let number = length (all_units (take i compiled.units)) in
-        let come =
-        units_that_come coded missed units slots known.units same ahead number
-        (unit_inside i compiled.units (omega (arith, many.1)) some_packets) in
-        let begins : first_number units number ≡ first_packet compiled.loads i =
-        first_of_set i compiled.loads compiled.units (omega (arith, loads, many.1)) compiled.sized in
-        let places =
-        places_from compiled.loads (length compiled.loads) (pace_of script.origin (profile_of name)) compiled.table
-        compiled.schedule ahead missed i (omega (arith, loads, many.1))
-        (some_bytes coded compiled.loads compiled.units compiled.sized some_packets known.units i
-        (omega (arith, loads, many.1))) in (
-          λ early. places.0
-              (subst (λ (k : ℕ). get_or slots k 0 < missed) begins (come.0 (omega (arith, count, begun.0 early)))),
-          λ late. places.1
-              (subst (λ (k : ℕ). missed ≤ get_or slots k 0) begins (come.1 (omega (arith, count, begun.1 late)))),
-        )
-
-    cut : ℕ
-    cut = (pieces_left coded (passed (0 + missed) slots) units known.units).cut
-
-    -- the last unit of a set comes, where not all units up to there are missed
-    some_come : (number : ℕ) → number < length compiled.sets → cut < units_before (suc number) sent
-        → list_any (λ at. nat_le missed at) (slots_of compiled.table number) ≡ true
-    some_come number inside behind =
-        let loads = as_many compiled.loads compiled.units compiled.sized in
-        let before = count_units script page compiled.sets compiled.units sent known.are.are number in
-        let after = count_units script page compiled.sets compiled.units sent known.are.are (suc number) in
-        let most = later_units (suc number) compiled.units in
-        let last = units_before (suc number) sent - 1 in
-        let more = units_rise number sent some_units (omega (arith, many.0)) in
-        let here : last < length units = omega arith in
-        let comes = (units_that_come coded missed units slots known.units same ahead last here).1 (omega arith) in
-        let begins : first_number units (units_before number sent) ≡ first_packet compiled.loads number =
-        ap (first_number units) before
-        ∙ first_of_set number compiled.loads compiled.units (omega (arith, loads, many.1)) compiled.sized in
-        let ends : first_number units (units_before (suc number) sent) ≡ first_packet compiled.loads (suc number) =
-        ap (first_number units) after
-        ∙ first_of_set (suc number) compiled.loads compiled.units (omega (arith, loads, many.1)) compiled.sized in
-        let low = pieces_rise (units_before number sent) last units (omega arith) in
-        let high = next_piece coded last units known.units here in
-        let same_unit : suc last ≡ units_before (suc number) sent = omega arith in
-        let next : first_number units (suc last) ≡ first_number units (units_before (suc number) sent) =
-        ap (first_number units) same_unit in
-        some_from compiled.loads (length compiled.loads) (pace_of script.origin (profile_of name)) compiled.table
-        compiled.schedule missed number (first_number units last) (omega (arith, loads, many.1))
-        (omega (arith, begins, low)) (omega (arith, ends, next, high)) comes
-
-    cut_by : (first : ℕ) (rest : List TimedSet) → IsRest sent first rest
-        → (1 ≤ length rest → cut < units_before first sent)
-        → ((i : ℕ) → i < length compiled.sets → i < first
-        → list_all (λ at. nat_le missed at) (slots_of compiled.table i) ≡ false)
-        → AllByRecursion (IsCutSet page script compiled.table compiled.sets missed first) rest
-    cut_by first rest (none_left) ends none = tt
-    cut_by first rest (some_left {n = number} {set = one} {k = k} found some few) ends none =
-        let at = sent_at script page number compiled.sets compiled.units sent one known.are.are found in
-        let well = planned_well script (profile_of name) compiled.sets number at.set compiled.planned.plan at.found in (
-          record {
-            number = number;
-            next = refl;
-            set = at.set;
-            found = at.found;
-            packets = at.packets;
-            whole = one;
-            sent = at.is;
-            later = k;
-            some = some;
-            few = few;
-            is = refl;
-            cut = none number (slice_get_within compiled.sets number at.set at.found) (omega arith);
-            come = some_come number (slice_get_within compiled.sets number at.set at.found) (ends (omega arith));
-            earlier =
-                before_entry script (profile_of name) compiled.table compiled.sets missed (suc number) number at.set
-                compiled.planned.plan at.found (omega arith) none;
-            broken =
-                λ profile anchor delivery come. rest_comes_first profile anchor script page at.set at.packets one at.is
-                well k some delivery come;
-          },
-          tt,
-        )
+compiled_late name pid page script bytes free compiled known missed =
+    (compiled_plan name pid page script bytes free compiled known).late missed

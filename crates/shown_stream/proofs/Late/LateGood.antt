@@ -3,26 +3,27 @@
 use Rattle.std.proofs.Common.{◌≡◌, ◌∙◌, ℕ, ◌+◌, ◌-◌, ◌<◌, ◌≤◌, List, [], ◌∷◌, length, replicate, Some, sym, subst, arith, length-append}
 use Rattle.std.specs.List.{AllByRecursion}
 use Rattle.std.proofs.lemmas.List.{length-replicate}
+use Rattle.std.proofs.lemmas.List.Elements.{recursion_from_All}
 use Rattle.sub_base.specs.Pace.{pace_of}
 use Rattle.sub_base.specs.Profile.{profile_of}
 use Rattle.sub_base.specs.declared.profile.ProfileName.{ProfileName}
 use Rattle.stream_syntax.specs.TransportPackets.{null_packet}
 use Rattle.cue_list.specs.declared.script.Script.{Script}
-use Rattle.schedule.specs.Slots.{IsSchedule}
-use Rattle.decoder_model.specs.Frames.{only}
+use Rattle.schedule.specs.Slots.{IsLoad, IsSchedule}
 use Rattle.decoder_model.specs.Streams.{SentSet, entry_set, IsGoodTick}
-use Rattle.decoder_model.proofs.SentSets.{have_units}
 use Rattle.shown_stream.specs.Compiled.{all_units, IsCompiledTo}
 use Rattle.shown_stream.specs.SentSets.{sent_sets}
 use Rattle.slot_stream.specs.SlotStream.{Piece, packet_of, all_pieces}
-use Rattle.shown_stream.proofs.Sent.CompiledPackets.{packets_in, ArePackets, as_many, count_pieces}
+use Rattle.shown_stream.proofs.Sent.CompiledPackets.{packets_in, ArePackets}
 use Rattle.slot_stream.proofs.LaidPackets.{laid, IsAhead}
-use Rattle.shown_stream.proofs.Late.LateCompiled.{have_packets}
+use Rattle.sent_sets.proofs.SentLate.{have_packets}
 use Rattle.shown_stream.proofs.Late.LateCuts.{late_sendings}
-use Rattle.shown_stream.proofs.Late.LatePlaces.{count_sets, some_bytes}
+use Rattle.shown_stream.proofs.Late.LatePlaces.{count_sets}
 use Rattle.shown_stream.proofs.Late.LateTicks.{AreInOrder, good_from_entry, entry_from_good}
 use Rattle.shown_stream.proofs.Sent.PlannedOrder.{sets_in_order}
-use Rattle.shown_stream.proofs.Sent.RisingSlots.{slots_rise}
+use Rattle.sent_sets.proofs.PacketCounts.{as_many, count_pieces}
+use Rattle.sent_sets.proofs.RisingSlots.{slots_rise}
+use Rattle.sent_sets.proofs.SlotPlaces.{some_bytes}
 
 -- ---- slots are places of packets
 
@@ -67,9 +68,7 @@ compiled_in_order name pid page script bytes compiled known =
     let ahead = slots_rise loads (length loads) pace compiled.table compiled.schedule in
     let same : length (all_pieces units) ≡ length slots =
     sym (count_pieces loads compiled.units compiled.sized) ∙ sym compiled.schedule.packets in
-    let some =
-    have_packets script page compiled.sets compiled.units known.sent known.are.are
-    (have_units coded (only page) known.sent known.are.carry.whole) in
+    let some = have_packets loads compiled.units (recursion_from_All IsLoad loads compiled.each) compiled.sized in
     let many : length loads ≡ length compiled.sets =
     as_many loads compiled.units compiled.sized
     ∙ (count_sets script page compiled.sets compiled.units known.sent known.are.are).1 in

@@ -1,8 +1,8 @@
 -- The later units of a set, received alone, are a set without a page: it is broken, and nothing is shown of it.
-use Rattle.std.proofs.Common.{◌≡◌, ◌∙◌, ℕ, zero, suc, ◌+◌, ◌≤◌, Bool, true, false, ◌||◌, cond, eqb, List, [], ◌∷◌, ◌++◌, length, map, drop, Some, None, refl, sym, ap, subst, arith}
+use Rattle.std.proofs.Common.{◌≡◌, ◌∙◌, ℕ, zero, suc, ◌+◌, ◌≤◌, Bool, true, false, ◌||◌, cond, eqb, List, [], ◌∷◌, ◌++◌, length, map, drop, Option, Some, None, refl, sym, ap, subst, arith}
 use Rattle.std.specs.Prelude.{nat_le}
 use Rattle.std.specs.Bool.{if◌then◌else◌}
-use Rattle.std.specs.List.{AllByRecursion, sum_by, list_any}
+use Rattle.std.specs.List.{AllByRecursion, AllZip, sum_by, list_any}
 use Rattle.std.specs.Option.{option_or, is_some}
 use Rattle.std.proofs.Math.Seq.{take-length}
 use Rattle.std.proofs.lemmas.Bool.Decides.{nat_tests}
@@ -21,21 +21,24 @@ use Rattle.page_epoch.specs.declared.planned_set.SentRegion.{SentRegion}
 use Rattle.segments.proofs.Readings.{one_reading, no_fault_there}
 use Rattle.segments.proofs.Spellings.{written_segment}
 use Rattle.decoder_model.specs.Contents.{page_in, region_in, page_in_set, where_passes, region_named}
-use Rattle.decoder_model.specs.Faults.{contents_in, twice_among, fault_of_segment}
+use Rattle.decoder_model.specs.Faults.{contents_in, twice_among, fault_of_segment, segment_fault}
 use Rattle.decoder_model.specs.Kept.{ahead_of, last_time}
 use Rattle.decoder_model.specs.Readings.{Content, Reading, read, faulty, IsContent, AreReadings, IsDeliveryRead}
 use Rattle.decoder_model.specs.Sets.{Delivery, whole}
 use Rattle.decoder_model.specs.Shown.{nothing, view_of, standing_with, standing_after, view_at}
 use Rattle.decoder_model.specs.Verdict.{verdict_on_segments, verdict_with_page, verdict_on_kept, verdict_of, sets_with, sets_since}
 use Rattle.decoder_model.specs.declared.set_end.SetEnd.TheVariants.{Broken}
+use Rattle.decoder_model.specs.declared.set_fault.SetFault.{SetFault}
 use Rattle.decoder_model.specs.declared.set_fault.SetFault.TheVariants as fault
 use Rattle.decoder_model.specs.declared.set_fault.SetFault.TheVariants.{NoPage}
-use Rattle.decoder_model.proofs.SentSets.{TimedSet, all_segments, size_of_units, delivered}
 use Rattle.set_coder.specs.SetSegments as planned
+use Rattle.shown_stream.specs.SentPlan.{IsWrittenAs}
 use Rattle.shown_stream.proofs.Sent.CompiledSets.{IsSentAs}
 use Rattle.shown_stream.proofs.Late.LateSegments.{IsLater, later_segments, later_are, rest_segments}
-use Rattle.shown_stream.proofs.Late.LateSets.{rest_of_set}
 use Rattle.shown_stream.proofs.Sent.WrittenSets.{joined_units}
+use Rattle.sent_sets.proofs.LateSets.{rest_of_set}
+use Rattle.sent_sets.proofs.SetEnds.{delivered}
+use Rattle.sent_sets.proofs.Units.{TimedSet, all_segments, size_of_units}
 
 -- ---- how they are read
 
@@ -98,6 +101,23 @@ not_faulty page value found writable bad =
     (subst (λ (all : List ℕ). IsSegment all value) (sym (take-length (spelled page value)))
     (written_segment page value writable)) bad
 
+-- so it is with the bytes of one, whatever page it is written for
+pub value_read : (value : SegmentValue) (bytes : List ℕ) (content : Content) → IsWrittenAs value bytes
+    → IsContent bytes content → value ≡ content.value
+value_read value bytes content written is =
+    same_value written.0 value content written.1 (subst (λ (all : List ℕ). IsContent all content) written.2 is)
+
+pub never_faulty : (value : SegmentValue) (bytes : List ℕ) (found : SegmentFault) → IsWrittenAs value bytes
+    → IsSegmentFault bytes found → ⊥
+never_faulty value bytes found written bad =
+    not_faulty written.0 value found written.1 (subst (λ (all : List ℕ). IsSegmentFault all found) written.2 bad)
+
+-- segments that can be written for a page
+pub all_written : (page : ℕ) (values : List SegmentValue) → AllByRecursion (IsWritable page) values
+    → AllZip IsWrittenAs values (map (spelled page) values)
+all_written page [] h = tt
+all_written page (value ∷ values) h = ((page, h.0, refl), all_written page values h.1)
+
 -- all of these are other than an earlier one
 abbrev pub AreOther : List Reading → List SegmentValue → Type 0
 AreOther before values =
@@ -112,30 +132,35 @@ one_earlier content before [] h k = tt
 one_earlier content before (value ∷ values) h k = ((h.0, k.0), one_earlier content before values h.1 k.1)
 
 -- segments without a display and a page, of which no two regions have one id, are read without a fault
-pub no_fault_read : (page : ℕ) (before : List Reading) (values : List SegmentValue) (readings : List Reading)
-    → AllByRecursion (λ value. IsWritable page value × IsLater value) values → HaveOtherRegions values
-    → AreOther before values
-    → AreReadings (map (spelled page) values) readings
+pub no_fault_read : (before : List Reading) (values : List SegmentValue) (segments : List (List ℕ))
+    (readings : List Reading) → AllByRecursion IsLater values → HaveOtherRegions values → AreOther before values
+    → AllZip IsWrittenAs values segments → AreReadings segments readings
     → first_given (λ (placed : Reading × List Reading). fault_of_segment placed.1 placed.0)
     (with_earlier before readings) ≡ None
-no_fault_read page before [] [] h others earlier are = refl
-no_fault_read page before [] (reading ∷ readings) h others earlier are = absurd are
-no_fault_read page before (value ∷ values) [] h others earlier are = absurd are
-no_fault_read page before (value ∷ values) (faulty found ∷ readings) h others earlier are =
-    absurd (not_faulty page value found h.0.0 are.0)
-no_fault_read page before (value ∷ values) (read content ∷ readings) h others earlier are =
-    let same = same_value page value content h.0.0 are.0 in
+no_fault_read before [] [] [] h others earlier written are = refl
+no_fault_read before [] [] (reading ∷ readings) h others earlier written are = absurd are
+no_fault_read before [] (bytes ∷ segments) readings h others earlier written are = absurd written
+no_fault_read before (value ∷ values) [] readings h others earlier written are = absurd written
+no_fault_read before (value ∷ values) (bytes ∷ segments) [] h others earlier written are = absurd are
+no_fault_read before (value ∷ values) (bytes ∷ segments) (faulty found ∷ readings) h others earlier written are =
+    absurd (never_faulty value bytes found written.0 are.0)
+no_fault_read before (value ∷ values) (bytes ∷ segments) (read content ∷ readings) h others earlier written are =
+    let same = value_read value bytes content written.0 are.0 in
     let rest =
-    no_fault_read page (read content ∷ before) values readings h.1 others.1
+    no_fault_read (read content ∷ before) values segments readings h.1 others.1
     (one_earlier content before values
-    (subst (λ (v : SegmentValue). AllByRecursion (IsOther v) values) same others.0) earlier.1) are.1 in
+    (subst (λ (v : SegmentValue). AllByRecursion (IsOther v) values) same others.0) earlier.1) written.1 are.1 in
     ap (λ found. option_or found
     (first_given (λ (placed : Reading × List Reading). fault_of_segment placed.1 placed.0)
     (with_earlier (read content ∷ before) readings)))
-    (ap (twice_among (contents_in before)) (sym same) ∙ not_twice (contents_in before) value h.0.1 earlier.0)
+    (ap (twice_among (contents_in before)) (sym same) ∙ not_twice (contents_in before) value h.0 earlier.0)
     ∙ rest
 
-later_no_page : (value : SegmentValue) → IsLater value → page_in value ≡ None
+-- a segment that is no page
+abbrev pub IsNoPage : SegmentValue → Type 0
+IsNoPage value = page_in value ≡ None
+
+pub later_no_page : (value : SegmentValue) → IsLater value → page_in value ≡ None
 later_no_page (of_page value) h = absurd h
 later_no_page (of_region value) h = refl
 later_no_page (of_clut value) h = refl
@@ -144,19 +169,25 @@ later_no_page (of_display value) h = absurd h
 later_no_page end_of_set h = refl
 later_no_page passed_over h = refl
 
+later_none : (values : List SegmentValue) → AllByRecursion IsLater values → AllByRecursion IsNoPage values
+later_none [] h = tt
+later_none (value ∷ values) h = (later_no_page value h.0, later_none values h.1)
+
 -- and without a page
-no_page_read : (page : ℕ) (values : List SegmentValue) (readings : List Reading)
-    → AllByRecursion (λ value. IsWritable page value × IsLater value) values
-    → AreReadings (map (spelled page) values) readings
+pub no_page_read : (values : List SegmentValue) (segments : List (List ℕ)) (readings : List Reading)
+    → AllByRecursion IsNoPage values → AllZip IsWrittenAs values segments → AreReadings segments readings
     → page_in_set (contents_in readings) ≡ None
-no_page_read page [] [] h are = refl
-no_page_read page [] (reading ∷ readings) h are = absurd are
-no_page_read page (value ∷ values) [] h are = absurd are
-no_page_read page (value ∷ values) (faulty found ∷ readings) h are = no_page_read page values readings h.1 are.1
-no_page_read page (value ∷ values) (read content ∷ readings) h are =
+no_page_read [] [] [] h written are = refl
+no_page_read [] [] (reading ∷ readings) h written are = absurd are
+no_page_read [] (bytes ∷ segments) readings h written are = absurd written
+no_page_read (value ∷ values) [] readings h written are = absurd written
+no_page_read (value ∷ values) (bytes ∷ segments) [] h written are = absurd are
+no_page_read (value ∷ values) (bytes ∷ segments) (faulty found ∷ readings) h written are =
+    no_page_read values segments readings h.1 written.1 are.1
+no_page_read (value ∷ values) (bytes ∷ segments) (read content ∷ readings) h written are =
     ap (λ found. option_or found (page_in_set (contents_in readings)))
-    (ap page_in (sym (same_value page value content h.0.0 are.0)) ∙ later_no_page value h.0.1)
-    ∙ no_page_read page values readings h.1 are.1
+    (ap page_in (sym (value_read value bytes content written.0 are.0)) ∙ h.0)
+    ∙ no_page_read values segments readings h.1 written.1 are.1
 
 pub none_earlier : (values : List SegmentValue) → AreOther [] values
 none_earlier [] = tt
@@ -264,6 +295,17 @@ pub record IsPlannedWell (set : PlannedSet) : Type 0 where
   pub few : length set.shown ≤ 64
   pub numbers : HaveNumbers set.regions
 
+all_first : (page : ℕ) (values : List SegmentValue)
+    → AllByRecursion (λ value. IsWritable page value × IsLater value) values
+    → AllByRecursion (IsWritable page) values
+all_first page [] h = tt
+all_first page (value ∷ values) h = (h.0.0, all_first page values h.1)
+
+all_second : (page : ℕ) (values : List SegmentValue)
+    → AllByRecursion (λ value. IsWritable page value × IsLater value) values → AllByRecursion IsLater values
+all_second page [] h = tt
+all_second page (value ∷ values) h = (h.0.1, all_second page values h.1)
+
 -- the later units of a set are read as a set without a page, and without any other fault: it is broken for that,
 -- whatever sets came before
 pub rest_is_broken : (profile : Profile) (script : Script) (page : ℕ) (set : PlannedSet) (packets : List (List ℕ))
@@ -275,6 +317,8 @@ rest_is_broken profile script page set packets sent is well zero some sets readi
 rest_is_broken profile script page set packets sent is well (suc k) some sets readings are =
     let values = joined_units (drop (suc k) is.units) in
     let each = later_are script page set packets sent is well.few k in
+    let later = all_second page values each in
+    let written = all_written page values (all_first page values each) in
     let ends = later_segments script page set packets sent is well.few k in
     let epoch = is.carried.epoch in
     let objects = is.carried.objects in
@@ -289,30 +333,43 @@ rest_is_broken profile script page set packets sent is well (suc k) some sets re
     subst (λ (segments : List (List ℕ)). AreReadings segments readings)
     (rest_segments script page set packets sent is (suc k)) are in
     ap (verdict_on_segments profile sets (contents_in readings))
-    (no_fault_read page [] values readings each others (none_earlier values) read_so)
-    ∙ ap (verdict_with_page profile sets (contents_in readings)) (no_page_read page values readings each read_so)
+    (no_fault_read [] values (map (spelled page) values) readings later others (none_earlier values) written
+    read_so)
+    ∙ ap (verdict_with_page profile sets (contents_in readings))
+    (no_page_read values (map (spelled page) values) readings (later_none values later) written read_so)
+
+-- a set without a page is broken, for that or for a fault of a segment, whatever sets came before
+breaks : (profile : Profile) (sets : List (List Content)) (readings : List Reading)
+    → page_in_set (contents_in readings) ≡ None
+    → (fault : SetFault) × (verdict_on_kept profile sets readings ≡ Broken fault)
+breaks profile sets readings none = by (segment_fault readings)
+  where
+    by : (found : Option SetFault)
+        → (fault : SetFault) × (verdict_on_segments profile sets (contents_in readings) found ≡ Broken fault)
+    by (Some fault) = (fault, refl)
+    by None = (NoPage, ap (verdict_with_page profile sets (contents_in readings)) none)
 
 -- ---- what is shown of it
 
 -- the first set of all is kept; where it is broken it counts for no later one, and nothing is shown of it
-broken_first : (profile : Profile) (anchor time size : ℕ) (readings : List Reading)
-    → verdict_on_kept profile [] readings ≡ Broken NoPage
-    → verdict_of profile anchor [] (whole time size readings) ≡ Some (Broken NoPage)
+broken_first : (profile : Profile) (anchor time size : ℕ) (readings : List Reading) (fault : SetFault)
+    → verdict_on_kept profile [] readings ≡ Broken fault
+    → verdict_of profile anchor [] (whole time size readings) ≡ Some (Broken fault)
 unfolding last_time sets_since
-broken_first profile anchor time size readings is = ap Some is
+broken_first profile anchor time size readings fault is = ap Some is
 
-counts_for_none : (profile : Profile) (anchor time size : ℕ) (readings : List Reading)
-    → verdict_on_kept profile [] readings ≡ Broken NoPage
+counts_for_none : (profile : Profile) (anchor time size : ℕ) (readings : List Reading) (fault : SetFault)
+    → verdict_on_kept profile [] readings ≡ Broken fault
     → sets_since profile anchor (whole time size readings ∷ []) ≡ []
 unfolding last_time sets_since
-counts_for_none profile anchor time size readings is =
+counts_for_none profile anchor time size readings fault is =
     ap (λ verdict. sets_with [] (whole time size readings) (Some verdict)) is
 
-nothing_stands : (profile : Profile) (anchor time size : ℕ) (readings : List Reading)
-    → verdict_on_kept profile [] readings ≡ Broken NoPage
+nothing_stands : (profile : Profile) (anchor time size : ℕ) (readings : List Reading) (fault : SetFault)
+    → verdict_on_kept profile [] readings ≡ Broken fault
     → standing_after profile anchor (whole time size readings ∷ []) ≡ None
 unfolding last_time sets_since standing_after
-nothing_stands profile anchor time size readings is =
+nothing_stands profile anchor time size readings fault is =
     ap (λ verdict. standing_with [] (Some (anchor + ahead_of anchor time)) (whole time size readings) (Some verdict)
     None) is
 
@@ -320,33 +377,33 @@ either_clear : (come : Bool) → (if come then nothing else nothing) ≡ nothing
 either_clear true = refl
 either_clear false = refl
 
-nothing_shown : (profile : Profile) (anchor tick time size : ℕ) (readings : List Reading)
-    → verdict_on_kept profile [] readings ≡ Broken NoPage
+nothing_shown : (profile : Profile) (anchor tick time size : ℕ) (readings : List Reading) (fault : SetFault)
+    → verdict_on_kept profile [] readings ≡ Broken fault
     → view_at profile anchor tick (whole time size readings ∷ []) ≡ nothing
 unfolding last_time view_at
-nothing_shown profile anchor tick time size readings is =
+nothing_shown profile anchor tick time size readings fault is =
     ap (λ standing. if nat_le (anchor + ahead_of anchor time) tick then view_of tick standing else nothing)
-    (nothing_stands profile anchor time size readings is)
+    (nothing_stands profile anchor time size readings fault is)
     ∙ either_clear (nat_le (anchor + ahead_of anchor time) tick)
 
--- what a receiver makes of a set that comes first of all: it is broken, as it has no page, no epoch begins with it, and
--- nothing is shown
+-- what a receiver makes of a set that comes first of all: it is broken, no epoch begins with it, and nothing is shown
 pub record IsBrokenFirst (profile : Profile) (anchor : ℕ) (first : Delivery Reading) : Type 0 where
-  pub verdict : verdict_of profile anchor [] first ≡ Some (Broken NoPage)
+  pub fault : SetFault
+  pub verdict : verdict_of profile anchor [] first ≡ Some (Broken fault)
   pub counts : sets_since profile anchor (first ∷ []) ≡ []
   pub clear : (tick : ℕ) → view_at profile anchor tick (first ∷ []) ≡ nothing
 
--- so it is with the later units of a set
-pub rest_comes_first : (profile : Profile) (anchor : ℕ) (script : Script) (page : ℕ) (set : PlannedSet)
-    (packets : List (List ℕ)) (sent : TimedSet) → IsSentAs script page set packets sent → IsPlannedWell set
-    → (k : ℕ) → 1 ≤ k
-    → (first : Delivery Reading) → IsDeliveryRead (delivered (rest_of_set k sent)) first
-    → IsBrokenFirst profile anchor first
-rest_comes_first profile anchor script page set packets sent is well k some first come =
-    let broken = rest_is_broken profile script page set packets sent is well k some [] come.0 come.1 in
-    let size = size_of_units (drop k sent.units) in
+-- so it is with a set without a page
+pub comes_broken : (profile : Profile) (anchor : ℕ) (one : TimedSet)
+    → ((readings : List Reading) → AreReadings (all_segments one) readings
+    → page_in_set (contents_in readings) ≡ None)
+    → (first : Delivery Reading) → IsDeliveryRead (delivered one) first → IsBrokenFirst profile anchor first
+comes_broken profile anchor one none first come =
+    let broken = breaks profile [] come.0 (none come.0 come.1) in
+    let size = size_of_units one.units in
     subst (IsBrokenFirst profile anchor) (sym come.2) (record {
-      verdict = broken_first profile anchor sent.time size come.0 broken;
-      counts = counts_for_none profile anchor sent.time size come.0 broken;
-      clear = λ tick. nothing_shown profile anchor tick sent.time size come.0 broken;
+      fault = broken.0;
+      verdict = broken_first profile anchor one.time size come.0 broken.0 broken.1;
+      counts = counts_for_none profile anchor one.time size come.0 broken.0 broken.1;
+      clear = λ tick. nothing_shown profile anchor tick one.time size come.0 broken.0 broken.1;
     })

@@ -17,11 +17,12 @@ use Rattle.page_epoch.specs.declared.planned_set.PlannedSet.{PlannedSet}
 use Rattle.page_epoch.specs.declared.planned_set.SentClut.{SentClut}
 use Rattle.page_epoch.specs.declared.planned_set.SentRegion.{SentRegion}
 use Rattle.segments.proofs.Spellings.{spelled_size}
-use Rattle.decoder_model.proofs.SentSets.{SetUnit, TimedSet, all_segments, segments_of_units}
 use Rattle.set_coder.specs.SetSegments as planned
 use Rattle.shown_stream.proofs.Sent.CompiledSets.{IsSentAs}
-use Rattle.shown_stream.proofs.Late.LateSets.{rest_of_set}
-use Rattle.shown_stream.proofs.Sent.WrittenSets.{unit_with, joined_units, segments_with, parts_of_all}
+use Rattle.shown_stream.proofs.Sent.WrittenSets.{unit_with, joined_units, segments_with}
+use Rattle.sent_sets.proofs.LateSets.{rest_of_set}
+use Rattle.sent_sets.proofs.RawUnits.{parts_of_all}
+use Rattle.sent_sets.proofs.Units.{SetUnit, TimedSet, all_segments, segments_of_units}
 
 -- ---- the page stands in the first unit
 

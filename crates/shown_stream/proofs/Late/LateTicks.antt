@@ -1,11 +1,11 @@
 -- The ticks at which a stream that is entered late shows what the whole one does: those from the time of its entry set
 -- on.
-use Rattle.std.proofs.Common.{◌≡◌, ◌∙◌, ℕ, zero, suc, ◌<◌, ◌≤◌, Bool, true, false, ◌&&◌, not, cond, List, [], ◌∷◌, ◌++◌, length, Some, refl, sym, ap, subst, arith}
+use Rattle.std.proofs.Common.{◌≡◌, ◌∙◌, ℕ, zero, suc, ◌<◌, ◌≤◌, Bool, true, false, ◌&&◌, cond, List, [], ◌∷◌, ◌++◌, length, Some, refl, sym, ap, subst, arith}
 use Rattle.std.specs.Prelude.{nat_le}
 use Rattle.std.specs.List.{AllByRecursion, list_all}
 use Rattle.std.proofs.lemmas.Bool.Decides.{nat_tests}
 use Rattle.std.proofs.lemmas.List.Elements.{recursion_from_All, All-from_recursion}
-use Rattle.decoder_model.specs.Streams.{Sending, SentSet, is_from, entry_set, IsReceived, IsGoodTick, is_received_at}
+use Rattle.decoder_model.specs.Streams.{SentSet, is_from, entry_set, IsReceived, IsGoodTick, is_received_at}
 use Rattle.shown_stream.proofs.Late.LateCuts.{late_sendings}
 
 -- ---- sets in order

@@ -16,17 +16,17 @@ use Rattle.decoder_model.specs.declared.pages.Pages.{Pages}
 use Rattle.decoder_model.specs.Arrivals.{arrivals_of}
 use Rattle.decoder_model.specs.Sets.{has_ended, runs_of, sets_in, sets_of}
 use Rattle.decoder_model.specs.Streams.{Sending, received_of, SentSet, IsReceived, is_received_at}
-use Rattle.decoder_model.proofs.SentSets.{TimedSet}
 use Rattle.decoder_model.proofs.SentUnits.{all_taken}
 use Rattle.shown_stream.specs.SentSets.{sent_set, sent_from, times_received}
 use Rattle.shown_stream.proofs.Late.LateTicks.{at_seam}
 use Rattle.shown_stream.proofs.Lost.LostPieces.{there_at, flow}
 use Rattle.shown_stream.proofs.Lost.LostPlaces.{all_of, some_of}
-use Rattle.shown_stream.proofs.Lost.LostSets.{all_come}
+use Rattle.shown_stream.proofs.Lost.LostStretches.{all_come}
 use Rattle.shown_stream.proofs.Lost.LostViews.{GoodFrom, AreFit}
 use Rattle.shown_stream.proofs.Sent.PlannedTimes.{pts_of}
 use Rattle.stream_syntax.specs.Segments.{is_entry_state}
 use Rattle.shown_stream.specs.Shows.{Suits}
+use Rattle.sent_sets.proofs.Units.{TimedSet}
 
 -- ---- flags and places
 
@@ -113,6 +113,25 @@ suits_received anchor number (suc place) sendings table (first ∷ sets) set sui
 
 -- ---- good ticks
 
+-- sets that are later are sent with later times
+pub later_times : (table : Timetable) (time number : ℕ) (left : List PlannedSet)
+    → AllByRecursion (λ later. time < later) (pts_of left)
+    → AllByRecursion (λ (set : SentSet). time < set.time) (sent_from table number left)
+later_times table time number [] h = tt
+later_times table time number (set ∷ left) h = (h.0, later_times table time (number + 1) left h.1)
+
+-- the number of a set is how many are before it
+pub turned_more_count : (plan : List PlannedSet) (set : PlannedSet) (number : ℕ) → length (reverse plan) ≡ number
+    → length (reverse (set ∷ plan)) ≡ number + 1
+turned_more_count plan set number many =
+    ap length (reverse-append (set ∷ []) plan) ∙ omega (arith, length-append (reverse plan) (set ∷ []), many)
+
+pub comes_so : (sendings : List Sending) (table : Timetable) (plan : List PlannedSet) (set : PlannedSet) (number : ℕ)
+    → length (reverse plan) ≡ number → IsReceived sendings (sent_set table number set)
+    → IsReceived sendings (sent_set table (length (reverse plan)) set)
+comes_so sendings table plan set number many =
+    subst (λ (n : ℕ). IsReceived sendings (sent_set table n set)) (sym many)
+
 module _ (script : Script) (profile : Profile) (anchor origin page tick : ℕ) (sets : List PlannedSet)
     (sendings : List Sending) (table : Timetable) where
   abbrev ComesWhole : ℕ → PlannedSet → Type 0
@@ -120,15 +139,6 @@ module _ (script : Script) (profile : Profile) (anchor origin page tick : ℕ) (
 
   abbrev Fit : List PlannedSet → List PlannedSet → List TimedSet → List Bool → Type 0
   Fit = AreFit script profile anchor origin page sets ComesWhole
-
-  turned_more_count : (plan : List PlannedSet) (set : PlannedSet) (number : ℕ) → length (reverse plan) ≡ number
-      → length (reverse (set ∷ plan)) ≡ number + 1
-  turned_more_count plan set number many =
-      ap length (reverse-append (set ∷ []) plan) ∙ omega (arith, length-append (reverse plan) (set ∷ []), many)
-
-  comes_so : (plan : List PlannedSet) (set : PlannedSet) (number : ℕ) → length (reverse plan) ≡ number
-      → ComesWhole number set → ComesWhole (length (reverse plan)) set
-  comes_so plan set number many = subst (λ (n : ℕ). ComesWhole n set) (sym many)
 
   -- from a set on all that have come are received
   good_on : (number : ℕ) (plan left : List PlannedSet) (sent : List TimedSet) (come : List Bool)
@@ -154,15 +164,10 @@ module _ (script : Script) (profile : Profile) (anchor origin page tick : ℕ) (
           let test : nat_le set.pts tick ≡ false = grind (arith, nat_tests) in subst Good (sym test) refl
       by (inr here) more =
           let test : nat_le set.pts tick ≡ true = grind (arith, nat_tests) in
-          let all = fit.0.told (comes_so plan set number many (whole.0 here)) in
+          let all = fit.0.told (comes_so sendings table plan set number many (whole.0 here)) in
           subst Good (sym test)
           (subst (λ (b : Bool). GoodFrom tick (b && (true || is_entry_state set.state)) left sent
           (drop (length one.units) come)) (sym all) more)
-
-  later_times : (time number : ℕ) (left : List PlannedSet) → AllByRecursion (λ later. time < later) (pts_of left)
-      → AllByRecursion (λ (set : SentSet). time < set.time) (sent_from table number left)
-  later_times time number [] h = tt
-  later_times time number (set ∷ left) h = (h.0, later_times time (number + 1) left h.1)
 
   -- a good tick is good from some set on
   pub good_from : (streak : Bool) (number : ℕ) (plan left : List PlannedSet) (sent : List TimedSet) (come : List Bool)
@@ -186,7 +191,7 @@ module _ (script : Script) (profile : Profile) (anchor origin page tick : ℕ) (
       let test : nat_le set.pts tick ≡ true = grind (arith, nat_tests) in
       let received : IsReceived sendings (sent_set table number set) =
       subst (IsReceived sendings) (sym head) (whole.0 come_now) in
-      let all = fit.0.told (comes_so plan set number many received) in
+      let all = fit.0.told (comes_so sendings table plan set number many received) in
       let begins : is_entry_state set.state ≡ true = ap (λ (found : SentSet). found.is_entry) head ∙ entered in
       let more =
       good_on (number + 1) (set ∷ plan) left sent (drop (length one.units) come) fit.1
@@ -211,7 +216,7 @@ module _ (script : Script) (profile : Profile) (anchor origin page tick : ℕ) (
       let above =
       at_seam (λ (other : SentSet). set.pts < other.time) before entry after
       (subst (AllByRecursion (λ (other : SentSet). set.pts < other.time)) tail
-      (later_times set.pts (number + 1) left fit.0.above)) in
+      (later_times table set.pts (number + 1) left fit.0.above)) in
       let here : set.pts ≤ tick = omega (arith, above, come_now) in
       let test : nat_le set.pts tick ≡ true = grind (arith, nat_tests) in
       let more =

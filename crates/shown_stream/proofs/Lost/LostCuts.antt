@@ -10,7 +10,7 @@ use Rattle.decoder_model.specs.Streams.{Sending, is_received, is_missed, IsShort
 use Rattle.slot_stream.specs.SlotStream.{Piece, packet_of, IsPiece}
 use Rattle.slot_stream.proofs.LaidPackets.{laid, IsAhead}
 use Rattle.shown_stream.proofs.Lost.LostPieces.{IsParted, parted, there_at, there_parts}
-use Rattle.shown_stream.proofs.Lost.LostUnits.{AreNear}
+use Rattle.shown_stream.proofs.Lost.LostKinds.{AreNear}
 use Rattle.slot_stream.proofs.SentPieces.{IsFree, says, null_is_no_payload, written_is_payload}
 
 -- how many are missed since the last that was received, of sendings that end with these

@@ -12,7 +12,6 @@ use Rattle.cue_list.specs.Sound.{IsTick}
 use Rattle.cue_list.specs.declared.script.Script.{Script}
 use Rattle.page_epoch.specs.declared.planned_set.PlannedSet.{PlannedSet}
 use Rattle.decoder_model.specs.Frames.{only}
-use Rattle.decoder_model.proofs.SentSets.{TimedSet, IsTimedSet, HaveDifferentTimes}
 use Rattle.shown_stream.specs.Compiled.{all_units}
 use Rattle.slot_stream.specs.SlotStream.{pieces_of, all_pieces}
 use Rattle.shown_stream.proofs.Shown.ComingSets.{SetComes}
@@ -27,6 +26,8 @@ use Rattle.shown_stream.proofs.Sent.PlannedOrder.{rest_rises, all_above}
 use Rattle.shown_stream.proofs.Sent.PlannedTimes.{pts_of}
 use Rattle.shown_stream.proofs.Shown.ShownSets.{IsAheadOf}
 use Rattle.stream_syntax.specs.declared.wire.TheConstants.{TIME_ROUND}
+use Rattle.sent_sets.proofs.Runs.{HaveDifferentTimes}
+use Rattle.sent_sets.proofs.Units.{TimedSet, IsTimedSet}
 
 -- the flags of the pieces of a set, among those of the pieces of all that are left
 abbrev pub flags_at : List (List (List ℕ)) → List Bool → ℕ → List Bool
@@ -34,7 +35,7 @@ flags_at units flags n =
     take (length (all_pieces (get_or units n []))) (drop (length (all_pieces (all_units (take n units)))) flags)
 
 -- all later times are above that of the first
-above_first : (time : ℕ) (left : List PlannedSet) → IsStrictlyIncreasing (time ∷ pts_of left)
+pub above_first : (time : ℕ) (left : List PlannedSet) → IsStrictlyIncreasing (time ∷ pts_of left)
     → AllByRecursion (λ later. time < later) (pts_of left)
 above_first time [] rise = tt
 above_first time (set ∷ left) rise =
@@ -84,7 +85,8 @@ module _ (script : Script) (profile : Profile) (anchor origin page : ℕ) (sets 
             (ap length (reverse-append (set ∷ []) plan)
             ∙ omega (arith, length-append (reverse plan) (set ∷ []), many)) are.1 come.1 timed.1 some.1 apart.1
             within.1
-            (rest_rises set.pts (pts_of left) rise) units_are.1 (omega (arith, long, total, length-drop count flags)) rest),
+            (rest_rises set.pts (pts_of left) rise) units_are.1 (omega (arith, long, total, length-drop count flags))
+            rest),
       )
     where
       count : ℕ

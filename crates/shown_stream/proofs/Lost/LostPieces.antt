@@ -17,9 +17,9 @@ use Rattle.ts_packets.proofs.UnitLemmas.{hand_push, counter_push}
 use Rattle.ts_packets.proofs.WrittenPackets.{SaysWhatWasWritten}
 use Rattle.slot_stream.specs.SlotStream.{Piece, packet_of, IsPiece}
 use Rattle.slot_stream.proofs.LaidPackets.{laid, IsAhead}
-use Rattle.shown_stream.proofs.Late.LateEntry.{other_part}
-use Rattle.shown_stream.proofs.Sent.SentOrder.{sooner}
 use Rattle.slot_stream.proofs.SentPieces.{IsFree, says, null_is_no_payload, counter_here}
+use Rattle.sent_sets.proofs.LateEntry.{other_part}
+use Rattle.sent_sets.proofs.SlotPlaces.{sooner}
 
 -- ---- a packet
 

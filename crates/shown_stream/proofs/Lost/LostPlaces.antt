@@ -4,9 +4,9 @@ use Rattle.std.specs.List.{AllByRecursion, list_all, list_any}
 use Rattle.std.proofs.lemmas.List.{drop-drop}
 use Rattle.stream_syntax.specs.Cutting.{IsUnit}
 use Rattle.slot_stream.specs.SlotStream.{pieces_of, all_pieces, piece_count}
-use Rattle.shown_stream.proofs.Sent.CompiledPackets.{length-pieces_of}
 use Rattle.shown_stream.proofs.Lost.LostUnits.{come_whole}
 use Rattle.decoder_model.specs.Frames.{only}
+use Rattle.sent_sets.proofs.PacketCounts.{length-pieces_of}
 
 abbrev pub all_of : List Bool → Bool
 all_of come = list_all (λ b. b) come

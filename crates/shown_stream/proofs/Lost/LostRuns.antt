@@ -11,20 +11,21 @@ use Rattle.decoder_model.specs.Kept.{lifted_time, last_time, epoch_of}
 use Rattle.decoder_model.specs.Readings.{Content, Reading}
 use Rattle.decoder_model.specs.Sets.{Delivery}
 use Rattle.decoder_model.specs.Shown.{View, Agrees, view_at}
-use Rattle.decoder_model.specs.Verdict.{verdict_on_kept, sets_since, known_epoch}
-use Rattle.decoder_model.proofs.SentSets.{TimedSet, size_of_units}
+use Rattle.decoder_model.specs.Verdict.{verdict_on_kept, verdict_of, sets_since, known_epoch}
+use Rattle.decoder_model.specs.declared.set_end.SetEnd.TheVariants.{Shown, Waiting}
 use Rattle.shown_plan.proofs.Steps.Fair.{fair}
 use Rattle.shown_plan.proofs.Pictures.Runs.{IsRun, begins, goes_on, RunKeeps, run_keeps}
 use Rattle.shown_stream.specs.HoldsWhole.{HoldsSet}
 use Rattle.shown_stream.specs.Shows.{authored_view}
 use Rattle.shown_stream.proofs.Shown.ComingSets.{SetComes, reading_of, turned_more}
 use Rattle.shown_stream.proofs.Shown.HeldSets.{kept_holds}
-use Rattle.shown_stream.proofs.Lost.LostSets.{count_before}
-use Rattle.shown_stream.proofs.Lost.LostUnits.{Kind, Fresh, Joined, Apart, Steps, missed_from}
+use Rattle.shown_stream.proofs.Lost.LostStretches.{count_before}
+use Rattle.shown_stream.proofs.Lost.LostKinds.{Kind, Fresh, Joined, Apart, Steps, missed_from}
 use Rattle.shown_stream.proofs.Sent.PlannedTimes.{pts_of}
 use Rattle.shown_stream.proofs.Shown.RunViews.{IsBefore, run_shows}
-use Rattle.shown_stream.proofs.Shown.ShownSets.{IsAheadOf, verdict_is, sets_are, is_normal, unknown_with, IsShownSet, shown_set}
+use Rattle.shown_stream.proofs.Shown.ShownSets.{IsAheadOf, verdict_is, sets_are, is_normal, unknown_with, waits_with, IsShownSet, shown_set}
 use Rattle.stream_syntax.specs.Segments.{is_entry_state}
+use Rattle.sent_sets.proofs.Units.{TimedSet, size_of_units}
 
 -- ---- what is known in a receiver
 
@@ -54,6 +55,7 @@ KnownBy script profile anchor Apart past plan = Unit {0}
 pub record RunsOn (script : Script) (profile : Profile) (anchor : ℕ) (sets : List PlannedSet)
     (past : List (Delivery Reading)) (plan left : List PlannedSet) (set : PlannedSet)
     (delivery : Delivery Reading) : Type 0 where
+  pub verdict : verdict_of profile anchor past delivery ≡ Some Shown
   pub running : IsRunning script profile anchor (delivery ∷ past) (set ∷ plan)
   pub shows : (tick : ℕ) → set.pts ≤ tick → IsBefore tick left
       → Agrees (view_at profile anchor tick (delivery ∷ past)) (authored_view script tick)
@@ -67,6 +69,7 @@ runs_with : {sent : TimedSet} (script : Script) (profile : Profile) (anchor : �
     → IsRun script (set ∷ plan) (comes.contents ∷ sets_since profile anchor past)
     → RunsOn script profile anchor sets past plan left set (reading_of comes)
 runs_with script profile anchor sets past plan left set is_plan parts comes lifted run = record {
+  verdict = shown.verdict;
   running =
       record {
         before = set;
@@ -141,6 +144,8 @@ unknown_on {set = set} {sent = sent} profile anchor past comes lifted unknown no
 pub record WholeAfter (script : Script) (profile : Profile) (anchor : ℕ) (sets : List PlannedSet)
     (past : List (Delivery Reading)) (plan left : List PlannedSet) (set : PlannedSet)
     (delivery : Delivery Reading) : Type 0 where
+  pub verdict : (verdict_of profile anchor past delivery ≡ Some Shown)
+      ⊎ (verdict_of profile anchor past delivery ≡ Some Waiting)
   pub known : IsUnknown profile anchor (delivery ∷ past)
       ⊎ IsRunning script profile anchor (delivery ∷ past) (set ∷ plan)
   pub held : (epoch : List (List Content)) → known_epoch profile anchor (delivery ∷ past) ≡ Some epoch
@@ -161,7 +166,7 @@ pub whole_after : {sent : TimedSet} (script : Script) (profile : Profile) (ancho
     → WholeAfter script profile anchor sets past plan left set (reading_of comes)
 whole_after script profile anchor sets past plan left set is_plan parts comes lifted (inr running) =
     let on = runs_on script profile anchor sets past plan left set is_plan parts comes lifted running in
-    record { known = inr on.running; held = on.held; runs = λ why. on }
+    record { verdict = inl on.verdict; known = inr on.running; held = on.held; runs = λ why. on }
 whole_after script profile anchor sets past plan left set is_plan parts comes lifted (inl unknown) =
     by (is_entry_state set.state) refl
   where
@@ -169,10 +174,11 @@ whole_after script profile anchor sets past plan left set is_plan parts comes li
         → WholeAfter script profile anchor sets past plan left set (reading_of comes)
     by true whole =
         let on = run_begins script profile anchor sets past plan left set is_plan parts comes lifted unknown whole in
-        record { known = inr on.running; held = on.held; runs = λ why. on }
+        record { verdict = inl on.verdict; known = inr on.running; held = on.held; runs = λ why. on }
     by false normal =
         let still = unknown_on profile anchor past comes lifted unknown normal in
         record {
+          verdict = inr (waits_with profile anchor past comes unknown lifted normal);
           known = inl still;
           held = λ epoch found. absurd (none_known_of profile anchor (reading_of comes ∷ past) still epoch found);
           runs = runs;

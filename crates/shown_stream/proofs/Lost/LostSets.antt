@@ -1,8 +1,8 @@
 -- The sets of a stream of which some packets are lost: those that come whole, later units of others, and losses.
-use Rattle.std.proofs.Common.{◌≡◌, ◌∙◌, ℕ, zero, suc, ◌+◌, ◌<◌, ◌≤◌, ◌⊎◌, inl, inr, Bool, true, false, eqb, cond, List, [], ◌∷◌, ◌++◌, length, map, take, drop, replicate, Some, None, refl, sym, ap, subst, arith, length-drop}
+use Rattle.std.proofs.Common.{◌≡◌, ◌∙◌, ℕ, suc, ◌+◌, ◌<◌, ◌≤◌, ◌⊎◌, inl, inr, Bool, true, false, cond, List, [], ◌∷◌, ◌++◌, length, map, take, drop, Some, None, refl, sym, ap, subst, arith, length-drop}
 use Rattle.std.specs.Prelude.{find}
 use Rattle.std.specs.Bool.{if◌then◌else◌}
-use Rattle.std.specs.List.{AllByRecursion, AllZip, list_all, list_any, sum_by}
+use Rattle.std.specs.List.{AllByRecursion, AllZip, sum_by}
 use Rattle.std.specs.Option.{option_map}
 use Rattle.std.proofs.lemmas.List.{drop-drop, length-map}
 use Rattle.sub_base.specs.Lists.{prefixes}
@@ -10,263 +10,17 @@ use Rattle.stream_syntax.specs.DataField.{Frame, segment}
 use Rattle.decoder_model.specs.declared.pages.Pages.{Pages}
 use Rattle.decoder_model.specs.Arrivals.{PesUnit, Arrival, loss, unit}
 use Rattle.decoder_model.specs.Frames.{segments_in}
-use Rattle.decoder_model.specs.Sets.{Stretch, loss_between, run, runs_of, joined_to, Delivery, lost, whole, is_ended, frames_in, size_in, is_followed, set_of, sets_in}
-use Rattle.decoder_model.proofs.SentSets.{SetUnit, TimedSet, TimedUnit, timed, timed_units, segments_of_units, IsTimedSet, IsApart, IsPlaced, unit_of, delivered, handed_whole, first_time, same_time, run_frames, run_size, none_ends, front_bytes, front_not_ended, segments_are, find-map}
-use Rattle.shown_stream.proofs.Late.LateSets.{rest_of_set, rest_is_set}
-use Rattle.shown_stream.proofs.Lost.LostUnits.{Kind, Fresh, Joined, Apart, Steps, no_step, more_steps, missed_from, losses, losses-add, Arrive, none_arrive, one_arrives, one_missed, lost_before}
-
--- ---- steps
-
-missed_step : (kind next : Kind) (n : ℕ) → Steps (missed_from kind) n next → Steps kind n next
-missed_step Fresh next n h = h
-missed_step Joined Fresh n h = absurd h
-missed_step Joined Joined n h = tt
-missed_step Joined Apart n h = tt
-missed_step Apart next n h = h
-
--- behind missing pieces, what holds of a unit that is missed
-apart_step : (kind next : Kind) (n : ℕ) → Steps Apart n next → Steps (missed_from kind) n next
-apart_step Fresh Fresh n h = absurd h
-apart_step Fresh Joined n h = tt
-apart_step Fresh Apart n h = tt
-apart_step Joined next n h = h
-apart_step Apart next n h = h
-
--- how many losses stand before what comes
-abbrev pub count_before : Kind → ℕ
-count_before Fresh = 0
-count_before Joined = 0
-count_before Apart = 1
-
-join_step : (kind : Kind) → Steps kind (count_before kind) Joined
-join_step Fresh = tt
-join_step Joined = tt
-join_step Apart = omega arith
-
--- ---- losses
-
-abbrev pub losts : ℕ → List (Delivery (List ℕ))
-losts n = replicate n lost
-
-losts-add : (n k : ℕ) (rest : List (Delivery (List ℕ))) → losts n ++ (losts k ++ rest) ≡ losts (n + k) ++ rest
-losts-add zero k rest = let same : k ≡ 0 + k = omega arith in ap (λ count. losts count ++ rest) same
-losts-add (suc n) k rest =
-    let same : suc (n + k) ≡ suc n + k = omega arith in ap (λ all. lost ∷ all) (losts-add n k rest)
-    ∙ ap (λ count. losts count ++ rest) same
-
-lose_first : (coded n : ℕ) (arrivals : List Arrival)
-    → sets_in coded true (runs_of (losses n ++ arrivals)) ≡ losts n ++ sets_in coded true (runs_of arrivals)
-lose_first coded zero arrivals = refl
-lose_first coded (suc n) arrivals = ap (λ rest. lost ∷ rest) (lose_first coded n arrivals)
-
-before_is : (kind : Kind) (arrivals : List Arrival)
-    → lost_before kind ++ arrivals ≡ losses (count_before kind) ++ arrivals
-before_is Fresh arrivals = refl
-before_is Joined arrivals = refl
-before_is Apart arrivals = refl
-
--- ---- what stands behind missing pieces
-
--- none of these comes
-abbrev pub AllFalse : List Bool → Type 0
-AllFalse come = AllByRecursion (λ b. b ≡ false) come
-
--- behind missing pieces a loss comes first, or nothing
-gap_led : {units : List TimedUnit} (come : List Bool) (arrivals : List Arrival) → Arrive Apart units come arrivals
-    → ((arrivals ≡ []) × AllFalse come) ⊎ ((rest : List Arrival) × (arrivals ≡ loss ∷ rest))
-gap_led [] arrivals (none_arrive) = inl (refl, tt)
-gap_led (true ∷ come) arrivals (one_arrives place rest) = inr (_, refl)
-gap_led (false ∷ come) arrivals (one_missed {next = Fresh} count steps rest) = absurd steps
-gap_led (false ∷ come) arrivals (one_missed {next = Joined} zero steps rest) = absurd (omega (arith, steps))
-gap_led (false ∷ come) arrivals (one_missed {next = Joined} (suc count) steps rest) = inr (_, refl)
-gap_led (false ∷ come) arrivals (one_missed {next = Apart} {arrivals = left} zero steps rest) = by
-    (gap_led come left rest)
-  where
-    by : ((left ≡ []) × AllFalse come) ⊎ ((rest : List Arrival) × (left ≡ loss ∷ rest))
-        → ((left ≡ []) × AllFalse (false ∷ come)) ⊎ ((rest : List Arrival) × (left ≡ loss ∷ rest))
-    by (inl none) = inl (none.0, (refl, none.1))
-    by (inr some) = inr some
-gap_led (false ∷ come) arrivals (one_missed {next = Apart} (suc count) steps rest) = inr (_, refl)
-
--- ---- what is handed of a set of which a unit is missing
-
--- later units of a set, which come with its end
-abbrev pub IsMiddle : Kind → TimedSet → List TimedSet → Type 0
-IsMiddle next set [] = Unit {0}
-IsMiddle next set (one ∷ []) =
-    (k : ℕ) × (next ≡ Joined) × (1 ≤ k) × (k < length set.units) × (one ≡ rest_of_set k set)
-IsMiddle next set (one ∷ two ∷ more) = ⊥
-
--- units of a set without its end
-abbrev pub part_of_set : ℕ → ℕ → TimedSet → TimedSet
-part_of_set k p set = record { time = set.time; units = take p (drop k set.units) }
-
--- all of the first so many come, and some of them do
-abbrev pub all_come : ℕ → List Bool → Bool
-all_come n come = list_all (λ b. b) (take n come)
-
-abbrev pub some_come : ℕ → List Bool → Bool
-some_come n come = list_any (λ b. b) (take n come)
-
--- where nothing arrives of units behind missing pieces, nothing does of the later ones
-none_left : (units more : List TimedUnit) (come : List Bool) (arrivals : List Arrival)
-    → Arrive Apart (units ++ more) come arrivals → arrivals ≡ []
-    → Arrive Apart more (drop (length units) come) []
-none_left [] more come arrivals arrive e = subst (Arrive Apart more come) e arrive
-none_left (one ∷ units) more [] arrivals arrive e = elim arrive [ ]
-none_left (one ∷ units) more (true ∷ come) arrivals (one_arrives place rest) e = absurd (omega (arith, ap length e))
-none_left (one ∷ units) more (false ∷ come) arrivals (one_missed {next = Fresh} count steps rest) e = absurd steps
-none_left (one ∷ units) more (false ∷ come) arrivals (one_missed {next = Joined} zero steps rest) e = absurd
-    (omega (arith, steps))
-none_left (one ∷ units) more (false ∷ come) arrivals (one_missed {next = Joined} (suc count) steps rest) e = absurd
-    (omega (arith, ap length e))
-none_left (one ∷ units) more (false ∷ come) arrivals (one_missed {next = Apart} {arrivals = left} zero steps rest)
-    e = none_left units more come left rest e
-none_left (one ∷ units) more (false ∷ come) arrivals (one_missed {next = Apart} (suc count) steps rest) e = absurd
-    (omega (arith, ap length e))
+use Rattle.decoder_model.specs.Sets.{Stretch, loss_between, run, runs_of, joined_to, Delivery, whole, is_ended, frames_in, size_in, is_followed, set_of, sets_in}
+use Rattle.decoder_model.proofs.Lists.{find-map}
+use Rattle.shown_stream.proofs.Lost.LostKinds.{Kind, Fresh, Joined, Apart, Steps, no_step, more_steps, missed_from, losses, losses-add, Arrive, one_arrives, one_missed, lost_before}
+use Rattle.sent_sets.proofs.LateSets.{rest_of_set, rest_is_set}
+use Rattle.sent_sets.proofs.Runs.{IsApart, IsPlaced, first_time, run_frames, run_size}
+use Rattle.sent_sets.proofs.SetEnds.{delivered, none_ends, front_bytes, front_not_ended, segments_are}
+use Rattle.sent_sets.proofs.SetsCome.{handed_whole}
+use Rattle.sent_sets.proofs.Units.{SetUnit, TimedSet, TimedUnit, timed, timed_units, segments_of_units, IsTimedSet, unit_of}
+use Rattle.shown_stream.proofs.Lost.LostStretches.{missed_step, count_before, join_step, losts, losts-add, lose_first, before_is, AllFalse, gap_led, part_of_set, all_come, some_come, none_left, Bound, MissedOut, goes_by, stays_open, lose_more, from_apart, weaken, IsOther, joins, next_other, GroupEnds, group_all, group_part, Group, Suffix}
 
 module _ (coded : ℕ) (pages : Pages) where
-  -- what is handed of the sets behind one
-  pub record Bound (kind : Kind) (sets : List TimedSet) (come : List Bool)
-      (left : List (Delivery (List ℕ))) : Type 0 where
-    pub arrivals : List Arrival
-    pub arrive : Arrive kind (timed_units sets) come arrivals
-    pub are : left ≡ sets_in coded true (runs_of arrivals)
-
-  -- of a set that does not come whole so many losses are handed, and perhaps its later units; or, at the end of the
-  -- stream, some of its units
-  pub data MissedOut (kind : Kind) (set : TimedSet) (sets : List TimedSet) (come : List Bool)
-      (deliveries : List (Delivery (List ℕ))) : Type 0 where
-    goes_by : (next : Kind) (n : ℕ) (middle : List TimedSet) (left : List (Delivery (List ℕ)))
-        → Steps kind n next → IsMiddle next set middle → Bound next sets come left
-        → deliveries ≡ losts n ++ (map delivered middle ++ left) → MissedOut kind set sets come deliveries
-    stays_open : (n k p : ℕ) → Arrive Apart (timed_units sets) come []
-        → deliveries ≡ losts n ++ delivered (part_of_set k p set) ∷ [] → MissedOut kind set sets come deliveries
-
-  lose_more : (kind first : Kind) (count : ℕ) (set : TimedSet) (sets : List TimedSet) (come : List Bool)
-      (deliveries : List (Delivery (List ℕ))) → Steps kind count first
-      → MissedOut first set sets come deliveries → MissedOut kind set sets come (losts count ++ deliveries)
-  lose_more kind first count set sets come deliveries step (goes_by next n middle left steps is bound are) =
-      goes_by next (count + n) middle left (more_steps kind first next count n step steps) is bound
-      (ap (λ all. losts count ++ all) are ∙ losts-add count n (map delivered middle ++ left))
-  lose_more kind first count set sets come deliveries step (stays_open n k p none are) =
-      stays_open (count + n) k p none
-      (ap (λ all. losts count ++ all) are ∙ losts-add count n (delivered (part_of_set k p set) ∷ []))
-
-  from_apart : (kind : Kind) (set : TimedSet) (sets : List TimedSet) (come : List Bool)
-      (deliveries : List (Delivery (List ℕ))) → MissedOut Apart set sets come deliveries
-      → MissedOut (missed_from kind) set sets come deliveries
-  from_apart kind set sets come deliveries (goes_by next n middle left steps is bound are) =
-      goes_by next n middle left (apart_step kind next n steps) is bound are
-  from_apart kind set sets come deliveries (stays_open n k p none are) = stays_open n k p none are
-
-  weaken : (kind : Kind) (set : TimedSet) (sets : List TimedSet) (come : List Bool)
-      (deliveries : List (Delivery (List ℕ))) → MissedOut (missed_from kind) set sets come deliveries
-      → MissedOut kind set sets come deliveries
-  weaken kind set sets come deliveries (goes_by next n middle left steps is bound are) =
-      goes_by next n middle left (missed_step kind next n steps) is bound are
-  weaken kind set sets come deliveries (stays_open n k p none are) = stays_open n k p none are
-
-  -- ---- runs
-
-  -- no run of this time leads
-  abbrev IsOther : ℕ → List Stretch → Type 0
-  IsOther time [] = Unit {0}
-  IsOther time (loss_between ∷ rest) = Unit {0}
-  IsOther time (run first more ∷ rest) = eqb time first.time ≡ false
-
-  abbrev led_by : List PesUnit → List Stretch → List Stretch
-  led_by [] behind = behind
-  led_by (first ∷ more) behind = run first more ∷ behind
-
-  joins : (place time : ℕ) (one : SetUnit) (found : List PesUnit) (units : List SetUnit) (behind : List Stretch)
-      → AllZip (IsPlaced time) found units → IsOther time behind
-      → joined_to (unit_of place time one) (led_by found behind) ≡ run (unit_of place time one) found ∷ behind
-  joins place time one [] units [] placed other = refl
-  joins place time one [] units (loss_between ∷ behind) placed other = refl
-  joins place time one [] units (run first more ∷ behind) placed other =
-      ap (λ same. if same then run (unit_of place time one) (first ∷ more) ∷ behind
-      else run (unit_of place time one) [] ∷ run first more ∷ behind) other
-  joins place time one (first ∷ more) units behind placed other =
-      let same : eqb time first.time ≡ true =
-      ap (eqb time) (first_time time first more units placed) ∙ same_time time in
-      ap (λ same. if same then run (unit_of place time one) (first ∷ more) ∷ behind
-      else run (unit_of place time one) [] ∷ run first more ∷ behind) same
-
-  led_other : (time : ℕ) (one : PesUnit) (stretches : List Stretch) → eqb time one.time ≡ false
-      → IsOther time (joined_to one stretches)
-  led_other time one [] other = other
-  led_other time one (loss_between ∷ rest) other = other
-  led_other time one (run next more ∷ rest) other = by (eqb one.time next.time)
-    where
-      by : (same : Bool)
-          → IsOther time (if same then run one (next ∷ more) ∷ rest else run one [] ∷ run next more ∷ rest)
-      by true = other
-      by false = other
-
-  gap_other : (time : ℕ) (arrivals : List Arrival) (units : List TimedUnit) (come : List Bool)
-      → Arrive Apart units come arrivals → IsOther time (runs_of arrivals)
-  gap_other time arrivals units come arrive = by (gap_led come arrivals arrive)
-    where
-      by : ((arrivals ≡ []) × AllFalse come) ⊎ ((rest : List Arrival) × (arrivals ≡ loss ∷ rest))
-          → IsOther time (runs_of arrivals)
-      by (inl none) = subst (λ (all : List Arrival). IsOther time (runs_of all)) (sym none.0) tt
-      by (inr some) = subst (λ (all : List Arrival). IsOther time (runs_of all)) (sym some.1) tt
-
-  -- behind a set no run of its time leads
-  next_other : (time : ℕ) (sets : List TimedSet) (come : List Bool) (arrivals : List Arrival) → IsApart time sets
-      → AllByRecursion (λ (set : TimedSet). 1 ≤ length set.units) sets
-      → Arrive Joined (timed_units sets) come arrivals → IsOther time (runs_of arrivals)
-  next_other time [] come arrivals apart some arrive = by arrive
-    where
-      by : {come : List Bool} {arrivals : List Arrival} → Arrive Joined [] come arrivals
-          → IsOther time (runs_of arrivals)
-      by (none_arrive) = tt
-  next_other time (next ∷ sets) come arrivals apart some arrive = by next.units some.0 arrive
-    where
-      by : (units : List SetUnit) {come : List Bool} {arrivals : List Arrival} → 1 ≤ length units
-          → Arrive Joined (map (timed next.time) units ++ timed_units sets) come arrivals
-          → IsOther time (runs_of arrivals)
-      by [] some arrive = absurd (omega arith)
-      by (one ∷ units) some (one_arrives {arrivals = left} place rest) = led_other time (unit_of place next.time one)
-          (runs_of left) apart
-      by (one ∷ units) some (one_missed {whole = come} {arrivals = left} count steps rest) =
-          gap_other time (losses count ++ left)
-          (timed next.time one ∷ (map (timed next.time) units ++ timed_units sets)) (false ∷ come)
-          (one_missed {one = timed next.time one} count steps rest)
-
-  -- ---- the units of a set in a row
-
-  -- the units of a set that come in a row up to its end, or up to one that is missing
-  data GroupEnds (set : TimedSet) (units : List SetUnit) (sets : List TimedSet) (come : List Bool)
-      (found : List PesUnit) (behind : List Stretch) : Type 0 where
-    group_all : all_come (length units) come ≡ true → AllZip (IsPlaced set.time) found units
-        → Bound Joined sets (drop (length units) come) (sets_in coded true behind)
-        → GroupEnds set units sets come found behind
-    group_part : (p : ℕ) → p < length units → all_come (length units) come ≡ false
-        → AllZip (IsPlaced set.time) found (take p units)
-        → ((behind ≡ []) × Arrive Apart (timed_units sets) (drop (length units) come) [])
-        ⊎ ((rest : List Stretch) × (behind ≡ loss_between ∷ rest))
-        → MissedOut Apart set sets (drop (length units) come) (sets_in coded true behind)
-        → GroupEnds set units sets come found behind
-
-  record Group (set : TimedSet) (units : List SetUnit) (sets : List TimedSet) (come : List Bool)
-      (stretches : List Stretch) : Type 0 where
-    found : List PesUnit
-    behind : List Stretch
-    are : stretches ≡ led_by found behind
-    other : IsOther set.time behind
-    ends : GroupEnds set units sets come found behind
-
-  -- what is known from a unit of a set on
-  abbrev Suffix : TimedSet → List SetUnit → List TimedSet → List Bool → Type 0
-  Suffix set units sets come =
-      ((arrivals : List Arrival) → Arrive Joined (map (timed set.time) units ++ timed_units sets) come arrivals
-      → Group set units sets come (runs_of arrivals))
-      × ((kind : Kind) (arrivals : List Arrival)
-      → Arrive kind (map (timed set.time) units ++ timed_units sets) come arrivals
-      → MissedOut kind set sets (drop (length units) come) (sets_in coded true (runs_of arrivals)))
-
   -- ---- a run that is not ended
 
   none_found : (test : List Frame → Bool) (frames : List Frame)
@@ -311,8 +65,8 @@ module _ (coded : ℕ) (pages : Pages) where
       → AllZip (IsPlaced set.time) (first ∷ more) (take p (drop k set.units))
       → ((behind ≡ []) × Arrive Apart (timed_units sets) come [])
       ⊎ ((rest : List Stretch) × (behind ≡ loss_between ∷ rest))
-      → MissedOut Apart set sets come (sets_in coded true behind)
-      → MissedOut (missed_from kind) set sets come (sets_in coded true (run first more ∷ behind))
+      → MissedOut coded pages Apart set sets come (sets_in coded true behind)
+      → MissedOut coded pages (missed_from kind) set sets come (sets_in coded true (run first more ∷ behind))
   open_out kind set k p sets come first more behind is within placed (inl none) out =
       stays_open 0 k p none.1 (
       ap (λ front. front ++ sets_in coded true behind)
@@ -325,21 +79,21 @@ module _ (coded : ℕ) (pages : Pages) where
       (handed_open set k p first more (is_followed true behind) is within placed)
       ∙ ap (λ all. (if is_followed true all then delivered (part_of_set k p set) ∷ [] else [])
       ++ sets_in coded true behind) some.1 in
-      subst (MissedOut (missed_from kind) set sets come) (sym same)
-      (from_apart kind set sets come (sets_in coded true behind) out)
+      subst (MissedOut coded pages (missed_from kind) set sets come) (sym same)
+      (from_apart coded pages kind set sets come (sets_in coded true behind) out)
 
   -- a unit of a set, and those behind it
   suffix : (set : TimedSet) (k : ℕ) (units : List SetUnit) (sets : List TimedSet) (come : List Bool)
       → IsTimedSet coded pages set → IsApart set.time sets
       → AllByRecursion (λ (one : TimedSet). 1 ≤ length one.units) sets → 1 ≤ k → units ≡ drop k set.units
-      → Suffix set units sets come
+      → Suffix coded pages set units sets come
   suffix set k [] sets come is apart some first are = (
     λ arrivals
         arrive. record {
           found = [];
           behind = runs_of arrivals;
           are = refl;
-          other = next_other set.time sets come
+          other = next_other coded pages set.time sets come
               arrivals apart some arrive;
           ends = group_all refl tt
               (record { arrivals = arrivals; arrive = arrive; are = refl });
@@ -363,26 +117,27 @@ module _ (coded : ℕ) (pages : Pages) where
       many : suc (length units) + k ≡ length set.units
       many = omega (arith, ap length are, length-drop k set.units)
 
-      by : (come : Bool) → Suffix set units sets more → Suffix set (one ∷ units) sets (come ∷ more)
+      by : (come : Bool) → Suffix coded pages set units sets more
+          → Suffix coded pages set (one ∷ units) sets (come ∷ more)
       by true behind = (grouped, out)
         where
           grouped : (arrivals : List Arrival)
               → Arrive Joined (timed set.time one ∷ (map (timed set.time) units ++ timed_units sets))
-              (true ∷ more) arrivals → Group set (one ∷ units) sets (true ∷ more) (runs_of arrivals)
+              (true ∷ more) arrivals → Group coded pages set (one ∷ units) sets (true ∷ more) (runs_of arrivals)
           grouped arrivals (one_arrives {arrivals = left} place rest) =
               let group = behind.0 left rest in
               by_ends group group.ends
             where
-              by_ends : (group : Group set units sets more (runs_of left))
-                  → GroupEnds set units sets more group.found group.behind
-                  → Group set (one ∷ units) sets (true ∷ more)
+              by_ends : (group : Group coded pages set units sets more (runs_of left))
+                  → GroupEnds coded pages set units sets more group.found group.behind
+                  → Group coded pages set (one ∷ units) sets (true ∷ more)
                   (joined_to (unit_of place set.time one) (runs_of left))
               by_ends group (group_all all placed bound) = record {
                 found = unit_of place set.time one ∷ group.found;
                 behind = group.behind;
                 are =
                     ap (joined_to (unit_of place set.time one)) group.are
-                    ∙ joins place set.time one group.found units group.behind placed group.other;
+                    ∙ joins coded pages place set.time one group.found units group.behind placed group.other;
                 other = group.other;
                 ends = group_all all ((place, refl), placed) bound;
               }
@@ -391,32 +146,33 @@ module _ (coded : ℕ) (pages : Pages) where
                 behind = group.behind;
                 are =
                     ap (joined_to (unit_of place set.time one)) group.are
-                    ∙ joins place set.time one group.found (take p units) group.behind placed group.other;
+                    ∙ joins coded pages place set.time one group.found (take p units) group.behind placed group.other;
                 other = group.other;
                 ends = group_part (suc p) (omega (arith, within)) all ((place, refl), placed) led out;
               }
 
           out : (kind : Kind) (arrivals : List Arrival)
               → Arrive kind (timed set.time one ∷ (map (timed set.time) units ++ timed_units sets)) (true ∷ more)
-              arrivals → MissedOut kind set sets (drop (length units) more) (sets_in coded true (runs_of arrivals))
+              arrivals → MissedOut coded pages kind set sets (drop (length units) more)
+              (sets_in coded true (runs_of arrivals))
           out kind arrivals (one_arrives {arrivals = left} place rest) =
               let group = behind.0 left rest in
-              subst (MissedOut kind set sets (drop (length units) more))
+              subst (MissedOut coded pages kind set sets (drop (length units) more))
               (sym (ap (λ all. sets_in coded true (runs_of all))
               (before_is kind (unit (unit_of place set.time one) ∷ left))
               ∙ lose_first coded (count_before kind) (unit (unit_of place set.time one) ∷ left)))
-              (lose_more kind Joined (count_before kind) set sets (drop (length units) more)
+              (lose_more coded pages kind Joined (count_before kind) set sets (drop (length units) more)
               (sets_in coded true (joined_to (unit_of place set.time one) (runs_of left))) (join_step kind)
               (by_ends group group.ends))
             where
-              by_ends : (group : Group set units sets more (runs_of left))
-                  → GroupEnds set units sets more group.found group.behind
-                  → MissedOut Joined set sets (drop (length units) more)
+              by_ends : (group : Group coded pages set units sets more (runs_of left))
+                  → GroupEnds coded pages set units sets more group.found group.behind
+                  → MissedOut coded pages Joined set sets (drop (length units) more)
                   (sets_in coded true (joined_to (unit_of place set.time one) (runs_of left)))
               by_ends group (group_all all placed bound) =
                   let runs =
                   ap (joined_to (unit_of place set.time one)) group.are
-                  ∙ joins place set.time one group.found units group.behind placed group.other in
+                  ∙ joins coded pages place set.time one group.found units group.behind placed group.other in
                   let mine : AllZip (IsPlaced set.time) (unit_of place set.time one ∷ group.found)
                   (drop k set.units) =
                   subst (AllZip (IsPlaced set.time) (unit_of place set.time one ∷ group.found)) are
@@ -430,13 +186,14 @@ module _ (coded : ℕ) (pages : Pages) where
               by_ends group (group_part p within all placed led out) =
                   let runs =
                   ap (joined_to (unit_of place set.time one)) group.are
-                  ∙ joins place set.time one group.found (take p units) group.behind placed group.other in
+                  ∙ joins coded pages place set.time one group.found (take p units) group.behind placed group.other in
                   let mine : AllZip (IsPlaced set.time) (unit_of place set.time one ∷ group.found)
                   (take (suc p) (drop k set.units)) = subst
                   (λ (its : List SetUnit). AllZip (IsPlaced set.time) (unit_of place set.time one ∷ group.found)
                   (take (suc p) its)) are ((place, refl), placed) in
-                  subst (MissedOut Joined set sets (drop (length units) more)) (sym (ap (sets_in coded true) runs))
-                  (weaken Joined set sets (drop (length units) more)
+                  subst (MissedOut coded pages Joined set sets (drop (length units) more))
+                  (sym (ap (sets_in coded true) runs))
+                  (weaken coded pages Joined set sets (drop (length units) more)
                   (sets_in coded true (run (unit_of place set.time one) group.found ∷ group.behind))
                   (open_out Joined set k (suc p) sets (drop (length units) more) (unit_of place set.time one)
                   group.found group.behind is (omega (arith, many, within)) mine led out))
@@ -444,19 +201,20 @@ module _ (coded : ℕ) (pages : Pages) where
         where
           missed : (kind : Kind) (arrivals : List Arrival)
               → Arrive kind (timed set.time one ∷ (map (timed set.time) units ++ timed_units sets)) (false ∷ more)
-              arrivals → MissedOut (missed_from kind) set sets (drop (length units) more)
+              arrivals → MissedOut coded pages (missed_from kind) set sets (drop (length units) more)
               (sets_in coded true (runs_of arrivals))
           missed kind arrivals (one_missed {next = next} {arrivals = left} count steps rest) =
-              subst (MissedOut (missed_from kind) set sets (drop (length units) more))
+              subst (MissedOut coded pages (missed_from kind) set sets (drop (length units) more))
               (sym (lose_first coded count left))
-              (lose_more (missed_from kind) next count set sets (drop (length units) more)
+              (lose_more coded pages (missed_from kind) next count set sets (drop (length units) more)
               (sets_in coded true (runs_of left)) steps (behind.1 next left rest))
 
           out : (kind : Kind) (arrivals : List Arrival)
               → Arrive kind (timed set.time one ∷ (map (timed set.time) units ++ timed_units sets)) (false ∷ more)
-              arrivals → MissedOut kind set sets (drop (length units) more) (sets_in coded true (runs_of arrivals))
+              arrivals → MissedOut coded pages kind set sets (drop (length units) more)
+              (sets_in coded true (runs_of arrivals))
           out kind arrivals arrive =
-              weaken kind set sets (drop (length units) more) (sets_in coded true (runs_of arrivals))
+              weaken coded pages kind set sets (drop (length units) more) (sets_in coded true (runs_of arrivals))
               (missed kind arrivals arrive)
 
           led : (arrivals : List Arrival)
@@ -477,14 +235,16 @@ module _ (coded : ℕ) (pages : Pages) where
                   inl (
                     ap runs_of none.0,
                     subst (λ (n : ℕ). Arrive Apart (timed_units sets) (drop n more) []) same
-                        (none_left (timed set.time one ∷ map (timed set.time) units) (timed_units sets) (false ∷ more)
+                        (none_left (timed set.time one ∷ map (timed set.time) units) (timed_units sets)
+                        (false ∷ more)
                         (losses count ++ left) (one_missed {one = timed set.time one} count steps rest) none.0),
                   )
               told (inr more_of) = inr (runs_of more_of.0, ap runs_of more_of.1)
 
           grouped : (arrivals : List Arrival)
               → Arrive Joined (timed set.time one ∷ (map (timed set.time) units ++ timed_units sets))
-              (false ∷ more) arrivals → Group set (one ∷ units) sets (false ∷ more) (runs_of arrivals)
+              (false ∷ more) arrivals
+              → Group coded pages set (one ∷ units) sets (false ∷ more) (runs_of arrivals)
           grouped arrivals arrive = record {
             found = [];
             behind = runs_of arrivals;
@@ -495,24 +255,25 @@ module _ (coded : ℕ) (pages : Pages) where
             where
               led_is : ((runs_of arrivals ≡ []) × Arrive Apart (timed_units sets) (drop (length units) more) [])
                   ⊎ ((rest : List Stretch) × (runs_of arrivals ≡ loss_between ∷ rest))
-                  → IsOther set.time (runs_of arrivals)
-              led_is (inl none) = subst (IsOther set.time) (sym none.0) tt
-              led_is (inr some) = subst (IsOther set.time) (sym some.1) tt
+                  → IsOther coded pages set.time (runs_of arrivals)
+              led_is (inl none) = subst (IsOther coded pages set.time) (sym none.0) tt
+              led_is (inr some) = subst (IsOther coded pages set.time) (sym some.1) tt
 
   -- ---- sets
 
   -- what is handed of a set and those behind it: the set, where it comes whole, and else what is handed of it
   pub data SetOut (kind : Kind) (set : TimedSet) (sets : List TimedSet) (come : List Bool)
       (deliveries : List (Delivery (List ℕ))) : Bool → Type 0 where
-    set_whole : (left : List (Delivery (List ℕ))) → Bound Joined sets come left
+    set_whole : (left : List (Delivery (List ℕ))) → Bound coded pages Joined sets come left
         → deliveries ≡ losts (count_before kind) ++ delivered set ∷ left
         → SetOut kind set sets come deliveries true
-    set_missed : MissedOut (missed_from kind) set sets come deliveries → SetOut kind set sets come deliveries false
+    set_missed : MissedOut coded pages (missed_from kind) set sets come deliveries
+        → SetOut kind set sets come deliveries false
 
   pub set_out : (kind : Kind) (set : TimedSet) (sets : List TimedSet) (come : List Bool)
       (left : List (Delivery (List ℕ))) → IsTimedSet coded pages set → 1 ≤ length set.units
       → IsApart set.time sets → AllByRecursion (λ (one : TimedSet). 1 ≤ length one.units) sets
-      → Bound kind (set ∷ sets) come left
+      → Bound coded pages kind (set ∷ sets) come left
       → SetOut kind set sets (drop (length set.units) come) left (all_come (length set.units) come)
   set_out kind set sets come left is any apart some bound =
       subst (λ (all : List (Delivery (List ℕ))). SetOut kind set sets (drop (length set.units) come) all
@@ -533,9 +294,9 @@ module _ (coded : ℕ) (pages : Pages) where
           (one_missed {next = next} {arrivals = left} count steps rest) =
           let behind = suffix set 1 units sets more is apart some (omega arith) (sym (ap (drop 1) same)) in
           set_missed
-          (subst (MissedOut (missed_from kind) set sets (drop (length units) more))
+          (subst (MissedOut coded pages (missed_from kind) set sets (drop (length units) more))
           (sym (lose_first coded count left))
-          (lose_more (missed_from kind) next count set sets (drop (length units) more)
+          (lose_more coded pages (missed_from kind) next count set sets (drop (length units) more)
           (sets_in coded true (runs_of left)) steps (behind.1 next left rest)))
       by (one ∷ units) same (true ∷ more) arrivals any (one_arrives {arrivals = left} place rest) =
           let group = (suffix set 1 units sets more is apart some (omega arith) (sym (ap (drop 1) same))).0 left rest in
@@ -551,22 +312,24 @@ module _ (coded : ℕ) (pages : Pages) where
               ∙ lose_first coded (count_before kind) (unit first ∷ left)
 
           lost_out : (before : Kind) (deliveries : List (Delivery (List ℕ)))
-              → MissedOut Apart set sets (drop (length units) more) deliveries
-              → MissedOut (missed_from before) set sets (drop (length units) more)
+              → MissedOut coded pages Apart set sets (drop (length units) more) deliveries
+              → MissedOut coded pages (missed_from before) set sets (drop (length units) more)
               (losts (count_before before) ++ deliveries)
-          lost_out Fresh deliveries out = from_apart Fresh set sets (drop (length units) more) deliveries out
+          lost_out Fresh deliveries out =
+              from_apart coded pages Fresh set sets (drop (length units) more) deliveries out
           lost_out Joined deliveries out = out
-          lost_out Apart deliveries out = lose_more Apart Apart 1 set sets (drop (length units) more) deliveries tt out
+          lost_out Apart deliveries out =
+              lose_more coded pages Apart Apart 1 set sets (drop (length units) more) deliveries tt out
 
-          by_ends : (group : Group set units sets more (runs_of left))
-              → GroupEnds set units sets more group.found group.behind
+          by_ends : (group : Group coded pages set units sets more (runs_of left))
+              → GroupEnds coded pages set units sets more group.found group.behind
               → SetOut kind set sets (drop (length units) more)
               (sets_in coded true (runs_of (lost_before kind ++ unit first ∷ left)))
               (all_come (length units) more)
           by_ends group (group_all all placed bound) =
               let runs =
               ap (joined_to first) group.are
-              ∙ joins place set.time one group.found units group.behind placed group.other in
+              ∙ joins coded pages place set.time one group.found units group.behind placed group.other in
               let mine : AllZip (IsPlaced set.time) (first ∷ group.found) set.units =
               subst (AllZip (IsPlaced set.time) (first ∷ group.found)) (sym same) ((place, refl), placed) in
               subst (SetOut kind set sets (drop (length units) more)
@@ -579,7 +342,7 @@ module _ (coded : ℕ) (pages : Pages) where
           by_ends group (group_part p within all placed led out) =
               let runs =
               ap (joined_to first) group.are
-              ∙ joins place set.time one group.found (take p units) group.behind placed group.other in
+              ∙ joins coded pages place set.time one group.found (take p units) group.behind placed group.other in
               let mine : AllZip (IsPlaced set.time) (first ∷ group.found) (take (suc p) (drop 0 set.units)) =
               subst (λ (its : List SetUnit). AllZip (IsPlaced set.time) (first ∷ group.found) (take (suc p) its))
               (sym same) ((place, refl), placed) in
@@ -587,7 +350,7 @@ module _ (coded : ℕ) (pages : Pages) where
               subst (SetOut kind set sets (drop (length units) more)
               (sets_in coded true (runs_of (lost_before kind ++ unit first ∷ left)))) (sym all)
               (set_missed
-              (subst (MissedOut (missed_from kind) set sets (drop (length units) more))
+              (subst (MissedOut coded pages (missed_from kind) set sets (drop (length units) more))
               (sym (lost_first ∙ ap (λ rest. losts (count_before kind) ++ rest) (ap (sets_in coded true) runs)))
               (lost_out kind (sets_in coded true (run first group.found ∷ group.behind))
               (open_out Joined set 0 (suc p) sets (drop (length units) more) first group.found group.behind is
@@ -632,13 +395,13 @@ module _ (coded : ℕ) (pages : Pages) where
     pub n : ℕ
     pub left : List (Delivery (List ℕ))
     pub steps : Steps (missed_from kind) n next
-    pub bound : Bound next sets (drop (length set.units) come) left
+    pub bound : Bound coded pages next sets (drop (length set.units) come) left
     pub are : deliveries ≡ losts n ++ left
     pub not_all : all_come (length set.units) come ≡ false
 
   pub nothing_out : (kind : Kind) (set : TimedSet) (sets : List TimedSet) (come : List Bool)
       (left : List (Delivery (List ℕ))) → 1 ≤ length set.units → some_come (length set.units) come ≡ false
-      → Bound kind (set ∷ sets) come left → NothingOut kind set sets come left
+      → Bound coded pages kind (set ∷ sets) come left → NothingOut kind set sets come left
   nothing_out kind set sets come left any none bound =
       by set.units refl any come bound.arrivals none bound.arrive bound.are
     where
@@ -660,7 +423,7 @@ module _ (coded : ℕ) (pages : Pages) where
             left = sets_in coded true (runs_of out.left);
             steps = more_steps (missed_from kind) next out.next count out.count steps out.steps;
             bound =
-                subst (λ (n : ℕ). Bound out.next sets (drop n (false ∷ come))
+                subst (λ (n : ℕ). Bound coded pages out.next sets (drop n (false ∷ come))
                 (sets_in coded true (runs_of out.left))) (sym many)
                 (record { arrivals = out.left; arrive = out.arrive; are = refl });
             are =

@@ -1,7 +1,7 @@
--- A receiver of a compiled stream of which some packets are lost shows at each good tick what the script authors, and
--- its page memory holds the script behind each set that comes whole and whose epoch is known.
-use Rattle.std.proofs.Common.{◌≡◌, ◌∙◌, ℕ, suc, ◌+◌, ◌-◌, ◌<◌, ◌≤◌, inl, Bool, true, false, List, [], ◌∷◌, length, take, drop, get_or, reverse, None, refl, sym, ap, subst, arith, append-nil}
-use Rattle.std.specs.Prelude.{slice_index}
+-- A receiver of a compiled stream of which some packets are lost shows at each good tick what the script authors, keeps
+-- each set that comes whole, and its page memory holds the script behind each of them whose epoch is known.
+use Rattle.std.proofs.Common.{◌≡◌, ◌∙◌, ℕ, suc, ◌+◌, ◌-◌, ◌<◌, ◌≤◌, inl, Bool, true, false, List, [], ◌∷◌, length, take, drop, get_or, reverse, Some, None, refl, sym, ap, subst, arith, append-nil}
+use Rattle.std.specs.Prelude.{slice_index, slice_get}
 use Rattle.std.specs.List.{AllByRecursion, list_all, list_any}
 use Rattle.std.proofs.lemmas.List.Elements.{recursion_from_All}
 use Rattle.std.proofs.lemmas.Option.{slice_get_within}
@@ -24,39 +24,45 @@ use Rattle.decoder_model.specs.Received.{HasReceived}
 use Rattle.decoder_model.specs.Sets.{Delivery, runs_of, sets_in, sets_of}
 use Rattle.decoder_model.specs.Shown.{Agrees, view_at}
 use Rattle.decoder_model.specs.Streams.{Sending, SentSet, IsReceived, IsGoodTick, IsCutTo, received_of, is_received_at}
-use Rattle.decoder_model.proofs.SentSets.{TimedSet, timed_units, have_units}
 use Rattle.decoder_model.proofs.SentUnits.{no_hand}
 use Rattle.shown_stream.specs.Compiled.{IsCompiledFor, IsCompiledTo, all_units}
 use Rattle.shown_stream.specs.Entered.{IsCutRightly}
 use Rattle.shown_stream.specs.HoldsWhole.{HoldsWhole}
+use Rattle.shown_stream.specs.KeptSets.{IsKept}
 use Rattle.shown_stream.specs.SentSets.{sent_set, sent_sets, times_received}
 use Rattle.shown_stream.specs.Shows.{authored_view, IsAnchorOf, Shows}
 use Rattle.slot_stream.specs.SlotStream.{Piece, all_pieces, IsPiece}
+use Rattle.shown_stream.proofs.Late.LateCompiled.{timed_as}
 use Rattle.shown_stream.proofs.Shown.ComingSets.{all_come}
-use Rattle.shown_stream.proofs.Sent.CompiledPackets.{packets_in, ArePackets, are_packets, as_many, count_pieces, count_before, count_of_set}
-use Rattle.shown_stream.proofs.Shown.CompiledShown.{new_receiver, no_time, low_origin}
+use Rattle.shown_stream.proofs.Sent.CompiledPackets.{packets_in, ArePackets, are_packets}
+use Rattle.shown_stream.proofs.Shown.SentShown.{new_receiver, no_time, low_origin}
 use Rattle.shown_stream.proofs.Shown.EnteredRuns.{turned_is}
 use Rattle.shown_stream.proofs.Shown.HeldSets.{holds_none}
 use Rattle.slot_stream.proofs.LaidPackets.{IsAhead}
 use Rattle.shown_stream.proofs.Late.LatePlaces.{count_sets}
-use Rattle.shown_stream.proofs.Late.LateStream.{no_counter}
 use Rattle.shown_stream.proofs.Lost.LostCompiled.{all_there, some_there, there-take, there-drop, length-there, suits_received, good_from, received_sound, sets_by_flow}
 use Rattle.shown_stream.proofs.Lost.LostCuts.{near_from}
+use Rattle.shown_stream.proofs.Lost.LostGood.{kept_if_whole}
 use Rattle.shown_stream.proofs.Lost.LostFits.{flags_at, AreTold, are_fit}
 use Rattle.shown_stream.proofs.Lost.LostPieces.{there_at, flow, walked}
-use Rattle.shown_stream.proofs.Lost.LostUnits.{Fresh, Arrive, Walking, come_whole, units_arrive}
+use Rattle.shown_stream.proofs.Lost.LostKinds.{Fresh, Arrive, Walking}
+use Rattle.shown_stream.proofs.Lost.LostUnits.{come_whole, units_arrive}
 use Rattle.shown_stream.proofs.Lost.LostViews.{AreFit, Ends, GoodFrom, good_ends}
 use Rattle.shown_stream.proofs.Lost.LostWalk.{Before}
 use Rattle.reading_laws.proofs.OneReading.{same_past}
 use Rattle.shown_stream.proofs.Shown.PlannedRegions.{planned_well}
 use Rattle.shown_stream.proofs.Sent.PlannedTimes.{times_in_span, pts_rise}
-use Rattle.shown_stream.proofs.Sent.RisingSlots.{slots_rise}
 use Rattle.slot_stream.proofs.SentPieces.{IsFree, none_refused}
-use Rattle.shown_stream.proofs.Sent.SentPlaces.{start_is}
 use Rattle.slot_stream.proofs.SentStream.{pieces_are}
 use Rattle.stream_syntax.specs.declared.wire.TheConstants.{TIME_ROUND}
+use Rattle.sent_sets.proofs.LateStream.{no_counter}
+use Rattle.sent_sets.proofs.PacketCounts.{as_many, count_pieces, count_before, count_of_set}
+use Rattle.sent_sets.proofs.RisingSlots.{slots_rise}
+use Rattle.sent_sets.proofs.SetsCome.{have_units}
+use Rattle.sent_sets.proofs.SlotPlaces.{start_is}
+use Rattle.sent_sets.proofs.Units.{TimedSet, timed_units}
 
--- what is received of a compiled stream that is shortly cut, what is shown of it, and what is held
+-- what is received of a compiled stream that is shortly cut, what is shown of it, what is kept, and what is held
 pub record IsReceivedCut (name : ProfileName) (pid page : ℕ) (script : Script) (bytes : List ℕ)
     (compiled : IsCompiledTo name pid page script bytes) (sendings : List Sending) (received : List (List ℕ))
     (anchor tick : ℕ) : Type 0 where
@@ -64,6 +70,9 @@ pub record IsReceivedCut (name : ProfileName) (pid page : ℕ) (script : Script)
   pub has_received : HasReceived (profile_of name) pid (only page) true received past
   pub shows : IsGoodTick (sent_sets compiled.table compiled.sets) sendings tick
       → Agrees (view_at (profile_of name) anchor tick past) (authored_view script tick)
+  pub kept : (number : ℕ) (set : PlannedSet) → slice_get compiled.sets number ≡ Some set
+      → IsReceived sendings (sent_set compiled.table number set)
+      → IsKept (profile_of name) anchor (IsGoodTick (sent_sets compiled.table compiled.sets) sendings) past set
   pub holds : HoldsWhole script (profile_of name) anchor compiled.sets
       (λ number set. IsReceived sendings (sent_set compiled.table number set)) past
 
@@ -84,6 +93,9 @@ received_cut name pid page script bytes free made compiled sendings received cut
       good.entry good.after fits refl good.placed good.begins good.come
       (recursion_from_All (λ (set : SentSet). set.time ≤ tick → IsReceived sendings set)
       (good.entry ∷ good.after) good.whole));
+  kept =
+      kept_if_whole sendings table profile anchor ends.past sets
+      (pts_rise script profile sets compiled.planned.plan) ends.kept;
   holds = ends.holds;
 }
   where
@@ -177,6 +189,8 @@ received_cut name pid page script bytes free made compiled sendings received cut
       known = (new_receiver profile anchor).unknown;
       last = inl (no_time anchor);
       holds = holds_none script profile anchor sets ComesWhole;
+      streak = λ come. absurd come;
+      kept = tt;
     }
 
     many : length loads ≡ length sets
@@ -225,9 +239,9 @@ received_cut name pid page script bytes free made compiled sendings received cut
         (let low = low_origin script in
         are_fit script profile anchor script.origin page sets ComesWhole 0 [] sets compiled.units sent flags
         (omega (arith, low)) refl known.are.are
-        (all_come script profile page sets compiled.units sent compiled.planned.plan
+        (all_come script profile sets sent compiled.planned.plan
         (λ number set found. planned_well script profile sets number set compiled.planned.plan found)
-        known.are.are)
+        (timed_as script page sets compiled.units sent known.are.are))
         known.are.carry.whole (have_units coded (only page) sent known.are.carry.whole) known.apart
         (times_in_span script profile sets compiled.planned.plan)
         (pts_rise script profile sets compiled.planned.plan) known.units
@@ -256,7 +270,26 @@ cut_shown name pid page script bytes free made compiled sendings received cut an
       agrees = got.shows good;
     }
 
--- and behind each set that comes whole and whose epoch is known the page memory holds the script
+-- each set that comes whole is kept
+pub cut_kept : (name : ProfileName) (pid page : ℕ) (script : Script) (bytes : List ℕ) → IsFree pid
+    → IsCompiledFor name → (compiled : IsCompiledTo name pid page script bytes)
+    → (sendings : List Sending) (received : List (List ℕ))
+    → IsCutTo pid (packets_in name pid page script bytes compiled) sendings received → (anchor : ℕ)
+    → IsAnchorOf (times_received sendings (sent_sets compiled.table compiled.sets)) anchor
+    → (past : List (Delivery Reading)) → HasReceived (profile_of name) pid (only page) true received past
+    → (number : ℕ) (set : PlannedSet) → slice_get compiled.sets number ≡ Some set
+    → IsReceived sendings (sent_set compiled.table number set)
+    → IsKept (profile_of name) anchor (IsGoodTick (sent_sets compiled.table compiled.sets) sendings) past set
+cut_kept name pid page script bytes free made compiled sendings received cut anchor suits past has_received number set
+    found own =
+    let got = received_cut name pid page script bytes free made compiled sendings received cut anchor suits 0 in
+    let same =
+    same_past (reverse (sets_of (profile_of name).coded pid (only page) true received)) got.past past
+    got.has_received has_received in
+    subst (λ (all : List (Delivery Reading)). IsKept (profile_of name) anchor
+    (IsGoodTick (sent_sets compiled.table compiled.sets) sendings) all set) same (got.kept number set found own)
+
+-- and behind each of them whose epoch is known the page memory holds the script
 pub cut_held : (name : ProfileName) (pid page : ℕ) (script : Script) (bytes : List ℕ) → IsFree pid
     → IsCompiledFor name → (compiled : IsCompiledTo name pid page script bytes)
     → (sendings : List Sending) (received : List (List ℕ))
@@ -283,6 +316,9 @@ compiled_cut name pid page script bytes free made compiled sendings received cut
   shown =
       λ anchor suits tick good. cut_shown name pid page script bytes free made compiled sendings received cut anchor
       suits tick good;
+  kept =
+      λ anchor suits past has_received number set found own. cut_kept name pid page script bytes free made compiled
+      sendings received cut anchor suits past has_received number set found own;
   held =
       λ anchor suits past has_received. cut_held name pid page script bytes free made compiled sendings received cut
       anchor suits past has_received;

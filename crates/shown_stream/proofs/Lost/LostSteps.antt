@@ -1,5 +1,5 @@
 -- What losses, later units of a set and units of an open set change in a receiver.
-use Rattle.std.proofs.Common.{◌≡◌, ◌∙◌, ℕ, zero, suc, ◌%◌, ◌<◌, ◌≤◌, List, [], ◌∷◌, ◌++◌, take, drop, reverse, Option, Some, None, refl, ap, arith}
+use Rattle.std.proofs.Common.{◌≡◌, ◌∙◌, ℕ, zero, suc, ◌%◌, ◌<◌, ◌≤◌, List, [], ◌∷◌, ◌++◌, take, drop, reverse, Option, Some, None, refl, sym, ap, arith, append_assoc}
 use Rattle.std.specs.Option.{option_or}
 use Rattle.sub_base.specs.declared.profile.Profile.{Profile}
 use Rattle.cue_list.specs.declared.script.Script.{Script}
@@ -11,18 +11,19 @@ use Rattle.decoder_model.specs.Shown.{view_at}
 use Rattle.decoder_model.specs.Verdict.{sets_since, known_epoch}
 use Rattle.decoder_model.specs.declared.set_end.SetEnd.TheVariants.{Broken}
 use Rattle.decoder_model.specs.declared.set_fault.SetFault.TheVariants.{NoPage}
-use Rattle.decoder_model.proofs.SentSets.{SetUnit, TimedSet, segments_of_units, size_of_units, all_segments, delivered}
 use Rattle.decoder_model.proofs.Views.{view_without}
 use Rattle.shown_stream.specs.HoldsWhole.{HoldsSet, HoldsWhole}
 use Rattle.shown_stream.proofs.Shown.ComingSets.{SetComes}
 use Rattle.shown_stream.proofs.Sent.CompiledSets.{IsSentAs}
-use Rattle.shown_stream.proofs.Shown.CompiledShown.{part_read, rest_read}
+use Rattle.shown_stream.proofs.Shown.SentShown.{part_read, rest_read}
 use Rattle.shown_stream.proofs.Shown.EnteredRuns.{turned}
 use Rattle.shown_stream.proofs.Late.LateRest.{IsPlannedWell, rest_is_broken}
-use Rattle.shown_stream.proofs.Late.LateSets.{rest_of_set}
-use Rattle.shown_stream.proofs.Lost.LostSets.{losts, part_of_set}
+use Rattle.shown_stream.proofs.Lost.LostStretches.{losts, part_of_set}
 use Rattle.shown_stream.proofs.Shown.ShownSets.{IsAheadOf, lifted_at, verdict_is, sets_are, none_known}
 use Rattle.stream_syntax.specs.declared.wire.TheConstants.{TIME_ROUND, TICK_LIMIT}
+use Rattle.sent_sets.proofs.LateSets.{rest_of_set}
+use Rattle.sent_sets.proofs.SetEnds.{delivered}
+use Rattle.sent_sets.proofs.Units.{SetUnit, TimedSet, segments_of_units, size_of_units, all_segments}
 
 -- ---- losses
 
@@ -64,6 +65,8 @@ pub record Pushed (script : Script) (profile : Profile) (anchor : ℕ) (sets : L
   pub none : n ≡ 0 → now ≡ past
   pub some : 1 ≤ n → known_epoch profile anchor now ≡ None
   pub holds : HoldsWhole script profile anchor sets ComesWhole now
+  pub more : List (Delivery Reading)
+  pub over : now ≡ more ++ past
 
 pub push_losts : (script : Script) (profile : Profile) (anchor : ℕ) (sets : List PlannedSet)
     (ComesWhole : ℕ → PlannedSet → Type 0) (n : ℕ) (taken : List (Delivery (List ℕ)))
@@ -80,6 +83,8 @@ push_losts script profile anchor sets ComesWhole zero taken past read holds =
       some = λ any. absurd
           (omega arith);
       holds = holds;
+      more = [];
+      over = refl;
     }
 push_losts script profile anchor sets ComesWhole (suc n) taken past read holds =
     let more =
@@ -93,6 +98,8 @@ push_losts script profile anchor sets ComesWhole (suc n) taken past read holds =
       none = λ e. absurd (omega arith);
       some = λ any. unknown n more.none more.some;
       holds = more.holds;
+      more = more.more ++ lost ∷ [];
+      over = more.over ∙ sym (append_assoc more.more (lost ∷ []) past);
     }
   where
     unknown : {now : List (Delivery Reading)} (n : ℕ) → (n ≡ 0 → now ≡ lost ∷ past)

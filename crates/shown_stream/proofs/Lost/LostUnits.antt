@@ -1,353 +1,23 @@
 -- Of a stream of which some packets are lost exactly the units arrive whose packets all come, and a loss before each
 -- packet that others are missing before.
-use Rattle.std.proofs.Common.{◌≡◌, ◌≢◌, ◌∙◌, ℕ, zero, suc, ◌+◌, ◌%◌, ◌≤◌, Bool, true, false, eqb, List, [], ◌∷◌, ◌++◌, length, map, take, drop, replicate, Option, Some, None, refl, sym, ap, subst, arith, append_assoc, append-nil, length-append}
+use Rattle.std.proofs.Common.{◌≡◌, ◌∙◌, ℕ, suc, ◌+◌, ◌%◌, ◌≤◌, Bool, true, false, List, [], ◌∷◌, ◌++◌, length, map, take, drop, Option, Some, None, refl, sym, ap, subst, arith, append_assoc, append-nil, length-append}
 use Rattle.std.specs.Bool.{if◌then◌else◌}
 use Rattle.std.specs.List.{AllByRecursion, AllZip, concat, list_all}
-use Rattle.std.proofs.lemmas.Bool.Decides.{nat_tests}
 use Rattle.stream_syntax.specs.Cutting.{IsUnit}
-use Rattle.stream_syntax.specs.Units.{Succession, Next, Missing, succession, payload_part, Fate, Waits, Whole, fate_of, is_waiting, handed_out, followed, unit_after, payload_event, is_loss}
-use Rattle.ts_packets.specs.Demuxing.{kept, next_hand}
+use Rattle.stream_syntax.specs.Units.{Next, Missing, succession, Fate, Waits, Whole, fate_of, is_waiting, handed_out, followed, is_loss}
+use Rattle.ts_packets.specs.Demuxing.{kept}
 use Rattle.ts_packets.proofs.AnyCuttingLemmas.{front_waits, unit_is_whole}
 use Rattle.decoder_model.specs.declared.pages.Pages.{Pages}
-use Rattle.decoder_model.specs.Arrivals.{Arrival, loss, unit, arrival_of_unit, losses_at, units_at}
-use Rattle.decoder_model.proofs.SentSets.{TimedUnit, IsUnitOf, unit_of, arrives}
+use Rattle.decoder_model.specs.Arrivals.{Arrival, loss, arrival_of_unit, losses_at, units_at}
 use Rattle.slot_stream.specs.SlotStream.{Piece, all_pieces, piece_count}
-use Rattle.shown_stream.proofs.Sent.CompiledPackets.{length-pieces_of}
 use Rattle.shown_stream.proofs.Lost.LostPieces.{Walk, no_piece_left, passes_by, comes_in}
 use Rattle.slot_stream.proofs.SentPieces.{AreFurther}
 use Rattle.slot_stream.proofs.SentStream.{first_piece, further_of, its_pieces, its_bytes, its_further}
-
--- ---- how a piece stands to those before it
-
--- nothing has come yet; the piece before has come; pieces before are missing behind one that has come
-pub data Kind : Type 0 where
-  Fresh : Kind
-  Joined : Kind
-  Apart : Kind
-
--- between two pieces that come at most 14 are missing: so many are missing behind the last that has come
-abbrev pub AreNear : Option ℕ → List Bool → Type 0
-AreNear since [] = Unit {0}
-AreNear None (false ∷ come) = AreNear None come
-AreNear (Some k) (false ∷ come) = AreNear (Some (k + 1)) come
-AreNear None (true ∷ come) = AreNear (Some 0) come
-AreNear (Some k) (true ∷ come) = (k ≤ 14) × AreNear (Some 0) come
-
--- the counter before a piece of that number and the unit in hand, where none was begun before it that can go on
-abbrev pub StandsAt : Kind → Option ℕ → Option (List ℕ) → ℕ → Option ℕ → Type 0
-StandsAt Fresh last hand number since = (last ≡ None) × (hand ≡ None) × (since ≡ None)
-StandsAt Joined last hand number since =
-    (m : ℕ) × (last ≡ Some (m % 16)) × (number ≡ m + 1) × (hand ≡ None) × (since ≡ Some 0)
-StandsAt Apart last hand number since =
-    (m k : ℕ) × (last ≡ Some (m % 16)) × (number ≡ m + 1 + k) × (1 ≤ k) × (since ≡ Some k)
-
-in_turn : (m number : ℕ) → number ≡ m + 1 → succession (Some (m % 16)) (number % 16) ≡ Next
-in_turn m number e =
-    let fresh : eqb (number % 16) (m % 16) ≡ false =
-    (let differ : number % 16 ≢ m % 16 = omega arith in grind (arith, nat_tests)) in
-    let next : eqb (number % 16) ((m % 16 + 1) % 16) ≡ true =
-    (let same : number % 16 ≡ (m % 16 + 1) % 16 = omega arith in grind (arith, nat_tests)) in
-    rw (fresh, next) refl
-
-missing_before : (m k number : ℕ) → number ≡ m + 1 + k → 1 ≤ k → k ≤ 14
-    → succession (Some (m % 16)) (number % 16) ≡ Missing ((m % 16 + 1) % 16) (number % 16)
-missing_before m k number e some few =
-    let fresh : eqb (number % 16) (m % 16) ≡ false =
-    (let differ : number % 16 ≢ m % 16 = omega arith in grind (arith, nat_tests)) in
-    let other : eqb (number % 16) ((m % 16 + 1) % 16) ≡ false =
-    (let differ : number % 16 ≢ (m % 16 + 1) % 16 = omega arith in grind (arith, nat_tests)) in
-    rw (fresh, other) refl
-
--- ---- losses
-
--- what so many losses take one kind to
-abbrev pub Steps : Kind → ℕ → Kind → Type 0
-Steps Fresh n Fresh = n ≡ 0
-Steps Fresh n Joined = Unit {0}
-Steps Fresh n Apart = Unit {0}
-Steps Joined n Fresh = ⊥
-Steps Joined n Joined = Unit {0}
-Steps Joined n Apart = Unit {0}
-Steps Apart n Fresh = ⊥
-Steps Apart n Joined = 1 ≤ n
-Steps Apart n Apart = Unit {0}
-
-pub no_step : (kind : Kind) → Steps kind 0 kind
-no_step Fresh = refl
-no_step Joined = tt
-no_step Apart = tt
-
-pub more_steps : (a b c : Kind) (n k : ℕ) → Steps a n b → Steps b k c → Steps a (n + k) c
-more_steps Fresh Fresh Fresh n k h g = omega (arith, h, g)
-more_steps Fresh b Joined n k h g = tt
-more_steps Fresh b Apart n k h g = tt
-more_steps Fresh Joined Fresh n k h g = absurd g
-more_steps Fresh Apart Fresh n k h g = absurd g
-more_steps Joined Fresh c n k h g = absurd h
-more_steps Joined Joined Fresh n k h g = absurd g
-more_steps Joined Apart Fresh n k h g = absurd g
-more_steps Joined b Joined n k h g = tt
-more_steps Joined b Apart n k h g = tt
-more_steps Apart Fresh c n k h g = absurd h
-more_steps Apart Joined Fresh n k h g = absurd g
-more_steps Apart Apart Fresh n k h g = absurd g
-more_steps Apart Joined Joined n k h g = omega (arith, h)
-more_steps Apart Apart Joined n k h g = omega (arith, g)
-more_steps Apart b Apart n k h g = tt
-
--- a piece that is missed
-abbrev pub missed_from : Kind → Kind
-missed_from Fresh = Fresh
-missed_from Joined = Apart
-missed_from Apart = Apart
-
-abbrev pub losses : ℕ → List Arrival
-losses n = replicate n loss
-
-pub losses-add : (n k : ℕ) (rest : List Arrival) → losses n ++ (losses k ++ rest) ≡ losses (n + k) ++ rest
-losses-add zero k rest = ap (λ count. losses count ++ rest) (omega arith)
-losses-add (suc n) k rest =
-    let same : suc (n + k) ≡ suc n + k = omega arith in ap (λ all. loss ∷ all) (losses-add n k rest)
-    ∙ ap (λ count. losses count ++ rest) same
-
--- the loss before what comes behind missing pieces
-abbrev pub lost_before : Kind → List Arrival
-lost_before Fresh = []
-lost_before Joined = []
-lost_before Apart = loss ∷ []
-
--- what arrives of units: those that come whole, with a loss before each behind missing pieces; and where one is missed
--- so many losses
-pub data Arrive : Kind → List TimedUnit → List Bool → List Arrival → Type 0 where
-  none_arrive : {kind : Kind} → Arrive kind [] [] []
-  one_arrives : {kind : Kind} {one : TimedUnit} {units : List TimedUnit} {whole : List Bool} {arrivals : List Arrival}
-      (place : ℕ) → Arrive Joined units whole arrivals
-      → Arrive kind (one ∷ units) (true ∷ whole)
-      (lost_before kind ++ unit (unit_of place one.time one.unit) ∷ arrivals)
-  one_missed : {kind next : Kind} {one : TimedUnit} {units : List TimedUnit} {whole : List Bool} {arrivals : List
-      Arrival} (count : ℕ) → Steps (missed_from kind) count next → Arrive next units whole arrivals
-      → Arrive kind (one ∷ units) (false ∷ whole) (losses count ++ arrivals)
-
--- ---- pieces of a unit of which one is missing
+use Rattle.sent_sets.proofs.PacketCounts.{length-pieces_of}
+use Rattle.sent_sets.proofs.Units.{TimedUnit, IsUnitOf, arrives}
+use Rattle.shown_stream.proofs.Lost.LostKinds.{Kind, Fresh, Joined, Apart, AreNear, StandsAt, in_turn, missing_before, missed_from, lost_before, Arrive, none_arrive, one_arrives, one_missed, Walking, WalksOn, passed_on, brought, in_hand, further_on, walk_on}
 
 module _ (size : ℕ) (pages : Pages) where
-  -- how the pieces behind some stand, and what comes of them
-  pub record Walking (kind : Kind) (number : ℕ) (rest : List Piece) (come : List Bool)
-      (arrivals : List Arrival) : Type 0 where
-    pub last : Option ℕ
-    pub hand : Option (List ℕ)
-    pub since : Option ℕ
-    pub stands : StandsAt kind last hand number since
-    pub near : AreNear since come
-    pub walk : Walk size pages last hand number rest come arrivals
-
-  -- behind pieces: so many losses, and what comes of those behind
-  pub record WalksOn (kind : Kind) (number : ℕ) (rest : List Piece) (come : List Bool)
-      (arrivals : List Arrival) : Type 0 where
-    pub next : Kind
-    pub last : Option ℕ
-    pub hand : Option (List ℕ)
-    pub since : Option ℕ
-    pub count : ℕ
-    pub behind : List Arrival
-    pub are : arrivals ≡ losses count ++ behind
-    pub steps : Steps kind count next
-    pub stands : StandsAt next last hand number since
-    pub near : AreNear since come
-    pub walk : Walk size pages last hand number rest come behind
-
-  -- a piece that does not come
-  passed_on : (kind : Kind) (last : Option ℕ) (hand : Option (List ℕ)) (number : ℕ) (since : Option ℕ)
-      (rest : List Piece) (come : List Bool) (arrivals : List Arrival) → StandsAt kind last hand number since
-      → AreNear since (false ∷ come)
-      → Walk size pages last hand (number + 1) rest come arrivals
-      → WalksOn (missed_from kind) (number + 1) rest come arrivals
-  passed_on Fresh last hand number since rest come arrivals stands near walk = record {
-    next = Fresh;
-    last = last;
-    hand = hand;
-    since = None;
-    count = 0;
-    behind = arrivals;
-    are = refl;
-    steps = refl;
-    stands = (stands.0, stands.1, refl);
-    near = subst (λ (k : Option ℕ). AreNear k (false ∷ come)) stands.2 near;
-    walk = walk;
-  }
-  passed_on Joined last hand number since rest come arrivals stands near walk = record {
-    next = Apart;
-    last = last;
-    hand = hand;
-    since = Some 1;
-    count = 0;
-    behind = arrivals;
-    are = refl;
-    steps = tt;
-    stands = (stands.0, 1, stands.1, (let at = stands.2 in omega (arith, at)), omega arith, refl);
-    near = subst (λ (k : Option ℕ). AreNear k (false ∷ come)) stands.4 near;
-    walk = walk;
-  }
-  passed_on Apart last hand number since rest come arrivals stands near walk = record {
-    next = Apart;
-    last = last;
-    hand = hand;
-    since = Some (stands.1 + 1);
-    count = 0;
-    behind = arrivals;
-    are = refl;
-    steps = tt;
-    stands = (stands.0, stands.1 + 1, stands.2, (let at = stands.3 in omega (arith, at)), omega arith, refl);
-    near = subst (λ (k : Option ℕ). AreNear k (false ∷ come)) stands.5 near;
-    walk = walk;
-  }
-
-  -- what a piece that comes brings, and the unit in hand behind it
-  abbrev brought : Option (List ℕ) → Succession → Bool → List ℕ → ℕ → List Arrival
-  brought hand order starts bytes place =
-      losses_at (payload_event size hand order starts bytes)
-      ++ units_at pages place (unit_after size hand (payload_part order starts bytes))
-
-  abbrev in_hand : Option (List ℕ) → Succession → Bool → List ℕ → Option (List ℕ)
-  in_hand hand order starts bytes = next_hand size hand (payload_part order starts bytes)
-
-  -- a further piece of a unit whose beginning is missing
-  added_on : (kind : Kind) (last : Option ℕ) (hand : Option (List ℕ)) (number : ℕ) (since : Option ℕ)
-      (piece : Piece) (rest : List Piece) (come : List Bool) (arrivals : List Arrival) (place : ℕ)
-      → piece.starts ≡ false → StandsAt kind last hand number since
-      → AreNear since (true ∷ come)
-      → Walk size pages (Some (number % 16))
-      (in_hand hand (succession last (number % 16)) piece.starts piece.bytes) (number + 1) rest come arrivals
-      → WalksOn kind (number + 1) rest come
-      (brought hand (succession last (number % 16)) piece.starts piece.bytes place ++ arrivals)
-  added_on Fresh last hand number since piece rest come arrivals place inner stands near walk =
-      let order : succession last (number % 16) ≡ Next = ap (λ before. succession before (number % 16)) stands.0 in
-      record {
-        next = Joined;
-        last = Some (number % 16);
-        hand = None;
-        since = Some 0;
-        count = 0;
-        behind = arrivals;
-        are = ap (λ front. front ++ arrivals) (λ i. brought (stands.1 i) (order i) (inner i) piece.bytes place);
-        steps = tt;
-        stands = (number, refl, refl, refl, refl);
-        near = subst (λ (k : Option ℕ). AreNear k (true ∷ come)) stands.2 near;
-        walk =
-            subst (λ (kept_now : Option (List ℕ)). Walk size pages (Some (number % 16)) kept_now (number + 1) rest
-            come arrivals) (λ i. in_hand (stands.1 i) (order i) (inner i) piece.bytes) walk;
-      }
-  added_on Joined last hand number since piece rest come arrivals place inner stands near walk =
-      let order : succession last (number % 16) ≡ Next =
-      ap (λ before. succession before (number % 16)) stands.1 ∙ in_turn stands.0 number stands.2 in
-      let close = subst (λ (k : Option ℕ). AreNear k (true ∷ come)) stands.4 near in
-      record {
-        next = Joined;
-        last = Some (number % 16);
-        hand = None;
-        since = Some 0;
-        count = 0;
-        behind = arrivals;
-        are = ap (λ front. front ++ arrivals) (λ i. brought (stands.3 i) (order i) (inner i) piece.bytes place);
-        steps = tt;
-        stands = (number, refl, refl, refl, refl);
-        near = close.1;
-        walk =
-            subst (λ (kept_now : Option (List ℕ)). Walk size pages (Some (number % 16)) kept_now (number + 1) rest
-            come arrivals) (λ i. in_hand (stands.3 i) (order i) (inner i) piece.bytes) walk;
-      }
-  added_on Apart last hand number since piece rest come arrivals place inner stands near walk =
-      let close = subst (λ (k : Option ℕ). AreNear k (true ∷ come)) stands.5 near in
-      let order : succession last (number % 16) ≡ Missing ((stands.0 % 16 + 1) % 16) (number % 16) =
-      ap (λ before. succession before (number % 16)) stands.2
-      ∙ missing_before stands.0 stands.1 number stands.3 stands.4 close.0 in
-      record {
-        next = Joined;
-        last = Some (number % 16);
-        hand = None;
-        since = Some 0;
-        count = 1;
-        behind = arrivals;
-        are = ap (λ front. front ++ arrivals) (λ i. brought hand (order i) (inner i) piece.bytes place);
-        steps = omega arith;
-        stands = (number, refl, refl, refl, refl);
-        near = close.1;
-        walk =
-            subst (λ (kept_now : Option (List ℕ)). Walk size pages (Some (number % 16)) kept_now (number + 1) rest
-            come arrivals) (λ i. in_hand hand (order i) (inner i) piece.bytes) walk;
-      }
-
-  -- one walk behind another
-  further_on : (first kind : Kind) (number : ℕ) (rest : List Piece) (come : List Bool)
-      (arrivals behind : List Arrival) (count : ℕ) → arrivals ≡ losses count ++ behind
-      → Steps first count kind → WalksOn kind number rest come behind → WalksOn first number rest come arrivals
-  further_on first kind number rest come arrivals behind count are steps on = record {
-    next = on.next;
-    last = on.last;
-    hand = on.hand;
-    since = on.since;
-    count = count + on.count;
-    behind = on.behind;
-    are = are ∙ ap (λ all. losses count ++ all) on.are ∙ losses-add count on.count on.behind;
-    steps = more_steps first kind on.next count on.count steps on.steps;
-    stands = on.stands;
-    near = on.near;
-    walk = on.walk;
-  }
-
-  weaker_start : (kind : Kind) (number : ℕ) (rest : List Piece) (come : List Bool) (arrivals : List Arrival)
-      → WalksOn (missed_from kind) number rest come arrivals → WalksOn kind number rest come arrivals
-  weaker_start Fresh number rest come arrivals on = on
-  weaker_start Apart number rest come arrivals on = on
-  weaker_start Joined number rest come arrivals on =
-      further_on Joined Apart number rest come arrivals arrivals 0 refl tt on
-
-  -- all further pieces
-  pub walk_on : (kind : Kind) (last : Option ℕ) (hand : Option (List ℕ)) (number : ℕ) (since : Option ℕ)
-      (further rest : List Piece) (come : List Bool) (arrivals : List Arrival) → AreFurther further
-      → StandsAt kind last hand number since → AreNear since come
-      → Walk size pages last hand number (further ++ rest) come arrivals
-      → WalksOn kind (number + length further) rest (drop (length further) come) arrivals
-  walk_on kind last hand number since [] rest come arrivals are stands near walk =
-      let same : number ≡ number + 0 = omega arith in
-      subst (λ (n : ℕ). WalksOn kind n rest come arrivals) same
-      (record {
-        next = kind;
-        last = last;
-        hand = hand;
-        since = since;
-        count = 0;
-        behind = arrivals;
-        are = refl;
-        steps = no_step kind;
-        stands = stands;
-        near = near;
-        walk = walk;
-      })
-  walk_on kind last hand number since (piece ∷ further) rest [] arrivals are stands near walk = elim walk [ ]
-  walk_on kind last hand number since (piece ∷ further) rest (false ∷ come) arrivals are stands near
-      (passes_by walk) =
-      let one =
-      weaker_start kind (number + 1) (further ++ rest) come arrivals
-      (passed_on kind last hand number since (further ++ rest) come arrivals stands near walk) in
-      let same : number + 1 + length further ≡ number + suc (length further) = omega arith in
-      subst (λ (n : ℕ). WalksOn kind n rest (drop (length further) come) arrivals) same
-      (further_on kind one.next (number + 1 + length further) rest (drop (length further) come) arrivals one.behind
-      one.count one.are one.steps
-      (walk_on one.next one.last one.hand (number + 1) one.since further rest come one.behind are.1 one.stands one.near
-      one.walk))
-  walk_on kind last hand number since (piece ∷ further) rest (true ∷ come) arrivals are stands near
-      (comes_in {arrivals = left} place walk) =
-      let one = added_on kind last hand number since piece (further ++ rest) come left place are.0.1 stands near walk in
-      let same : number + 1 + length further ≡ number + suc (length further) = omega arith in
-      subst (λ (n : ℕ). WalksOn kind n rest (drop (length further) come)
-      (brought hand (succession last (number % 16)) piece.starts piece.bytes place ++ left)) same
-      (further_on kind one.next (number + 1 + length further) rest (drop (length further) come)
-      (brought hand (succession last (number % 16)) piece.starts piece.bytes place ++ left) one.behind one.count
-      one.are one.steps
-      (walk_on one.next one.last one.hand (number + 1) one.since further rest come one.behind are.1 one.stands one.near
-      one.walk))
-
   -- ---- a unit
 
   abbrev bytes_of : List Piece → List (List ℕ)
@@ -366,19 +36,20 @@ module _ (size : ℕ) (pages : Pages) where
   data GoesTo (bytes : List ℕ) (number : ℕ) (rest : List Piece) (come : List Bool) : Bool → List Arrival
       → Type 0 where
     reaches : {arrivals : List Arrival} (place : ℕ) (behind : List Arrival)
-        → arrivals ≡ arrival_of_unit pages place bytes ∷ behind → Walking Joined number rest come behind
+        → arrivals ≡ arrival_of_unit pages place bytes ∷ behind
+        → Walking size pages Joined number rest come behind
         → GoesTo bytes number rest come true arrivals
-    stops : {arrivals : List Arrival} → WalksOn Apart number rest come arrivals
+    stops : {arrivals : List Arrival} → WalksOn size pages Apart number rest come arrivals
         → GoesTo bytes number rest come false arrivals
 
   -- what a piece that ends a unit brings, and one behind which it waits
   whole_added : (front piece bytes : List ℕ) (place : ℕ) → fate_of size (front ++ piece) ≡ Whole bytes
-      → brought (Some front) Next false piece place ≡ arrival_of_unit pages place bytes ∷ []
+      → brought size pages (Some front) Next false piece place ≡ arrival_of_unit pages place bytes ∷ []
   whole_added front piece bytes place fate =
       ap (λ f. losses_at (followed size f) ++ units_at pages place (handed_out (Some f))) fate
 
   waits_added : (front piece : List ℕ) (place : ℕ) → fate_of size (front ++ piece) ≡ Waits
-      → brought (Some front) Next false piece place ≡ []
+      → brought size pages (Some front) Next false piece place ≡ []
   waits_added front piece place fate =
       ap (λ f. losses_at (followed size f) ++ units_at pages place (handed_out (Some f))) fate
 
@@ -402,8 +73,8 @@ module _ (size : ℕ) (pages : Pages) where
       let stands : StandsAt Apart last hand (number + 1) (Some 1) =
       (at.0, 1, at.1, (let there = at.2 in omega (arith, there)), omega arith, refl) in
       let same : number + 1 + length further ≡ number + suc (length further) = omega arith in
-      stops (subst (λ (n : ℕ). WalksOn Apart n rest (drop (length further) come) arrivals) same
-      (walk_on Apart last hand (number + 1) (Some 1) further rest come arrivals are.1 stands close walk))
+      stops (subst (λ (n : ℕ). WalksOn size pages Apart n rest (drop (length further) come) arrivals) same
+      (walk_on size pages Apart last hand (number + 1) (Some 1) further rest come arrivals are.1 stands close walk))
   going bytes front last hand number since piece [] rest (true ∷ come) arrivals is whole are at near
       (comes_in {arrivals = left} place walk) =
       let order : succession last (number % 16) ≡ Next =
@@ -411,12 +82,13 @@ module _ (size : ℕ) (pages : Pages) where
       let all : front ++ piece.bytes ≡ bytes = ap (λ xs. front ++ xs) (sym (append-nil piece.bytes)) ∙ sym whole in
       let fate : fate_of size (front ++ piece.bytes) ≡ Whole bytes =
       ap (fate_of size) all ∙ unit_is_whole size bytes is in
-      let front_is : brought hand (succession last (number % 16)) piece.starts piece.bytes place
+      let front_is : brought size pages hand (succession last (number % 16)) piece.starts piece.bytes place
       ≡ arrival_of_unit pages place bytes
-      ∷ [] = (λ i. brought (at.3 i) (order i) (are.0.1 i) piece.bytes place)
+      ∷ [] = (λ i. brought size pages (at.3 i) (order i) (are.0.1 i) piece.bytes place)
       ∙ whole_added front piece.bytes bytes place fate in
-      let hand_is : in_hand hand (succession last (number % 16)) piece.starts piece.bytes ≡ None =
-      (λ i. in_hand (at.3 i) (order i) (are.0.1 i) piece.bytes) ∙ whole_kept (front ++ piece.bytes) bytes fate in
+      let hand_is : in_hand size pages hand (succession last (number % 16)) piece.starts piece.bytes ≡ None =
+      (λ i. in_hand size pages (at.3 i) (order i) (are.0.1 i) piece.bytes)
+      ∙ whole_kept (front ++ piece.bytes) bytes fate in
       let close = (subst (λ (k : Option ℕ). AreNear k (true ∷ come)) at.4 near).1 in
       reaches place left (ap (λ first. first ++ left) front_is) (record {
         last = Some (number % 16);
@@ -440,16 +112,17 @@ module _ (size : ℕ) (pages : Pages) where
       let fate : fate_of size (front ++ piece.bytes) ≡ Waits =
       front_waits size (front ++ piece.bytes) (concat (bytes_of (next ∷ further)))
       (subst (IsUnit size) regrouped is) more in
-      let front_is : brought hand (succession last (number % 16)) piece.starts piece.bytes place ≡ [] =
-      (λ i. brought (at.3 i) (order i) (are.0.1 i) piece.bytes place)
+      let front_is : brought size pages hand (succession last (number % 16)) piece.starts piece.bytes place ≡ [] =
+      (λ i. brought size pages (at.3 i) (order i) (are.0.1 i) piece.bytes place)
       ∙ waits_added front piece.bytes place fate in
-      let hand_is : in_hand hand (succession last (number % 16)) piece.starts piece.bytes
-      ≡ Some (front ++ piece.bytes) = (λ i. in_hand (at.3 i) (order i) (are.0.1 i) piece.bytes)
+      let hand_is : in_hand size pages hand (succession last (number % 16)) piece.starts piece.bytes
+      ≡ Some (front ++ piece.bytes) = (λ i. in_hand size pages (at.3 i) (order i) (are.0.1 i) piece.bytes)
       ∙ waits_kept (front ++ piece.bytes) fate in
       let close = (subst (λ (k : Option ℕ). AreNear k (true ∷ come)) at.4 near).1 in
       let on =
       going bytes (front ++ piece.bytes) (Some (number % 16))
-      (in_hand hand (succession last (number % 16)) piece.starts piece.bytes) (number + 1) (Some 0) next further
+      (in_hand size pages hand (succession last (number % 16)) piece.starts piece.bytes) (number + 1) (Some 0) next
+      further
       rest come left is regrouped are.1 (number, refl, refl, hand_is, refl) close walk in
       let same : number + 1 + suc (length further) ≡ number + suc (suc (length further)) = omega arith in
       subst (GoesTo bytes (number + suc (suc (length further))) rest (drop (suc (length further)) come)
@@ -460,9 +133,10 @@ module _ (size : ℕ) (pages : Pages) where
   -- a piece with which a unit begins, by what becomes of the unit
   record IsBegun (kind : Kind) (last : Option ℕ) (hand : Option (List ℕ)) (number : ℕ) (piece : Piece)
       (come : List Bool) (place : ℕ) (fate : Fate) : Type 0 where
-    brings : brought hand (succession last (number % 16)) piece.starts piece.bytes place ≡ lost_before kind
+    brings : brought size pages hand (succession last (number % 16)) piece.starts piece.bytes place ≡ lost_before kind
         ++ units_at pages place (handed_out (Some fate))
-    keeps : in_hand hand (succession last (number % 16)) piece.starts piece.bytes ≡ kept size (Some piece.bytes)
+    keeps : in_hand size pages hand (succession last (number % 16)) piece.starts piece.bytes
+        ≡ kept size (Some piece.bytes)
     near : AreNear (Some 0) come
 
   is_begun : (kind : Kind) (last : Option ℕ) (hand : Option (List ℕ)) (number : ℕ) (since : Option ℕ)
@@ -474,10 +148,10 @@ module _ (size : ℕ) (pages : Pages) where
       let order : succession last (number % 16) ≡ Next = ap (λ before. succession before (number % 16)) stands.0 in
       record {
         brings =
-            (λ i. brought (stands.1 i) (order i) (first i) piece.bytes place)
+            (λ i. brought size pages (stands.1 i) (order i) (first i) piece.bytes place)
             ∙ ap (λ f. losses_at (followed size f) ++ units_at pages place (handed_out (Some f))) is
             ∙ ap (λ lost. (if lost then loss ∷ [] else []) ++ units_at pages place (handed_out (Some fate))) sound;
-        keeps = λ i. in_hand (stands.1 i) (order i) (first i) piece.bytes;
+        keeps = λ i. in_hand size pages (stands.1 i) (order i) (first i) piece.bytes;
         near = subst (λ (k : Option ℕ). AreNear k (true ∷ come)) stands.2 near;
       }
   is_begun Joined last hand number since piece come place fate first stands near is sound =
@@ -485,10 +159,10 @@ module _ (size : ℕ) (pages : Pages) where
       ap (λ before. succession before (number % 16)) stands.1 ∙ in_turn stands.0 number stands.2 in
       record {
         brings =
-            (λ i. brought (stands.3 i) (order i) (first i) piece.bytes place)
+            (λ i. brought size pages (stands.3 i) (order i) (first i) piece.bytes place)
             ∙ ap (λ f. losses_at (followed size f) ++ units_at pages place (handed_out (Some f))) is
             ∙ ap (λ lost. (if lost then loss ∷ [] else []) ++ units_at pages place (handed_out (Some fate))) sound;
-        keeps = λ i. in_hand (stands.3 i) (order i) (first i) piece.bytes;
+        keeps = λ i. in_hand size pages (stands.3 i) (order i) (first i) piece.bytes;
         near = (subst (λ (k : Option ℕ). AreNear k (true ∷ come)) stands.4 near).1;
       }
   is_begun Apart last hand number since piece come place fate first stands near is sound =
@@ -498,9 +172,9 @@ module _ (size : ℕ) (pages : Pages) where
       ∙ missing_before stands.0 stands.1 number stands.3 stands.4 close.0 in
       record {
         brings =
-            (λ i. brought hand (order i) (first i) piece.bytes place)
+            (λ i. brought size pages hand (order i) (first i) piece.bytes place)
             ∙ ap (λ f. loss ∷ units_at pages place (handed_out (Some f))) is;
-        keeps = λ i. in_hand hand (order i) (first i) piece.bytes;
+        keeps = λ i. in_hand size pages hand (order i) (first i) piece.bytes;
         near = close.1;
       }
 
@@ -509,17 +183,18 @@ module _ (size : ℕ) (pages : Pages) where
       → List Arrival → Type 0 where
     comes_whole : {arrivals : List Arrival} (place : ℕ) (behind : List Arrival)
         → arrivals ≡ lost_before kind ++ arrival_of_unit pages place bytes ∷ behind
-        → Walking Joined number rest come behind → UnitEnds kind bytes number rest come true arrivals
-    is_missed : {arrivals : List Arrival} → WalksOn (missed_from kind) number rest come arrivals
+        → Walking size pages Joined number rest come behind → UnitEnds kind bytes number rest come true arrivals
+    is_missed : {arrivals : List Arrival} → WalksOn size pages (missed_from kind) number rest come arrivals
         → UnitEnds kind bytes number rest come false arrivals
 
   stopped : (kind : Kind) (number : ℕ) (rest : List Piece) (come : List Bool) (arrivals : List Arrival)
-      → WalksOn Apart number rest come arrivals
-      → WalksOn (missed_from kind) number rest come (lost_before kind ++ arrivals)
-  stopped Fresh number rest come arrivals on = further_on Fresh Apart number rest come arrivals arrivals 0 refl tt on
+      → WalksOn size pages Apart number rest come arrivals
+      → WalksOn size pages (missed_from kind) number rest come (lost_before kind ++ arrivals)
+  stopped Fresh number rest come arrivals on =
+      further_on size pages Fresh Apart number rest come arrivals arrivals 0 refl tt on
   stopped Joined number rest come arrivals on = on
   stopped Apart number rest come arrivals on =
-      further_on Apart Apart number rest come (loss ∷ arrivals) arrivals 1 refl tt on
+      further_on size pages Apart Apart number rest come (loss ∷ arrivals) arrivals 1 refl tt on
 
   ended : (kind : Kind) (bytes : List ℕ) (number : ℕ) (rest : List Piece) (come : List Bool) (all : Bool)
       (arrivals left : List Arrival) → arrivals ≡ lost_before kind ++ left
@@ -527,7 +202,9 @@ module _ (size : ℕ) (pages : Pages) where
   ended kind bytes number rest come true arrivals left are (reaches place behind is on) =
       comes_whole place behind (are ∙ ap (λ more. lost_before kind ++ more) is) on
   ended kind bytes number rest come false arrivals left are (stops on) =
-      is_missed (subst (WalksOn (missed_from kind) number rest come) (sym are) (stopped kind number rest come left on))
+      is_missed
+      (subst (WalksOn size pages (missed_from kind) number rest come) (sym are)
+      (stopped kind number rest come left on))
 
   unit_from_start : (kind : Kind) (bytes : List ℕ) (last : Option ℕ) (hand : Option (List ℕ)) (number : ℕ)
       (since : Option ℕ) (piece : Piece) (further rest : List Piece) (come : List Bool) (arrivals : List Arrival)
@@ -540,12 +217,15 @@ module _ (size : ℕ) (pages : Pages) where
       elim walk [ ]
   unit_from_start kind bytes last hand number since piece further rest (false ∷ come) arrivals is whole first are
       stands near (passes_by walk) =
-      let one = passed_on kind last hand number since (further ++ rest) come arrivals stands near walk in
+      let one = passed_on size pages kind last hand number since (further ++ rest) come arrivals stands near walk in
       let same : number + 1 + length further ≡ number + suc (length further) = omega arith in
-      is_missed (subst (λ (n : ℕ). WalksOn (missed_from kind) n rest (drop (length further) come) arrivals) same
-      (further_on (missed_from kind) one.next (number + 1 + length further) rest (drop (length further) come) arrivals
+      is_missed
+      (subst (λ (n : ℕ). WalksOn size pages (missed_from kind) n rest (drop (length further) come) arrivals) same
+      (further_on size pages (missed_from kind) one.next (number + 1 + length further) rest (drop (length further) come)
+      arrivals
       one.behind one.count one.are one.steps
-      (walk_on one.next one.last one.hand (number + 1) one.since further rest come one.behind are one.stands one.near
+      (walk_on size pages one.next one.last one.hand (number + 1) one.since further rest come one.behind are one.stands
+      one.near
       one.walk)))
   unit_from_start kind bytes last hand number since piece [] rest (true ∷ come) arrivals is whole first are stands
       near (comes_in {arrivals = left} place walk) =
@@ -574,13 +254,14 @@ module _ (size : ℕ) (pages : Pages) where
       let begun = is_begun kind last hand number since piece come place Waits first stands near fate refl in
       let on =
       going bytes piece.bytes (Some (number % 16))
-      (in_hand hand (succession last (number % 16)) piece.starts piece.bytes) (number + 1) (Some 0) next further
+      (in_hand size pages hand (succession last (number % 16)) piece.starts piece.bytes) (number + 1) (Some 0) next
+      further
       rest come left is whole are (number, refl, refl, begun.keeps ∙ waits_kept piece.bytes fate, refl) begun.near
       walk in
       let same : number + 1 + suc (length further) ≡ number + suc (suc (length further)) = omega arith in
       ended kind bytes (number + suc (suc (length further))) rest (drop (suc (length further)) come)
       (all_true (suc (length further)) come)
-      (brought hand (succession last (number % 16)) piece.starts piece.bytes place ++ left) left
+      (brought size pages hand (succession last (number % 16)) piece.starts piece.bytes place ++ left) left
       (ap (λ front. front ++ left) (begun.brings ∙ append-nil (lost_before kind)))
       (subst (λ (n : ℕ). GoesTo bytes n rest (drop (suc (length further)) come)
       (all_true (suc (length further)) come) left) same on)
@@ -595,7 +276,8 @@ module _ (size : ℕ) (pages : Pages) where
   -- all units
   pub units_arrive : (kind : Kind) (number : ℕ) (units : List (List ℕ)) (timed : List TimedUnit) (come : List Bool)
       (arrivals : List Arrival) → AllByRecursion (IsUnit size) units → AllZip (IsUnitOf pages) units timed
-      → Walking kind number (all_pieces units) come arrivals → Arrive kind timed (come_whole units come) arrivals
+      → Walking size pages kind number (all_pieces units) come arrivals
+      → Arrive kind timed (come_whole units come) arrivals
   units_arrive kind number [] [] come arrivals are each on = by come arrivals on.walk
     where
       by : {last : Option ℕ} {hand : Option (List ℕ)} (come : List Bool) (arrivals : List Arrival)
@@ -625,7 +307,8 @@ module _ (size : ℕ) (pages : Pages) where
       by : {after : ℕ} (all : Bool) (more : List Bool) (arrivals : List Arrival)
           → UnitEnds kind bytes after (all_pieces units) more all arrivals
           → ((next : Kind) (more : List Bool) (left : List Arrival)
-          → Walking next after (all_pieces units) more left → Arrive next timed (come_whole units more) left)
+          → Walking size pages next after (all_pieces units) more left
+          → Arrive next timed (come_whole units more) left)
           → Arrive kind (one ∷ timed) (all ∷ come_whole units more) arrivals
       by true more arrivals (comes_whole place behind is there) onward =
           subst (Arrive kind (one ∷ timed) (true ∷ come_whole units more))

@@ -1,9 +1,10 @@
 -- All sets of a plan of which some packets are lost, as a receiver gets them: at a good tick it shows what is authored.
-use Rattle.std.proofs.Common.{◌≡◌, ◌∙◌, ℕ, ◌<◌, ◌≤◌, ◌⊎◌, inl, inr, Bool, true, false, ◌&&◌, ◌||◌, cond, List, [], ◌∷◌, ◌++◌, length, drop, refl, sym, ap, subst, arith}
+use Rattle.std.proofs.Common.{◌≡◌, ◌∙◌, ℕ, ◌<◌, ◌≤◌, ◌⊎◌, inl, inr, Bool, true, false, ◌&&◌, ◌||◌, cond, List, [], ◌∷◌, ◌++◌, length, drop, reverse, refl, sym, ap, subst, arith, append-nil}
 use Rattle.std.specs.Prelude.{nat_le}
 use Rattle.std.specs.List.{AllByRecursion}
 use Rattle.std.proofs.lemmas.Bool.{cases_lt}
 use Rattle.std.proofs.lemmas.Bool.Decides.{nat_tests}
+use Rattle.std.proofs.lemmas.List.{reverse-reverse}
 use Rattle.sub_base.specs.declared.profile.Profile.{Profile}
 use Rattle.cue_list.specs.declared.script.Script.{Script}
 use Rattle.page_epoch.specs.Plan.{IsPlan}
@@ -13,17 +14,18 @@ use Rattle.decoder_model.specs.Arrivals.{Arrival}
 use Rattle.decoder_model.specs.Readings.{Reading, AreDeliveriesRead}
 use Rattle.decoder_model.specs.Sets.{Delivery, runs_of, sets_in}
 use Rattle.decoder_model.specs.Shown.{View, Agrees, view_at}
-use Rattle.decoder_model.proofs.SentSets.{TimedSet}
 use Rattle.shown_stream.specs.HoldsWhole.{HoldsWhole}
 use Rattle.shown_stream.specs.Shows.{authored_view}
 use Rattle.shown_stream.proofs.Shown.EnteredRuns.{turned}
+use Rattle.shown_stream.proofs.Lost.LostKept.{AreKept}
 use Rattle.shown_stream.proofs.Lost.LostRuns.{IsRunning}
-use Rattle.shown_stream.proofs.Lost.LostSets.{all_come, Bound}
-use Rattle.shown_stream.proofs.Lost.LostUnits.{Kind, Joined, Arrive, none_arrive}
+use Rattle.shown_stream.proofs.Lost.LostStretches.{all_come, Bound}
+use Rattle.shown_stream.proofs.Lost.LostKinds.{Kind, Joined, Arrive, none_arrive}
 use Rattle.shown_stream.proofs.Lost.LostWalk.{Before, IsFit, After, after, turned-both}
 use Rattle.shown_stream.proofs.Sent.PlannedTimes.{pts_of}
 use Rattle.shown_stream.proofs.Shown.RunViews.{IsBefore}
 use Rattle.stream_syntax.specs.Segments.{is_entry_state}
+use Rattle.sent_sets.proofs.Units.{TimedSet}
 
 -- from some set on, that is not normal, all sets up to a tick come whole: so far they do or do not
 abbrev pub GoodFrom : ℕ → Bool → List PlannedSet → List TimedSet → List Bool → Type 0
@@ -51,11 +53,18 @@ module _ (script : Script) (profile : Profile) (anchor origin page : ℕ) (sets 
     pub past : List (Delivery Reading)
     pub read : AreDeliveriesRead (turned deliveries taken) past
     pub holds : HoldsWhole script profile anchor sets ComesWhole past
+    pub kept : AreKept profile anchor ComesWhole past (reverse sets)
     pub seen : IsSeen past
 
   abbrev pub StandsBefore : Kind → List (Delivery (List ℕ)) → List (Delivery Reading) → List PlannedSet
       → List PlannedSet → List TimedSet → List Bool → List (Delivery (List ℕ)) → Type 0
   StandsBefore = Before script profile anchor origin page sets ComesWhole
+
+  kept_in_the_end : (past : List (Delivery Reading)) (plan : List PlannedSet) → sets ≡ reverse plan ++ []
+      → AreKept profile anchor ComesWhole past plan → AreKept profile anchor ComesWhole past (reverse sets)
+  kept_in_the_end past plan parts kept =
+      subst (AreKept profile anchor ComesWhole past)
+      (sym (ap reverse (parts ∙ append-nil (reverse plan)) ∙ reverse-reverse plan)) kept
 
   nothing_left : (kind : Kind) (come : List Bool) (deliveries : List (Delivery (List ℕ)))
       → Bound profile.coded (only page) kind [] come deliveries → deliveries ≡ []
@@ -87,6 +96,7 @@ module _ (script : Script) (profile : Profile) (anchor origin page : ℕ) (sets 
             (λ (all : List (Delivery (List ℕ))). AreDeliveriesRead (turned all taken) past)
             (sym (nothing_left kind come deliveries stands.bound)) stands.read;
         holds = stands.holds;
+        kept = kept_in_the_end past plan stands.parts stands.kept;
         seen = refl;
       }
   rest_ends tick kind taken past plan [] (one ∷ sent) come deliveries is_plan stands fit later = absurd fit
@@ -102,6 +112,7 @@ module _ (script : Script) (profile : Profile) (anchor origin page : ℕ) (sets 
         past = more.past;
         read = all_read on.front on.rest deliveries taken more.past on.are more.read;
         holds = more.holds;
+        kept = more.kept;
         seen = more.seen ∙ on.view tick later.0;
       }
 
@@ -142,6 +153,7 @@ module _ (script : Script) (profile : Profile) (anchor origin page : ℕ) (sets 
             (λ (all : List (Delivery (List ℕ))). AreDeliveriesRead (turned all taken) past)
             (sym (nothing_left kind come deliveries stands.bound)) stands.read;
         holds = stands.holds;
+        kept = kept_in_the_end past plan stands.parts stands.kept;
         seen = λ good. (on_streak good).2 tt;
       }
   good_ends tick streak kind taken past plan [] (one ∷ sent) come deliveries is_plan stands fit on_streak = absurd fit
@@ -184,6 +196,7 @@ module _ (script : Script) (profile : Profile) (anchor origin page : ℕ) (sets 
             past = rest.past;
             read = rest.read;
             holds = rest.holds;
+            kept = rest.kept;
             seen =
                 λ good. subst (λ (view : View). Agrees view (authored_view script tick)) (sym rest.seen)
                 ((on_streak (subst Good test good)).2 early);
@@ -198,6 +211,7 @@ module _ (script : Script) (profile : Profile) (anchor origin page : ℕ) (sets 
             past = more.past;
             read = all_read on.front on.rest deliveries taken more.past on.are more.read;
             holds = more.holds;
+            kept = more.kept;
             seen = λ good. more.seen (subst Good test good);
           }
         where

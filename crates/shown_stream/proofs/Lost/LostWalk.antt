@@ -10,26 +10,31 @@ use Rattle.decoder_model.specs.Frames.{only}
 use Rattle.decoder_model.specs.Readings.{Reading, AreDeliveriesRead}
 use Rattle.decoder_model.specs.Sets.{Delivery}
 use Rattle.decoder_model.specs.Shown.{Agrees, view_at}
-use Rattle.decoder_model.proofs.SentSets.{TimedSet, IsTimedSet, IsApart, delivered}
 use Rattle.decoder_model.proofs.Views.{view_before}
 use Rattle.shown_stream.specs.HoldsWhole.{HoldsWhole}
 use Rattle.shown_stream.specs.Shows.{authored_view}
 use Rattle.shown_stream.proofs.Shown.ComingSets.{reading_of, is_read, turned_more}
 use Rattle.shown_stream.proofs.Shown.EnteredRuns.{turned}
 use Rattle.shown_stream.proofs.Shown.HeldSets.{holds_next}
-use Rattle.shown_stream.proofs.Lost.LostRuns.{IsRunning, KnownBy, RunsOn, whole_after, none_known_of, LastBy, ahead_by, last_passed, known_pushed, known_before}
-use Rattle.shown_stream.proofs.Lost.LostSets.{losts, count_before, all_come, some_come, part_of_set, Bound, MissedOut, goes_by, stays_open, SetOut, set_whole, set_missed, set_out, NothingOut, nothing_out}
+use Rattle.shown_stream.proofs.Lost.LostKept.{HaveCome, AreKept, kept_over}
+use Rattle.shown_stream.proofs.Lost.LostRuns.{IsRunning, KnownBy, whole_after, none_known_of, LastBy, ahead_by, last_passed, known_pushed, known_before}
+use Rattle.shown_stream.proofs.Lost.LostStretches.{losts, count_before, all_come, some_come, part_of_set, Bound, MissedOut, goes_by, stays_open}
+use Rattle.shown_stream.proofs.Lost.LostSets.{SetOut, set_whole, set_missed, set_out, NothingOut, nothing_out}
 use Rattle.shown_stream.proofs.Lost.LostSteps.{push_losts, SetSent, open_part, BrokenPart, later_part}
-use Rattle.shown_stream.proofs.Lost.LostUnits.{Kind, Joined, Apart, missed_from}
+use Rattle.shown_stream.proofs.Lost.LostKinds.{Kind, Joined, Apart, missed_from}
 use Rattle.shown_stream.proofs.Sent.PlannedTimes.{pts_of}
 use Rattle.shown_stream.proofs.Shown.RunViews.{IsBefore}
 use Rattle.shown_stream.proofs.Shown.ShownSets.{IsAheadOf, kept_at, last_is}
 use Rattle.stream_syntax.specs.Segments.{is_entry_state}
 use Rattle.stream_syntax.specs.declared.wire.TheConstants.{TICK_LIMIT}
+use Rattle.sent_sets.proofs.Runs.{IsApart}
+use Rattle.sent_sets.proofs.SetEnds.{delivered}
+use Rattle.sent_sets.proofs.Units.{TimedSet, IsTimedSet}
 
 module _ (script : Script) (profile : Profile) (anchor origin page : ℕ) (sets : List PlannedSet)
     (ComesWhole : ℕ → PlannedSet → Type 0) where
-  -- where a receiver stands before a set: what it has got, what is known, and what comes
+  -- where a receiver stands before a set: what it has got and kept, what is known, and what comes; where all sets have
+  -- come whole from one on that is not normal, they are a run
   pub record Before (kind : Kind) (taken : List (Delivery (List ℕ))) (past : List (Delivery Reading))
       (plan left : List PlannedSet) (sent : List TimedSet) (come : List Bool)
       (deliveries : List (Delivery (List ℕ))) : Type 0 where
@@ -39,6 +44,8 @@ module _ (script : Script) (profile : Profile) (anchor origin page : ℕ) (sets 
     pub known : KnownBy script profile anchor kind past plan
     pub last : LastBy origin anchor past left
     pub holds : HoldsWhole script profile anchor sets ComesWhole past
+    pub streak : HaveCome ComesWhole plan → (kind ≡ Joined) × IsRunning script profile anchor past plan
+    pub kept : AreKept profile anchor ComesWhole past plan
 
   -- what is used of a set
   pub record IsFit (plan left : List PlannedSet) (set : PlannedSet) (one : TimedSet) (sent : List TimedSet)
@@ -79,14 +86,29 @@ module _ (script : Script) (profile : Profile) (anchor origin page : ℕ) (sets 
       → sets ≡ reverse (set ∷ plan) ++ left
   moved plan left set parts = parts ∙ sym (turned_more plan left set)
 
+  -- with losses and other sets behind them, the sets that are kept stay so
+  kept_pushed : (past now more : List (Delivery Reading)) (plan : List PlannedSet)
+      → now ≡ more ++ past → AreKept profile anchor ComesWhole past plan
+      → AreKept profile anchor ComesWhole now plan
+  kept_pushed past now more plan over kept =
+      subst (λ (all : List (Delivery Reading)). AreKept profile anchor ComesWhole all plan) (sym over)
+      (kept_over profile anchor ComesWhole more past plan kept)
+
+  -- a set that comes whole misses no unit
+  not_whole : {plan left : List PlannedSet} {set : PlannedSet} {one : TimedSet} {sent : List TimedSet}
+      {come : List Bool} → IsFit plan left set one sent come → all_come (length one.units) come ≡ false
+      → ComesWhole (length (reverse plan)) set → ⊥
+  not_whole fit missing own = let no : true ≡ false = sym (fit.told own) ∙ missing in cc
+
   -- a set of which no unit comes whole
   nothing_after : (kind : Kind) (taken : List (Delivery (List ℕ))) (past : List (Delivery Reading))
       (plan left : List PlannedSet) (set : PlannedSet) (one : TimedSet) (sent : List TimedSet) (come : List Bool)
       (deliveries : List (Delivery (List ℕ)))
       → Before kind taken past plan (set ∷ left) (one ∷ sent) come deliveries
+      → IsFit plan left set one sent come
       → NothingOut profile.coded (only page) kind one sent come deliveries
       → After kind taken past plan left set one sent come deliveries
-  nothing_after kind taken past plan left set one sent come deliveries stands out =
+  nothing_after kind taken past plan left set one sent come deliveries stands fit out =
       let pushed = push_losts script profile anchor sets ComesWhole out.n taken past stands.read stands.holds in
       record {
         next = out.next;
@@ -98,6 +120,11 @@ module _ (script : Script) (profile : Profile) (anchor origin page : ℕ) (sets 
           parts = moved plan left set stands.parts;
           bound = out.bound;
           read = pushed.read;
+          streak = λ come. absurd (not_whole fit out.not_all come.0);
+          kept = (
+            λ own. absurd (not_whole fit out.not_all own),
+            kept_pushed past pushed.now pushed.more plan pushed.over stands.kept,
+          );
           known =
               known_pushed script profile anchor out.n kind out.next past pushed.now plan (set ∷ plan) stands.known
               out.steps pushed.none pushed.some;
@@ -138,6 +165,20 @@ module _ (script : Script) (profile : Profile) (anchor origin page : ℕ) (sets 
           read =
               subst (λ (all : List (Delivery (List ℕ))). AreDeliveriesRead all (reading_of comes ∷ pushed.now))
               (sym (turned-both (losts (count_before kind)) (delivered one ∷ []) taken)) (is_read comes, pushed.read);
+          streak = λ come. (refl, (after.runs (why_now kind (behind_streak come.1) pushed.none)).running);
+          kept = (
+            λ own. record {
+              later = [];
+              delivery = reading_of comes;
+              before = pushed.now;
+              placed = refl;
+              lifted = lifted;
+              shown = λ come. (after.runs (why_now kind (behind_streak come.1) pushed.none)).verdict;
+              kept = after.verdict;
+            },
+            kept_pushed past (reading_of comes ∷ pushed.now) (reading_of comes ∷ pushed.more) plan
+                (ap (λ all. reading_of comes ∷ all) pushed.over) stands.kept,
+          );
           known = after.known;
           last = inr (set.pts, last_is anchor pushed.now comes lifted, fit.within, fit.above);
           holds =
@@ -147,24 +188,24 @@ module _ (script : Script) (profile : Profile) (anchor origin page : ℕ) (sets 
         view =
             λ tick early. view_before profile anchor tick set.pts pushed.now (reading_of comes) lifted early
             ∙ pushed.view tick;
-        runs = λ all why. by kind why (λ e. pushed.none e) after.runs;
+        runs = λ all why. (let on = after.runs (why_now kind why pushed.none) in (refl, on.running, on.shows));
       }
     where
-      by : {now : List (Delivery Reading)} (kind : Kind)
+      -- no loss comes between the pieces in turn
+      why_now : {now : List (Delivery Reading)} (kind : Kind)
           → ((kind ≡ Joined) × IsRunning script profile anchor past plan) ⊎ (is_entry_state set.state ≡ true)
           → (count_before kind ≡ 0 → now ≡ past)
-          → (IsRunning script profile anchor now plan ⊎ (is_entry_state set.state ≡ true)
-          → RunsOn script profile anchor sets now plan left set (reading_of fit.its.comes))
-          → (Joined ≡ Joined) × IsRunning script profile anchor (reading_of fit.its.comes ∷ now) (set ∷ plan)
-          × ((tick : ℕ) → set.pts ≤ tick → IsBefore tick left
-          → Agrees (view_at profile anchor tick (reading_of fit.its.comes ∷ now)) (authored_view script tick))
-      by kind (inl running) same on =
-          let none : count_before kind ≡ 0 = ap count_before running.0 in
-          let mine =
-          on (inl (subst (λ (all : List (Delivery Reading)). IsRunning script profile anchor all plan)
-          (sym (same none)) running.1)) in
-          (refl, mine.running, mine.shows)
-      by kind (inr whole) same on = let mine = on (inr whole) in (refl, mine.running, mine.shows)
+          → IsRunning script profile anchor now plan ⊎ (is_entry_state set.state ≡ true)
+      why_now kind (inl running) same =
+          inl (subst (λ (all : List (Delivery Reading)). IsRunning script profile anchor all plan)
+          (sym (same (ap count_before running.0))) running.1)
+      why_now kind (inr whole) same = inr whole
+
+      -- with the set they have come whole: it is not normal, or the run goes on
+      behind_streak : (is_entry_state set.state ≡ true) ⊎ HaveCome ComesWhole plan
+          → ((kind ≡ Joined) × IsRunning script profile anchor past plan) ⊎ (is_entry_state set.state ≡ true)
+      behind_streak (inl whole) = inr whole
+      behind_streak (inr come) = inl (stands.streak come)
 
   -- a set of which a unit is missing
   missed_after : (kind : Kind) (taken : List (Delivery (List ℕ))) (past : List (Delivery Reading))
@@ -188,6 +229,11 @@ module _ (script : Script) (profile : Profile) (anchor origin page : ℕ) (sets 
           parts = moved plan left set stands.parts;
           bound = bound;
           read = pushed.read;
+          streak = λ come. absurd (not_whole fit missing come.0);
+          kept = (
+            λ own. absurd (not_whole fit missing own),
+            kept_pushed past pushed.now pushed.more plan pushed.over stands.kept,
+          );
           known =
               known_pushed script profile anchor n kind next past pushed.now plan (set ∷ plan) stands.known steps
               pushed.none pushed.some;
@@ -220,6 +266,12 @@ module _ (script : Script) (profile : Profile) (anchor origin page : ℕ) (sets 
           read =
               subst (λ (all : List (Delivery (List ℕ))). AreDeliveriesRead all (kept.delivery ∷ pushed.now))
               (sym (turned-both (losts n) (delivered part ∷ []) taken)) (kept.is_read, pushed.read);
+          streak = λ come. absurd (not_whole fit missing come.0);
+          kept = (
+            λ own. absurd (not_whole fit missing own),
+            kept_pushed past (kept.delivery ∷ pushed.now) (kept.delivery ∷ pushed.more) plan
+                (ap (λ all. kept.delivery ∷ all) pushed.over) stands.kept,
+          );
           known = inl broken.unknown;
           last = inr (set.pts, kept.last, fit.within, fit.above);
           holds =
@@ -254,6 +306,12 @@ module _ (script : Script) (profile : Profile) (anchor origin page : ℕ) (sets 
           read =
               subst (λ (all : List (Delivery (List ℕ))). AreDeliveriesRead all (kept.delivery ∷ pushed.now))
               (sym (turned-both (losts n) (delivered (part_of_set k p one) ∷ []) taken)) (kept.is_read, pushed.read);
+          streak = λ come. absurd (not_whole fit missing come.0);
+          kept = (
+            λ own. absurd (not_whole fit missing own),
+            kept_pushed past (kept.delivery ∷ pushed.now) (kept.delivery ∷ pushed.more) plan
+                (ap (λ all. kept.delivery ∷ all) pushed.over) stands.kept,
+          );
           known = tt;
           last = inr (set.pts, kept.last, fit.within, fit.above);
           holds =
@@ -288,7 +346,7 @@ module _ (script : Script) (profile : Profile) (anchor origin page : ℕ) (sets 
       by : (some : Bool) → some_come (length one.units) come ≡ some
           → After kind taken past plan left set one sent come deliveries
       by false none =
-          nothing_after kind taken past plan left set one sent come deliveries stands
+          nothing_after kind taken past plan left set one sent come deliveries stands fit
           (nothing_out profile.coded (only page) kind one sent come deliveries fit.any none stands.bound)
       by true some =
           by_all (fit.suits some) (all_come (length one.units) come) refl

@@ -1,12 +1,10 @@
 -- The PES packets of the display sets of a plan carry the sets: each unit with its set's time, and together the set's
 -- segments.
-use Rattle.std.proofs.Common.{◌≡◌, ◌∙◌, ℕ, suc, ◌%◌, ◌<◌, ◌≤◌, List, [], ◌∷◌, ◌++◌, length, map, refl, sym, ap, subst, arith, All, append_assoc}
+use Rattle.std.proofs.Common.{◌≡◌, ◌∙◌, ℕ, ◌%◌, ◌≤◌, List, [], ◌∷◌, ◌++◌, length, map, refl, sym, ap, subst, All, append_assoc}
 use Rattle.std.specs.Prelude.{sum}
 use Rattle.std.specs.List.{AllByRecursion, AllZip}
 use Rattle.std.proofs.lemmas.List.Elements.{recursion_from_All}
-use Rattle.std.proofs.lemmas.List.Sums.{sum_by-cons}
 use Rattle.sub_base.specs.Picture.{Picture}
-use Rattle.sub_base.specs.declared.load.WriteLoad.{WriteLoad}
 use Rattle.stream_syntax.specs.Cutting.{IsUnit}
 use Rattle.stream_syntax.specs.Segments.{SegmentValue, end_of_set, spelled, IsWritable}
 use Rattle.stream_syntax.specs.declared.page.State.{State}
@@ -18,13 +16,13 @@ use Rattle.cue_list.specs.declared.script.Script.{Script}
 use Rattle.page_epoch.specs.declared.planned_set.PlannedSet.{PlannedSet}
 use Rattle.page_epoch.specs.declared.planned_set.SentClut.{SentClut}
 use Rattle.page_epoch.specs.declared.planned_set.SentRegion.{SentRegion}
-use Rattle.schedule.specs.Packets.{size_of}
 use Rattle.decoder_model.specs.Frames.{only}
-use Rattle.decoder_model.proofs.SentSets.{all-append, TimedSet, timed, timed_units, size_of_units, all_segments, IsTimedSet, IsUnitOf, AreUnitsOf}
+use Rattle.decoder_model.proofs.Lists.{all-append}
 use Rattle.set_coder.specs.SetSegments.{display_segments, region_segment_of, clut_segment_of, leading_segments, AreObjectsOf, segment_bytes, unit_packet, AreSetSegments, AreSetPackets}
-use Rattle.shown_stream.specs.Compiled.{AreUnits, AreSizedAs, all_units}
-use Rattle.shown_stream.proofs.Sent.UnitSizes.{AreShort}
-use Rattle.shown_stream.proofs.Sent.WrittenSets.{IsInner, AreInner, unit_with, set_with, joined_units, segments_with, size_with, HaveSegments, AreKnown, whole_set, packets_are, all_known, handed_out}
+use Rattle.shown_stream.specs.Compiled.{AreUnits, all_units}
+use Rattle.shown_stream.proofs.Sent.WrittenSets.{IsInner, AreInner, unit_with, set_with, joined_units, segments_with, size_with, HaveSegments, AreKnown, mapped_units, packets_mapped, whole_set, packets_are, all_known}
+use Rattle.sent_sets.proofs.RawUnits.{both_zip, packets_are_units, AreShort}
+use Rattle.sent_sets.proofs.Units.{TimedSet, timed, timed_units, size_of_units, all_segments, IsTimedSet, IsUnitOf, AreUnitsOf}
 
 -- ---- the segments of a set
 
@@ -115,21 +113,6 @@ record ArePacketsOf (coded : ℕ) (script : Script) (page : ℕ) (set : PlannedS
   each : AllZip (IsUnitOf (only page)) packets (map (timed sent.time) sent.units)
   units : AllByRecursion (IsUnit coded) packets
 
-all_handed_out : (coded page time : ℕ) (units : List (List SegmentValue))
-    → AllByRecursion (λ packet. length packet ≤ coded) (map (unit_packet page time) units)
-    → AreShort (map (unit_packet page time) units)
-    → AllByRecursion (IsUnit coded) (map (unit_packet page time) units)
-all_handed_out coded page time [] fit short = tt
-all_handed_out coded page time (unit ∷ units) fit short =
-    (handed_out coded page time unit fit.0 short.0, all_handed_out coded page time units fit.1 short.1)
-
-each_fits : (coded : ℕ) (packets : List (List ℕ)) → sum (map length packets) ≤ coded
-    → AllByRecursion (λ packet. length packet ≤ coded) packets
-each_fits coded [] room = tt
-each_fits coded (packet ∷ packets) room =
-    let all = sum_by-cons (λ (n : ℕ). n) (length packet) (map length packets) in
-    (omega arith, each_fits coded packets (omega arith))
-
 packets_of_set : (coded : ℕ) (script : Script) (page : ℕ) (set : PlannedSet) (packets : List (List ℕ))
     → (h : AreSetPackets script page set packets) → sum (map length packets) ≤ coded → AreShort packets
     → ArePacketsOf coded script page set packets (set_with page set.pts h.units)
@@ -141,6 +124,7 @@ packets_of_set coded script page set packets h room short =
     let room_too : sum (map length written) ≤ coded =
     subst (λ (all : List (List ℕ)). sum (map length all) ≤ coded) h.are room in
     let short_too : AreShort written = subst AreShort h.are short in
+    let same = h.are ∙ packets_mapped page set.pts h.units in
     record {
       is = record {
         segments = h.segments;
@@ -160,8 +144,10 @@ packets_of_set coded script page set packets h room short =
           (packets_are page set.pts h.units some
           (subst (AreKnown page) (sym joined) (all_known page ends.inner ends.fit ends.end)) short_too);
       units =
-          subst (AllByRecursion (IsUnit coded)) (sym h.are)
-          (all_handed_out coded page set.pts h.units (each_fits coded written room_too) short_too);
+          subst (AllByRecursion (IsUnit coded)) (sym same)
+          (packets_are_units coded set.pts (mapped_units page h.units)
+          (subst (λ (all : List (List ℕ)). sum (map length all) ≤ coded) same room)
+          (subst AreShort same short));
     }
 
 -- ---- all sets
@@ -192,13 +178,6 @@ pub record AreAllPackets (coded : ℕ) (script : Script) (page : ℕ) (sets : Li
   pub carry : AreUnitsOf coded (only page) (all_units units) sent
   pub units_are : AllByRecursion (IsUnit coded) (all_units units)
 
-both_zip : {A B : Type 0} (R : A → B → Type 0) (xs others : List A) (ys more : List B) → AllZip R xs ys
-    → AllZip R others more → AllZip R (xs ++ others) (ys ++ more)
-both_zip R [] others [] more h k = k
-both_zip R [] others (y ∷ ys) more h k = absurd h
-both_zip R (x ∷ xs) others [] more h k = absurd h
-both_zip R (x ∷ xs) others (y ∷ ys) more h k = (h.0, both_zip R xs others ys more h.1 k)
-
 pub all_packets : (coded : ℕ) (script : Script) (page : ℕ) (sets : List PlannedSet)
     (units : List (List (List ℕ))) → (carried : AreUnits script page sets units)
     → AllByRecursion (λ (packets : List (List ℕ)). sum (map length packets) ≤ coded) units
@@ -222,14 +201,3 @@ all_packets coded script page (set ∷ sets) (packets ∷ units) carried room sh
       };
       units_are = all-append (IsUnit coded) packets (all_units units) first.units more.units_are;
     }
-
--- the PES packets of each set have room in a buffer that its load has room in
-pub all_room : (coded : ℕ) (loads : List WriteLoad) (units : List (List (List ℕ))) → AreSizedAs loads units
-    → ((i : ℕ) → i < length loads → size_of loads i ≤ coded)
-    → AllByRecursion (λ (packets : List (List ℕ)). sum (map length packets) ≤ coded) units
-all_room coded loads [] sized fits = tt
-all_room coded [] (packets ∷ units) sized fits = absurd sized
-all_room coded (load ∷ loads) (packets ∷ units) sized fits = (
-  subst (λ (lengths : List ℕ). sum lengths ≤ coded) (sym sized.0) (fits 0 (omega arith)),
-  all_room coded loads units sized.1 (λ i within. fits (suc i) (omega arith)),
-)

@@ -14,9 +14,10 @@ use Rattle.decoder_model.specs.Streams.{SentSet}
 use Rattle.shown_stream.specs.SentSets.{sent_from, sent_sets}
 use Rattle.slot_stream.proofs.LaidPackets.{IsAhead}
 use Rattle.shown_stream.proofs.Late.LateTicks.{AreInOrder}
-use Rattle.shown_stream.proofs.Sent.RisingSlots.{slots_rise}
 use Rattle.shown_stream.proofs.Sent.SentOrder.{DoRise, in_order}
-use Rattle.shown_stream.proofs.Sent.SentPlaces.{times_rise, places_are_slots, has_place}
+use Rattle.shown_stream.proofs.Sent.SentPlaces.{times_rise, places_are_slots}
+use Rattle.sent_sets.proofs.RisingSlots.{slots_rise}
+use Rattle.sent_sets.proofs.SlotPlaces.{has_place}
 
 pub rest_rises : (x : ℕ) (xs : List ℕ) → IsStrictlyIncreasing (x ∷ xs) → IsStrictlyIncreasing xs
 rest_rises x xs rise = λ k within.

@@ -19,10 +19,11 @@ use Rattle.page_epoch.specs.Instants.{named_ticks, IsInstant}
 use Rattle.page_epoch.specs.Plan.{IsPlan}
 use Rattle.page_epoch.specs.declared.planned_set.PlannedSet.{PlannedSet}
 use Rattle.page_epoch.proofs.SoundLaws.{epoch_ticks, all_ticks}
-use Rattle.decoder_model.proofs.SentSets.{TimedSet, HaveDifferentTimes}
 use Rattle.shown_stream.proofs.Sent.CompiledSets.{AreSentAs}
 use Rattle.shown_stream.proofs.Sent.PlannedOrder.{rest_rises}
 use Rattle.shown_stream.proofs.Sent.SentPlaces.{front_rises}
+use Rattle.sent_sets.proofs.Runs.{HaveDifferentTimes}
+use Rattle.sent_sets.proofs.Units.{TimedSet}
 
 -- ---- instants
 
@@ -95,10 +96,14 @@ pts_rise script profile sets plan =
     (front_rises planned.instants (length sets) planned.first.few planned.are_instants.rise)
 
 -- times that are near each other are told as different ones
+pub differ : (start end : ℕ) → start < end → end < start + HALF_ROUND
+    → (start % TIME_ROUND) ≢ (end % TIME_ROUND)
+differ start end rising near = omega arith
+
 told_apart : (start end : ℕ) → start < end → end < start + HALF_ROUND
     → eqb (start % TIME_ROUND) (end % TIME_ROUND) ≡ false
 told_apart start end rising near =
-    let differ : (start % TIME_ROUND) ≢ (end % TIME_ROUND) = omega arith in grind (arith, nat_tests)
+    let apart = differ start end rising near in grind (arith, nat_tests)
 
 different_by : (script : Script) (page : ℕ) (sets : List PlannedSet) (units : List (List (List ℕ)))
     (sent : List TimedSet) → AreSentAs script page sets units sent → IsStrictlyIncreasing (pts_of sets)

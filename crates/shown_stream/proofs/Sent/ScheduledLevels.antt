@@ -5,7 +5,7 @@ use Rattle.sub_base.specs.declared.load.WriteLoad.{WriteLoad}
 use Rattle.sub_base.specs.declared.pace.Pace.{Pace}
 use Rattle.schedule.specs.Slots.{Timetable, IsLoad, IsSchedule, IsOnTime}
 use Rattle.scheduled_level_laws.proofs.EnteredWithin.{Holds}
-use Rattle.shown_stream.proofs.Sent.RisingSlots.{rises}
+use Rattle.sent_sets.proofs.RisingSlots.{rises}
 
 pub schedule_holds : (loads : List WriteLoad) (pace : Pace) (table : Timetable) → All IsLoad loads
     → IsSchedule loads (length loads) pace table → IsOnTime loads (length loads) pace table

@@ -1,25 +1,17 @@
 -- Sets whose places rise, each of which has one, and whose times rise, stand in order.
-use Rattle.std.proofs.Common.{◌≡◌, ℕ, ◌+◌, ◌<◌, ◌≤◌, true, List, [], ◌∷◌, ◌++◌, length, refl, arith}
+use Rattle.std.proofs.Common.{◌≡◌, ℕ, ◌+◌, ◌<◌, ◌≤◌, true, List, [], ◌∷◌, ◌++◌, length, arith}
 use Rattle.std.specs.Prelude.{flat_map, nat_le}
 use Rattle.std.specs.List.{AllByRecursion, list_all}
 use Rattle.std.proofs.lemmas.Bool.Decides.{nat_tests}
 use Rattle.decoder_model.specs.Streams.{SentSet, is_from}
 use Rattle.slot_stream.proofs.LaidPackets.{IsAhead}
+use Rattle.sent_sets.proofs.SlotPlaces.{sooner, all_ahead, from_all}
 use Rattle.shown_stream.proofs.Late.LateTicks.{AreInOrder, no_set, set_first}
-
-pub sooner : (least from : ℕ) (xs : List ℕ) → least ≤ from → IsAhead from xs → IsAhead least xs
-sooner least from [] le h = tt
-sooner least from (x ∷ xs) le h = let first = h.0 in (omega arith, h.1)
 
 behind_ahead : (least : ℕ) (xs ys : List ℕ) → IsAhead least (xs ++ ys) → IsAhead least ys
 behind_ahead least [] ys h = h
 behind_ahead least (x ∷ xs) ys h =
     let first = h.0 in sooner least (x + 1) ys (omega arith) (behind_ahead (x + 1) xs ys h.1)
-
-pub all_ahead : (least : ℕ) (xs : List ℕ) → IsAhead least xs → AllByRecursion (λ place. least ≤ place) xs
-all_ahead least [] h = tt
-all_ahead least (x ∷ xs) h =
-    let first = h.0 in (first, all_ahead least xs (sooner least (x + 1) xs (omega arith) h.1))
 
 front_all : (P : ℕ → Type 0) (xs ys : List ℕ) → AllByRecursion P (xs ++ ys) → AllByRecursion P xs
 front_all P [] ys h = tt
@@ -28,14 +20,6 @@ front_all P (x ∷ xs) ys h = (h.0, front_all P xs ys h.1)
 back_all : (P : ℕ → Type 0) (xs ys : List ℕ) → AllByRecursion P (xs ++ ys) → AllByRecursion P ys
 back_all P [] ys h = h
 back_all P (x ∷ xs) ys h = back_all P xs ys h.1
-
-pub from_all : (j : ℕ) (places : List ℕ) → AllByRecursion (λ place. j ≤ place) places
-    → list_all (λ at. nat_le j at) places ≡ true
-from_all j [] h = refl
-from_all j (place ∷ places) h =
-    let low : j ≤ place = h.0 in
-    let here : nat_le j place ≡ true = grind (arith, nat_tests) in
-    rw here (from_all j places h.1)
 
 sets_from : (j : ℕ) (sets : List SentSet)
     → AllByRecursion (λ place. j ≤ place) (flat_map (λ (set : SentSet). set.places) sets)

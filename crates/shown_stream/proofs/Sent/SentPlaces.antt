@@ -1,6 +1,6 @@
 -- The sets of a plan as they are sent: their times rise, each has a place, and their places together are all slots, in
 -- order.
-use Rattle.std.proofs.Common.{◌≡◌, ◌∙◌, ℕ, zero, suc, ◌+◌, ◌-◌, ◌<◌, ◌≤◌, List, [], ◌∷◌, ◌++◌, length, map, take, drop, refl, sym, ap, subst, arith, get_or, length-drop}
+use Rattle.std.proofs.Common.{◌≡◌, ◌∙◌, ℕ, suc, ◌+◌, ◌<◌, ◌≤◌, List, [], ◌∷◌, ◌++◌, length, map, take, drop, refl, sym, ap, subst, arith, get_or}
 use Rattle.std.specs.Prelude.{flat_map}
 use Rattle.std.specs.List.Sorted.{IsStrictlyIncreasing}
 use Rattle.std.proofs.lemmas.List.{get_or-take, length-take-le, drop_all}
@@ -11,11 +11,11 @@ use Rattle.sub_base.specs.declared.profile.Profile.{Profile}
 use Rattle.cue_list.specs.declared.script.Script.{Script}
 use Rattle.page_epoch.specs.Plan.{IsPlan}
 use Rattle.page_epoch.specs.declared.planned_set.PlannedSet.{PlannedSet}
-use Rattle.schedule.specs.Packets.{size_of, packets_of, first_packet}
+use Rattle.schedule.specs.Packets.{packets_of, first_packet}
 use Rattle.schedule.specs.Slots.{Timetable, IsSchedule, start_of, slots_of}
-use Rattle.schedule.proofs.PacketLaws.{some_packets}
-use Rattle.schedule.proofs.SumLaws.{sum_below-zero, sum_below-suc, sum_below-rises}
+use Rattle.schedule.proofs.SumLaws.{sum_below-suc}
 use Rattle.decoder_model.specs.Streams.{SentSet}
+use Rattle.sent_sets.proofs.SlotPlaces.{start_is}
 use Rattle.shown_stream.specs.SentSets.{sent_from, sent_sets}
 
 -- ---- times
@@ -48,12 +48,6 @@ times_rise script profile table sets plan =
 one_on : (k : ℕ) → k + 1 ≡ suc k
 one_on k = omega arith
 
--- the places of a set begin with its first packet
-pub start_is : (loads : List WriteLoad) (n : ℕ) (pace : Pace) (table : Timetable) → IsSchedule loads n pace table
-    → (k : ℕ) → k ≤ n → start_of table k ≡ first_packet loads k
-start_is loads n pace table schedule zero low = sym (sum_below-zero (packets_of loads))
-start_is loads n pace table schedule (suc k) low = schedule.ends k (omega arith) ∙ ap (first_packet loads) (one_on k)
-
 -- from a set on, the places of the sets are the slots from its first packet on
 places_from : (loads : List WriteLoad) (n : ℕ) (pace : Pace) (table : Timetable) → IsSchedule loads n pace table
     → (k : ℕ) (sets : List PlannedSet) → k + length sets ≡ n
@@ -79,19 +73,3 @@ pub places_are_slots : (loads : List WriteLoad) (pace : Pace) (table : Timetable
     → flat_map (λ (set : SentSet). set.places) (sent_sets table sets) ≡ table.slots
 places_are_slots loads pace table sets schedule =
     places_from loads (length sets) pace table schedule 0 sets (omega arith)
-
--- a set with bytes has a place
-pub has_place : (loads : List WriteLoad) (n : ℕ) (pace : Pace) (table : Timetable) → IsSchedule loads n pace table
-    → (k : ℕ) → k < n → 1 ≤ size_of loads k → 1 ≤ length (slots_of table k)
-has_place loads n pace table schedule k low some =
-    let packets = schedule.packets in
-    let start = start_is loads n pace table schedule k (omega arith) in
-    let end = start_is loads n pace table schedule (suc k) (omega arith) in
-    let more = sum_below-suc (packets_of loads) k in
-    let rises = sum_below-rises (packets_of loads) (suc k) n (omega arith) in
-    let any = some_packets loads k some in
-    let rest = length-drop (start_of table k) table.slots in
-    let size =
-    length-take-le (start_of table (suc k) - start_of table k) (drop (start_of table k) table.slots) (omega arith)
-    in
-    omega arith

@@ -17,12 +17,13 @@ use Rattle.schedule.specs.Packets.{payload_in, unit_payloads, payloads_of, units
 use Rattle.schedule.specs.Slots.{slot_of}
 use Rattle.shown_stream.specs.Compiled.{AreSizedAs, all_units, IsCompiledTo}
 use Rattle.slot_stream.specs.SlotStream.{Piece, no_piece, piece_count, piece_of, pieces_of, all_pieces, packet_of}
-use Rattle.shown_stream.proofs.Sent.CompiledPackets.{packets_in, count_pieces, count_of_set, pieces_from}
+use Rattle.shown_stream.proofs.Sent.CompiledPackets.{packets_in}
 use Rattle.slot_stream.proofs.LaidPackets.{laid, IsAhead}
-use Rattle.shown_stream.proofs.Late.LateStream.{later_slots}
-use Rattle.shown_stream.proofs.Sent.RisingSlots.{slots_rise}
 use Rattle.slot_stream.proofs.SentPieces.{AreFurther}
 use Rattle.slot_stream.proofs.SentStream.{further_of, its_pieces, its_further}
+use Rattle.sent_sets.proofs.LateStream.{later_slots}
+use Rattle.sent_sets.proofs.PacketCounts.{count_pieces, count_of_set, pieces_from}
+use Rattle.sent_sets.proofs.RisingSlots.{slots_rise}
 
 -- ---- the pieces of a unit
 

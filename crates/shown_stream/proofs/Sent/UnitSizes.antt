@@ -12,6 +12,7 @@ use Rattle.page_epoch.specs.declared.planned_set.PlannedSet.{PlannedSet}
 use Rattle.schedule.specs.Packets.{longest_of}
 use Rattle.set_coder.proofs.SetSizeLaws.{one_segment_sizes}
 use Rattle.set_coder.specs.SetSizes.{IsSetLoad}
+use Rattle.sent_sets.proofs.RawUnits.{AreShort}
 use Rattle.shown_stream.specs.Compiled.{AreLoads, AreSizedAs}
 
 -- ---- units
@@ -59,10 +60,6 @@ load_fits script set load is short =
     let fit : Fits UNIT_ROOM (flat_map (λ unit. unit) is.units.units) =
     subst (Fits UNIT_ROOM) (sym is.units.shared.whole) (fits_more load.longest UNIT_ROOM sizes short least) in
     subst (Fits 65541) (sym is.units.are) (all_units_fit is.units.units fit is.units.shared.each)
-
--- each packet is of a length that can be told
-abbrev pub AreShort : List (List ℕ) → Type 0
-AreShort packets = AllByRecursion (λ (packet : List ℕ). length packet ≤ 65541) packets
 
 of_lengths : (packets : List (List ℕ)) → Fits 65541 (map length packets) → AreShort packets
 of_lengths [] h = tt

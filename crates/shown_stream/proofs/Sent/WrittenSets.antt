@@ -1,23 +1,24 @@
 -- The PES packets that are written of the units of a set are read as that set.
-use Rattle.std.proofs.Common.{◌≡◌, ◌∙◌, ℕ, suc, ◌+◌, ◌%◌, ◌^◌, ◌<◌, ◌≤◌, true, false, eqb, ◌&&◌, List, [], ◌∷◌, ◌++◌, length, map, refl, sym, ap, subst, arith, append-nil, length-append, Ok}
+use Rattle.std.proofs.Common.{◌≡◌, ◌∙◌, ℕ, suc, ◌%◌, ◌≤◌, true, false, eqb, ◌&&◌, List, [], ◌∷◌, ◌++◌, length, map, refl, sym, ap, subst, arith, append-nil, length-append}
 use Rattle.std.specs.Prelude.{sum}
 use Rattle.std.specs.List.{flat_map, concat, AllByRecursion, AllZip, sum_by, list_any}
 use Rattle.std.proofs.lemmas.List.{map-append}
-use Rattle.std.proofs.lemmas.List.Sums.{sum_by-append, sum_by-cons}
+use Rattle.std.proofs.lemmas.List.Sums.{sum_by-cons}
 use Rattle.stream_syntax.specs.declared.wire.TheConstants.{TIME_ROUND}
-use Rattle.stream_syntax.specs.Cutting.{IsUnit}
-use Rattle.stream_syntax.specs.Pes.{written_pes}
+use Rattle.stream_syntax.specs.DataField.{data_field}
+use Rattle.stream_syntax.specs.Pes.{written_pes, pes_of}
 use Rattle.stream_syntax.specs.Segments.{SegmentValue, of_page, of_region, of_clut, of_object, of_display, end_of_set, passed_over, spelled, segment_kind, IsWritable, set_kinds}
 use Rattle.stream_syntax.specs.Tests.{byte_at}
 use Rattle.decoder_model.specs.Frames.{only}
-use Rattle.decoder_model.proofs.FieldFrames.{IsHeaded}
 use Rattle.decoder_model.proofs.ServicePages.{only_counts}
 use Rattle.decoder_model.proofs.SoleCue.{is_same_id}
-use Rattle.decoder_model.proofs.SentSets.{all-append, SetUnit, TimedSet, timed, size_of_units, all_segments, IsBefore, AreSetUnits, IsTimedSet, IsUnitOf}
-use Rattle.pes_packets.proofs.PesLayout.{pes_is_read}
-use Rattle.pes_packets.proofs.Written.{written_is_pes, written_is_unit}
+use Rattle.decoder_model.proofs.Lists.{all-append}
 use Rattle.segments.proofs.Spellings.{spelled_as, spelled_head}
-use Rattle.set_coder.specs.SetSegments.{segments_field, unit_packet}
+use Rattle.set_coder.specs.SetSegments.{unit_packet}
+use Rattle.sent_sets.specs.RawSets.{raw_packet}
+use Rattle.sent_sets.proofs.FieldFrames.{IsHeaded}
+use Rattle.sent_sets.proofs.RawUnits.{parts_of_all, raw_is_read, bytes_of_packets}
+use Rattle.sent_sets.proofs.Units.{SetUnit, TimedSet, timed, size_of_units, all_segments, IsBefore, AreSetUnits, IsTimedSet, IsUnitOf}
 
 -- a segment of a page that is no end of set
 abbrev pub IsInner : SegmentValue → Type 0
@@ -55,8 +56,7 @@ headed_by : (page : ℕ) (value : SegmentValue) → IsWritable page value
     → IsHeaded (only page) (spelled page value)
 headed_by page value writable known =
     let head = spelled_head page value writable in record {
-      sync = ap (byte_at 0) (spelled_as page value writable.fits);
-      size = sym head.size_is;
+      head = record { sync = ap (byte_at 0) (spelled_as page value writable.fits); size = sym head.size_is };
       of_pages =
           only_counts page (spelled page value)
           ∙ ap (λ id. eqb id page && list_any (λ kind. eqb (byte_at 1 (spelled page value)) kind) set_kinds)
@@ -96,7 +96,7 @@ inner_known : (page : ℕ) (values : List SegmentValue) → AreInner page values
 inner_known page [] h = tt
 inner_known page (value ∷ values) h = ((h.0.0, inner_kind value h.0.1), inner_known page values h.1)
 
-all_headed : (page : ℕ) (values : List SegmentValue) → AreKnown page values
+pub all_headed : (page : ℕ) (values : List SegmentValue) → AreKnown page values
     → AllByRecursion (IsHeaded (only page)) (map (spelled page) values)
 all_headed page [] h = tt
 all_headed page (value ∷ values) h = (headed_by page value h.0.0 h.0.1, all_headed page values h.1)
@@ -110,68 +110,30 @@ joined_segments : (page : ℕ) (values : List SegmentValue)
 joined_segments page [] = refl
 joined_segments page (value ∷ values) = ap (λ rest. spelled page value ++ rest) (joined_segments page values)
 
-sum_of_lengths : (segments : List (List ℕ)) → sum_by length segments ≡ length (concat segments)
-sum_of_lengths [] = refl
-sum_of_lengths (bytes ∷ segments) =
-    omega (
-      arith,
-      sum_by-append length (bytes ∷ []) segments,
-      sum_of_lengths segments,
-      length-append bytes
-          (concat segments),
-    )
-
-field_size : (page : ℕ) (values : List SegmentValue)
-    → length (segments_field page values) ≡ 3 + sum_by length (map (spelled page) values)
-field_size page values =
-    omega (
-      arith,
-      ap length (joined_segments page values),
-      sum_of_lengths (map (spelled page) values),
-      length-append
-          (flat_map (spelled page) values) (0xFF ∷ []),
-    )
-
-packet_size : (time : ℕ) (field : List ℕ) → length (written_pes time field) ≡ 14 + length field
-packet_size time field = omega arith
-
--- the PES packet of a unit has the bytes of its segments and 17 more
-pub unit_size : (page time : ℕ) (values : List SegmentValue)
-    → length (unit_packet page time values) ≡ 17 + sum_by length (map (spelled page) values)
-unit_size page time values =
-    omega (arith, packet_size (time % TIME_ROUND) (segments_field page values), field_size page values)
+-- the PES packet of a unit is that of the bytes of its segments
+pub same_packet : (page time : ℕ) (values : List SegmentValue)
+    → unit_packet page time values ≡ raw_packet time (map (spelled page) values)
+same_packet page time values =
+    ap (λ segments. written_pes (time % TIME_ROUND) (data_field segments)) (joined_segments page values)
 
 -- a unit of these segments
 abbrev pub unit_with : ℕ → ℕ → List SegmentValue → SetUnit
 unit_with page set_time values =
     record { size = length (unit_packet page set_time values); segments = map (spelled page) values }
 
-below_round : (time : ℕ) → time % TIME_ROUND < 2 ^ 33
-below_round time = omega arith
-
 -- its PES packet is read so
 written_unit : (page time : ℕ) (values : List SegmentValue) → AreKnown page values → 1 ≤ length values
     → length (unit_packet page time values) ≤ 65541
     → IsUnitOf (only page) (unit_packet page time values) (timed (time % TIME_ROUND) (unit_with page time values))
 written_unit page time values known some short =
-    let size = packet_size (time % TIME_ROUND) (segments_field page values) in
-    let read =
-    pes_is_read (unit_packet page time values) (time % TIME_ROUND) (flat_map (spelled page) values ++ 0xFF ∷ [])
-    (written_is_pes (time % TIME_ROUND) (segments_field page values) (below_round time) (omega arith) refl) in
+    let same = same_packet page time values in
     record {
       each = all_headed page values known;
       some = omega (arith, same_count page values, some);
       size = refl;
-      packet = read ∙ ap (λ segments. Ok (time % TIME_ROUND, segments ++ 0xFF ∷ [])) (joined_segments page values);
+      packet = ap pes_of same
+          ∙ raw_is_read time (map (spelled page) values) (omega (arith, short, ap length same));
     }
-
--- and a demultiplexer that has room for it hands it out whole
-pub handed_out : (size page time : ℕ) (values : List SegmentValue)
-    → length (unit_packet page time values) ≤ size → length (unit_packet page time values) ≤ 65541
-    → IsUnit size (unit_packet page time values)
-handed_out size page time values fits short =
-    let whole = packet_size (time % TIME_ROUND) (segments_field page values) in
-    written_is_unit (time % TIME_ROUND) (segments_field page values) (omega arith) size (omega arith)
 
 -- ---- a set
 
@@ -204,17 +166,35 @@ size_with page time (unit ∷ units) =
           (map length (map (unit_packet page time) units)),
     )
 
+-- the segments of units as bytes, unit by unit
+abbrev pub mapped_units : ℕ → List (List SegmentValue) → List (List (List ℕ))
+mapped_units page units = map (map (spelled page)) units
+
+pub joined_mapped : (page : ℕ) (units : List (List SegmentValue))
+    → flat_map (λ unit. unit) (mapped_units page units) ≡ map (spelled page) (joined_units units)
+joined_mapped page [] = refl
+joined_mapped page (unit ∷ units) =
+    ap (λ rest. map (spelled page) unit ++ rest) (joined_mapped page units)
+    ∙ sym (map-append (spelled page) unit (joined_units units))
+
+pub packets_mapped : (page time : ℕ) (units : List (List SegmentValue))
+    → map (unit_packet page time) units ≡ map (raw_packet time) (mapped_units page units)
+packets_mapped page time [] = refl
+packets_mapped page time (unit ∷ units) =
+    ap (λ packet. packet ∷ map (unit_packet page time) units) (same_packet page time unit)
+    ∙ ap (λ rest. raw_packet time (map (spelled page) unit) ∷ rest) (packets_mapped page time units)
+
 -- the segments have no more bytes
 pub bytes_with : (page time : ℕ) (units : List (List SegmentValue))
     → sum_by length (all_segments (set_with page time units)) ≤ size_of_units (set_with page time units).units
-bytes_with page time [] = omega arith
-bytes_with page time (unit ∷ units) =
+bytes_with page time units =
     omega (
       arith,
-      bytes_with page time units,
-      unit_size page time unit,
-      sum_by-append length (map (spelled page) unit) (all_segments (set_with page time units)),
-      sum_by-cons (λ (one : SetUnit). one.size) (unit_with page time unit) (map (unit_with page time) units),
+      ap (sum_by length) (segments_with page time units),
+      ap (sum_by length) (joined_mapped page units),
+      size_with page time units,
+      ap (λ packets. sum (map length packets)) (packets_mapped page time units),
+      bytes_of_packets time (mapped_units page units),
     )
 
 -- of a list that ends with an item, a front that is not all of it, and what is behind
@@ -237,11 +217,6 @@ front_of {X} (x ∷ front) behind (y ∷ all) last some e =
           ∙ ap (λ zs. x ∷ zs) more.before;
       after = more.after;
     }
-
-pub parts_of_all : {X : Type 0} (P : X → Type 0) (xs ys : List X) → AllByRecursion P (xs ++ ys)
-    → AllByRecursion P xs × AllByRecursion P ys
-parts_of_all P [] ys h = (tt, h)
-parts_of_all P (x ∷ xs) ys h = let more = parts_of_all P xs ys h.1 in ((h.0, more.0), more.1)
 
 -- each of the units has a segment
 abbrev pub HaveSegments : List (List SegmentValue) → Type 0

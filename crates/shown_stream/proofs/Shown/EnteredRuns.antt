@@ -16,7 +16,6 @@ use Rattle.decoder_model.specs.Shown.{View, IsClear, Agrees, view_at}
 use Rattle.decoder_model.specs.Streams.{SentSet, is_from, entry_set, IsShownFrom}
 use Rattle.decoder_model.specs.Verdict.{verdict_of, sets_since, known_epoch}
 use Rattle.decoder_model.specs.declared.set_end.SetEnd.TheVariants.{Shown, Waiting}
-use Rattle.decoder_model.proofs.SentSets.{TimedSet, delivered}
 use Rattle.shown_plan.proofs.Steps.Fair.{fair}
 use Rattle.shown_plan.proofs.Pictures.Runs.{IsRun, begins, goes_on, RunKeeps, run_keeps}
 use Rattle.shown_stream.specs.KeptSets.{IsFromEntry, IsKept}
@@ -29,6 +28,8 @@ use Rattle.shown_stream.proofs.Shown.RunViews.{IsBefore, run_shows}
 use Rattle.shown_stream.proofs.Shown.SetPaintings.{calls_behind, IsPaintedAs, painted_as}
 use Rattle.shown_stream.proofs.Shown.ShownSets.{AreAheadOf, kept_at, last_is, IsIdle, still_idle, waits_with, IsShownSet, shown_set}
 use Rattle.stream_syntax.specs.Segments.{is_entry_state}
+use Rattle.sent_sets.proofs.SetEnds.{delivered}
+use Rattle.sent_sets.proofs.Units.{TimedSet}
 
 -- ---- lists turned
 
@@ -84,7 +85,7 @@ pub record IsReceivedSo (script : Script) (profile : Profile) (anchor : ℕ) (se
   pub holds : HoldsEach script profile anchor sets past
   pub more : List (Delivery Reading)
   pub over : past ≡ more ++ first
-  pub kept : AllByRecursion (IsKept profile anchor entry past) left
+  pub kept : AllByRecursion (IsKept profile anchor (IsFromEntry entry) past) left
   pub painted : AllZip (IsPaintedAs script) left (calls_behind profile anchor first (reverse more))
 
 on_top : (script : Script) (profile : Profile) (anchor : ℕ) (entry : Option SentSet) (past : List (Delivery Reading))
@@ -385,7 +386,7 @@ wait_for script profile anchor missed table number sets taken past last plan (se
         → IsOnTop script profile anchor (entry_set missed (sent_from table (number + 1) left))
         (reading_of come.0 ∷ past) set
     waiting normal =
-        let waits = waits_with profile anchor past come.0 idle lifted normal in
+        let waits = waits_with profile anchor past come.0 idle.unknown lifted normal in
         record {
           delivery = reading_of come.0;
           before = past;

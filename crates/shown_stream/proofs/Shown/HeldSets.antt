@@ -31,7 +31,7 @@ later_in time [] back set all = all.0
 later_in time (first ∷ front) back set all = later_in time front back set all.1
 
 -- the set at the front of a plan is earlier than all others
-front_earlier : (front back : List PlannedSet) (first set : PlannedSet)
+pub front_earlier : (front back : List PlannedSet) (first set : PlannedSet)
     → IsStrictlyIncreasing (pts_of (first ∷ (front ++ set ∷ back))) → first.pts < set.pts
 front_earlier [] back first set rise = rise 0 (omega arith)
 front_earlier (next ∷ front) back first set rise =

@@ -6,7 +6,7 @@ use Rattle.std.specs.List.{AllByRecursion, AllZip}
 use Rattle.std.proofs.lemmas.List.Elements.{recursion_from_All}
 use Rattle.sub_base.specs.Depth.{bits_of}
 use Rattle.sub_base.specs.Picture.{Picture}
-use Rattle.stream_syntax.specs.Segments.{SegmentValue, of_object, end_of_set, spelled, IsSegment, IsWritable}
+use Rattle.stream_syntax.specs.Segments.{SegmentValue, of_object, end_of_set, IsSegment}
 use Rattle.stream_syntax.specs.declared.page.State.{State}
 use Rattle.stream_syntax.specs.declared.page.State.TheVariants.{Normal, Acquisition, ModeChange}
 use Rattle.cue_list.specs.declared.epoch.Epoch.{Epoch}
@@ -27,6 +27,7 @@ use Rattle.shown_plan.proofs.Segments.NoTwice.{set_no_fault}
 use Rattle.shown_plan.proofs.Segments.OwnIds.{AreSingle}
 use Rattle.shown_plan.proofs.Segments.ReadSets.{plain, IsDrawnObject, IsReadSet}
 use Rattle.shown_plan.proofs.Steps.Fair.{IsFairCue}
+use Rattle.shown_stream.specs.SentPlan.{IsWrittenAs}
 use Rattle.shown_stream.proofs.Shown.DrawnObject.{object_draws}
 
 -- ---- what is read
@@ -38,23 +39,8 @@ HasFields content = AreFields content.value content.top content.bottom
 abbrev values_of : List Content → List SegmentValue
 values_of contents = map (λ (content : Content). content.value) contents
 
--- the bytes are those of segments, each on a page on which it can be written
-abbrev pub AreWritten : List SegmentValue → List (List ℕ) → Type 0
-AreWritten values bytes =
-    AllZip (λ (value : SegmentValue) (of_value : List ℕ). (page : ℕ) × IsWritable page value
-    × (of_value ≡ spelled page value)) values bytes
-
--- on one page
-pub written_on : (page : ℕ) (values : List SegmentValue) → All (IsWritable page) values
-    → AreWritten values (map (spelled page) values)
-written_on page values fit = by values (recursion_from_All (IsWritable page) values fit)
-  where
-    by : (all : List SegmentValue) → AllByRecursion (IsWritable page) all → AreWritten all (map (spelled page) all)
-    by [] fit = tt
-    by (value ∷ all) fit = ((page, fit.0, refl), by all fit.1)
-
 -- segments that are written are read as these contents
-all_read : (contents : List Content) (bytes : List (List ℕ)) → AreWritten (values_of contents) bytes
+all_read : (contents : List Content) (bytes : List (List ℕ)) → AllZip IsWrittenAs (values_of contents) bytes
     → AllByRecursion HasFields contents → AreReadings bytes (map read contents)
 all_read [] [] written fields = tt
 all_read [] (first ∷ bytes) written fields = absurd written
@@ -208,14 +194,14 @@ pub record SetRead (script : Script) (epoch : Epoch) (set : PlannedSet) (bytes :
 
 -- each set of a plan is read so, where its cues are those of its epoch and no deeper than their regions
 pub set_is_read : {script : Script} {set : PlannedSet} {segments : List SegmentValue} {bytes : List (List ℕ)}
-    (sent : AreNamedSegments script set segments) → AreWritten segments bytes
+    (sent : AreNamedSegments script set segments) → AllZip IsWrittenAs segments bytes
     → AreSingle (λ (one : SentRegion). one.id) set.regions → AreShallow script.pictures sent.epoch
     → All (HasCue sent.epoch) set.cues → SetRead script sent.epoch set bytes
 set_is_read {script} {set} {segments} {bytes} sent written single shallow there =
     record {
       contents = contents;
       are = all_read contents bytes
-          (subst (λ (values : List SegmentValue). AreWritten values bytes) (sym same) written)
+          (subst (λ (values : List SegmentValue). AllZip IsWrittenAs values bytes) (sym same) written)
           (fields_behind leading (drawn.contents ++ plain end_of_set ∷ [])
           (leading_plain sent.names script sent.epoch set sent.cluts) (fields_end drawn.contents drawn.fields));
       back = contents_back contents;

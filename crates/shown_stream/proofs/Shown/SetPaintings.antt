@@ -25,13 +25,13 @@ use Rattle.decoder_model.specs.Readings.{Content, Reading}
 use Rattle.decoder_model.specs.Sets.{Delivery}
 use Rattle.decoder_model.specs.Verdict.{verdict_of}
 use Rattle.decoder_model.specs.declared.set_end.SetEnd.TheVariants.{Shown, Waiting}
-use Rattle.decoder_model.proofs.SentSets.{TimedSet}
 use Rattle.shown_plan.specs.NamedSets.{Names, named_region}
 use Rattle.shown_plan.proofs.Segments.ReadSets.{plain, IsObject, IsReadSet, objects_of}
 use Rattle.shown_plan.proofs.Steps.RegionSteps.{sent_value}
 use Rattle.received_level_laws.specs.StreamCalls.{call_by, set_call}
 use Rattle.shown_stream.proofs.Shown.ComingSets.{SetComes, reading_of}
 use Rattle.shown_stream.proofs.Late.LateRest.{IsNoRegion}
+use Rattle.sent_sets.proofs.Units.{TimedSet}
 
 -- ---- the contents of a set
 

@@ -21,12 +21,12 @@ use Rattle.decoder_model.specs.declared.set_end.SetEnd.{SetEnd}
 use Rattle.decoder_model.specs.declared.set_end.SetEnd.TheVariants.{Shown, Waiting, Broken, NotLater}
 use Rattle.decoder_model.proofs.AfterLoss.{still_unknown, normal_waits}
 use Rattle.decoder_model.proofs.Lifts.{lifted_first, lifted_next}
-use Rattle.decoder_model.proofs.SentSets.{TimedSet, size_of_units}
 use Rattle.decoder_model.proofs.Views.{view_before, view_with, view_of_shown}
 use Rattle.shown_plan.proofs.Steps.FaultFree.{page_value, page_is}
 use Rattle.shown_plan.proofs.Pictures.Runs.{has_its_state, RunKeeps}
 use Rattle.shown_stream.proofs.Shown.ComingSets.{SetComes, reading_of}
 use Rattle.stream_syntax.specs.declared.wire.TheConstants.{TIME_ROUND, HALF_ROUND, TICK_LIMIT}
+use Rattle.sent_sets.proofs.Units.{TimedSet, size_of_units}
 
 -- ---- times
 
@@ -170,13 +170,13 @@ still_idle {script = script} {set = set} {sent = sent} profile anchor past comes
 
 -- and the set waits
 pub waits_with : {script : Script} {set : PlannedSet} {sent : TimedSet} (profile : Profile) (anchor : ℕ)
-    (past : List (Delivery Reading)) (comes : SetComes script set sent) → IsIdle profile anchor past
+    (past : List (Delivery Reading)) (comes : SetComes script set sent) → known_epoch profile anchor past ≡ None
     → lifted_time anchor past (reading_of comes) ≡ Some set.pts → is_entry_state set.state ≡ false
     → verdict_of profile anchor past (reading_of comes) ≡ Some Waiting
-waits_with {script = script} {set = set} {sent = sent} profile anchor past comes idle kept normal =
+waits_with {script = script} {set = set} {sent = sent} profile anchor past comes none kept normal =
     let sets = sets_since profile anchor past in
     let page = ap page_in_set comes.contents_are ∙ page_is script comes.epoch set comes.contents comes.is in
-    let unknown = still_unknown (contents_in comes.readings) sets (is_normal comes normal) idle.unknown in
+    let unknown = still_unknown (contents_in comes.readings) sets (is_normal comes normal) none in
     verdict_is profile anchor set.pts past sent.time (size_of_units sent.units) comes.readings Waiting kept
     (ap (verdict_on_segments profile sets (contents_in comes.readings)) comes.no_fault
     ∙ ap (verdict_with_page profile sets (contents_in comes.readings)) page

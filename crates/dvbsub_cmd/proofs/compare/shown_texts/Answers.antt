@@ -1,9 +1,11 @@
 use Rattle.std.proofs.Common.{◌≡◌, ◌∙◌, ◌++◌, ℕ, [], List, true, ap, append-nil, subst, sym}
+use Rattle.decoder_model.specs.Frames.{only}
+use Rattle.dump_text.proofs.AskedLaws.{tells_as_asked}
 use Rattle.dump_text.specs.Dumping.{HasDumped}
+use Rattle.sub_base.specs.Profile.{profile_of}
 use Rattle.sub_base.specs.InMemory.{Store}
 use Rattle.dvbsub_cmd.specs.Dumps.{dumps}
 use Rattle.dvbsub_cmd.specs.GenText.{generated_page, generated_pid}
-use Rattle.dvbsub_cmd.proofs.DumpLaws.{tells_as_asked}
 use Rattle.command_text.proofs.PutOutLaws.{written_all}
 use Rattle.dvbsub_cmd.proofs.PutOutLaws.{told_all}
 use Rattle.dvbsub_cmd.proofs.compare.shown_texts.Goals as goal
@@ -25,7 +27,7 @@ returns g c =
     sym (whole ∙ ap (λ (store : Store). store.written ++ (text ++ [])) c.make-texts.ensures ∙ append-nil text)
     in
     subst (dumps c.args.profile generated_pid generated_page c.args.ticks.now true c.args.packets.now) same
-    (tells_as_asked c.args.profile generated_pid generated_page c.args.ticks.now made c.take_packets.new.self true
-    c.args.packets.now text c.in_default.ensures.same
+    (tells_as_asked (profile_of c.args.profile) generated_pid (only generated_page) c.args.ticks.now made
+    c.take_packets.new.self true c.args.packets.now text c.in_default.ensures.same
     (c.in_ok-dump.ensures.profile ∙ c.of-profile.ensures) c.in_ok-dump.ensures.pid
     (c.in_ok-dump.ensures.pages ∙ c.only.ensures) c.in_ok-dump.ensures.ticks ended.1)

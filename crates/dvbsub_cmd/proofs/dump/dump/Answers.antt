@@ -1,50 +1,45 @@
 use Rattle.std.proofs.Common.{◌∙◌, ◌<◌, ℕ, List, None, drop, sym, subst}
 use Rattle.std.specs.List.Sorted.{IsStrictlyIncreasing}
-use Rattle.dump_text.specs.DumpText.{anchor_of}
-use Rattle.packet_walk.proofs.EndLaws.{end_told}
-use Rattle.dvbsub_cmd.specs.Private.Closing.{is_whole_end}
-use Rattle.command_words.specs.Ticks.{asked_ticks}
-use Rattle.dvbsub_cmd.specs.Dumps.{dump_tells, dumps}
-use Rattle.dvbsub_cmd.specs.StreamOutcome.{IsStreamCause}
-use Rattle.dvbsub_cmd.proofs.CloseLaws.{closed}
-use Rattle.dvbsub_cmd.proofs.DumpLaws.{tells_as_asked}
 use Rattle.command_words.proofs.TickLaws.{rising_ticks}
+use Rattle.command_words.specs.Ticks.{asked_ticks}
+use Rattle.decoder_model.specs.Frames.{only}
+use Rattle.decoder_model.specs.declared.pages.Pages.{Pages}
+use Rattle.dump_text.specs.DumpText.{IsDumpText, anchor_of}
+use Rattle.packet_walk.specs.ToldEnds.{IsToldEnd}
+use Rattle.sub_base.specs.declared.profile.Profile.{Profile}
+use Rattle.dvbsub_cmd.proofs.CloseLaws.{end_cause}
 use Rattle.dvbsub_cmd.proofs.TickLaws.{early_anchor}
+use Rattle.dvbsub_cmd.specs.Dumps.{dumps}
 use Rattle.dvbsub_cmd.proofs.dump.dump.Goals as goal
 
-pub make-requires-clause-asked : goal.make-requires-clause-asked
-make-requires-clause-asked g c = record {
+pub dump_stream-requires-clause-asked : goal.dump_stream-requires-clause-asked
+dump_stream-requires-clause-asked g c = λ _ _. record {
   some = c.requires.some;
   few = c.requires.few;
-  rising = subst IsStrictlyIncreasing (sym (c.as_slice-ticks.ensures.value ∙ c.in-Ok.ensures))
+  rising = subst IsStrictlyIncreasing (sym (c.as_slice.ensures.value ∙ c.in-Ok.ensures))
       (rising_ticks None (drop 7 c.args.words.now) c.requires.rising);
 }
 
-pub make-requires-clause-anchor : goal.make-requires-clause-anchor
-make-requires-clause-anchor g c =
+pub dump_stream-requires-clause-anchor : goal.dump_stream-requires-clause-anchor
+dump_stream-requires-clause-anchor g c = λ _ _.
     subst (λ (ticks : List ℕ). anchor_of ticks < 17179869184)
-    (sym (c.as_slice-ticks.ensures.value ∙ c.in-Ok.ensures)) (early_anchor (drop 7 c.args.words.now))
+    (sym (c.as_slice.ensures.value ∙ c.in-Ok.ensures)) (early_anchor (drop 7 c.args.words.now))
 
 pub returns : goal.returns
 returns g c =
-    let made = c.in-Ok-make.dump in
-    let walked = c.walk-end.new.self in
-    let ticks : List ℕ = asked_ticks 7 c.args.words.now in
-    let ended = c.finish.ensures made.receiving.demux.pid _ _ _ c.walk-end.ensures.end in
-    let told =
-    end_told (dump_tells walked (is_whole_end c.walk-end.result))
-    (dumps c.args.profile c.args.pid c.args.page ticks (is_whole_end c.walk-end.result)) made.receiving.demux.pid _
-    _ _ _ c.finish.new.buffer c.walk-end.result
-    (λ packets text. tells_as_asked c.args.profile c.args.pid c.args.page ticks made walked
-    (is_whole_end c.walk-end.result) packets text c.walk-end.ensures.same
-    (c.in-Ok-make.ensures.profile ∙ c.of-profile.ensures) c.in-Ok-make.ensures.pid
-    (c.in-Ok-make.ensures.pages ∙ c.only.ensures)
-    (c.in-Ok-make.ensures.ticks ∙ c.as_slice-ticks.ensures.value ∙ c.in-Ok.ensures)) ended in
-    subst (λ (pid : ℕ). IsStreamCause (dumps c.args.profile c.args.pid c.args.page ticks) pid
-    (g.A.Source.supplied c.args.stream.now)
-    (g.A.Source.supplied c.walk-end.new.stream)
-    (g.K.Sink.received c.args.out.now)
-    (g.K.Sink.received c.close.new.out)
-    c.close.result) c.in-Ok-make.ensures.pid
-    (closed (dumps c.args.profile c.args.pid c.args.page ticks) made.receiving.demux.pid _ _ _ _ _ c.finish.new.buffer
-    c.walk-end.result c.close.result told c.close.ensures)
+    let before = g.A.Source.supplied c.args.stream.now in
+    let now = g.A.Source.supplied c.dump_stream.new.stream in
+    let start = g.K.Sink.received c.args.out.now in
+    let next = g.K.Sink.received c.dump_stream.new.out in
+    let pid = c.args.pid in
+    let lent = c.as_slice.result.now in
+    let IsEnd = λ (profile : Profile) (pages : Pages) (ticks : List ℕ).
+    IsToldEnd (IsDumpText profile pid pages ticks) pid before now start next c.dump_stream.result in
+    let ended =
+    subst (λ (profile : Profile). IsEnd profile (only c.args.page) (asked_ticks 7 c.args.words.now))
+    c.of-profile.ensures
+    (subst (λ (pages : Pages). IsEnd c.of-profile.result pages (asked_ticks 7 c.args.words.now)) c.only.ensures
+    (subst (IsEnd c.of-profile.result c.only.result) (c.as_slice.ensures.value ∙ c.in-Ok.ensures)
+    c.dump_stream.ensures)) in
+    end_cause (dumps c.args.profile pid c.args.page (asked_ticks 7 c.args.words.now)) pid before now start next
+    c.dump_stream.result c.status_of_end.result c.status_of_end.ensures ended

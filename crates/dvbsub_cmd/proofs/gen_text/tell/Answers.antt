@@ -14,9 +14,9 @@ if_ok P Q (Err fault) step holds = holds
 pub tell_packets-requires-clause-of : goal.tell_packets-requires-clause-of
 tell_packets-requires-clause-of g c = λ _ _.
     are_of c.args.profile c.in_ok-generated.generated c.args.number c.requires.profile c.in_ok-generated.ensures
-    c.packets_of-packets.result.now c.as_slice-2.result.now
+    c.packets_of-packets.result.now c.as_slice.result.now
     (c.packets_of-packets.ensures ∙ ap whole_packets c.written.ensures)
-    (c.as_slice-2.ensures.value ∙ c.in_ok-times.ensures ∙ ap pts_of c.as_slice.ensures)
+    (c.as_slice.ensures.value ∙ c.in_ok-times.ensures ∙ ap pts_of c.sets.ensures)
 
 pub returns : goal.returns
 returns g c =

@@ -6,7 +6,7 @@ use Rattle.dvbsub_cmd.proofs.gen_text.tell_packets.Goals as goal
 pub returns : goal.returns
 returns g c = record {
   sets_are = ap (λ (times : List ℕ). length times) c.requires.of.times_are
-      ∙ length-map c.args.generated.now.sent.plan.sets (λ (set : PlannedSet). set.pts);
+      ∙ length-map c.args.generated.now.sent.sets (λ (set : PlannedSet). set.pts);
   packets_are = refl;
   peak_is = c.in_ok-peak.ensures;
   whole_is = c.in_ok-whole.ensures;

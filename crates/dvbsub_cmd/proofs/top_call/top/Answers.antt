@@ -1,6 +1,5 @@
 use Rattle.dvbsub_cmd.proofs.CauseLaws.{complete}
-use Rattle.dvbsub_cmd.proofs.HeadlineLaws.{shown_as_told}
-use Rattle.dvbsub_cmd.specs.Command.{command_of}
+use Rattle.dvbsub_cmd.proofs.HeadlineLaws.{shown_by_cause}
 use Rattle.dvbsub_cmd.proofs.top_call.top.Goals as goal
 
 pub returns-clause-complete : goal.returns-clause-complete
@@ -9,4 +8,4 @@ returns-clause-complete g c =
 
 pub returns-clause-shown : goal.returns-clause-shown
 returns-clause-shown g c =
-    shown_as_told (command_of c.args.words.now) _ _ _ _ c.run-status.result _ c.run-status.ensures.shown c.tell.ensures
+    shown_by_cause c.args.words.now _ _ _ _ _ (c.run-status.result, c.run-status.ensures.cause, c.tell.ensures)

@@ -1,16 +1,16 @@
 -- A check that was fed nothing.
 use Rattle.std.proofs.Common.{◌∙◌, ◌≤◌, ◌^◌, sym, subst}
 use Rattle.set_receiver.specs.Receiving.{Reception}
-use Rattle.set_receiver.proofs.TakenSets.{none_at_first}
 use Rattle.sub_base.specs.Pace.{pace_of}
 use Rattle.check_text.proofs.CheckLaws.{few_in_profile, nothing_checked}
 use Rattle.check_text.proofs.check.Check.make.Goals as goal
+use Rattle.sub_base.specs.declared.profile.TheConstants.{LARGEST_BUFFER}
 
 pub invariant_of-result : goal.invariant_of-result
 invariant_of-result c = record {
-  none = none_at_first c.in_ok-make.field-0.collecting c.in_ok-make.ensures.stands.reads;
+  none = c.in_ok-make.ensures.none;
   coded =
-      subst (λ (made : Reception). made.profile.coded ≤ 2 ^ 18) (sym c.in_ok-make.ensures.made)
+      subst (λ (made : Reception). made.profile.coded ≤ LARGEST_BUFFER) (sym c.in_ok-make.ensures.made)
       (few_in_profile c.args.profile.now c.requires.profile).0;
 }
 

@@ -1,5 +1,5 @@
 -- What is told with one more packet.
-use Rattle.std.proofs.Common.{◌∙◌, ap, sym, subst, arith}
+use Rattle.std.proofs.Common.{ap, subst, arith}
 use Rattle.packet_walk.specs.Told.{TellsOne}
 use Rattle.check_text.specs.Checking.{Checking, HasChecked}
 use Rattle.check_text.proofs.CheckLaws.{bytes_of, packet_told}

@@ -1,14 +1,11 @@
 use Rattle.std.proofs.Common.{◌∙◌, arith}
-use Rattle.receiver.specs.Receiving.{without_pictures}
-use Rattle.set_receiver.proofs.TakenSets.{none_at_first}
 use Rattle.dump_text.proofs.DumpLaws.{no_packets, nothing_told}
 use Rattle.dump_text.proofs.dump.Dump.make.Goals as goal
 
 pub invariant_of-result : goal.invariant_of-result
 invariant_of-result c = record {
   asked = c.requires.asked;
-  none = none_at_first (without_pictures c.in_ok-of_pages.field-0).collecting
-      c.in_ok-of_pages.ensures.stands.sets.reads;
+  none = c.in_ok-of_pages.ensures.none;
   within = omega arith;
 }
 

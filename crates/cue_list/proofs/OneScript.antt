@@ -1,0 +1,156 @@
+-- Bytes are one script: what its records say determines its values, the pictures among them.
+use Rattle.std.proofs.Common.{◌≡◌, ◌∙◌, refl, sym, ap, subst, inl, inr, ℕ, ◌+◌, ◌*◌, ◌<◌, List, [], ◌∷◌, ◌++◌, length, get_or, Option, Some, Result, Ok, Err, IfOk, IfErr, arith}
+use Rattle.std.specs.Prelude.{MatchResult, chars}
+use Rattle.bitmap_font.specs.Font.{FontValue}
+use Rattle.bitmap_font.specs.Setting.{IsSetting}
+use Rattle.sub_base.specs.declared.depth.Depth.{Depth}
+use Rattle.sub_base.specs.Picture.{Picture, IsPicture, code_at, picture_of}
+use Rattle.cue_list.specs.declared.epoch.Epoch.{Epoch}
+use Rattle.cue_list.specs.declared.epoch.Region.{Region}
+use Rattle.cue_list.specs.declared.fault.ScriptFault.{ScriptFault}
+use Rattle.cue_list.specs.declared.fault.ScriptFault.TheVariants.{Memory, Refused}
+use Rattle.cue_list.specs.declared.row_kind.RowKind.{RowKind}
+use Rattle.cue_list.specs.declared.row_kind.RowKind.TheVariants as kinds
+use Rattle.cue_list.specs.declared.row_values.PictureHead.{PictureHead}
+use Rattle.cue_list.specs.declared.script.Script.{Script}
+use Rattle.cue_list.specs.CellFaults.{value_at}
+use Rattle.cue_list.specs.Cells.{cell_at}
+use Rattle.cue_list.specs.Drawn.{Brings, IsPictureOf, IsPictureWith}
+use Rattle.cue_list.specs.Past.{region_with, regions_in}
+use Rattle.cue_list.specs.PixelRuns.{picture_codes}
+use Rattle.cue_list.specs.Records.{Record, records_of, records_before}
+use Rattle.cue_list.specs.RowValues.{head_in}
+use Rattle.cue_list.specs.Rows.{Row}
+use Rattle.cue_list.specs.ScriptRows.{AreDrawn, HasValues, IsScript, IsScriptFault}
+use Rattle.cue_list.specs.Setting.{IsTextOf, IsTextPicture}
+use Rattle.cue_list.proofs.AnswerLaws.{script_or_fault}
+use Rattle.cue_list.proofs.PlaneRows.{plane_is}
+
+some_same : {A : Type 0} (x y : A) (found : Option A) → found ≡ Some x → found ≡ Some y → x ≡ y
+some_same x y found first second = let same : Some x ≡ Some y = sym first ∙ second in cc
+
+-- ---- pictures
+
+-- pictures of the same sides with the same code at each place have the same codes
+same_codes : (one other : Picture) → one.width ≡ other.width → one.height ≡ other.height → IsPicture one
+    → IsPicture other →
+    ((column row : ℕ) → column < one.width → row < one.height → code_at one column row ≡ code_at other column row)
+    → one.codes ≡ other.codes
+same_codes one other wide high first second each =
+    let f : ℕ → ℕ → ℕ = λ column row. code_at one column row in
+    plane_is f one.width one.height 0 one.codes first.full (λ column row across down. refl)
+    ∙ sym
+    (plane_is f one.width one.height 0 other.codes (second.full ∙ sym (λ i. wide i * high i))
+    (λ column row across down.
+    ap (λ (width : ℕ). get_or other.codes (row * width + column) 0) wide ∙ sym (each column row across down)))
+
+-- the picture of a text is one
+pub one_setting : (font : FontValue) (characters : List ℕ) (ink paper : ℕ) (depth : Depth) (one other : Picture)
+    → IsSetting font characters ink paper depth one → IsSetting font characters ink paper depth other →
+    IsPicture one → IsPicture other → one ≡ other
+one_setting font characters ink paper depth one other first second whole full =
+    let wide : one.width ≡ other.width = first.sides.wide ∙ sym second.sides.wide in
+    let high : one.height ≡ other.height = first.sides.high ∙ sym second.sides.high in
+    let deep : one.depth ≡ other.depth = first.sides.deep ∙ sym second.sides.deep in
+    let codes : one.codes ≡ other.codes =
+    same_codes one other wide high whole full (λ column row across down.
+    elim (first.drawn column row across down) [
+      | inl (inked, is) ↦ elim (second.drawn column row (omega (arith, across, wide)) (omega (arith, down, high))) [
+        | inl (again, also) ↦ is ∙ sym also
+        | inr (bare, also) ↦ absurd (bare inked)
+      ]
+      | inr (bare, is) ↦ elim (second.drawn column row (omega (arith, across, wide)) (omega (arith, down, high))) [
+        | inl (inked, also) ↦ absurd (bare inked)
+        | inr (again, also) ↦ is ∙ sym also
+      ]
+    ]) in
+    λ i. record { width = wide i; height = high i; depth = deep i; codes = codes i }
+
+one_text_picture : (font : FontValue) (regions : List Region) (id ink paper : ℕ) (characters : List ℕ)
+    (one other : Picture) → IsTextPicture font regions id ink paper characters one
+    → IsTextPicture font regions id ink paper characters other → one ≡ other
+one_text_picture font regions id ink paper characters one other first second =
+    let region : second.region ≡ first.region =
+    some_same second.region first.region (region_with id regions) second.found first.found in
+    one_setting font characters ink paper first.region.depth one other first.set
+    (subst (λ (r : Region). IsSetting font characters ink paper r.depth other) region second.set) first.whole
+    second.whole
+
+one_picture_with : (head : PictureHead) (text : List ℕ) (one other : Picture) → IsPictureWith head text one
+    → IsPictureWith head text other → one ≡ other
+one_picture_with head text one other first second =
+    let codes : first.codes ≡ second.codes =
+    some_same first.codes second.codes (picture_codes head.depth text) first.read second.read in
+    first.drawn ∙ ap (λ (codes : List ℕ). picture_of head.width head.height head.depth codes) codes
+    ∙ sym second.drawn
+
+-- ---- lists of pictures
+
+with_picture : (old one other : List Picture) (first second : Picture) → one ≡ old ++ first ∷ []
+    → other ≡ old ++ second ∷ [] → first ≡ second → one ≡ other
+with_picture old one other first second is also same =
+    is ∙ ap (λ (picture : Picture). old ++ picture ∷ []) same ∙ sym also
+
+-- a record brings one list of pictures
+one_brought : (font : FontValue) (regions : List Region) (kind : RowKind) (cells : Row)
+    (old one other : List Picture) → Brings font regions kind cells old one → Brings font regions kind cells old other
+    → one ≡ other
+one_brought font regions kinds.Origin cells old one other first second = first ∙ sym second
+one_brought font regions kinds.Display cells old one other first second = first ∙ sym second
+one_brought font regions kinds.Refresh cells old one other first second = first ∙ sym second
+one_brought font regions kinds.Epoch cells old one other first second = first ∙ sym second
+one_brought font regions kinds.Region cells old one other first second = first ∙ sym second
+one_brought font regions kinds.Colour cells old one other first second = first ∙ sym second
+one_brought font regions kinds.Picture cells old one other first second =
+    with_picture old one other first.picture second.picture first.added second.added
+    (one_picture_with (head_in cells) (cell_at cells 5) first.picture second.picture first.drawn second.drawn)
+one_brought font regions kinds.Place cells old one other first second = first ∙ sym second
+one_brought font regions kinds.Cue cells old one other first second =
+    with_picture old one other first.picture second.picture first.added second.added
+    (one_text_picture font regions (value_at cells 3) (value_at cells 6) (value_at cells 7) (chars (cell_at cells 8))
+    first.picture second.picture first.set second.set)
+one_brought font regions kinds.Other cells old one other first second = first ∙ sym second
+
+-- records bring one list of pictures
+pub one_drawn : (font : FontValue) (rows : List Record) (one other : List Picture) → AreDrawn font rows one
+    → AreDrawn font rows other → one ≡ other
+one_drawn font [] one other first second = first ∙ sym second
+one_drawn font (row ∷ earlier) one other (before, drawn, brings) (others, again, brings_too) =
+    let same : before ≡ others = one_drawn font earlier before others drawn again in
+    let Brought : List Picture → Type 0 =
+    λ old. Brings font (regions_in earlier) row.kind row.cells old other in
+    one_brought font (regions_in earlier) row.kind row.cells before one other brings
+    (subst Brought (sym same) brings_too)
+
+-- ---- scripts
+
+-- bytes that are a script are one
+pub one_script : (bytes : List ℕ) (font : FontValue) (script : Script) (origin width height refresh : ℕ)
+    (epochs : List Epoch) (pictures : List Picture) →
+    IsScript bytes font script.origin script.width script.height script.refresh script.epochs script.pictures →
+    IsScript bytes font origin width height refresh epochs pictures
+    → HasValues origin width height refresh epochs pictures script
+one_script bytes font script origin width height refresh epochs pictures first second =
+    let rows = records_before (records_of bytes) (length (records_of bytes)) in
+    record {
+      origin_is = first.lists.origin_is ∙ sym second.lists.origin_is;
+      width_is = first.lists.width_is ∙ sym second.lists.width_is;
+      height_is = first.lists.height_is ∙ sym second.lists.height_is;
+      refresh_is = first.lists.refresh_is ∙ sym second.lists.refresh_is;
+      epochs_are = first.lists.epochs_are ∙ sym second.lists.epochs_are;
+      pictures_are =
+          one_drawn font rows script.pictures pictures first.lists.pictures_are second.lists.pictures_are;
+    }
+
+pub every_script : (bytes : List ℕ) (font : FontValue) (result : Result Script ScriptFault) →
+    IfOk result
+    (λ script. IsScript bytes font script.origin script.width script.height script.refresh script.epochs
+    script.pictures) →
+    IfErr result (IsScriptFault bytes font) → (origin width height refresh : ℕ) (epochs : List Epoch)
+    (pictures : List Picture) → IsScript bytes font origin width height refresh epochs pictures →
+    MatchResult result (HasValues origin width height refresh epochs pictures) (λ fault. fault ≡ Memory)
+every_script bytes font (Ok script) found refused origin width height refresh epochs pictures is =
+    one_script bytes font script origin width height refresh epochs pictures found is
+every_script bytes font (Err Memory) found refused origin width height refresh epochs pictures is = refl
+every_script bytes font (Err (Refused row kind)) found refused origin width height refresh epochs pictures is =
+    absurd (script_or_fault bytes font origin width height refresh epochs pictures row kind is refused)

@@ -1,7 +1,0 @@
-use Rattle.std.proofs.Common.{ℕ, List, take}
-use Rattle.dvbsub_cmd.specs.Private.SetUnits.{AreWritten}
-use Rattle.dvbsub_cmd.proofs.units.units_of.Given as goal
-
-abbrev pub invariant-loop-set : goal.invariant-loop-set
-invariant-loop-set l =
-    (units : List (List (List ℕ))) × AreWritten l.script l.page (take l.set-index l.sets) l.written.items units

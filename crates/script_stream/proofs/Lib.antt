@@ -1,0 +1,5 @@
+pub mod LoadLaws
+pub mod RefusalLaws
+pub mod SendLaws
+pub mod ShownLaws
+pub mod UnitLaws

@@ -1,0 +1,129 @@
+-- What a script is compiled to is shown, and so is the stream that is made of it.
+use Rattle.std.specs.List.{AllByRecursion, filter, list_any}
+use Rattle.std.specs.Prelude.{nat_le}
+use Rattle.std.proofs.Common.{◌≡◌, ◌∙◌, ℕ, ◌+◌, ◌<◌, ◌≤◌, List, [], ◌∷◌, sym, subst, arith}
+use Rattle.std.proofs.lemmas.List.Elements.{All-filter, All-from_recursion, All-map}
+use Rattle.cue_list.specs.Sound.{IsTick}
+use Rattle.cue_list.specs.declared.limits.TheConstants.{LONGEST_SCRIPT}
+use Rattle.cue_list.specs.declared.script.Script.{Script}
+use Rattle.decoder_model.specs.Streams.{SentSet}
+use Rattle.page_epoch.specs.Plan.{IsPlan}
+use Rattle.page_epoch.specs.declared.planned_set.PlannedSet.{PlannedSet}
+use Rattle.schedule.specs.Slots.{Timetable}
+use Rattle.shown_stream.proofs.Calls.CompiledStays.{compiled_stays, compiled_scheduled}
+use Rattle.shown_stream.proofs.Lost.LostShown.{compiled_cut}
+use Rattle.shown_stream.proofs.Sent.CompiledPackets.{packets_in, are_packets}
+use Rattle.shown_stream.proofs.Sent.PlannedTimes.{pts_of, times_in_span}
+use Rattle.shown_stream.proofs.Shown.CompiledShown.{compiled_entered}
+use Rattle.shown_stream.specs.Compiled.{IsCompiledFor, IsCompiledTo}
+use Rattle.shown_stream.specs.SentSets.{sent_from, sent_sets, times_from}
+use Rattle.shown_stream.specs.Shows.{IsAnchorOf, Suits}
+use Rattle.sub_base.specs.Profile.{profile_of}
+use Rattle.slot_stream.proofs.SentPieces.{IsFree}
+use Rattle.stream_syntax.specs.declared.wire.TheConstants.{NULL_PID, TIME_ROUND}
+use Rattle.sub_base.specs.declared.load.WriteLoad.{WriteLoad}
+use Rattle.sub_base.specs.declared.profile.ProfileName.{ProfileName}
+use Rattle.script_stream.specs.SentScripts.{IsSentFor, SentScript, stream_bytes}
+use Rattle.script_stream.specs.ShownRightly.{IsShownRightly}
+
+-- packets that are sent on a PID below that of null packets are no null packets
+pub is_free : (pid : ℕ) → pid < NULL_PID → IsFree pid
+is_free pid below = record { small = omega arith; no_null = λ same. omega (arith, same) }
+
+-- bytes that are the same are compiled from the same sets
+abbrev pub compiled_to : (profile : ProfileName) (pid page : ℕ) (script : Script) (bytes same : List ℕ)
+    → bytes ≡ same → IsCompiledTo profile pid page script bytes → IsCompiledTo profile pid page script same
+compiled_to profile pid page script bytes same is compiled = record {
+  sets = compiled.sets;
+  loads = compiled.loads;
+  planned = compiled.planned;
+  each = compiled.each;
+  units = compiled.units;
+  carried = compiled.carried;
+  sized = compiled.sized;
+  table = compiled.table;
+  schedule = compiled.schedule;
+  on_time = compiled.on_time;
+  sent = sym is ∙ compiled.sent;
+}
+
+-- ---- anchors
+
+-- the time of each set is that of its place
+times_early : (origin number : ℕ) (table : Timetable) (sets : List PlannedSet)
+    → AllByRecursion (IsTick origin) (pts_of sets)
+    → AllByRecursion (λ (set : SentSet). IsTick origin set.time) (sent_from table number sets)
+times_early origin number table [] all = tt
+times_early origin number table (set ∷ sets) all = (all.0, times_early origin (number + 1) table sets all.1)
+
+-- lifted times may begin at an anchor that is no later than the script's origin, and near enough to its end
+pub anchor_suits : (name : ProfileName) (script : Script) (table : Timetable) (sets : List PlannedSet)
+    (missed anchor : ℕ) → IsPlan script (profile_of name) sets → anchor ≤ script.origin
+    → script.origin + LONGEST_SCRIPT < anchor + TIME_ROUND
+    → IsAnchorOf (times_from missed (sent_sets table sets)) anchor
+anchor_suits name script table sets missed anchor plan early near =
+    let own = λ (set : SentSet). Suits anchor set.time in
+    let comes = λ (set : SentSet). list_any (λ at. nat_le missed at) set.places in
+    let all =
+    All-from_recursion (λ (set : SentSet). IsTick script.origin set.time) (sent_sets table sets)
+    (times_early script.origin 0 table sets (times_in_span script (profile_of name) sets plan)) in
+    All-map (Suits anchor) (λ (set : SentSet). set.time) (filter comes (sent_sets table sets))
+    (All-filter comes own (sent_sets table sets)
+    (λ k d inside. let tick = all k d inside in
+    (omega (arith, tick.late, early), omega (arith, tick.early, near))))
+
+-- ---- what is shown
+
+-- the packets that a script is compiled to are shown
+pub compiled_is_shown : (profile : ProfileName) (pid page : ℕ) (script : Script) (bytes : List ℕ)
+    → pid < NULL_PID → IsCompiledFor profile → (compiled : IsCompiledTo profile pid page script bytes)
+    → IsShownRightly profile pid page script compiled.sets compiled.loads compiled.table bytes
+compiled_is_shown profile pid page script bytes below made compiled =
+    let free = is_free pid below in
+    let known = are_packets profile pid page script bytes free made compiled in
+    record {
+      packets = packets_in profile pid page script bytes compiled;
+      whole = known.whole;
+      joined = known.joined;
+      suits =
+          λ missed anchor early near. anchor_suits profile script compiled.table compiled.sets missed anchor
+          compiled.planned.plan early near;
+      entered = compiled_entered profile pid page script bytes free made compiled;
+      cut = compiled_cut profile pid page script bytes free made compiled;
+      stays =
+          λ missed anchor suits. compiled_stays profile pid page script bytes free compiled known missed anchor suits;
+      scheduled = λ anchor suits. compiled_scheduled profile pid page script bytes free compiled known anchor suits;
+    }
+
+-- the packets of a stream that is made of a script are shown
+pub sent_is_shown : (profile : ProfileName) (pid page : ℕ) (script : Script) (sent : SentScript) → pid < NULL_PID
+    → IsCompiledFor profile → IsSentFor profile pid page script sent
+    → IsShownRightly profile pid page script sent.sets sent.loads sent.table (stream_bytes sent)
+sent_is_shown profile pid page script sent below made is =
+    let compiled = is.compiled in
+    let bytes = stream_bytes sent in
+    subst (λ (table : Timetable). IsShownRightly profile pid page script sent.sets sent.loads table bytes)
+    is.same_table
+    (subst
+    (λ (loads : List WriteLoad). IsShownRightly profile pid page script sent.sets loads compiled.table bytes)
+    is.same_loads
+    (subst
+    (λ (sets : List PlannedSet). IsShownRightly profile pid page script sets compiled.loads compiled.table bytes)
+    is.same_sets (compiled_is_shown profile pid page script bytes below made compiled)))
+
+-- and so are its packets by what the script is compiled to
+pub shown_of_sent : (profile : ProfileName) (pid page : ℕ) (script : Script) (sent : SentScript)
+    → (is : IsSentFor profile pid page script sent)
+    → IsShownRightly profile pid page script sent.sets sent.loads sent.table (stream_bytes sent)
+    → IsShownRightly profile pid page script is.compiled.sets is.compiled.loads is.compiled.table (stream_bytes sent)
+shown_of_sent profile pid page script sent is shown =
+    let compiled = is.compiled in
+    let bytes = stream_bytes sent in
+    subst (λ (table : Timetable). IsShownRightly profile pid page script compiled.sets compiled.loads table bytes)
+    (sym is.same_table)
+    (subst
+    (λ (loads : List WriteLoad). IsShownRightly profile pid page script compiled.sets loads sent.table bytes)
+    (sym is.same_loads)
+    (subst
+    (λ (sets : List PlannedSet). IsShownRightly profile pid page script sets sent.loads sent.table bytes)
+    (sym is.same_sets) shown))

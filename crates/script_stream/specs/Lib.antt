@@ -1,0 +1,4 @@
+pub mod Private
+pub mod Refused
+pub mod SentScripts
+pub mod ShownRightly

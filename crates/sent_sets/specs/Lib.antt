@@ -1,0 +1,3 @@
+pub mod RawSets
+pub mod SentStream
+pub mod EnteredSets
