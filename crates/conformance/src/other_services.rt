@@ -112,20 +112,30 @@ fn codes_of(number: u64) -> [u64; 4] {
     ]
 }
 
-/// The row of these codes as a picture's text has it: runs of one colour.
+/// Puts out a run of so many pixels of a code, as a picture's text has it.
+fn put_run(alloc: Global, text: &mut String, count: u64, code: u64) -> Result<(), Fail> {
+    let colour = COLOURS
+        .get(code.saturating_sub(1) as usize)
+        .copied()
+        .unwrap_or("");
+    text.push_str(format!(in alloc; "{count}*{colour}")?.as_str())?;
+    Ok(())
+}
+
+/// Puts out the row of these codes: runs of one colour, with a space between two of them.
 fn put_row(alloc: Global, text: &mut String, codes: [u64; 4]) -> Result<(), Fail> {
-    let mut rest = codes.as_slice();
-    let mut part = "";
-    while let Some(code) = rest.first().copied() {
-        let count = rest.iter().take_while(|other| **other == code).count();
-        let colour = COLOURS
-            .get(code.saturating_sub(1) as usize)
-            .copied()
-            .unwrap_or("");
-        text.push_str(format!(in alloc; "{part}{count}*{colour}")?.as_str())?;
-        rest = rest.get(count.max(1)..).unwrap_or(&[]);
-        part = " ";
+    let mut last = 0;
+    let mut count = 0u64;
+    for code in &codes {
+        if count > 0 && *code != last {
+            put_run(alloc, text, count, last)?;
+            text.push_str(" ")?;
+            count = 0;
+        }
+        last = *code;
+        count = count.saturating_add(1);
     }
+    put_run(alloc, text, count, last)?;
     text.push_str("\n")?;
     Ok(())
 }
