@@ -7,3 +7,4 @@ pub mod StepLaws
 pub mod ValueLaws
 pub mod ReadLaws
 pub mod AnswerLaws
+pub mod OneSetting

@@ -8,7 +8,7 @@ ghost use Rattle.bitmap_font.specs.Drawing.{PaintsWhere};
 ghost use Rattle.bitmap_font.specs.Setting.{IsInked, IsDrawn, HasSides, drawn_of, IsSetting, HasRoom, AllCanBeSet, IsSetFault};
 ghost use Rattle.bitmap_font.specs.Refusal.{IsSetRefusal};
 ghost use Rattle.sub_base.specs.Depth.{code_count};
-ghost use Rattle.sub_base.specs.Picture.{IsPicture};
+ghost use Rattle.sub_base.specs.Picture.{IsPicture, Picture};
 ghost use Rattle.bitmap_font.specs.Private.Layout.{IsLayout};
 
 use crate::bounds::BoundingBox;
@@ -87,7 +87,7 @@ impl Font {
     /// The picture of a text, whose lines are parted by line feeds: as wide as its widest line,
     /// each line as high as the font's box, with the set pixels of the glyphs in the code `fg` and
     /// all else in the code `bg`. What lies outside the picture is left out.
-    #[tactic(auto, using(crate::proofs::AnswerLaws::every_text, crate::proofs::AnswerLaws::every_set_fault))]
+    #[tactic(auto, using(crate::proofs::AnswerLaws::every_text, crate::proofs::AnswerLaws::every_set_fault, crate::proofs::OneSetting::one_made))]
     pub fn set(&self, text: &str, fg: u8, bg: u8, depth: Depth) -> Result<Indexed, SetFault>
         requires foreground { fg < code_count depth }
         requires background { bg < code_count depth }
@@ -101,6 +101,9 @@ impl Font {
         // refused, for its one fault.
         ensures every_text { HasRoom self.now (chars text.now)
             → AllCanBeSet self.now (chars text.now) → IsOkUnless result SetFault.Memory }
+        ensures one_picture { (picture : Picture)
+            → IsSetting self.now (chars text.now) fg bg depth picture → IsPicture picture
+            → IfOk result (λ made. made ≡ picture) }
         ensures every_fault { (fault : SetFault) → IsSetFault self.now (chars text.now) fault
             → fault ≢ SetFault.Memory → IsSetRefusal fault result }
     {

@@ -7,7 +7,7 @@ mod positional;
 mod table;
 
 pub use positional::positional_words;
-pub use table::{COMMANDS, command_table};
+pub use table::COMMANDS;
 
 #[cfg(test)]
 mod tests;

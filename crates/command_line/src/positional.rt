@@ -6,7 +6,6 @@ ghost use Rattle.clap.specs.Values.{kind_of};
 ghost use Rattle.command_words.specs.PlainWords.{is_plain as is_plain_word};
 ghost use Rattle.command_line.specs.OneArgument.{one_argument, words_in};
 
-use crate::table::COMMANDS;
 use clap::error::ErrorKind;
 use clap::{Arg, ArgMatches, Command, Error};
 use std::alloc::{AllocError, Global};
@@ -36,16 +35,14 @@ pub fn positional_words(alloc: Global, words: &Words) -> Result<Words, NoMemory>
     }
 }
 
-/// The command line as `clap` knows it: one argument of any number of words, without flags. Its
-/// help is the table of commands.
-pub(crate) fn one_argument_command<'a>(alloc: Global) -> Result<Command<'a>, AllocError>
+/// The command line as `clap` knows it: one argument of any number of words, without flags.
+fn one_argument_command<'a>(alloc: Global) -> Result<Command<'a>, AllocError>
     ensures { IfOk result (λ command. app_of command ≡ one_argument) }
 {
     let word = Arg::new(alloc, WORD).num_args(1..);
     Command::new(alloc, "dvbsub")
         .no_binary_name(true)
         .disable_help_flag(true)
-        .override_help(COMMANDS)
         .arg(word)
 }
 

@@ -71,11 +71,3 @@ fn no_words_are_found_where_there_are_none(rt: HostRuntime) -> Result<(), Fail> 
     assert!(rt; are_found(rt.alloc(), &words)?);
     Ok(())
 }
-
-/// `clap` adds nothing to the lines, and takes nothing away.
-#[test]
-fn the_table_has_the_lines_of_the_commands(rt: HostRuntime) -> Result<(), Fail> {
-    let table = command_table(rt.alloc())?;
-    assert_eq!(rt; table.as_str().strip_suffix('\n'), Some(COMMANDS));
-    Ok(())
-}

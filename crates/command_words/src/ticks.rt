@@ -8,7 +8,7 @@ use sub_base::{Words, number_in};
 
 /// Whether so many words come before 1 to 1,000 ticks that rise.
 pub fn has_ticks(words: &Words, place: usize) -> bool
-    requires { place ≤ 7 }
+    requires { place ≤ 8 }
     ensures is { result ≡ has_ticks_at place words.now }
     ensures some { result ≡ true → place < length words.now }
     ensures rising { result ≡ true → are_ticks_rising None (drop place words.now) ≡ true }

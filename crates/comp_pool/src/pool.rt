@@ -93,6 +93,7 @@ impl<T: Copy> Pool<T> {
         requires { IsInList self.old list node }
         ensures unlinked { self.new ≡ unlinked list node self.old }
         ensures item { Contains (list_of self.old list) (node, result) }
+        ensures one_item { NoneTwice self.old }
         ensures distinct { NoneTwice self.new }
         ensures nodes { node_count self.new ≡ node_count self.old }
     {
@@ -172,8 +173,9 @@ impl<T: Copy> Pool<T> {
     /// The item of a node.
     pub fn item(&self, node: NodeId) -> T
         requires { IsInSomeList self.now node }
-        ensures { (list : ℕ) → IsInList self.now list node
+        ensures item { (list : ℕ) → IsInList self.now list node
             → Contains (list_of self.now list) (node, result) }
+        ensures one_item { NoneTwice self.now }
     {
         let _ = &self.count; // The invariant is wanted before the index.
         let index = node.number as usize;

@@ -3,6 +3,7 @@ use Rattle.std.proofs.Common.{◌≡◌, ◌∙◌, refl, sym, ap, subst, inl, i
 use Rattle.std.specs.Prelude.{MatchResult, chars}
 use Rattle.bitmap_font.specs.Font.{FontValue}
 use Rattle.bitmap_font.specs.Setting.{IsSetting}
+use Rattle.bitmap_font.proofs.OneSetting.{one_setting}
 use Rattle.sub_base.specs.declared.depth.Depth.{Depth}
 use Rattle.sub_base.specs.Picture.{Picture, IsPicture, code_at, picture_of}
 use Rattle.cue_list.specs.declared.epoch.Epoch.{Epoch}
@@ -24,47 +25,11 @@ use Rattle.cue_list.specs.Rows.{Row}
 use Rattle.cue_list.specs.ScriptRows.{AreDrawn, HasValues, IsScript, IsScriptFault}
 use Rattle.cue_list.specs.Setting.{IsTextOf, IsTextPicture}
 use Rattle.cue_list.proofs.AnswerLaws.{script_or_fault}
-use Rattle.cue_list.proofs.PlaneRows.{plane_is}
 
 some_same : {A : Type 0} (x y : A) (found : Option A) → found ≡ Some x → found ≡ Some y → x ≡ y
 some_same x y found first second = let same : Some x ≡ Some y = sym first ∙ second in cc
 
 -- ---- pictures
-
--- pictures of the same sides with the same code at each place have the same codes
-same_codes : (one other : Picture) → one.width ≡ other.width → one.height ≡ other.height → IsPicture one
-    → IsPicture other →
-    ((column row : ℕ) → column < one.width → row < one.height → code_at one column row ≡ code_at other column row)
-    → one.codes ≡ other.codes
-same_codes one other wide high first second each =
-    let f : ℕ → ℕ → ℕ = λ column row. code_at one column row in
-    plane_is f one.width one.height 0 one.codes first.full (λ column row across down. refl)
-    ∙ sym
-    (plane_is f one.width one.height 0 other.codes (second.full ∙ sym (λ i. wide i * high i))
-    (λ column row across down.
-    ap (λ (width : ℕ). get_or other.codes (row * width + column) 0) wide ∙ sym (each column row across down)))
-
--- the picture of a text is one
-pub one_setting : (font : FontValue) (characters : List ℕ) (ink paper : ℕ) (depth : Depth) (one other : Picture)
-    → IsSetting font characters ink paper depth one → IsSetting font characters ink paper depth other →
-    IsPicture one → IsPicture other → one ≡ other
-one_setting font characters ink paper depth one other first second whole full =
-    let wide : one.width ≡ other.width = first.sides.wide ∙ sym second.sides.wide in
-    let high : one.height ≡ other.height = first.sides.high ∙ sym second.sides.high in
-    let deep : one.depth ≡ other.depth = first.sides.deep ∙ sym second.sides.deep in
-    let codes : one.codes ≡ other.codes =
-    same_codes one other wide high whole full (λ column row across down.
-    elim (first.drawn column row across down) [
-      | inl (inked, is) ↦ elim (second.drawn column row (omega (arith, across, wide)) (omega (arith, down, high))) [
-        | inl (again, also) ↦ is ∙ sym also
-        | inr (bare, also) ↦ absurd (bare inked)
-      ]
-      | inr (bare, is) ↦ elim (second.drawn column row (omega (arith, across, wide)) (omega (arith, down, high))) [
-        | inl (inked, also) ↦ absurd (bare inked)
-        | inr (again, also) ↦ is ∙ sym also
-      ]
-    ]) in
-    λ i. record { width = wide i; height = high i; depth = deep i; codes = codes i }
 
 one_text_picture : (font : FontValue) (regions : List Region) (id ink paper : ℕ) (characters : List ℕ)
     (one other : Picture) → IsTextPicture font regions id ink paper characters one

@@ -37,7 +37,7 @@ impl Model for Receiver {
 
 impl Receiver {
     ghost use Rattle.std.specs.Prelude.{◌≡◌, ◌<◌, ◌≤◌, ◌^◌, ℕ, Bool, true, false};
-    ghost use Rattle.std.specs.Prelude.{List, [], ◌∷◌, ◌++◌, reverse};
+    ghost use Rattle.std.specs.Prelude.{List, [], ◌∷◌, ◌++◌, length, reverse};
     ghost use Rattle.std.specs.Prelude.{None, Some, option_and_then, option_map, unwrap_or};
     ghost use Rattle.std.specs.Prelude.{IfErr, IfOk, IfSome, IsSome, MatchResult, OnOk};
     ghost use Rattle.stream_syntax.specs.TransportPackets.{packet_fault};
@@ -112,7 +112,8 @@ impl Receiver {
     }
 
     /// Takes the next packet, where no set is ready: what became of it. A packet that cannot be
-    /// taken leaves the receiver as it was.
+    /// taken leaves the receiver as it was. At most two sets are ready then: one that a unit of
+    /// another time ends, and one that is whole with this packet.
     pub fn feed(&mut self, packet: &[u8; 188]) -> Result<Event, PacketFault>
         requires none { ready_sets self.old.sets ≡ [] }
         ensures fault { MatchResult result
@@ -132,6 +133,7 @@ impl Receiver {
             → Stands false fed given self.old
             → self.new.arrival ≡ packet_arrival (reception self.old).profile.coded
             (reception self.old).pid (reception self.old).pages fed packet.now) }
+        ensures few { length (ready_sets self.new.sets) ≤ 2 }
         ensures load { self.new.load ≡ self.old.load }
         ensures page { self.new.showing.core.page ≡ self.old.showing.core.page }
         ensures same { IsSame self.old self.new }

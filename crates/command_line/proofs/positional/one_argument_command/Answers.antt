@@ -12,6 +12,5 @@ returns c =
     let no_help : App → App = on_top (λ (s : Shape). record s { disable_help_flag = true }) in
     let named : app_of c.no_binary_name.result ≡ no_name (new_app (codes "dvbsub")) = ap app_of_fields c.no_binary_name.ensures ∙ ap no_name c.new-2.ensures.app in
     let set : app_of c.disable_help_flag.result ≡ no_help (no_name (new_app (codes "dvbsub"))) = ap app_of_fields c.disable_help_flag.ensures ∙ ap no_help named in
-    let app = ap app_of_fields c.override_help.ensures ∙ set in
     let rule : rule_of c.num_args-word.result ≡ word_rule = ranged c.new.result c.num_args-word.result (codes "word") _ c.new.ensures.rule c.num_args-word.ensures.0 c.num_args-word.ensures.1 in
-    IfOk-weaker c.arg.result _ _ (λ r h. h.shape (search rules) ∙ ap₂ with_rule app rule) c.arg.ensures
+    IfOk-weaker c.arg.result _ _ (λ r h. h.shape (search rules) ∙ ap₂ with_rule set rule) c.arg.ensures

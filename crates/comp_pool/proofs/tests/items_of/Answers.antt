@@ -17,7 +17,7 @@ loop-place-smaller c =
     let listed : IsInList pool c.args.list c.in-Some.node = c.loop-place.invariant.listed c.in-Some.node c.in-Some.is in
     let step =
     walk_step pool c.args.list c.first-place.ensures.distinct c.in-Some.node c.item.result c.next-place.result
-    (c.item.ensures c.args.list listed) (c.next-place.ensures c.args.list listed) in
+    (c.item.ensures.item c.args.list listed) (c.next-place.ensures c.args.list listed) in
     omega (arith, ap length step, ap (λ (o : Option NodeId). length (rest_from o pairs)) c.in-Some.is)
 
 pub loop-place-preserved : goal.loop-place-preserved
@@ -30,7 +30,7 @@ loop-place-preserved c =
     let next = c.next-place.ensures c.args.list listed in
     let step =
     walk_step pool c.args.list c.first-place.ensures.distinct node c.item.result c.next-place.result
-    (c.item.ensures c.args.list listed) next in
+    (c.item.ensures.item c.args.list listed) next in
     let items = c.loop-place.items.items in
     record {
       so_far =

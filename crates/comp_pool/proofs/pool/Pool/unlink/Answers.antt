@@ -1,6 +1,7 @@
 use Rattle.std.proofs.Common.{Contains, subst, arith}
 use Rattle.comp_pool.specs.Pool.{PoolOf, IsInList, list_of}
 use Rattle.comp_pool.proofs.Calls.{in_list_from_item}
+use Rattle.comp_pool.proofs.Kept.{kept_distinct}
 use Rattle.comp_pool.proofs.Unlinking.{within, is_linked, has_item, unlinked_kept, unlinked_follows}
 use Rattle.comp_pool.proofs.pool.Pool.unlink.Goals as goal
 
@@ -65,3 +66,9 @@ returns-clause-nodes g c =
     c.self.invariant c.args.self.now c.self.view_is
     c.args.list c.args.node c.requires c.move_to.new.nexts.items c.move_to.new.backs.items c.move_to.ensures.linked
     c.move_to.ensures.length).nodes
+
+pub returns-clause-one_item : goal.returns-clause-one_item
+returns-clause-one_item g c =
+    let inside = c.self.inside in
+    kept_distinct inside.filler inside.items.items inside.count inside.nexts.items inside.backs.items _ inside.free
+    c.args.self.now c.self.invariant c.self.view_is
