@@ -4,11 +4,7 @@ use Rattle.sub_base.specs.declared.load.SetLoad.{SetLoad}
 use Rattle.sub_base.specs.declared.pace.Pace.{Pace}
 use Rattle.sub_base.specs.Pace.{tick_of, left_by, done_tick}
 use Rattle.buffer_model.specs.Calls.{Call, Arrived, SetWhole, Dropped, arrived, left, unassigned, last_slot, last_shown, level_at, done_of}
-use Rattle.buffer_model.specs.Within.{AreWithin, moved, has_arrived, AllHeard}
-
--- a pace whose origin is so many slots later
-abbrev pub later_by : ℕ → Pace → Pace
-later_by by pace = record { origin = tick_of pace by; step = pace.step; coded = pace.coded }
+use Rattle.buffer_model.specs.Within.{AreWithin, moved, later_by, has_arrived, AllHeard}
 
 -- a slot there has the tick of the later slot here
 tick_moved : (pace : Pace) (by slot : ℕ) → tick_of (later_by by pace) slot ≡ tick_of pace (slot + by)

@@ -1,5 +1,6 @@
 -- Pasts in which the buffer holds and every set is in time, and pasts that are told from a later slot on.
 use Rattle.std.specs.Prelude.{◌≡◌, ℕ, ◌+◌, ◌≤◌, ⊤, Bool, true, false, List, [], ◌∷◌}
+use Rattle.sub_base.specs.Pace.{tick_of}
 use Rattle.sub_base.specs.declared.pace.Pace.{Pace}
 use Rattle.buffer_model.specs.Calls.{Call, Arrived, SetWhole, Dropped, done_of, level_at}
 
@@ -16,6 +17,10 @@ moved by [] = []
 moved by (Arrived slot bytes ∷ past) = Arrived (slot + by) bytes ∷ moved by past
 moved by (SetWhole load ∷ past) = SetWhole load ∷ moved by past
 moved by (Dropped ∷ past) = Dropped ∷ moved by past
+
+-- a pace whose origin is so many slots later
+abbrev pub later_by : ℕ → Pace → Pace
+later_by by pace = record { origin = tick_of pace by; step = pace.step; coded = pace.coded }
 
 -- a packet has arrived
 abbrev pub has_arrived : List Call → Bool

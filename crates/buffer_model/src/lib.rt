@@ -6,10 +6,12 @@
 mod breach;
 mod waiting;
 
-// The levels.
+// The levels, and laws on them.
+mod laws;
 mod levels;
 
 pub use breach::Breach;
+pub use laws::{moved_within, no_breach};
 pub use levels::Levels;
 
 #[cfg(test)]

@@ -5,6 +5,8 @@ pub mod TakenLaws
 pub mod TakenSets
 pub mod IdleSegments
 pub mod Epochs
+pub mod SameEpochs
+pub mod MovedSets
 pub mod NoFaults
 pub mod DrawnLines
 pub mod DrawnPictures
@@ -16,9 +18,11 @@ pub mod SoleCueView
 pub mod ServicePages
 pub mod SentUnits
 pub mod Lifts
+pub mod NearTimes
 pub mod AfterLoss
 mod OpenSet
 mod Examples
 pub mod Later
 pub mod Growth
+pub mod ReceivedSegments
 pub mod OnePacket

@@ -1,153 +1,32 @@
--- A unit as a usual encoder makes it, alone in a stream: no display definition, a stuffing segment, a region of 2 by 1
--- pixels of two bits, and an object whose bottom data are left out. Its codes are 1 and 3, and its time-out is 10
--- seconds.
-use Rattle.std.specs.Prelude.{◌≡◌, ℕ, true, false, List, [], ◌∷◌, Some, refl}
-use Rattle.sub_base.specs.Colour.{clear}
-use Rattle.sub_base.specs.Profile.{profile_of}
-use Rattle.sub_base.specs.declared.depth.Depth.TheVariants.{Two}
-use Rattle.sub_base.specs.declared.profile.ProfileName.TheVariants.{Sd}
-use Rattle.stream_syntax.specs.PixelBlocks.{string, line_end}
-use Rattle.stream_syntax.specs.PixelCodes.{pixel}
-use Rattle.stream_syntax.specs.Segments.{of_page, of_region, of_object, end_of_set}
-use Rattle.stream_syntax.specs.Units.{last_counter, part_after, parts_of, fate_of, stays_in_hand, hand_after, event_after}
-use Rattle.stream_syntax.specs.declared.page.State.TheVariants.{ModeChange}
-use Rattle.decoder_model.specs.Arrivals.{arrivals_of}
+-- A unit as a usual encoder makes it: the definitions compute that it is shown, and in which colours.
+use Rattle.std.specs.Prelude.{refl}
 use Rattle.stream_syntax.specs.DataField.{frames_of}
-use Rattle.decoder_model.specs.Frames.{only}
+use Rattle.stream_syntax.specs.Units.{last_counter, part_after, parts_of, fate_of, stays_in_hand, hand_after, event_after}
+use Rattle.decoder_model.specs.Arrivals.{arrivals_of}
+use Rattle.decoder_model.specs.Faults.{all_region_ids, epoch_fault}
 use Rattle.decoder_model.specs.Ink.{ink_of}
 use Rattle.decoder_model.specs.Kept.{last_time, epoch_of}
-use Rattle.decoder_model.specs.Pixels.{painted_listings, pixel_of}
-use Rattle.decoder_model.specs.Readings.{Content, Reading, read}
-use Rattle.decoder_model.specs.Sets.{Delivery, whole, has_ended, sets_of}
-use Rattle.decoder_model.specs.Shown.{Scene, scene_in, colour_at}
-use Rattle.decoder_model.specs.Taken.{segments_of, taken_among}
-use Rattle.decoder_model.specs.Verdict.{sets_since, verdict_of}
 use Rattle.decoder_model.specs.Nodes.{region_ids, clut_ids, table_entries}
-use Rattle.decoder_model.specs.Faults.{all_region_ids, epoch_fault}
-use Rattle.decoder_model.specs.declared.set_end.SetEnd.TheVariants.{Shown}
+use Rattle.decoder_model.specs.Pixels.{painted_listings, pixel_of}
+use Rattle.decoder_model.specs.Sets.{has_ended, sets_of}
+use Rattle.decoder_model.specs.Shown.{colour_at}
+use Rattle.decoder_model.specs.Taken.{segments_of, taken_among}
+use Rattle.decoder_model.specs.UsualEncoder.{usual_packet, usual_segments, usual_page, usual_region, usual_object, usual_end, usual_contents, usual_delivery, usual_scene, IsUsualSetShown}
+use Rattle.decoder_model.specs.Verdict.{sets_since}
 
--- its packet
-usual_packet : List ℕ
-usual_packet =
-    0x47 ∷ 0x41 ∷ 0x00 ∷ 0x30 ∷ 0x63 ∷ 0x00 ∷ 0xFF ∷ 0xFF ∷ 0xFF ∷ 0xFF ∷ 0xFF ∷ 0xFF
-    ∷ 0xFF ∷ 0xFF ∷ 0xFF ∷ 0xFF ∷ 0xFF ∷ 0xFF ∷ 0xFF ∷ 0xFF ∷ 0xFF ∷ 0xFF ∷ 0xFF
-    ∷ 0xFF ∷ 0xFF ∷ 0xFF ∷ 0xFF ∷ 0xFF ∷ 0xFF ∷ 0xFF ∷ 0xFF ∷ 0xFF ∷ 0xFF ∷ 0xFF
-    ∷ 0xFF ∷ 0xFF ∷ 0xFF ∷ 0xFF ∷ 0xFF ∷ 0xFF ∷ 0xFF ∷ 0xFF ∷ 0xFF ∷ 0xFF ∷ 0xFF
-    ∷ 0xFF ∷ 0xFF ∷ 0xFF ∷ 0xFF ∷ 0xFF ∷ 0xFF ∷ 0xFF ∷ 0xFF ∷ 0xFF ∷ 0xFF ∷ 0xFF
-    ∷ 0xFF ∷ 0xFF ∷ 0xFF ∷ 0xFF ∷ 0xFF ∷ 0xFF ∷ 0xFF ∷ 0xFF ∷ 0xFF ∷ 0xFF ∷ 0xFF
-    ∷ 0xFF ∷ 0xFF ∷ 0xFF ∷ 0xFF ∷ 0xFF ∷ 0xFF ∷ 0xFF ∷ 0xFF ∷ 0xFF ∷ 0xFF ∷ 0xFF
-    ∷ 0xFF ∷ 0xFF ∷ 0xFF ∷ 0xFF ∷ 0xFF ∷ 0xFF ∷ 0xFF ∷ 0xFF ∷ 0xFF ∷ 0xFF ∷ 0xFF
-    ∷ 0xFF ∷ 0xFF ∷ 0xFF ∷ 0xFF ∷ 0xFF ∷ 0xFF ∷ 0xFF ∷ 0xFF ∷ 0xFF ∷ 0xFF ∷ 0xFF
-    ∷ 0xFF ∷ 0xFF ∷ 0xFF ∷ 0xFF ∷ 0x00 ∷ 0x00 ∷ 0x01 ∷ 0xBD ∷ 0x00 ∷ 0x4E ∷ 0x84
-    ∷ 0x80 ∷ 0x05 ∷ 0x21 ∷ 0x00 ∷ 0x05 ∷ 0xBF ∷ 0x21 ∷ 0x20 ∷ 0x00 ∷ 0x0F ∷ 0x10
-    ∷ 0x00 ∷ 0x01 ∷ 0x00 ∷ 0x08 ∷ 0x0A ∷ 0x08 ∷ 0x01 ∷ 0x00 ∷ 0x00 ∷ 0x00 ∷ 0x00
-    ∷ 0x00 ∷ 0x0F ∷ 0x11 ∷ 0x00 ∷ 0x01 ∷ 0x00 ∷ 0x10 ∷ 0x01 ∷ 0x08 ∷ 0x00 ∷ 0x02
-    ∷ 0x00 ∷ 0x01 ∷ 0x24 ∷ 0x00 ∷ 0x00 ∷ 0x00 ∷ 0x00 ∷ 0x05 ∷ 0x00 ∷ 0x00 ∷ 0x00
-    ∷ 0x00 ∷ 0x0F ∷ 0xFF ∷ 0x00 ∷ 0x01 ∷ 0x00 ∷ 0x02 ∷ 0xAA ∷ 0xAA ∷ 0x0F ∷ 0x13
-    ∷ 0x00 ∷ 0x01 ∷ 0x00 ∷ 0x0B ∷ 0x00 ∷ 0x05 ∷ 0x00 ∷ 0x00 ∷ 0x04 ∷ 0x00 ∷ 0x00
-    ∷ 0x10 ∷ 0x70 ∷ 0x00 ∷ 0xF0 ∷ 0x0F ∷ 0x80 ∷ 0x00 ∷ 0x01 ∷ 0x00 ∷ 0x00 ∷ 0xFF ∷ []
-
--- the bytes of its segments of the page
-usual_segments : List (List ℕ)
-usual_segments =
-    (0x0F ∷ 0x10 ∷ 0x00 ∷ 0x01 ∷ 0x00 ∷ 0x08 ∷ 0x0A ∷ 0x08 ∷ 0x01 ∷ 0x00 ∷ 0x00 ∷ 0x00
-    ∷ 0x00 ∷ 0x00 ∷ [])
-    ∷ (0x0F ∷ 0x11 ∷ 0x00 ∷ 0x01 ∷ 0x00 ∷ 0x10 ∷ 0x01 ∷ 0x08 ∷ 0x00 ∷ 0x02 ∷ 0x00
-    ∷ 0x01 ∷ 0x24 ∷ 0x00 ∷ 0x00 ∷ 0x00 ∷ 0x00 ∷ 0x05 ∷ 0x00 ∷ 0x00 ∷ 0x00 ∷ 0x00 ∷ [])
-    ∷ (0x0F ∷ 0x13 ∷ 0x00 ∷ 0x01 ∷ 0x00 ∷ 0x0B ∷ 0x00 ∷ 0x05 ∷ 0x00 ∷ 0x00 ∷ 0x04
-    ∷ 0x00 ∷ 0x00 ∷ 0x10 ∷ 0x70 ∷ 0x00 ∷ 0xF0 ∷ [])
-    ∷ (0x0F ∷ 0x80 ∷ 0x00 ∷ 0x01 ∷ 0x00 ∷ 0x00 ∷ [])
-    ∷ []
-
--- the set is whole at 90000
-usual_set : sets_of 24576 256 (only 1) true (usual_packet ∷ []) ≡ whole 90000 84 usual_segments ∷ []
-unfolding usual_packet usual_segments sets_of has_ended arrivals_of frames_of last_counter part_after parts_of fate_of
-    stays_in_hand hand_after event_after
-usual_set = refl
-
--- what they stand for
-usual_page : Content
-usual_page = record {
-  value =
-      of_page (record {
-        time_out = 10;
-        version = 0;
-        state = ModeChange;
-        entries = record { region = 1; x = 0; y = 0 }
-            ∷ [];
-      });
-  top = [];
-  bottom = [];
-}
-
-usual_region : Content
-usual_region = record {
-  value = of_region (record {
-    head =
-        record {
-          region = 1;
-          version = 0;
-          fill = true;
-          width = 2;
-          height = 1;
-          depth = Two;
-          clut = 0;
-          code8 = 0;
-          code4 = 0;
-          code2 = 0;
-        };
-    listings = record { object = 5; x = 0; y = 0 } ∷ [];
-  });
-  top = [];
-  bottom = [];
-}
-
-usual_object : Content
-usual_object = record {
-  value =
-      of_object
-      (record {
-        object = 5;
-        version = 0;
-        see_through = false;
-        top = 0x10 ∷ 0x70 ∷ 0x00 ∷ 0xF0
-            ∷ [];
-        bottom = [];
-      });
-  top = string Two (pixel 1 ∷ pixel 3 ∷ []) ∷ line_end ∷ [];
-  bottom = [];
-}
-
-usual_end : Content
-usual_end = record { value = end_of_set; top = []; bottom = [] }
-
-usual_contents : List Content
-usual_contents = usual_page ∷ usual_region ∷ usual_object ∷ usual_end ∷ []
-
-usual_delivery : Delivery Reading
-usual_delivery = whole 90000 84 (read usual_page ∷ read usual_region ∷ read usual_object ∷ read usual_end ∷ [])
-
--- the set is shown
-usual_verdict : verdict_of (profile_of Sd) 0 [] usual_delivery ≡ Some Shown
-unfolding usual_delivery usual_page usual_region usual_object usual_end sets_since last_time epoch_of epoch_fault
-    all_region_ids segments_of taken_among region_ids clut_ids table_entries painted_listings
-usual_verdict = refl
-
--- the page that it shows
-usual_scene : Scene
-usual_scene =
-    scene_in (usual_contents ∷ [])
-    (record { time_out = 10; version = 0; state = ModeChange; entries = record { region = 1; x = 0; y = 0 } ∷ [] })
-
--- white, grey and clear: Y, Cr, Cb and T of the first three places, and of a place in the last row
-usual_colours : (colour_at usual_scene 0 0 ≡ record { y = 0xEB; cr = 0x80; cb = 0x80; t = 0 })
-    × (colour_at usual_scene 1 0 ≡ record { y = 0x7E; cr = 0x80; cb = 0x80; t = 0 })
-    × (colour_at usual_scene 2 0 ≡ clear) × (colour_at usual_scene 719 575 ≡ clear)
-unfolding usual_scene usual_contents usual_page usual_region usual_object usual_end colour_at ink_of pixel_of
-    segments_of taken_among painted_listings
-usual_colours = (refl, refl, refl, refl)
-
--- the display has the size that the standard gives where none is defined
-usual_size : (usual_scene.display.width ≡ 720) × (usual_scene.display.height ≡ 576)
-unfolding usual_scene usual_contents usual_page usual_region usual_object usual_end segments_of
-usual_size = (refl, refl)
+pub usual_set : IsUsualSetShown
+unfolding usual_packet usual_segments usual_delivery usual_scene usual_contents usual_page usual_region usual_object
+    usual_end sets_of has_ended arrivals_of frames_of last_counter part_after parts_of fate_of stays_in_hand hand_after
+    event_after sets_since last_time epoch_of epoch_fault all_region_ids segments_of taken_among region_ids clut_ids
+    table_entries painted_listings colour_at ink_of pixel_of
+usual_set =
+    record {
+      set = refl;
+      verdict = refl;
+      white = refl;
+      grey = refl;
+      beside = refl;
+      last = refl;
+      width = refl;
+      height = refl;
+    }

@@ -18,3 +18,4 @@ pub mod Shown
 pub mod PackedRows
 pub mod BehindLoss
 pub mod Streams
+pub mod UsualEncoder

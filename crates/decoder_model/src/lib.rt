@@ -4,10 +4,12 @@
 //! picture at a tick. The types that they name stand here.
 #![tactic(auto)]
 
+mod laws;
 mod pages;
 mod set_end;
 mod set_fault;
 
+pub use laws::usual_set_is_shown;
 pub use pages::Pages;
 pub use set_end::SetEnd;
 pub use set_fault::SetFault;

@@ -2,6 +2,7 @@ pub mod Composition
 pub mod Cores
 pub mod Handed
 pub mod Memory
+pub mod Losses
 pub mod Coloured
 pub mod Rows
 pub mod Scenes

@@ -20,7 +20,6 @@ pub mod Accepted
 pub mod SetSteps
 pub mod ClutSteps
 pub mod RegionSteps
-pub mod Losses
 pub mod PoolChanges
 pub mod Marks
 pub mod Counting

@@ -8,7 +8,7 @@ ghost use Rattle.decoder_model.specs.Readings.{Content, Reading};
 ghost use Rattle.decoder_model.specs.Sets.{Delivery, whole};
 ghost use Rattle.decoder_model.specs.Verdict.{verdict_of};
 ghost use Rattle.decoder_model.specs.declared.set_end.SetEnd.{SetEnd};
-ghost use Rattle.page_core.specs.Private.Losses.{IsAllFree};
+ghost use Rattle.page_core.specs.Losses.{IsAllFree};
 ghost use Rattle.page_core.specs.Memory.{Holds, Memory, Stands, showing};
 ghost use Rattle.page_core.specs.Private.RegionTests.{before_regions};
 

@@ -30,6 +30,7 @@ mod times;
 mod walking;
 
 pub use decoder_model::{SetEnd, SetFault};
+pub use laws::behind_a_loss;
 pub use memory::{Core, Scene};
 pub use painted_time::painting_time;
 

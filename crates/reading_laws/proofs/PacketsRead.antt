@@ -10,7 +10,8 @@ use Rattle.decoder_model.specs.Received.{HasReceived}
 use Rattle.decoder_model.proofs.Lists.{all-append}
 use Rattle.decoder_model.specs.Sets.{Delivery, lost, whole, refused, sets_of}
 use Rattle.reading_laws.proofs.ReceivedBytes.{OfBytes}
-use Rattle.reading_laws.proofs.ReceivedSets.{IsWhole, HasWhole, received_whole}
+use Rattle.decoder_model.proofs.ReceivedSegments.{DeliveryHas}
+use Rattle.reading_laws.proofs.ReceivedSets.{IsWhole, received_whole}
 use Rattle.reading_laws.proofs.SegmentsRead.{segment_is_read}
 
 segments_read : (segments : List (List ℕ)) → AllByRecursion IsWhole segments
@@ -21,14 +22,14 @@ segments_read (bytes ∷ segments) h =
     let rest = segments_read segments h.1 in
     (first.0 ∷ rest.0, (first.1, rest.1))
 
-delivery_read : (delivery : Delivery (List ℕ)) → HasWhole delivery
+delivery_read : (delivery : Delivery (List ℕ)) → DeliveryHas IsWhole delivery
     → (reading : Delivery Reading) × IsDeliveryRead delivery reading
 delivery_read lost h = (lost, refl)
 delivery_read (whole time size segments) h = let found =
-    segments_read segments h in (whole time size found.0, (found.0, found.1, refl))
+    segments_read segments h.each in (whole time size found.0, (found.0, found.1, refl))
 delivery_read (refused time size fault) h = (refused time size fault, refl)
 
-deliveries_read : (deliveries : List (Delivery (List ℕ))) → AllByRecursion HasWhole deliveries
+deliveries_read : (deliveries : List (Delivery (List ℕ))) → AllByRecursion (DeliveryHas IsWhole) deliveries
     → (past : List (Delivery Reading)) × AreDeliveriesRead deliveries past
 deliveries_read [] h = ([], tt)
 deliveries_read (delivery ∷ deliveries) h =
@@ -48,5 +49,5 @@ pub packets_read : (profile : Profile) (pid : ℕ) (pages : Pages) (ended : Bool
     → (past : List (Delivery Reading)) × HasReceived profile pid pages ended packets past
 packets_read profile pid pages ended packets h =
     deliveries_read (reverse (sets_of profile.coded pid pages ended packets))
-    (all_reversed HasWhole (sets_of profile.coded pid pages ended packets)
+    (all_reversed (DeliveryHas IsWhole) (sets_of profile.coded pid pages ended packets)
     (received_whole profile.coded pid pages ended packets (recursion_from_All OfBytes packets h)))

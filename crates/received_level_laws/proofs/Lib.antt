@@ -7,3 +7,4 @@ pub mod ToldLaws
 pub mod MoreReceived
 pub mod StoppedCalls
 mod ToldExample
+pub mod LaterSlots

@@ -4,3 +4,4 @@ pub mod EnteredLess
 pub mod EnteredWithin
 pub mod WholeLevels
 pub mod EnteredDone
+pub mod EnteredHeard

@@ -28,6 +28,7 @@ pub use clut::{ClutItems, ClutSeg};
 pub use data_field::{FieldFrames, frames};
 pub use display::DisplaySeg;
 pub use frame::{Frame, read_frame};
+pub use laws::{kind_of_segment, one_reading, read_again, written_sizes};
 pub use object::ObjectSeg;
 pub use page::PageSeg;
 pub use reading::{Segment, read_segment};

@@ -112,6 +112,6 @@ not_refused loads pace (SegmentFull set longest) each spaced cause =
     absurd (omega (arith, cause.is_longest, cause.long, spaced.short set cause.among))
 not_refused loads pace (Late set done shown) each spaced cause =
     let in_time = arrive_in_time loads pace each spaced in
-    let none_early = hopeless loads pace (Late set done shown) each cause in
+    let none_early = (hopeless loads pace (Late set done shown) each cause).late in
     let late = none_early (length loads) in_time.slots in_time.dones cause.among (omega arith) in_time.arrival in
     absurd (omega (arith, late.1, in_time.ready set cause.among))

@@ -11,3 +11,4 @@ pub mod Tests
 pub mod TransportPackets
 pub mod Units
 pub mod FieldBlocks
+pub mod WorkedBytes

@@ -23,9 +23,13 @@ mod code_fault;
 mod map_table;
 mod pixel_run;
 
+// Bytes that were worked out by hand.
+mod laws;
+
 pub use clut::ClutEntry;
 pub use code_fault::{CodeFault, CodeKind};
 pub use display::Window;
+pub use laws::worked_bytes;
 pub use map_table::MapTable;
 pub use page::{PageEntry, State};
 pub use pes::PesFault;

@@ -41,7 +41,8 @@ loop-place-smaller c =
       arith,
       ap length
           (from_node c.args.painter c.args.pool.now c.loop-place.place pool node c.item-item.result c.next-place.result
-          c.loop-place.invariant.nodes c.in-Some.is (c.item-item.ensures 1 listed) (c.next-place.ensures 1 listed)),
+          c.loop-place.invariant.nodes c.in-Some.is (c.item-item.ensures.item 1 listed)
+          (c.next-place.ensures 1 listed)),
     )
 
 pub loop-place-preserved : goal.loop-place-preserved
@@ -50,7 +51,7 @@ loop-place-preserved c =
     let node = c.in-Some.node in
     let on = c.loop-place.invariant.nodes in
     let listed : IsInList pool 1 node = on.listed node c.in-Some.is in
-    let there = c.item-item.ensures 1 listed in
+    let there = c.item-item.ensures.item 1 listed in
     let behind_is = c.next-place.ensures 1 listed in
     record {
       nodes =

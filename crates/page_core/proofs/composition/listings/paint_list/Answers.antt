@@ -36,7 +36,8 @@ loop-place-smaller c =
       arith,
       walk_shorter pool c.set_item.new.self c.args.list node c.item.result c.painted_node-item.result
           c.next-place.result c.loop-place.invariant.nodes.distinct
-          (c.item.ensures c.args.list listed) (c.next-place.ensures c.args.list listed) c.set_item.ensures.replaced,
+          (c.item.ensures.item c.args.list listed) (c.next-place.ensures c.args.list listed)
+          c.set_item.ensures.replaced,
       ap (λ (o : Option NodeId). length (rest_from o (list_of pool c.args.list))) c.in-Some.is,
     )
 
@@ -51,6 +52,6 @@ loop-place-preserved c =
     c.args.store.now c.loop-place.place pool c.loop-place.store c.loop-place.invariant
     node c.item.result c.next-place.result c.set_item.new.self c.painted_node-item.result c.painted_node-item.new.store
     c.in-Some.is
-    (c.item.ensures c.args.list listed) (c.next-place.ensures c.args.list listed) c.painted_node-item.ensures.node
+    (c.item.ensures.item c.args.list listed) (c.next-place.ensures c.args.list listed) c.painted_node-item.ensures.node
     c.painted_node-item.ensures.written
     c.set_item.ensures.replaced c.set_item.ensures.distinct c.set_item.ensures.nodes

@@ -20,6 +20,6 @@ pub returns : goal.returns
 returns c =
     entry_given c.self.inside.pool.now c.self.inside.next c.next-self-inside.result c.in_ok-node.node c.item.result
     c.entry_in-entry.result c.args.self.now c.self.invariant c.in_ok-node.was
-    (c.item.ensures 0 (c.self.invariant.listed c.in_ok-node.node c.in_ok-node.was))
+    (c.item.ensures.item 0 (c.self.invariant.listed c.in_ok-node.node c.in_ok-node.was))
     (c.next-self-inside.ensures 0 (c.self.invariant.listed c.in_ok-node.node c.in_ok-node.was))
     c.entry_in-entry.ensures c.self.view_is

@@ -35,5 +35,5 @@ returns c =
       c.in_ok-node.node,
       sym c.self.view_is ∙ ap (λ (o : Option NodeId). rest_from o (list_of pool list)) c.in_ok-node.was
           ∙ walk_step pool list c.self.invariant.distinct c.in_ok-node.node c.item-item.result
-          c.next-self-inside.result (c.item-item.ensures list listed) (c.next-self-inside.ensures list listed),
+          c.next-self-inside.result (c.item-item.ensures.item list listed) (c.next-self-inside.ensures list listed),
     )
