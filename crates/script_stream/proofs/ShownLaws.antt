@@ -10,11 +10,14 @@ use Rattle.decoder_model.specs.Streams.{SentSet}
 use Rattle.page_epoch.specs.Plan.{IsPlan}
 use Rattle.page_epoch.specs.declared.planned_set.PlannedSet.{PlannedSet}
 use Rattle.schedule.specs.Slots.{Timetable}
+use Rattle.shown_stream.proofs.Calls.CheckedCalls.{checked_calls}
 use Rattle.shown_stream.proofs.Calls.CompiledStays.{compiled_stays, compiled_scheduled}
+use Rattle.shown_stream.proofs.Late.LateGood.{compiled_good, good_compiled}
 use Rattle.shown_stream.proofs.Lost.LostShown.{compiled_cut}
 use Rattle.shown_stream.proofs.Sent.CompiledPackets.{packets_in, are_packets}
 use Rattle.shown_stream.proofs.Sent.PlannedTimes.{pts_of, times_in_span}
 use Rattle.shown_stream.proofs.Shown.CompiledShown.{compiled_entered}
+use Rattle.shown_stream.proofs.Shown.FirstTimes.{first_of_all_times}
 use Rattle.shown_stream.specs.Compiled.{IsCompiledFor, IsCompiledTo}
 use Rattle.shown_stream.specs.SentSets.{sent_from, sent_sets, times_from}
 use Rattle.shown_stream.specs.Shows.{IsAnchorOf, Suits}
@@ -88,10 +91,18 @@ compiled_is_shown profile pid page script bytes below made compiled =
       suits =
           λ missed anchor early near. anchor_suits profile script compiled.table compiled.sets missed anchor
           compiled.planned.plan early near;
+      first_suits =
+          λ missed anchor early near. first_of_all_times anchor missed (sent_sets compiled.table compiled.sets)
+          (anchor_suits profile script compiled.table compiled.sets missed anchor compiled.planned.plan early near);
       entered = compiled_entered profile pid page script bytes free made compiled;
       cut = compiled_cut profile pid page script bytes free made compiled;
+      good = λ missed. record {
+        good = compiled_good profile pid page script bytes compiled known missed;
+        only = good_compiled profile pid page script bytes compiled known missed;
+      };
       stays =
           λ missed anchor suits. compiled_stays profile pid page script bytes free compiled known missed anchor suits;
+      checked = checked_calls profile pid page script bytes free compiled known;
       scheduled = λ anchor suits. compiled_scheduled profile pid page script bytes free compiled known anchor suits;
     }
 

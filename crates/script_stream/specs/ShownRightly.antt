@@ -1,17 +1,24 @@
 -- What receivers show of the packets of a script, wherever they enter them and whatever packets they lose.
-use Rattle.std.specs.Prelude.{◌≡◌, ℕ, ◌+◌, ◌<◌, ◌≤◌, List, length, All}
+use Rattle.std.specs.Prelude.{◌≡◌, ℕ, ◌+◌, ◌<◌, ◌≤◌, true, List, length, All}
 use Rattle.std.specs.List.{concat}
+use Rattle.buffer_model.specs.Calls.{Call}
+use Rattle.buffer_model.specs.Within.{AreWithin}
 use Rattle.cue_list.specs.declared.limits.TheConstants.{LONGEST_SCRIPT}
 use Rattle.cue_list.specs.declared.script.Script.{Script}
 use Rattle.decoder_model.specs.Frames.{only}
-use Rattle.decoder_model.specs.Streams.{Sending, IsCutTo}
+use Rattle.decoder_model.specs.Streams.{Sending, IsCutTo, entered_at}
 use Rattle.page_epoch.specs.declared.planned_set.PlannedSet.{PlannedSet}
 use Rattle.schedule.specs.Slots.{Timetable}
+use Rattle.received_level_laws.specs.StreamCalls.{AreCallsOf}
+use Rattle.shown_stream.specs.Compiled.{sent_pace}
 use Rattle.shown_stream.specs.Entered.{IsEnteredRightly, IsCutRightly}
-use Rattle.shown_stream.specs.SentSets.{sent_sets, times_from}
+use Rattle.shown_stream.specs.GoodTicks.{AreGoodFromEntry}
+use Rattle.shown_stream.specs.SentSets.{sent_sets, first_times_from, times_from}
 use Rattle.shown_stream.specs.Shows.{IsAnchorOf}
 use Rattle.shown_stream.specs.StaysWithin.{StaysWithin, IsAsScheduled}
 use Rattle.stream_syntax.specs.declared.wire.TheConstants.{TIME_ROUND}
+use Rattle.sub_base.specs.Pace.{pace_of, tick_of}
+use Rattle.sub_base.specs.Profile.{profile_of}
 use Rattle.sub_base.specs.declared.load.WriteLoad.{WriteLoad}
 use Rattle.sub_base.specs.declared.profile.ProfileName.{ProfileName}
 
@@ -19,9 +26,11 @@ use Rattle.sub_base.specs.declared.profile.ProfileName.{ProfileName}
 -- page what the script authors from its entry set on, each set that comes whole is kept, and its page memory holds the
 -- script; and whatever packets it loses, at most 14 between two payload packets that it gets, it shows what the script
 -- authors wherever, from some set on that is not of state normal, all sets have come whole, each set that comes whole
--- is kept, and its page memory holds the script; wherever it enters, with an anchor that suits the sets of which
+-- is kept, and its page memory holds the script; a receiver that enters late and loses nothing more shows it so exactly
+-- from its entry set on; wherever it enters, with an anchor that suits the sets of which
 -- packets come, its coded data buffer has room and each set is decoded by its time, and with the whole stream its
--- levels and done ticks are those of the schedule. Such an anchor is each that is no later than the script's origin,
+-- levels and done ticks are those of the schedule; and so it is for one that takes its first packet for the first one
+-- of all, at that packet's own tick. Such an anchor is each that is no later than the script's origin,
 -- and less than 2 to the 33 ticks before the end of the longest script
 pub record IsShownRightly (profile : ProfileName) (pid page : ℕ) (script : Script) (sets : List PlannedSet)
     (loads : List WriteLoad) (table : Timetable) (bytes : List ℕ) : Type 0 where
@@ -31,10 +40,18 @@ pub record IsShownRightly (profile : ProfileName) (pid page : ℕ) (script : Scr
   pub suits : (missed anchor : ℕ) → anchor ≤ script.origin
       → script.origin + LONGEST_SCRIPT < anchor + TIME_ROUND
       → IsAnchorOf (times_from missed (sent_sets table sets)) anchor
+  pub first_suits : (missed anchor : ℕ) → anchor ≤ script.origin
+      → script.origin + LONGEST_SCRIPT < anchor + TIME_ROUND
+      → IsAnchorOf (first_times_from missed (sent_sets table sets)) anchor
   pub entered : (missed : ℕ) → IsEnteredRightly profile pid (only page) script sets table packets missed
   pub cut : (sendings : List Sending) (received : List (List ℕ)) → IsCutTo pid packets sendings received
       → IsCutRightly profile pid (only page) script sets table sendings received
+  pub good : (missed : ℕ) → AreGoodFromEntry (sent_sets table sets) packets missed
   pub stays : (missed anchor : ℕ) → IsAnchorOf (times_from missed (sent_sets table sets)) anchor
       → StaysWithin profile pid (only page) script sets table packets missed anchor
+  pub checked : (missed : ℕ) (calls : List Call)
+      → AreCallsOf (profile_of profile) pid (only page) (tick_of (sent_pace profile script) missed) 0 true
+      (entered_at missed packets) calls
+      → AreWithin (pace_of (tick_of (sent_pace profile script) missed) (profile_of profile)) calls
   pub scheduled : (anchor : ℕ) → IsAnchorOf (times_from 0 (sent_sets table sets)) anchor
       → IsAsScheduled profile pid (only page) script sets loads table packets anchor

@@ -4,4 +4,6 @@
 
 mod laws;
 
-pub use laws::{places_are_names, versions_tell_pages_apart};
+pub use laws::{
+    comes_back, hidden_regions_differ, places_are_names, taken_anew, versions_tell_pages_apart,
+};

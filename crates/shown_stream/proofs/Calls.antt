@@ -18,3 +18,4 @@ pub mod EntrySizes
 pub mod ReceivedLoads
 pub mod CompiledHeard
 pub mod CompiledStays
+pub mod CheckedCalls

@@ -8,6 +8,7 @@ pub mod HeldSets
 pub mod EnteredRuns
 pub mod RunViews
 pub mod EnteredTimes
+pub mod FirstTimes
 pub mod SentShown
 pub mod SentEntered
 pub mod CompiledShown

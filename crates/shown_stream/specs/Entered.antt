@@ -13,26 +13,26 @@ use Rattle.decoder_model.specs.Sets.{Delivery}
 use Rattle.decoder_model.specs.Streams.{entered_at, entry_set, is_from, Sending, IsReceived, IsGoodTick}
 use Rattle.shown_stream.specs.HoldsWhole.{HoldsWhole}
 use Rattle.shown_stream.specs.KeptSets.{IsFromEntry, IsKept}
-use Rattle.shown_stream.specs.SentSets.{sent_set, sent_sets, times_from, times_received}
+use Rattle.shown_stream.specs.SentSets.{sent_set, sent_sets, first_times_from, times_received}
 use Rattle.shown_stream.specs.Shows.{authored_view, IsAnchorOf, Shows, ShowsFrom}
 
 -- a receiver of the profile, for a PID and these pages, that gets these packets but for the first so many, with any
--- anchor that suits the sets of which packets come. At each tick it shows what the script authors, from the time on
--- of the first set that comes whole and is not of state normal, and nothing before it or where there is none; each
--- set that comes whole is kept at its own time and is not broken; and with each of them whose epoch is known its page
--- memory holds the script
+-- anchor that suits the sets of which packets come, up to the first of which all do. At each tick it shows what the
+-- script authors, from the time on of the first set that comes whole and is not of state normal, and nothing before it
+-- or where there is none; each set that comes whole is kept at its own time and is not broken; and with each of them
+-- whose epoch is known its page memory holds the script
 pub record IsEnteredRightly (profile : ProfileName) (pid : ℕ) (pages : Pages) (script : Script)
     (sets : List PlannedSet) (table : Timetable) (packets : List (List ℕ)) (missed : ℕ) : Type 0 where
-  pub shown : (anchor : ℕ) → IsAnchorOf (times_from missed (sent_sets table sets)) anchor → (tick : ℕ)
+  pub shown : (anchor : ℕ) → IsAnchorOf (first_times_from missed (sent_sets table sets)) anchor → (tick : ℕ)
       → ShowsFrom (profile_of profile) pid pages anchor (entered_at missed packets)
       (entry_set missed (sent_sets table sets)) tick (authored_view script tick)
-  pub kept : (anchor : ℕ) → IsAnchorOf (times_from missed (sent_sets table sets)) anchor
+  pub kept : (anchor : ℕ) → IsAnchorOf (first_times_from missed (sent_sets table sets)) anchor
       → (past : List (Delivery Reading))
       → HasReceived (profile_of profile) pid pages true (entered_at missed packets) past
       → (number : ℕ) (set : PlannedSet) → slice_get sets number ≡ Some set
       → is_from missed (sent_set table number set) ≡ true
       → IsKept (profile_of profile) anchor (IsFromEntry (entry_set missed (sent_sets table sets))) past set
-  pub held : (anchor : ℕ) → IsAnchorOf (times_from missed (sent_sets table sets)) anchor
+  pub held : (anchor : ℕ) → IsAnchorOf (first_times_from missed (sent_sets table sets)) anchor
       → (past : List (Delivery Reading))
       → HasReceived (profile_of profile) pid pages true (entered_at missed packets) past
       → HoldsWhole script (profile_of profile) anchor sets (λ number set. is_from missed (sent_set table number set)

@@ -6,3 +6,4 @@ pub mod KeptSets
 pub mod Entered
 pub mod StaysWithin
 pub mod SentPlan
+pub mod GoodTicks

@@ -3,11 +3,14 @@ ghost use Rattle.std.specs.List.{concat};
 ghost use Rattle.cue_list.specs.declared.script.Script.{Script};
 ghost use Rattle.decoder_model.specs.declared.pages.Pages.{Pages};
 ghost use Rattle.decoder_model.specs.Shown.{View, IsShown};
+ghost use Rattle.decoder_model.specs.Streams.{SentSet};
 ghost use Rattle.page_epoch.specs.declared.planned_set.PlannedSet.{PlannedSet};
 ghost use Rattle.schedule.specs.Slots.{Timetable};
 ghost use Rattle.shown_stream.specs.Compiled.{IsCompiledTo};
 ghost use Rattle.shown_stream.specs.Entered.{IsEnteredRightly};
+ghost use Rattle.shown_stream.specs.SentSets.{first_times_from, times_from};
 ghost use Rattle.shown_stream.specs.SentPlan.{IsSentPlan};
+ghost use Rattle.shown_stream.specs.Shows.{IsAnchorOf};
 ghost use Rattle.stream_syntax.specs.declared.wire.TheConstants.{NULL_PID};
 ghost use Rattle.sub_base.specs.declared.profile.Profile.{Profile};
 ghost use Rattle.sub_base.specs.declared.profile.ProfileName.{ProfileName};
@@ -31,6 +34,13 @@ pub fn sent_plan_is_entered()
         → pid < NULL_PID → All (λ packet. length packet ≡ 188) packets
         → IsSentPlan profile pid pages script sets table (concat packets)
         → IsEnteredRightly profile pid pages script sets table packets missed }
+{}
+
+/// An anchor that suits all display sets of which packets come suits those up to the first that
+/// comes whole, which is all that a receiver that enters there needs.
+pub fn fewer_times_suit()
+    ensures { (anchor missed : ℕ) (sets : List SentSet) → IsAnchorOf (times_from missed sets) anchor
+        → IsAnchorOf (first_times_from missed sets) anchor }
 {}
 
 /// A script is compiled to one stream, for a profile, a PID and a page: whoever plans and codes it

@@ -10,4 +10,4 @@
 
 mod laws;
 
-pub use laws::{one_stream, one_view_is_shown, sent_plan_is_entered};
+pub use laws::{fewer_times_suit, one_stream, one_view_is_shown, sent_plan_is_entered};

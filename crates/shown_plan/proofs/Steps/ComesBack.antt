@@ -21,6 +21,7 @@ use Rattle.decoder_model.specs.Kept.{epoch_of}
 use Rattle.decoder_model.specs.Pixels.{painted_listings, pixel_of}
 use Rattle.decoder_model.specs.Readings.{Content}
 use Rattle.decoder_model.specs.Taken.{Taken, has_new_version, version_of_region as known_version, segments_of, taken_among, taken_of, taken_region}
+use Rattle.shown_plan.specs.HiddenRegions.{IsDrawnAnew, AreHiddenOtherwise}
 use Rattle.shown_plan.specs.HoldsScript.{IsKnownRegion}
 use Rattle.sub_base.specs.Lists.{has_some}
 
@@ -51,15 +52,6 @@ comes_back cues whole id tick before earlier empty some =
     next (place ∷ new) has =
         ap (λ (old : List ℕ). cond (not false && is_redrawn old (place ∷ new))
         ((region_version cues id (before ∷ earlier) + 1) % 16) (region_version cues id (before ∷ earlier))) empty
-
--- a region is drawn anew: the set at a tick sends it with a fill and with all of its live cues, in a version that a
--- receiver with these taken segments takes
-pub record IsDrawnAnew (epoch : Epoch) (whole : Bool) (seen : List ℕ) (tick : ℕ) (taken : Taken)
-    (region : Region) : Type 0 where
-  pub version : ℕ
-  pub sent : sent_region epoch.cues whole (tick ∷ seen) region.id
-      ≡ filled region.id version (live_places epoch.cues region.id tick) ∷ []
-  pub takes : has_new_version version (known_version (taken_region region.id taken)) ≡ true
 
 next_version_differs : (version : ℕ) → has_new_version ((version + 1) % 16) (Some version) ≡ true
 next_version_differs version =
@@ -143,21 +135,6 @@ keeps_hidden = refl
 enters_hidden : pixel_of (taken_of (segments_of (hiding_set ∷ []))) 1 0 0 ≡ 0
 unfolding hiding_set small_region plain pixel_of segments_of taken_among painted_listings
 enters_hidden = refl
-
--- two receivers know the epoch, by the same set last, whose page does not list a region; they know the region in one
--- version, and have different codes at one of its places
-pub record AreHiddenOtherwise (first second : List (List Content)) (set : List Content)
-    (region x y : ℕ) : Type 0 where
-  pub knows_first : epoch_of (set ∷ first) ≡ Some (set ∷ first)
-  pub knows_second : epoch_of (set ∷ second) ≡ Some (set ∷ second)
-  pub page : Page
-  pub is_page : page_in_set set ≡ Some page
-  pub hidden : list_any (λ (entry : PageEntry). entry.region == region) page.entries ≡ false
-  pub version : ℕ
-  pub version_first : known_version (taken_region region (taken_of (segments_of (set ∷ first)))) ≡ Some version
-  pub version_second : known_version (taken_region region (taken_of (segments_of (set ∷ second)))) ≡ Some version
-  pub differ : pixel_of (taken_of (segments_of (set ∷ first))) region x y ≢ pixel_of
-      (taken_of (segments_of (set ∷ second))) region x y
 
 -- so two receivers that know one epoch may differ in a region that the page does not list
 pub hidden_regions_differ : (first : List (List Content)) × (second : List (List Content)) × (set : List Content)

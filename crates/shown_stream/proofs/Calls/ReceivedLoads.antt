@@ -32,6 +32,7 @@ use Rattle.received_level_laws.specs.StreamCalls.{set_call, set_calls}
 use Rattle.shown_stream.proofs.Calls.CompiledCalls.{compiled_stream, compiled_entry}
 use Rattle.shown_stream.proofs.Calls.CompiledKept.{AreWholeUpTo, cut_units, read_turned}
 use Rattle.shown_stream.proofs.Sent.CompiledPackets.{packets_in, ArePackets}
+use Rattle.shown_stream.proofs.Shown.FirstTimes.{first_of_all_times}
 use Rattle.shown_stream.proofs.Shown.SentShown.{all_turned, ComesInParts, comes_in_parts}
 use Rattle.shown_stream.proofs.Shown.EnteredRuns.{turned, turned_is}
 use Rattle.shown_stream.proofs.Calls.EntrySizes.{count_behind}
@@ -209,7 +210,8 @@ all_heard name pid page script bytes free compiled known loads_are missed anchor
     parts =
         comes_in_parts profile pid (only page) script compiled.table compiled.sets
         (packets_in name pid page script bytes compiled) known.sent
-        (compiled_plan name pid page script bytes free compiled known) missed anchor suits late
+        (compiled_plan name pid page script bytes free compiled known) missed anchor
+        (first_of_all_times anchor missed (sent_sets compiled.table compiled.sets) suits) late
 
     past : List (Delivery Reading)
     past = parts.come.past

@@ -3,12 +3,7 @@ use Rattle.std.proofs.Common.{◌≡◌, ℕ, zero, suc, ◌≤◌, true, false,
 use Rattle.std.specs.Prelude.{count_by}
 use Rattle.std.specs.List.{AllByRecursion}
 use Rattle.decoder_model.specs.Streams.{entered_at, Sending, is_received, is_missed, received_of, IsShortlyCut, IsCutTo}
-
--- the packets of a stream, the first so many of them missed
-abbrev pub late_sendings : ℕ → List (List ℕ) → List Sending
-late_sendings zero stream = map (λ (bytes : List ℕ). record { packet = bytes; received = true }) stream
-late_sendings (suc n) [] = []
-late_sendings (suc n) (first ∷ stream) = record { packet = first; received = false } ∷ late_sendings n stream
+use Rattle.shown_stream.specs.GoodTicks.{late_sendings}
 
 all_sent : (n : ℕ) (stream : List (List ℕ))
     → stream ≡ map (λ (sending : Sending). sending.packet) (late_sendings n stream)

@@ -17,7 +17,7 @@ use Rattle.slot_stream.specs.SlotStream.{Piece, packet_of, all_pieces}
 use Rattle.shown_stream.proofs.Sent.CompiledPackets.{packets_in, ArePackets}
 use Rattle.slot_stream.proofs.LaidPackets.{laid, IsAhead}
 use Rattle.sent_sets.proofs.SentLate.{have_packets}
-use Rattle.shown_stream.proofs.Late.LateCuts.{late_sendings}
+use Rattle.shown_stream.specs.GoodTicks.{late_sendings}
 use Rattle.shown_stream.proofs.Late.LatePlaces.{count_sets}
 use Rattle.shown_stream.proofs.Late.LateTicks.{AreInOrder, good_from_entry, entry_from_good}
 use Rattle.shown_stream.proofs.Sent.PlannedOrder.{sets_in_order}

@@ -6,7 +6,7 @@ use Rattle.std.specs.List.{AllByRecursion, list_all}
 use Rattle.std.proofs.lemmas.Bool.Decides.{nat_tests}
 use Rattle.std.proofs.lemmas.List.Elements.{recursion_from_All, All-from_recursion}
 use Rattle.decoder_model.specs.Streams.{SentSet, is_from, entry_set, IsReceived, IsGoodTick, is_received_at}
-use Rattle.shown_stream.proofs.Late.LateCuts.{late_sendings}
+use Rattle.shown_stream.specs.GoodTicks.{late_sendings}
 
 -- ---- sets in order
 

@@ -34,12 +34,13 @@ use Rattle.shown_plan.proofs.Steps.Fair.{fair}
 use Rattle.shown_plan.proofs.Segments.PlannedSets.{in_epoch}
 use Rattle.shown_stream.specs.Entered.{IsEnteredRightly}
 use Rattle.shown_stream.specs.KeptSets.{IsFromEntry, IsKept}
-use Rattle.shown_stream.specs.SentSets.{sent_set, sent_from, sent_sets, times_from}
+use Rattle.shown_stream.specs.SentSets.{sent_set, sent_from, sent_sets, first_times_from}
 use Rattle.shown_stream.specs.Shows.{authored_view, IsAnchorOf}
 use Rattle.received_level_laws.specs.StreamCalls.{call_by, set_call}
 use Rattle.shown_stream.proofs.Shown.ComingSets.{SetComes, set_comes, all_come}
 use Rattle.shown_stream.proofs.Shown.EnteredRuns.{none_with, turned, turned_is, IsReceivedSo, AreFrom, wait_for}
-use Rattle.shown_stream.proofs.Shown.EnteredTimes.{anchor_suits, one_of_all, near_all, near_first, drop_within, drop_rises, drop_found, found_drop, entry_behind, are_from}
+use Rattle.shown_stream.proofs.Shown.FirstTimes.{first_suits}
+use Rattle.shown_stream.proofs.Shown.EnteredTimes.{one_of_all, near_all, near_first, drop_within, drop_rises, drop_found, found_drop, entry_behind, are_from}
 use Rattle.shown_stream.proofs.Shown.HeldSets.{HoldsEach, holds_none, holds_next}
 use Rattle.reading_laws.proofs.OneReading.{same_past}
 use Rattle.shown_stream.proofs.Shown.PlannedRegions.{planned_well}
@@ -127,33 +128,41 @@ record IsEntry (script : Script) (profile : Profile) (table : Timetable) (sets :
   plan : IsPlan script profile sets
   places : (number : ℕ) (set : PlannedSet) → slice_get sets number ≡ Some set
       → 1 ≤ length (slots_of table number)
-  anchor_suits : IsAnchorOf (times_from missed (sent_sets table sets)) anchor
+  anchor_suits : IsAnchorOf (first_times_from missed (sent_sets table sets)) anchor
+
+-- of each of the sets before that number a packet is missed
+abbrev AreCutBefore : Timetable → List PlannedSet → ℕ → ℕ → Type 0
+AreCutBefore table sets missed first =
+    (number : ℕ) (set : PlannedSet) → number < first → slice_get sets number ≡ Some set
+    → is_from missed (sent_set table number set) ≡ false
 
 first_ahead : (script : Script) (profile : Profile) (table : Timetable) (sets : List PlannedSet)
     (missed anchor first : ℕ) → IsEntry script profile table sets missed anchor
+    → AreCutBefore table sets missed first
     → ((set : PlannedSet) → slice_get sets first ≡ Some set
     → is_from missed (sent_set table first set) ≡ true) → AreAheadOf anchor None (drop first sets)
-first_ahead script profile table sets missed anchor first entry from =
+first_ahead script profile table sets missed anchor first entry cut_before from =
     let low = low_origin script in
     near_first anchor script.origin (drop first sets) (omega arith)
     (drop_within (IsTick script.origin) first sets (times_in_span script profile sets entry.plan))
     (drop_rises first sets (pts_rise script profile sets entry.plan))
-    (λ set found. let there = found_drop first sets set found in anchor_suits anchor missed first table sets set
+    (λ set found. let there = found_drop first sets set found in first_suits anchor missed first table sets set
     entry.anchor_suits there
-    (one_of_all missed (slots_of table first) (entry.places first set there) (from set there)))
+    (one_of_all missed (slots_of table first) (entry.places first set there) (from set there)) cut_before)
 
 none_begun : (script : Script) (profile : Profile) (table : Timetable) (sets : List PlannedSet)
     (missed anchor first : ℕ) → IsEntry script profile table sets missed anchor
+    → AreCutBefore table sets missed first
     → ((set : PlannedSet) → slice_get sets first ≡ Some set
     → is_from missed (sent_set table first set) ≡ true)
     → IsBegun script profile anchor sets [] (drop first sets)
-none_begun script profile table sets missed anchor first entry from = record {
+none_begun script profile table sets missed anchor first entry cut_before from = record {
   past = [];
   read = tt;
   idle = new_receiver profile anchor;
   last = None;
   is_last = no_time anchor;
-  ahead = first_ahead script profile table sets missed anchor first entry from;
+  ahead = first_ahead script profile table sets missed anchor first entry cut_before from;
   holds = holds_none script profile anchor sets (λ number set. Unit {0});
   painted = tt;
 }
@@ -201,9 +210,9 @@ broken_unpainted profile anchor time size readings broken =
 
 rest_begun : (script : Script) (profile : Profile) (table : Timetable) (sets : List PlannedSet)
     (missed anchor first : ℕ) (one : TimedSet) → IsEntry script profile table sets missed anchor
-    → IsCutSet script table sets missed first one
+    → AreCutBefore table sets missed first → IsCutSet script table sets missed first one
     → IsBegun script profile anchor sets (one ∷ []) (drop first sets)
-rest_begun script profile table sets missed anchor first one entry cut =
+rest_begun script profile table sets missed anchor first one entry cut_before cut =
     let rest = rest_is_read script profile table sets missed first one entry.plan cut in
     let delivery : Delivery Reading = whole one.time (size_of_units one.units) rest.readings in
     let is : IsDeliveryRead (delivered one) delivery = (rest.readings, rest.are, refl) in
@@ -214,7 +223,9 @@ rest_begun script profile table sets missed anchor first one entry cut =
     drop_found cut.number sets cut.set cut.found ∙ ap (λ n. cut.set ∷ drop n sets) (sym cut.next) in
     let its = subst (λ (left : List PlannedSet). AllByRecursion (IsTick script.origin) (pts_of left)) behind within in
     let early = its.0.early in
-    let suits = anchor_suits anchor missed cut.number table sets cut.set entry.anchor_suits cut.found cut.come in
+    let suits =
+    first_suits anchor missed cut.number table sets cut.set entry.anchor_suits cut.found cut.come
+    (λ number set below found. cut_before number set (omega (arith, below, cut.next)) found) in
     let idle = behind_rest profile anchor delivery (comes_broken profile anchor one cut.later.none delivery is) in
     let plan = reverse (take cut.number sets) in
     let parts : sets ≡ reverse plan ++ (cut.set ∷ drop (suc cut.number) sets) =
@@ -295,7 +306,7 @@ pub record ComesInParts (profile : Profile) (script : Script) (table : Timetable
 pub comes_in_parts : (profile : Profile) (pid : ℕ) (pages : Pages) (script : Script) (table : Timetable)
     (sets : List PlannedSet) (packets : List (List ℕ)) (sent : List TimedSet)
     → IsPlanSent profile.coded pid pages profile script table sets packets sent → (missed anchor : ℕ)
-    → IsAnchorOf (times_from missed (sent_sets table sets)) anchor
+    → IsAnchorOf (first_times_from missed (sent_sets table sets)) anchor
     → (late : IsEnteredLate profile.coded pid pages script table sets packets sent missed)
     → ComesInParts profile script table sets sent late.rest late.first missed anchor
 comes_in_parts profile pid pages script table sets packets sent known missed anchor suits late =
@@ -303,6 +314,9 @@ comes_in_parts profile pid pages script table sets packets sent known missed anc
   where
     entry : IsEntry script profile table sets missed anchor
     entry = record { plan = known.plan; places = known.places; anchor_suits = suits }
+
+    cut_before : AreCutBefore table sets missed late.first
+    cut_before number set below found = (late.whole number set (slice_get_within sets number set found)).0 below
 
     begun : IsBegun script profile anchor sets late.rest (drop late.first sets)
     begun =
@@ -314,8 +328,9 @@ comes_in_parts profile pid pages script table sets packets sent known missed anc
             → ((set : PlannedSet) → slice_get sets late.first ≡ Some set
             → is_from missed (sent_set table late.first set) ≡ true)
             → IsBegun script profile anchor sets rest (drop late.first sets)
-        by [] few cut from = none_begun script profile table sets missed anchor late.first entry from
-        by (one ∷ []) few cut from = rest_begun script profile table sets missed anchor late.first one entry cut.0
+        by [] few cut from = none_begun script profile table sets missed anchor late.first entry cut_before from
+        by (one ∷ []) few cut from =
+            rest_begun script profile table sets missed anchor late.first one entry cut_before cut.0
         by (one ∷ next ∷ rest) few cut from = absurd (omega arith)
 
     come : AllZip (SetComes script) (drop late.first sets) (drop late.first sent)
@@ -345,7 +360,7 @@ comes_in_parts profile pid pages script table sets packets sent known missed anc
 pub received_late : (profile : Profile) (pid : ℕ) (pages : Pages) (script : Script) (table : Timetable)
     (sets : List PlannedSet) (packets : List (List ℕ)) (sent : List TimedSet)
     → IsPlanSent profile.coded pid pages profile script table sets packets sent → (missed anchor : ℕ)
-    → IsAnchorOf (times_from missed (sent_sets table sets)) anchor
+    → IsAnchorOf (first_times_from missed (sent_sets table sets)) anchor
     → IsReceivedLate profile pid pages script table sets packets missed anchor
 received_late profile pid pages script table sets packets sent known missed anchor suits = record {
   past = received.past;
@@ -423,7 +438,7 @@ entered_rightly name pid pages script table sets packets sent known missed = rec
     profile : Profile
     profile = profile_of name
 
-    same : (anchor : ℕ) (suits : IsAnchorOf (times_from missed (sent_sets table sets)) anchor)
+    same : (anchor : ℕ) (suits : IsAnchorOf (first_times_from missed (sent_sets table sets)) anchor)
         → (past : List (Delivery Reading)) → HasReceived profile pid pages true (entered_at missed packets) past
         → (received_late profile pid pages script table sets packets sent known missed anchor suits).past ≡ past
     same anchor suits past received =

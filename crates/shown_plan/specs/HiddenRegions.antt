@@ -1,0 +1,39 @@
+-- Regions that the page of a display set does not list. Two receivers may differ in one, until a set shows it again,
+-- which draws it anew for both.
+use Rattle.std.specs.Prelude.{◌≡◌, ◌≢◌, ℕ, Bool, true, false, ◌==◌, List, [], ◌∷◌, Some}
+use Rattle.std.specs.List.{list_any}
+use Rattle.cue_list.specs.declared.epoch.Epoch.{Epoch}
+use Rattle.cue_list.specs.declared.epoch.Region.{Region}
+use Rattle.page_epoch.specs.Live.{live_places}
+use Rattle.page_epoch.specs.SentRegions.{filled, sent_region}
+use Rattle.stream_syntax.specs.Segments.{Page}
+use Rattle.stream_syntax.specs.declared.page.PageEntry.{PageEntry}
+use Rattle.decoder_model.specs.Contents.{page_in_set}
+use Rattle.decoder_model.specs.Kept.{epoch_of}
+use Rattle.decoder_model.specs.Pixels.{pixel_of}
+use Rattle.decoder_model.specs.Readings.{Content}
+use Rattle.decoder_model.specs.Taken.{Taken, has_new_version, version_of_region as known_version, segments_of, taken_of, taken_region}
+
+-- a region is drawn anew: the set at a tick sends it with a fill and with all of its live cues, in a version that a
+-- receiver with these taken segments takes
+pub record IsDrawnAnew (epoch : Epoch) (whole : Bool) (seen : List ℕ) (tick : ℕ) (taken : Taken)
+    (region : Region) : Type 0 where
+  pub version : ℕ
+  pub sent : sent_region epoch.cues whole (tick ∷ seen) region.id
+      ≡ filled region.id version (live_places epoch.cues region.id tick) ∷ []
+  pub takes : has_new_version version (known_version (taken_region region.id taken)) ≡ true
+
+-- two receivers know the epoch, by the same set last, whose page does not list a region; they know the region in one
+-- version, and have different codes at one of its places
+pub record AreHiddenOtherwise (first second : List (List Content)) (set : List Content)
+    (region x y : ℕ) : Type 0 where
+  pub knows_first : epoch_of (set ∷ first) ≡ Some (set ∷ first)
+  pub knows_second : epoch_of (set ∷ second) ≡ Some (set ∷ second)
+  pub page : Page
+  pub is_page : page_in_set set ≡ Some page
+  pub hidden : list_any (λ (entry : PageEntry). entry.region == region) page.entries ≡ false
+  pub version : ℕ
+  pub version_first : known_version (taken_region region (taken_of (segments_of (set ∷ first)))) ≡ Some version
+  pub version_second : known_version (taken_region region (taken_of (segments_of (set ∷ second)))) ≡ Some version
+  pub differ : pixel_of (taken_of (segments_of (set ∷ first))) region x y ≢ pixel_of
+      (taken_of (segments_of (set ∷ second))) region x y
