@@ -1,0 +1,50 @@
+-- What `check` tells of the packets of a script ends in the line that there is no breach.
+use Rattle.std.proofs.Common.{◌≡◌, ◌∙◌, ℕ, ◌++◌, true, List, None, sym, ap}
+use Rattle.std.proofs.lemmas.List.{append_assoc}
+use Rattle.sub_base.specs.Pace.{pace_of, tick_of}
+use Rattle.sub_base.specs.Profile.{profile_of}
+use Rattle.sub_base.specs.declared.load.WriteLoad.{WriteLoad}
+use Rattle.sub_base.specs.declared.pace.Pace.{Pace}
+use Rattle.sub_base.specs.declared.profile.ProfileName.{ProfileName}
+use Rattle.buffer_model.specs.Calls.{Call, first_breach_of, greatest}
+use Rattle.buffer_model.specs.Within.{AreWithin}
+use Rattle.buffer_model.proofs.LevelLaws.{no_breach}
+use Rattle.check_text.specs.CheckText.{IsCheckText, breach_line, peak_line, sets_text}
+use Rattle.cue_list.specs.declared.script.Script.{Script}
+use Rattle.decoder_model.specs.Frames.{only}
+use Rattle.decoder_model.specs.Streams.{entered_at}
+use Rattle.page_epoch.specs.declared.planned_set.PlannedSet.{PlannedSet}
+use Rattle.received_level_laws.specs.ToldSets.{ToldCall, calls_told}
+use Rattle.received_level_laws.proofs.ToldLaws.{are_calls}
+use Rattle.schedule.specs.Slots.{Timetable}
+use Rattle.script_stream.specs.ShownRightly.{IsShownRightly}
+use Rattle.shown_stream.specs.Compiled.{sent_pace}
+use Rattle.checked_script_laws.specs.Unbreached.{EndsUnbreached}
+
+pub unbreached : (profile : ProfileName) (pid page : ℕ) (script : Script) (sets : List PlannedSet)
+    (loads : List WriteLoad) (table : Timetable) (bytes : List ℕ) (missed : ℕ) (text : List ℕ)
+    → (shown : IsShownRightly profile pid page script sets loads table bytes)
+    → IsCheckText (profile_of profile) (tick_of (sent_pace profile script) missed) pid (only page) true
+    (entered_at missed shown.packets) text
+    → EndsUnbreached text
+unbreached profile pid page script sets loads table bytes missed text shown is = (
+  sets_text pace is.told ++ peak_line (greatest pace calls),
+  is.whole
+      ∙ ap (λ found. sets_text pace is.told ++ (peak_line (greatest pace calls) ++ breach_line found)) (no_breach
+      pace calls within).0
+      ∙ sym (append_assoc (sets_text pace is.told) (peak_line (greatest pace calls)) (breach_line None)),
+)
+  where
+    origin : ℕ
+    origin = tick_of (sent_pace profile script) missed
+
+    pace : Pace
+    pace = pace_of origin (profile_of profile)
+
+    calls : List Call
+    calls = calls_told is.told
+
+    within : AreWithin pace calls
+    within =
+        shown.checked missed calls
+        (are_calls (profile_of profile) pid (only page) origin 0 true (entered_at missed shown.packets) is.told is.are)

@@ -1,0 +1,30 @@
+//! The law on `check` and `compile`.
+
+ghost use Rattle.std.specs.Prelude.{List, true, ℕ};
+ghost use Rattle.check_text.specs.CheckText.{IsCheckText};
+ghost use Rattle.checked_script_laws.specs.Unbreached.{EndsUnbreached};
+ghost use Rattle.cue_list.specs.declared.script.Script.{Script};
+ghost use Rattle.decoder_model.specs.Frames.{only};
+ghost use Rattle.decoder_model.specs.Streams.{entered_at};
+ghost use Rattle.page_epoch.specs.declared.planned_set.PlannedSet.{PlannedSet};
+ghost use Rattle.schedule.specs.Slots.{Timetable};
+ghost use Rattle.script_stream.specs.ShownRightly.{IsShownRightly};
+ghost use Rattle.shown_stream.specs.Compiled.{sent_pace};
+ghost use Rattle.sub_base.specs.Pace.{tick_of};
+ghost use Rattle.sub_base.specs.Profile.{profile_of};
+ghost use Rattle.sub_base.specs.declared.load.WriteLoad.{WriteLoad};
+ghost use Rattle.sub_base.specs.declared.profile.ProfileName.{ProfileName};
+
+/// Of the packets of a script, entered behind any number of them, `check` finds no breach: neither
+/// a level above the coded data buffer nor a display set that is done behind its time. Its ORIGIN
+/// is the tick of the first packet that it gets, in ticks of 90 kHz: the script's origin, and a
+/// step of the profile more for each packet that was missed.
+pub fn check_of_a_script_finds_no_breach()
+    ensures { (profile : ProfileName) (pid page : ℕ) (script : Script) (sets : List PlannedSet)
+        (loads : List WriteLoad) (table : Timetable) (bytes : List ℕ) (missed : ℕ)
+        (text : List ℕ)
+        → (shown : IsShownRightly profile pid page script sets loads table bytes)
+        → IsCheckText (profile_of profile) (tick_of (sent_pace profile script) missed)
+        pid (only page) true (entered_at missed shown.packets) text
+        → EndsUnbreached text }
+{}
