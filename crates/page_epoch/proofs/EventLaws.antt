@@ -113,12 +113,12 @@ Noted-more events e g h noted is tick = noted_at events e g h tick (tick == e.ti
 
 -- ---- all ticks
 
-cue_ticks : (cues : List Cue)
+pub cue_ticks : (cues : List Cue)
     → map (λ (e : Event). e.tick) (flat_map events_of_cue cues) ≡ flat_map ticks_of_cue cues
 cue_ticks [] = refl
 cue_ticks (cue ∷ cues) = ap (λ xs. cue.start ∷ cue.end ∷ xs) (cue_ticks cues)
 
-colour_ticks : (colours : List ColourRow)
+pub colour_ticks : (colours : List ColourRow)
     → map (λ (e : Event). e.tick) (map (λ (row : ColourRow). event row.tick row.row) colours)
     ≡ map (λ (row : ColourRow). row.tick) colours
 colour_ticks [] = refl

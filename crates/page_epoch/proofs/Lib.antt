@@ -3,6 +3,9 @@ pub mod ChangeLaws
 pub mod ClutLaws
 pub mod CountLaws
 pub mod WalkLaws
+pub mod GrownCues
+pub mod GrownRows
+pub mod GrowthLaws
 pub mod InstantLaws
 pub mod LastInstants
 pub mod ListLaws

@@ -192,7 +192,7 @@ live_next cues region starts tick from to s old new are parts stay rise same =
 
 -- ---- from the instants before
 
-late_live : (start end tick : ℕ) → nat_le start tick ≡ false → (nat_le start tick && nat_lt tick end) ≡ false
+pub late_live : (start end tick : ℕ) → nat_le start tick ≡ false → (nat_le start tick && nat_lt tick end) ≡ false
 late_live start end tick h = ap (λ b. b && nat_lt tick end) h
 
 not_yet_live : (cues : List Cue) (region : ℕ) (starts : List CueStart) (tick to : ℕ)

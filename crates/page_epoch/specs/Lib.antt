@@ -1,3 +1,4 @@
+pub mod Growth
 pub mod Instants
 pub mod Live
 pub mod Needs

@@ -294,9 +294,15 @@ hopeless loads pace (CodedFull set size) each cause = λ m slots dones among all
     sum_below-le (left_of loads dones (tick_of pace slot)) (size_of loads) set
     (λ j _. left_of-most loads dones (tick_of pace slot) j) in
     omega (arith, room, left, ap (sum_below (payload_of loads set)) last, payloads loads set, cause.is_size, cause.full)
-hopeless loads pace (Late set done shown) each cause = λ m slots dones among all other.
-    let later =
-    earlier-done loads (set + 1) m pace cause.table slots dones set each (omega arith) all cause.schedule other
-    (omega arith) in
-    (omega (arith, later, cause.is_done), omega (arith, later, cause.is_done, cause.is_shown, cause.late))
+hopeless loads pace (Late set done shown) each cause = record {
+  late = λ m slots dones among all other.
+      let later =
+      earlier-done loads (set + 1) m pace cause.table slots dones set each (omega arith) all cause.schedule other
+      (omega arith) in
+      (omega (arith, later, cause.is_done), omega (arith, later, cause.is_done, cause.is_shown, cause.late));
+  table = cause.table;
+  schedule = cause.schedule;
+  is_done = cause.is_done;
+  earliest = earliest loads (set + 1) pace cause.table each cause.schedule;
+}
 hopeless loads pace (SegmentFull set longest) each cause = (cause.is_longest, cause.long)

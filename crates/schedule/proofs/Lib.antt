@@ -1,6 +1,7 @@
 pub mod AnswerLaws
 pub mod BufferLaws
 pub mod EarliestLaws
+pub mod FrontLaws
 pub mod MakeLaws
 pub mod PacketLaws
 pub mod SendLaws

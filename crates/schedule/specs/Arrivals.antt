@@ -9,7 +9,7 @@ use Rattle.sub_base.specs.declared.load.TheConstants.{UNIT_ROOM}
 use Rattle.schedule.specs.declared.limits.TheConstants.{SEND_WINDOW}
 use Rattle.schedule.specs.Packets.{sum_below, load_of, longest_of, packets_of, first_packet, payload_of}
 use Rattle.sub_base.specs.Pace.{tick_of}
-use Rattle.schedule.specs.Slots.{Timetable, slot_of, left_of, done_of}
+use Rattle.schedule.specs.Slots.{Timetable, IsSchedule, slot_of, left_of, done_of}
 
 -- the payload of packet k of set i where its slot is at most this one, and else 0
 abbrev pub payload_by : List WriteLoad → List ℕ → ℕ → ℕ → ℕ → ℕ
@@ -46,13 +46,21 @@ pub record IsEarliest (loads : List WriteLoad) (n : ℕ) (pace : Pace) (table : 
       → IsArrival loads m pace slots dones →
       (i : ℕ) → i < n → slice_index table.dones i ≤ slice_index dones i
 
+-- a set that is late is late in every other arrival, and in none does a packet of it or of a set before it stand
+-- earlier, nor is one of them done earlier, than in the schedule of these sets
+pub record IsLateInEach (loads : List WriteLoad) (pace : Pace) (set done : ℕ) : Type 0 where
+  pub late : (m : ℕ) (slots dones : List ℕ) → set < m → m ≤ length loads → IsArrival loads m pace slots dones
+      → (done ≤ slice_index dones set) × ((load_of loads set).pts < slice_index dones set)
+  pub table : Timetable
+  pub schedule : IsSchedule loads (set + 1) pace table
+  pub is_done : slice_index table.dones set ≡ done
+  pub earliest : IsEarliest loads (set + 1) pace table
+
 -- no other arrival of these sets helps: with a set that is larger than the buffer there is none, a set that is late is
 -- late in each, and a segment that is too long for a PES packet is so in whatever slots
 abbrev pub IsHopeless : List WriteLoad → Pace → ScheduleFault → Type 0
 IsHopeless loads pace Memory = ⊤
 IsHopeless loads pace (CodedFull set size) =
     (m : ℕ) (slots dones : List ℕ) → set < m → m ≤ length loads → IsArrival loads m pace slots dones → ⊥
-IsHopeless loads pace (Late set done shown) =
-    (m : ℕ) (slots dones : List ℕ) → set < m → m ≤ length loads → IsArrival loads m pace slots dones →
-    (done ≤ slice_index dones set) × ((load_of loads set).pts < slice_index dones set)
+IsHopeless loads pace (Late set done shown) = IsLateInEach loads pace set done
 IsHopeless loads pace (SegmentFull set longest) = (longest_of loads set ≡ longest) × (UNIT_ROOM < longest)

@@ -1,4 +1,5 @@
 pub mod Arrivals
+pub mod Fronts
 pub mod Packets
 pub mod Refusals
 pub mod Slots

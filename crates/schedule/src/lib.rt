@@ -6,12 +6,16 @@
 mod fault;
 mod limits;
 
+// What holds of every schedule.
+mod laws;
+
 // The slot of one packet, those of a set, those of all sets.
 mod place;
 mod schedule;
 mod send;
 
 pub use fault::ScheduleFault;
+pub use laws::{front_is_schedule, packets_are_of_near_sets, slots_stay};
 pub use limits::SEND_WINDOW;
 pub use schedule::Schedule;
 

@@ -49,7 +49,7 @@ range-split (suc n) a m =
     ∙ ap (λ k. range_with_len (a + 1) n ++ range_with_len k m) next)
 
 -- the same one by one
-map-same : {Y : Type 0} (f g : ℕ → Y) (from count : ℕ)
+pub map-same : {Y : Type 0} (f g : ℕ → Y) (from count : ℕ)
     → ((i : ℕ) → i < count → f (from + i) ≡ g (from + i))
     → map f (range_with_len from count) ≡ map g (range_with_len from count)
 map-same f g from zero h = refl
@@ -127,7 +127,7 @@ at_slots pid pieces number from (piece ∷ left) (slot ∷ slots) ahead same are
     ∙ at_slots pid pieces (number + 1) (slot + 1) left slots ahead.1 (omega arith)
     (λ i within. ap (λ n. get_or pieces n no_piece) (omega arith) ∙ are (suc i) (omega arith)))
 
-joined_map : (f : ℕ → List ℕ) (xs : List ℕ) → flat_map f xs ≡ concat (map f xs)
+pub joined_map : (f : ℕ → List ℕ) (xs : List ℕ) → flat_map f xs ≡ concat (map f xs)
 joined_map f [] = refl
 joined_map f (x ∷ xs) = ap (λ rest. f x ++ rest) (joined_map f xs)
 

@@ -1,3 +1,4 @@
+pub mod FrontLaws
 pub mod LaidPackets
 pub mod SentPieces
 pub mod SentStream

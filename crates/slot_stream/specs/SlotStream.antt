@@ -1,5 +1,5 @@
 -- Units cut into packets, and the packets sent at their slots (ISO/IEC 13818-1, 2.4.3.2).
-use Rattle.std.specs.Prelude.{ℕ, ◌+◌, ◌*◌, ◌/◌, ◌%◌, ◌==◌, ◌≤◌, if◌then◌else◌, Bool, false, List, [], ◌∷◌, length, take, drop, slice_index, slice_index_or, Option, Some, None, map}
+use Rattle.std.specs.Prelude.{ℕ, ◌+◌, ◌*◌, ◌%◌, ◌==◌, ◌≤◌, if◌then◌else◌, Bool, false, List, [], ◌∷◌, length, take, drop, slice_index, slice_index_or, Option, Some, None, map}
 use Rattle.std.specs.List.{flat_map, range_with_len}
 use Rattle.stream_syntax.specs.TransportPackets.{written_packet, packet_count, null_packet}
 use Rattle.stream_syntax.specs.declared.wire.TheConstants.{PAYLOAD_LENGTH}
@@ -55,6 +55,10 @@ slot_count (slot ∷ slots) = slice_index (slot ∷ slots) (length slots) + 1
 -- the packets at all slots from 0 to the last used one
 abbrev pub stream_of : ℕ → List Piece → List ℕ → List ℕ
 stream_of pid pieces slots = flat_map (slot_packet pid pieces slots) (range_with_len 0 (slot_count slots))
+
+-- the packets at the slots before one
+abbrev pub packets_before : ℕ → List Piece → List ℕ → ℕ → List ℕ
+packets_before pid pieces slots until = flat_map (slot_packet pid pieces slots) (range_with_len 0 until)
 
 -- a piece has 1 to 184 bytes
 abbrev pub IsPiece : Piece → Type 0

@@ -9,6 +9,10 @@ mod pieces;
 // The packets of all slots, many written at a time.
 mod stream;
 
+// What holds of the packets of slots.
+mod laws;
+
+pub use laws::{later_pieces_leave_the_front, stream_begins_with_its_front};
 pub use piece::Piece;
 pub use pieces::push_units;
 pub use stream::{StreamFault, write_stream};

@@ -1,0 +1,5 @@
+use Rattle.page_epoch.proofs.GrownRows as own
+use Rattle.page_epoch.proofs.laws.epochs_stay.Goals as goal
+
+pub returns : goal.returns
+returns c = own.epochs_stay
