@@ -23,7 +23,7 @@ use Rattle.page_epoch.specs.Live.{cue_at}
 use Rattle.page_epoch.specs.Sendable.{HasCue}
 use Rattle.set_coder.specs.SetSegments.{epoch_region, picture_of_cue, depth_of_cue, object_segment, IsObjectOf, AreObjectsOf}
 use Rattle.set_coder.specs.SetSizes.{IsObjectSize, AreObjectSizes}
-use Rattle.set_coder.specs.Private.Usable.{IsDrawable, AreDrawable}
+use Rattle.set_coder.specs.Usable.{IsDrawable, AreDrawable}
 use Rattle.set_coder.proofs.FieldLaws.{field_size, one_sizes}
 use Rattle.set_coder.proofs.WritableLaws.{writable, flag_small}
 

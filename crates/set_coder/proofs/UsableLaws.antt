@@ -19,7 +19,7 @@ use Rattle.cue_list.specs.declared.epoch.Cue.{Cue}
 use Rattle.cue_list.specs.declared.epoch.Epoch.{Epoch}
 use Rattle.cue_list.specs.declared.epoch.Region.{Region}
 use Rattle.set_coder.specs.SetSegments.{region_or_none, epoch_region}
-use Rattle.set_coder.specs.Private.Usable.{IsUsable, IsUsableRegion, IsUsablePlace, IsDrawable, AreDrawable}
+use Rattle.set_coder.specs.Usable.{IsUsable, IsUsableRegion, IsUsablePlace, IsDrawable, AreDrawable}
 
 -- ---- what a search finds
 

@@ -33,7 +33,7 @@ use Rattle.page_epoch.specs.declared.planned_set.SentClut.{SentClut}
 use Rattle.page_epoch.specs.declared.planned_set.SentRegion.{SentRegion}
 use Rattle.set_coder.specs.SetSegments.{epoch_region, display_segments, time_out_of, page_entry_of, page_segment, listing_of, region_segment_of, clut_entry_of, clut_segment_of, leading_segments}
 use Rattle.set_coder.specs.SetSizes.{region_size, clut_size}
-use Rattle.set_coder.specs.Private.Usable.{IsUsable, IsUsableRegion, IsUsablePlace, IsUsableColour}
+use Rattle.set_coder.specs.Usable.{IsUsable, IsUsableRegion, IsUsablePlace, IsUsableColour}
 use Rattle.set_coder.proofs.UsableLaws.{usable_region}
 
 -- the numbers of a script that segments have
@@ -122,7 +122,37 @@ page_writable epoch page time_out version state ids entries fits_page u t v few 
 
 -- ---- regions
 
-fits_listings : (epoch : Epoch) (places : List ℕ) → IsUsable epoch → All (HasCue epoch) places
+-- listings of cues with numbers that fit
+pub fits_numbered : (names : ℕ → ℕ) (epoch : Epoch) (places : List ℕ) → IsUsable epoch → All (HasCue epoch) places
+    → ((place : ℕ) → HasCue epoch place → names place < 2 ^ 16)
+    → FitsFields (flat_map listing_fields
+    (map (λ place. record { object = names place; x = (cue_at epoch.cues place).x; y = (cue_at epoch.cues place).y })
+    places))
+fits_numbered names epoch [] u has few = tt
+fits_numbered names epoch (place ∷ places) u has few =
+    let here : place < length epoch.cues = All-head (HasCue epoch) place places has in
+    let cue : IsUsablePlace (cue_at epoch.cues place) = u.cues place _ here in (
+      few place here,
+      (
+        omega arith,
+        (
+          omega arith,
+          (
+            omega (arith, cue.x),
+            (
+              tt,
+              (
+                omega (arith, cue.y),
+                fits_numbered names epoch places u (All-tail (HasCue epoch) place places has)
+                    few,
+              ),
+            ),
+          ),
+        ),
+      ),
+    )
+
+pub fits_listings : (epoch : Epoch) (places : List ℕ) → IsUsable epoch → All (HasCue epoch) places
     → FitsFields (flat_map listing_fields (map (listing_of epoch) places))
 fits_listings epoch [] u has = tt
 fits_listings epoch (place ∷ places) u has =
@@ -176,19 +206,15 @@ head_of sent region =
       code2 = 0;
     }
 
-pub region_writable : (epoch : Epoch) (page : ℕ) (sent : SentRegion) (region : Region) (listings : List Listing)
+pub listed_writable : (epoch : Epoch) (page : ℕ) (sent : SentRegion) (region : Region) (listings : List Listing)
     → page < 2 ^ 16 → IsUsable epoch → IsSendableRegion epoch sent → region ≡ epoch_region epoch sent.id
-    → listings ≡ map (listing_of epoch) sent.cues
+    → length listings ≡ length sent.cues → FitsFields (flat_map listing_fields listings)
     → IsWritable page (of_region (record { head = head_of sent region; listings = listings }))
     × (length (spelled page (of_region (record { head = head_of sent region; listings = listings })))
     ≡ region_size sent)
-region_writable epoch page sent region listings fits_page u s here same =
+listed_writable epoch page sent region listings fits_page u s here count fits =
     let r = subst IsUsableRegion (sym here) (usable_region epoch sent.id u s.region).0 in
-    let count : length listings ≡ length sent.cues = ap length same ∙ length-map sent.cues (listing_of epoch) in
     let size = listings_size listings in
-    let fits : FitsFields (flat_map listing_fields listings) =
-    subst (λ (ls : List Listing). FitsFields (flat_map listing_fields ls)) (sym same)
-    (fits_listings epoch sent.cues u s.cues) in
     let depth = depth_small region.depth in
     let body : FitsFields (written_body (of_region (record { head = head_of sent region; listings = listings }))) = (
       omega (arith, s.number),
@@ -230,6 +256,18 @@ region_writable epoch page sent region listings fits_page u s here same =
     writable page (of_region (record { head = head_of sent region; listings = listings })) fits_page body
     (omega (arith, s.few)) (r.wide, r.high) tt in
     (whole, spelled_length page _ whole ∙ omega arith)
+
+pub region_writable : (epoch : Epoch) (page : ℕ) (sent : SentRegion) (region : Region) (listings : List Listing)
+    → page < 2 ^ 16 → IsUsable epoch → IsSendableRegion epoch sent → region ≡ epoch_region epoch sent.id
+    → listings ≡ map (listing_of epoch) sent.cues
+    → IsWritable page (of_region (record { head = head_of sent region; listings = listings }))
+    × (length (spelled page (of_region (record { head = head_of sent region; listings = listings })))
+    ≡ region_size sent)
+region_writable epoch page sent region listings fits_page u s here same =
+    listed_writable epoch page sent region listings fits_page u s here
+    (ap length same ∙ length-map sent.cues (listing_of epoch))
+    (subst (λ (ls : List Listing). FitsFields (flat_map listing_fields ls)) (sym same)
+    (fits_listings epoch sent.cues u s.cues))
 
 -- ---- CLUTs
 

@@ -3,7 +3,6 @@ pub mod BothBlocks
 pub mod Rows
 pub mod SizesLeft
 pub mod UnitParts
-pub mod Usable
 pub mod Sample
 pub mod Measuring
 pub mod Keeping

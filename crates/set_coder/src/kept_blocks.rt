@@ -262,7 +262,7 @@ impl<'a> BlockLookup<'a> {
 
     /// The blocks of a picture, where they are kept. That they are of these pictures is asked by
     /// the contract alone.
-    fn find(
+    pub(crate) fn find(
         &self,
         _pictures: &[Indexed],
         _picture: &Indexed,

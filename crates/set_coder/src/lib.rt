@@ -8,6 +8,7 @@ mod fields;
 
 // Blocks that are kept for all sets of a script.
 mod coded_picture;
+mod cue_blocks;
 mod kept_blocks;
 
 // A set's regions, cues and colours by their names, and its segments.
@@ -21,9 +22,13 @@ mod set_packets;
 mod set_sizes;
 
 pub use coded_picture::KeptBlocks;
+pub use cue_blocks::CueBlocks;
 pub use fields::{FieldLengths, write_fields};
+pub use named::epoch_of;
+pub use set_objects::append_blocks;
 pub use set_packets::write_set;
-pub use set_sizes::{load_of, size_of};
+pub use set_segments::{append_clut, append_display, append_end, append_listed, append_page};
+pub use set_sizes::{load_of, painted_in, size_of};
 
 #[cfg(test)]
 mod set_tests;

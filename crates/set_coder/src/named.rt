@@ -3,13 +3,13 @@ ghost use Rattle.page_epoch.specs.Live.{cue_at};
 ghost use Rattle.page_epoch.specs.SentCluts.{row_at};
 ghost use Rattle.page_epoch.specs.Sendable.{find_region, HasRegion, HasCue, HasColour, IsSendable, IsSendableIn};
 ghost use Rattle.set_coder.specs.SetSegments.{epoch_region};
-ghost use Rattle.set_coder.specs.Private.Usable.{IsUsable, AreDrawable};
+ghost use Rattle.set_coder.specs.Usable.{IsUsable, AreDrawable};
 
 use cue_list::{ColourRow, Cue, Epoch, Region, Script};
 use page_epoch::PlannedSet;
 
 /// The epoch of a set.
-pub(crate) fn epoch_of<'a>(script: &'a Script, set: &PlannedSet) -> &'a Epoch
+pub fn epoch_of<'a>(script: &'a Script, set: &PlannedSet) -> &'a Epoch
     requires { IsSendable script.now set.now }
     ensures found { slice_get script.now.epochs set.now.epoch ≡ Some result.now }
     ensures usable { IsUsable result.now }

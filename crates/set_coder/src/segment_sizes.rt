@@ -5,7 +5,7 @@ ghost use Rattle.page_epoch.specs.Sendable.{HasCue, IsSendable};
 ghost use Rattle.set_coder.specs.KeptBlocks.{AreCoded};
 ghost use Rattle.set_coder.specs.SetSizes.{display_sizes, region_size, clut_size, IsObjectSize, AreSegmentSizes};
 ghost use Rattle.set_coder.specs.Private.SizesLeft.{AreSizesLeft, IsMeasurable, IsNextSize, segments_left};
-ghost use Rattle.set_coder.specs.Private.Usable.{AreDrawable};
+ghost use Rattle.set_coder.specs.Usable.{AreDrawable};
 
 use crate::coded_picture::BlockLookup;
 use crate::named::{cue_at, epoch_of, epoch_region};

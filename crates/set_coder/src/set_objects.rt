@@ -9,7 +9,7 @@ ghost use Rattle.page_epoch.specs.Sendable.{HasCue};
 ghost use Rattle.set_coder.specs.Private.BothBlocks.{AreBothBlocks};
 ghost use Rattle.set_coder.specs.SetSegments.{object_segment, IsObjectOf, AreObjectsOf};
 ghost use Rattle.set_coder.specs.SetSizes.{IsObjectSize, AreObjectSizes};
-ghost use Rattle.set_coder.specs.Private.Usable.{AreDrawable};
+ghost use Rattle.set_coder.specs.Usable.{AreDrawable};
 ghost use Rattle.set_coder.specs.KeptBlocks.{AreCoded};
 ghost use Rattle.sub_base.specs.declared.load.TheConstants.{UNIT_ROOM};
 
@@ -106,8 +106,8 @@ fn fields_of<'a>(
     blocks.split_at(top)
 }
 
-/// Appends an object with the blocks of its two fields.
-fn append_blocks(
+/// Appends an object of that number with the blocks of its two fields.
+pub fn append_blocks(
     page: u16,
     object: u16,
     see_through: bool,

@@ -1,10 +1,12 @@
 ghost use Rattle.std.specs.Prelude.{◌≡◌, ◌<◌, ◌≤◌, ◌++◌, length, map, All, IfOk, OnOk};
 ghost use Rattle.std.specs.List.{flat_map};
 ghost use Rattle.cue_list.specs.declared.limits.TheConstants.{MOST_CUES, MOST_REGIONS};
-ghost use Rattle.stream_syntax.specs.Segments.{spelled, end_of_set};
+ghost use Rattle.stream_syntax.specs.Fields.{FitsFields};
+ghost use Rattle.stream_syntax.specs.Segments.{spelled, end_of_set, listing_fields};
 ghost use Rattle.page_epoch.specs.Sendable.{HasRegion, HasCue, HasColour, IsSendableIn, IsSendableRegion, IsSendableClut};
 ghost use Rattle.set_coder.specs.SetSegments.{display_segments, time_out_of, page_entry_of, page_segment, listing_of, region_segment_of, clut_entry_of, clut_segment_of, leading_segments};
-ghost use Rattle.set_coder.specs.Private.Usable.{IsUsable};
+ghost use Rattle.set_coder.specs.SetParts.{listed_region};
+ghost use Rattle.set_coder.specs.Usable.{IsUsable};
 
 use crate::named::{colour_at, cue_at, epoch_region};
 use cue_list::{Epoch, Script};
@@ -34,7 +36,7 @@ pub(crate) fn append_leading(
 }
 
 /// Appends the display definition, which a normal set does not have.
-fn append_display(
+pub fn append_display(
     script: &Script,
     page: u16,
     state: State,
@@ -65,8 +67,8 @@ fn time_out(script: &Script) -> u8
     (2 * (script.refresh / SECOND) + 2) as u8
 }
 
-/// Appends the page with the regions that it shows.
-fn append_page(
+/// Appends the page with the regions that it shows, for a set of the epoch.
+pub fn append_page(
     script: &Script,
     epoch: &Epoch,
     page: u16,
@@ -140,8 +142,28 @@ fn append_region(
         (field.new.items ≡ field.old.items
         ++ spelled page (region_segment_of epoch.now sent.now)) }
 {
-    let region = epoch_region(epoch, sent.id);
     let listings = listings_of(*field.allocator(), epoch, sent.cues.as_slice())?;
+    append_listed(epoch, page, sent, listings.as_slice(), field)
+}
+
+/// Appends a region of an epoch that lists these objects, one for each of its cues. After want of
+/// memory `field` is as before.
+pub fn append_listed(
+    epoch: &Epoch,
+    page: u16,
+    sent: &SentRegion,
+    listings: &[Listing],
+    field: &mut Vec<u8>,
+) -> Result<(), NoMemory>
+    requires usable { IsUsable epoch.now }
+    requires sent { IsSendableRegion epoch.now sent.now }
+    requires many { length listings.now ≡ length sent.now.cues }
+    requires fit { FitsFields (flat_map listing_fields listings.now) }
+    ensures bytes { OnOk result
+        (field.new.items ≡ field.old.items
+        ++ spelled page (listed_region epoch.now sent.now listings.now)) }
+{
+    let region = epoch_region(epoch, sent.id);
     let head = RegionHead {
         region: sent.id,
         version: sent.version,
@@ -154,11 +176,7 @@ fn append_region(
         code4: 0,
         code2: 0,
     };
-    let segment = SegmentOut::Region {
-        head,
-        listings: listings.as_slice(),
-    };
-    write_segment(page, &segment, field)
+    write_segment(page, &SegmentOut::Region { head, listings }, field)
 }
 
 /// The listings of cues.
@@ -199,7 +217,7 @@ fn append_cluts(
 }
 
 /// Appends a CLUT with its entries.
-fn append_clut(
+pub fn append_clut(
     epoch: &Epoch,
     page: u16,
     sent: &SentClut,
@@ -240,7 +258,7 @@ fn clut_entries(alloc: Global, epoch: &Epoch, rows: &[u32]) -> Result<Vec<ClutEn
 }
 
 /// Appends the end of a set.
-pub(crate) fn append_end(page: u16, field: &mut Vec<u8>) -> Result<(), NoMemory>
+pub fn append_end(page: u16, field: &mut Vec<u8>) -> Result<(), NoMemory>
     ensures bytes { OnOk result (field.new.items ≡ field.old.items ++ spelled page end_of_set) }
 {
     write_segment(page, &SegmentOut::End, field)

@@ -176,7 +176,7 @@ impl Measured {
 }
 
 /// The ticks that painting the regions of a set takes.
-fn painted_in(script: &Script, set: &PlannedSet) -> u64
+pub fn painted_in(script: &Script, set: &PlannedSet) -> u64
     requires { IsSendable script.now set.now }
     ensures painted { IsPaintedIn script.now set.now result }
     ensures short { result ≤ 274877906944 }

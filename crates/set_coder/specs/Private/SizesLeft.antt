@@ -5,7 +5,7 @@ use Rattle.cue_list.specs.declared.limits.TheConstants.{MOST_COLOURS, MOST_CUES}
 use Rattle.page_epoch.specs.Sendable.{HasCue}
 use Rattle.set_coder.specs.KeptBlocks.{AreCoded}
 use Rattle.set_coder.specs.SetSizes.{region_size, clut_size, AreObjectSizes}
-use Rattle.set_coder.specs.Private.Usable.{AreDrawable}
+use Rattle.set_coder.specs.Usable.{AreDrawable}
 use Rattle.set_coder.specs.declared.segment_sizes.SegmentSizes.{SegmentSizes}
 
 -- the sizes of the segments that are left, in their order

@@ -1,0 +1,6 @@
+pub mod PairDump
+pub mod PairOutcome
+pub mod PairSets
+pub mod PairStream
+pub mod PairWords
+pub mod Private

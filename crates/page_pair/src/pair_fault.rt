@@ -1,0 +1,50 @@
+ghost use Rattle.page_pair.specs.PairOutcome.{pair_fault_name};
+
+use cue_list::ScriptFault;
+use page_epoch::PlanFault;
+use schedule::ScheduleFault;
+use stream_syntax::PacketFault;
+use sub_base::FaultName;
+
+/// Why two scripts are not sent on one PID, or why the packets of such a stream are not gone
+/// through. The faults within are never want of memory. Sets are counted from 0.
+#[derive(Clone, Copy, Debug, PartialEq, Eq)]
+pub enum PairFault {
+    /// The first script is none.
+    FirstScript(ScriptFault),
+    /// The second script is none.
+    SecondScript(ScriptFault),
+    /// The records of this number, of the first three, differ: origin, display or refresh.
+    Heads { row: u8 },
+    /// The first script has no plan.
+    FirstPlan(PlanFault),
+    /// The second script has no plan.
+    SecondPlan(PlanFault),
+    /// The plans have not both a set of one time and one state at this place.
+    Uneven { set: u64 },
+    /// The segments of the set of both at this place have no room in one PES packet; the size is
+    /// that of the PES packet, in bytes.
+    TooLong { set: u64, size: u64 },
+    /// The set that this record of the first script brings has no slots.
+    Schedule { row: u64, fault: ScheduleFault },
+    /// A packet of a stream is refused.
+    Stream { packet: u64, fault: PacketFault },
+}
+
+impl FaultName for PairFault {
+    ghost name_of = { pair_fault_name };
+
+    fn name(&self) -> &'static str {
+        match self {
+            PairFault::FirstScript(_) => "FirstScript",
+            PairFault::SecondScript(_) => "SecondScript",
+            PairFault::Heads { .. } => "Heads",
+            PairFault::FirstPlan(_) => "FirstPlan",
+            PairFault::SecondPlan(_) => "SecondPlan",
+            PairFault::Uneven { .. } => "Uneven",
+            PairFault::TooLong { .. } => "TooLong",
+            PairFault::Schedule { .. } => "Schedule",
+            PairFault::Stream { .. } => "Stream",
+        }
+    }
+}
