@@ -11,3 +11,4 @@ pub mod Standings
 pub mod UnitSteps
 pub mod PacketLaws
 pub mod ReadLaws
+pub mod ReadySets

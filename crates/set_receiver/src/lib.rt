@@ -7,7 +7,7 @@ mod receiver;
 mod taking;
 
 pub use receiver::SetReceiver;
-pub use set_reader::Arrival;
+pub use set_reader::{Arrival, Came};
 
 #[cfg(test)]
 mod tests;

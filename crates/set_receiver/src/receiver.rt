@@ -7,7 +7,7 @@ use crate::taking::take;
 use decoder_model::Pages;
 use display_sets::Ready;
 use page_core::{Core, SetEnd};
-use set_reader::{Arrival, SetReader};
+use set_reader::{Arrival, Came, SetReader};
 use std::alloc::Global;
 use std::marker::Model;
 use stream_syntax::{Event, PacketFault};
@@ -38,7 +38,8 @@ impl Model for SetReceiver {
 
 impl SetReceiver {
     ghost use Rattle.std.specs.Prelude.{◌≡◌, ◌<◌, ◌≤◌, ◌^◌, ℕ, Bool, true, false};
-    ghost use Rattle.std.specs.Prelude.{List, [], ◌∷◌, ◌++◌, reverse};
+    ghost use Rattle.std.specs.Prelude.{List, [], ◌∷◌, ◌++◌, length, reverse};
+    ghost use Rattle.std.specs.Option.{ForSome};
     ghost use Rattle.std.specs.Prelude.{None, Some, option_and_then, option_map};
     ghost use Rattle.std.specs.Prelude.{IfErr, IfOk, IfSome, IsSome, MatchResult, OnOk};
     ghost use Rattle.stream_syntax.specs.TransportPackets.{packet_fault};
@@ -55,6 +56,7 @@ impl SetReceiver {
     ghost use Rattle.display_sets.specs.Lent.{lent};
     ghost use Rattle.display_sets.specs.Standing.{IsFirst};
     ghost use Rattle.set_reader.specs.Arrived.{arrival_value};
+    ghost use Rattle.set_reader.specs.Collecting.{losses};
     ghost use Rattle.set_receiver.specs.Receiving.{AreLosses, IsNext, IsSame, Stands};
     ghost use Rattle.sub_base.specs.declared.profile.TheConstants.{LARGEST_BUFFER};
     ghost use Rattle.set_receiver.specs.Receiving.{reception, sets_received, set_time};
@@ -113,9 +115,37 @@ impl SetReceiver {
         ensures page { self.new.core.page ≡ self.old.core.page }
         ensures same { IsSame self.old self.new }
     {
+        let came = self.feed_counting(packet)?;
+        Ok(came.event)
+    }
+
+    /// The same, and how many losses the packet means besides what became of it.
+    pub fn feed_counting(&mut self, packet: &[u8; 188]) -> Result<Came, PacketFault>
+        requires none { ready_sets self.old.collecting.sets ≡ [] }
+        ensures fault { MatchResult result
+            (λ _. packet_fault (reception self.old).pid packet.now ≡ None)
+            (λ fault. packet_fault (reception self.old).pid packet.now ≡ Some fault) }
+        ensures unchanged { IfErr result (λ _. self.new ≡ self.old) }
+        ensures stands { IfOk result (λ came.
+            (fed : List (List ℕ)) (given : List (Delivery (List ℕ)))
+            → Stands false fed given self.old
+            → Stands false (fed ++ packet.now ∷ []) (given ++ losses came.losses) self.new) }
+        ensures event { IfOk result (λ came.
+            (fed : List (List ℕ)) (given : List (Delivery (List ℕ)))
+            → Stands false fed given self.old
+            → came.event ≡ event_at (reception self.old).pid (reception self.old).profile.coded fed
+            packet.now) }
+        ensures arrival { OnOk result ((fed : List (List ℕ)) (given : List (Delivery (List ℕ)))
+            → Stands false fed given self.old
+            → self.new.collecting.arrival ≡ packet_arrival (reception self.old).profile.coded
+            (reception self.old).pid (reception self.old).pages fed packet.now) }
+        ensures load { self.new.load ≡ self.old.load }
+        ensures page { self.new.core.page ≡ self.old.core.page }
+        ensures same { IsSame self.old self.new }
+    {
         let came = self.reader.feed(packet)?;
         lose(&mut self.core, came.losses);
-        Ok(came.event)
+        Ok(came)
     }
 
     /// The stream has ended: a set in hand without its end is ready as it stands.
@@ -161,6 +191,8 @@ impl SetReceiver {
             → Stands ended fed given self.now
             → IsFirst (sets_received (reception self.now) ended fed) given
             (option_map lent result) }
+        ensures within { ForSome result
+            (λ ready. IfOk ready.segments (λ bytes. length bytes.now < 2 ^ 32)) }
     {
         self.reader.ready()
     }
@@ -181,6 +213,7 @@ impl SetReceiver {
             → IsNext ended fed given next rest self.now → AreDeliveriesRead (reverse given) past
             → IsDeliveryRead next one
             → result ≡ lifted_time (reception self.now).anchor past one }
+        ensures bounded { IfSome result (λ time. time < 2 ^ 62) }
     {
         let ready = self.reader.ready()?;
         self.core.lift(ready.time)

@@ -1,0 +1,10 @@
+use Rattle.splice.proofs.PacketLaws.{bytes_of, packet_taken}
+use Rattle.splice.proofs.stream_reader.take_packet.Goals as goal
+
+pub returns-clause-packet : goal.returns-clause-packet
+returns-clause-packet c =
+    packet_taken c.args.part c.args.receiver.now c.feed_counting.new.self c.args.packet.now c.args.place
+    c.in-Ok.came.losses c.args.found.now c.args.joined.now (bytes_of c.args.packet.now c.fits-packet)
+    c.requires.place c.in-Ok.ensures.fault (λ fed given stands. c.in-Ok.ensures.stands fed given stands)
+    c.feed_counting.ensures.same c.take_ready.new.receiver c.with_losses.result c.take_ready.new.found
+    c.take_ready.new.joined c.with_losses.ensures c.in_ok-take_ready.ensures.sets

@@ -1,0 +1,58 @@
+ghost use Rattle.splice.specs.SpliceOutcome.{splice_fault_name};
+
+use schedule::ScheduleFault;
+use stream_syntax::PacketFault;
+use sub_base::FaultName;
+
+/// Why two streams are not joined. The kinds are tested in this order, and the first three of the
+/// first stream before the second; packets and sets are counted from 0.
+#[derive(Clone, Copy, Debug, PartialEq, Eq)]
+pub enum SpliceFault {
+    /// The packet is the first of its stream that cannot be taken.
+    Packet {
+        second: bool,
+        packet: u64,
+        fault: PacketFault,
+    },
+    /// The packet is the first of its stream with which something is lost.
+    Lost {
+        second: bool,
+        packet: u64,
+    },
+    /// The set, counted among all sets of its stream, is the first that is not shown: in the first
+    /// stream among those that are not kept or lie before the cut.
+    NotShown {
+        second: bool,
+        set: u64,
+    },
+    /// The second stream has no set, or its first one is an acquisition point and no mode change.
+    NoModeChange,
+    /// The first stream's last set before the cut, at this tick of 90 kHz, lies 3,600 ticks or less
+    /// before it.
+    CutTooClose {
+        last: u64,
+    },
+    /// The first stream's last set before the cut, at this tick of 90 kHz, lies 2^32 ticks or more
+    /// before it.
+    CutTooFar {
+        last: u64,
+    },
+    /// The sets of the joined streams cannot be sent in time; the fault is never want of memory.
+    Schedule(ScheduleFault),
+}
+
+impl FaultName for SpliceFault {
+    ghost name_of = { splice_fault_name };
+
+    fn name(&self) -> &'static str {
+        match self {
+            SpliceFault::Packet { .. } => "Packet",
+            SpliceFault::Lost { .. } => "Lost",
+            SpliceFault::NotShown { .. } => "NotShown",
+            SpliceFault::NoModeChange => "NoModeChange",
+            SpliceFault::CutTooClose { .. } => "CutTooClose",
+            SpliceFault::CutTooFar { .. } => "CutTooFar",
+            SpliceFault::Schedule(_) => "Schedule",
+        }
+    }
+}
