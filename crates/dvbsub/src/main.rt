@@ -9,7 +9,7 @@ ghost use Rattle.dvbsub_cmd.specs.Outcome.{untold};
 ghost use Rattle.dvbsub_cmd.specs.StatusText.{code_of};
 ghost use Rattle.dvbsub.specs.Ends.{is_told_of_stream, kind_of_words, unkept};
 
-use command_line::{COMMANDS, command_table};
+use command_line::COMMANDS;
 use dvbsub_cmd::{Status, Which, inputs, tell, top};
 use program_files::{
     Output, OutputKind, WordsFault, is_kept, numbers_of, opened, output_name, word_at, words_of,
@@ -18,7 +18,7 @@ use reasons::explain;
 use std::io;
 use std::process::ExitCode;
 use std::thread::Threads;
-use sub_base::{FileSink, FileSource, NoGate, NoMemory, Words};
+use sub_base::{FileSink, FileSource, NoGate, Words};
 
 fn main(rt: HostRuntime) -> ExitCode {
     let code = match words_of(&rt) {
@@ -103,20 +103,13 @@ fn told(rt: &HostRuntime, status: Status, is_taken: bool) -> u8
     ensures { (result ≡ code_of status) ⊎ (result ≡ code_of (untold status)) }
 {
     if let Status::Usage = status {
-        write_table(rt);
+        let _ = eprintln!(rt; "{COMMANDS}");
     }
     if is_taken {
         tell(status, &mut FileSink::make(Some(rt.stderr()))).code()
     } else {
         tell(status, &mut FileSink::make(Some(io::writer(rt)))).code()
     }
-}
-
-fn write_table(rt: &HostRuntime) {
-    let _ = match command_table(rt.alloc()) {
-        Ok(table) => eprint!(rt; "{table}"),
-        Err(NoMemory) => eprintln!(rt; "{COMMANDS}"),
-    };
 }
 
 #[cfg(test)]

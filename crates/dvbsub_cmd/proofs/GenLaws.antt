@@ -20,6 +20,7 @@ use Rattle.page_epoch.specs.declared.planned_set.PlannedSet.{PlannedSet}
 use Rattle.reading_laws.proofs.OneReading.{same_past}
 use Rattle.schedule.specs.Slots.{Timetable}
 use Rattle.set_coder.specs.SetSizes.{IsSetLoad}
+use Rattle.shown_stream.proofs.Shown.FirstTimes.{first_of_all_times}
 use Rattle.shown_stream.proofs.Sent.CompiledPackets.{ArePackets, are_packets, packets_in}
 use Rattle.shown_stream.proofs.Shown.CompiledShown.{compiled_entered}
 use Rattle.shown_stream.proofs.Calls.CompiledStays.{compiled_stays}
@@ -100,7 +101,7 @@ module _ (name : ProfileName) (script : Script) (bytes : List ℕ) (is_for : IsG
       (entry_set missed (sent_sets compiled.table compiled.sets)) tick (authored_view script tick)
   shows missed tick =
       (compiled_entered name generated_pid generated_page script bytes free (sends name is_for) compiled missed).shown 0
-      (suits missed) tick
+      (first_of_all_times 0 missed (sent_sets compiled.table compiled.sets) (suits missed)) tick
 
   -- the packets in memory are these
   are_sent : (packets : List (List ℕ)) → packets ≡ whole_packets bytes → packets ≡ packets_sent

@@ -43,7 +43,8 @@ pub fn shows_authored<R: Threads + Sync, G: BandGate + Sync>(
 
 /// Whether two texts are the same.
 fn is_same(shown: &[u8], authored: &[u8]) -> bool
-    ensures { shown.now ≡ authored.now → result ≡ true }
+    ensures same { shown.now ≡ authored.now → result ≡ true }
+    ensures only_same { result ≡ true → shown.now ≡ authored.now }
 {
     shown == authored
 }

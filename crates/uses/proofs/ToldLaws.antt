@@ -31,7 +31,7 @@ module _ (script : Script) (tick : ℕ) (sent : SentScript) (of : IsSentFor Sd 2
       → (before now : Option (List ℕ)) → Appends before now text → TellsPicture script tick before now
   told_text packets text same told before now written =
       let anchor = anchor_of (tick ∷ []) in
-      let suits = shown.suits 0 anchor (omega (arith, late, early)) (omega (arith, late, early)) in
+      let suits = shown.first_suits 0 anchor (omega (arith, late, early)) (omega (arith, late, early)) in
       let here = (shown.entered 0).shown anchor suits tick in
       let received : HasReceived (profile_of Sd) 256 (only 1) true shown.packets told.past =
       subst (λ (all : List (List ℕ)). HasReceived (profile_of Sd) 256 (only 1) true all told.past) same
