@@ -1,4 +1,5 @@
-"""Draws fonts of the printable ASCII characters as pen strokes, in a box of 8 by 14 pixels, or larger by two factors.
+"""Draws fonts of the characters of ASCII and the letters of Latin-1 as pen strokes, in a box of 8 by 14 pixels, or larger by two
+factors.
 
     python3 examples/draw_subtitle_font.py > examples/subtitle.bdf
     python3 examples/draw_subtitle_font.py 2 3 > examples/television.bdf
@@ -8,6 +9,7 @@ Row 0 stands on the base line. The pen is two pixels wide and one high, and grow
 """
 
 import sys
+import unicodedata
 
 ROUND = "1,0 0,1 0,7 1,8 3,8 4,7 4,1 3,0 1,0"
 BOWL = "0,0 0,8 3,8 4,7 4,5 3,4 0,4"
@@ -42,9 +44,38 @@ STROKES = {
     "r": "0,0 0,5; 0,3 2,5 4,5", "s": "4,5 1,5 0,4 1,3 3,3 4,2 4,1 3,0 0,0", "t": "2,8 2,1 3,0 4,0; 0,5 4,5",
     "u": "0,5 0,1 1,0 4,0; 4,5 4,0", "v": "0,5 0,3 2,0 4,3 4,5", "w": "0,5 0,0 2,2 4,0 4,5", "x": "0,0 4,5; 0,5 4,0",
     "y": "0,5 0,1 1,0 4,0; 4,5 4,-2 3,-3 0,-3", "z": "0,5 4,5 0,0 4,0",
+    "¡": "2,5 2,0; 2,8 2,8", "¿": "4,1 3,0 1,0 0,1 0,3 2,5; 2,8 2,8", "«": "2,5 0,3 2,1; 4,5 2,3 4,1", "»": "0,5 2,3 0,1; 2,5 4,3 2,1",
+    "£": "0,0 4,0; 1,0 1,7 2,8 3,8 4,7; 0,4 3,4", "Æ": "0,0 0,4 2,8 4,8; 2,8 2,0 4,0; 0,4 4,4", "Ð": "0,0 0,8 2,8 4,6 4,2 2,0 0,0; 0,4 2,4",
+    "Ø": ROUND + "; 0,0 4,8", "Þ": "0,8 0,0; 0,6 3,6 4,5 4,3 3,2 0,2", "ß": "0,0 0,7 1,8 3,8 4,7 3,5 4,3 4,1 3,0 2,0",
+    "æ": "0,4 1,5 2,4 2,1 1,0 0,1 1,3 4,3 4,4 3,5 2,4; 2,1 3,0 4,0", "ð": "1,0 0,1 0,4 1,5 3,5 4,4 4,1 3,0 1,0; 4,5 2,8; 1,7 3,8",
+    "ø": "1,0 0,1 0,4 1,5 3,5 4,4 4,1 3,0 1,0; 0,0 4,5", "þ": "0,8 0,-3; 0,5 3,5 4,4 4,1 3,0 0,0",
     "{": "3,9 2,8 2,5 1,4 2,3 2,0 3,-1", "|": "2,9 2,-2", "}": "1,9 2,8 2,5 3,4 2,3 2,0 1,-1", "~": "0,4 1,5 3,3 4,4",
 }
 
+# The marks above small letters; above capital letters they stand so many rows higher.
+MARKS = {
+    "\u0300": ("1,8 2,7", 2), "\u0301": ("2,7 3,8", 2), "\u0302": ("1,7 2,8 3,7", 2), "\u0303": ("0,7 1,8 3,7 4,8", 2),
+    "\u0308": ("0,7 0,7; 4,7 4,7", 3), "\u030a": ("1,7 1,8 2,8 2,7 1,7", 2), "\u0327": ("2,-1 2,-2 1,-3", 0),
+}
+
+
+def higher(strokes, rows):
+    """Strokes that many rows higher."""
+    corners = [[corner.split(",") for corner in stroke.split()] for stroke in strokes.split(";")]
+    return "; ".join(" ".join(f"{x},{int(y) + rows}" for x, y in stroke) for stroke in corners)
+
+
+def marked_letters():
+    """The letters of Latin-1 that are a letter and a mark."""
+    for code in range(0xC0, 0x100):
+        base, *mark = unicodedata.normalize("NFD", chr(code))
+        if mark:
+            strokes, rows = MARKS[mark[0]]
+            plain = "1,5 2,5 2,0; 1,0 3,0" if base == "i" else STROKES[base]
+            yield chr(code), plain + "; " + (higher(strokes, rows) if base.isupper() else strokes)
+
+
+STROKES.update(list(marked_letters()))
 ACROSS, UP = map(int, sys.argv[1:3]) if len(sys.argv) > 2 else (1, 1)
 WIDTH, HEIGHT, BOTTOM = 8 * ACROSS, 14 * UP, -3 * UP
 
