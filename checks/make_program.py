@@ -1,0 +1,185 @@
+#!/usr/bin/env python3
+"""Proves and makes a program of this repository, with all crates that it stands on.
+
+    python3 checks/make_program.py dvbsub
+
+Crates that do not stand on each other are proved side by side, each by a worker in a copy of the repository of its own, since commands of
+`rt` in one copy wait for each other. What is proved in one copy serves every other on the machine. Of the crates that could be next the
+one on the longest chain is taken first. A line on standard error tells of each crate as it is proved. Exit status 1, with what `rt` said,
+where a crate is refused.
+"""
+
+import os
+import pathlib
+import shutil
+import subprocess
+import sys
+import tempfile
+import threading
+import time
+
+TOP = pathlib.Path(__file__).resolve().parent.parent
+SOURCES = ("src", "specs", "proofs")
+# What the proof of a large crate takes of memory, in bytes.
+ROOM = 3 * 2**30
+FIRST_CALL = "about half an hour on four processors"
+
+
+def tell(line):
+    print(line, file=sys.stderr, flush=True)
+
+
+def libraries_of():
+    """The crates of crates.txt, each with the crates that it stands on."""
+    libraries = {}
+    for line in (TOP / "crates.txt").read_text().splitlines():
+        name, colon, words = line.split("#")[0].partition(":")
+        if colon:
+            libraries[name.strip()] = words.split()
+    return {name: [word for word in words if word in libraries] for name, words in libraries.items()}
+
+
+def crates_of(program, libraries):
+    """The program and what it stands on, the lowest first."""
+    crates = []
+
+    def visit(name):
+        for below in libraries[name]:
+            visit(below)
+        if name not in crates:
+            crates.append(name)
+
+    visit(program)
+    return crates
+
+
+def files_of(crate):
+    """The files of a crate's sources, and their folders, which tell of a file that is gone."""
+    parts = [TOP / "crates" / crate / part for part in SOURCES]
+    return [file for part in parts if part.exists() for file in (part, *part.rglob("*"))]
+
+
+def changed_since(made, crates, libraries):
+    """The crates that are newer than that time, or stand on one that is."""
+    changed = []
+    for crate in crates:
+        is_newer = any(file.stat().st_mtime > made for file in files_of(crate))
+        if is_newer or any(below in changed for below in libraries[crate]):
+            changed.append(crate)
+    return changed
+
+
+def chain_lengths(crates, libraries):
+    """How much there is to prove from a crate up to the program, by the bytes of its sources."""
+    lengths = {}
+    for crate in reversed(crates):
+        above = [lengths[other] for other in crates if crate in libraries[other]]
+        lengths[crate] = sum(file.stat().st_size for file in files_of(crate)) + max(above, default=0)
+    return lengths
+
+
+def worker_count(crates):
+    """As many workers as there are processors and room in memory for."""
+    words = (line.split() for line in open("/proc/meminfo", encoding="ascii"))
+    free = next(int(count) * 1024 for name, count, *_ in words if name == "MemAvailable:")
+    return max(1, min(len(os.sched_getaffinity(0)), free // ROOM, len(crates)))
+
+
+class Run:
+    """The crates that are still to prove, and those that are being proved."""
+
+    def __init__(self, crates, libraries):
+        self.left = list(crates)
+        self.count = len(crates)
+        self.lengths = chain_lengths(crates, libraries)
+        self.libraries = libraries
+        self.proved = set()
+        self.taken = set()
+        self.fault = None
+        self.turn = threading.Condition()
+
+    def next_crate(self):
+        """Waits for a crate of which all below is proved; None where nothing is left to do."""
+        with self.turn:
+            while self.left and self.fault is None:
+                waits = set(self.left) | self.taken
+                ready = [crate for crate in self.left if not waits.intersection(self.libraries[crate])]
+                if ready:
+                    crate = max(ready, key=self.lengths.get)
+                    self.left.remove(crate)
+                    self.taken.add(crate)
+                    return crate
+                self.turn.wait()
+            return None
+
+    def ends(self, crate, fault):
+        with self.turn:
+            self.taken.remove(crate)
+            self.proved.add(crate)
+            self.fault = self.fault or fault
+            if fault is None:
+                tell(f"proved {len(self.proved)} of {self.count}: {crate}")
+            self.turn.notify_all()
+
+
+def output_of(words, folder):
+    run = subprocess.run(words, cwd=folder, stdin=subprocess.DEVNULL, stdout=subprocess.PIPE, stderr=subprocess.STDOUT, text=True, check=False)
+    return run.returncode, run.stdout
+
+
+def prove(run, top):
+    """Proves crates in that copy of the repository for as long as there are any."""
+    while (crate := run.next_crate()) is not None:
+        status, said = output_of(["rt", "lib"], top / "crates" / crate)
+        run.ends(crate, said if status != 0 else None)
+
+
+def copy_to(folder):
+    for name in ("crates.txt", "HANDLES"):
+        shutil.copy2(TOP / name, folder)
+    shutil.copytree(TOP / "crates", folder / "crates", ignore=shutil.ignore_patterns("out"))
+
+
+def prove_all(run):
+    """Proves all crates of the run; returns what `rt` said of one that was refused."""
+    with tempfile.TemporaryDirectory(prefix="ledgeprune-") as room:
+        tops = [TOP]
+        for number in range(1, worker_count(run.left)):
+            tops.append(pathlib.Path(room) / str(number))
+            tops[-1].mkdir()
+            copy_to(tops[-1])
+        workers = [threading.Thread(target=prove, args=(run, top)) for top in tops]
+        for worker in workers:
+            worker.start()
+        for worker in workers:
+            worker.join()
+    return run.fault
+
+
+def make(program):
+    """Proves and makes the program and runs it without words: that it then says `usage` shows that it was made."""
+    _, said = output_of(["rt", "run"], TOP / "crates" / program)
+    return None if "usage" in said.splitlines() else said
+
+
+def main(program):
+    libraries = libraries_of()
+    made = TOP / "crates" / program / "out" / "made"
+    crates = crates_of(program, libraries)
+    newest = made.stat().st_mtime if made.exists() else 0
+    begun = time.time()
+    changed = changed_since(newest, crates[:-1], libraries)
+    tell(f"{program}: the program is proved and made first, with {len(changed)} crates. From nothing that takes {FIRST_CALL}, once.")
+    fault = prove_all(Run(changed, libraries)) or make(program)
+    if fault is not None:
+        tell(f"{fault}\n{program}: the program was not made")
+        return 1
+    tell(f"made {program}")
+    made.touch()
+    # What is changed meanwhile is newer than this.
+    os.utime(made, (begun, begun))
+    return 0
+
+
+if __name__ == "__main__":
+    sys.exit(main(sys.argv[1]))
