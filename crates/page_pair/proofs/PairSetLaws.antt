@@ -203,7 +203,7 @@ behind_more pages objects old first second new all one two =
     (more_trans (on pages.first end_of_set ∷ []) (on pages.second end_of_set ∷ []) first second new one two)
 
 -- segments that are written have as many bytes as are counted for them
-sizes : (segments : List Paged) → All CanBeWritten segments
+pub sizes : (segments : List Paged) → All CanBeWritten segments
     → length (flat_map paged_bytes segments) ≡ segments_size segments
 sizes [] fit = refl
 sizes (one ∷ more) fit =

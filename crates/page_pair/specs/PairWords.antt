@@ -6,6 +6,7 @@ use Rattle.command_words.specs.Words.{◌>>=◌, has_word, no_places, page_of, p
 use Rattle.command_words.specs.declared.place.InputPlaces.{InputPlaces}
 use Rattle.shown_stream.specs.Compiled.{IsCompiledFor}
 use Rattle.stream_syntax.specs.declared.wire.TheConstants.{NULL_PID}
+use Rattle.page_pair.specs.PairOutcome.{ArePagesApart}
 use Rattle.page_pair.specs.declared.pages.TwoPages.{TwoPages}
 use Rattle.page_pair.specs.declared.pair_words.Pairing.{Pairing}
 
@@ -37,6 +38,8 @@ abbrev pub pair_places : List (List ℕ) → InputPlaces
 pair_places words =
     if is_some (pair_words words) then record { first = Some 6; second = Some 7; out = Some 8 } else no_places
 
--- scripts are compiled for the profile, and null packets have another PID
-abbrev pub IsPairing : Pairing → Type 0
-IsPairing pairing = IsCompiledFor pairing.profile × (pairing.pid < NULL_PID)
+-- scripts are compiled for the profile, null packets have another PID, and the three pages differ
+pub record IsPairing (pairing : Pairing) : Type 0 where
+  pub compiled : IsCompiledFor pairing.profile
+  pub free : pairing.pid < NULL_PID
+  pub apart : ArePagesApart pairing.pages

@@ -14,18 +14,36 @@ mod set_object;
 mod sharing;
 mod written;
 
+// What sending the sets of both takes, and their PES packets.
+mod units;
+
 // Two scripts: read, and of equal timing.
 mod plain_script;
 mod timing;
 
+// The stream of two scripts: their plans, the slots of their sets, and why they are not sent.
+mod pair_stop;
+mod pair_stream;
+mod planned;
+mod slots;
+
 // The pictures of one of the languages.
 mod pair_dump;
+
+// The tools: what their words ask for, and how they end.
+mod pair_command;
+mod top;
 
 // What a receiver of each language shows.
 mod laws;
 
 pub use laws::{pair_is_entered, pair_is_sent};
 pub use pages::TwoPages;
+pub use pair_command::PairCommand;
 pub use pair_dump::{PairDump, dump_inputs};
 pub use pair_fault::PairFault;
+pub use top::pair_top;
 pub use pair_words::{Pairing, pair_inputs};
+
+#[cfg(test)]
+mod tests;

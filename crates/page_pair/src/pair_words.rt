@@ -1,4 +1,5 @@
-ghost use Rattle.std.specs.Prelude.{◌≡◌, IfSome};
+ghost use Rattle.std.specs.Prelude.{◌≡◌, IfSome, true};
+ghost use Rattle.page_pair.specs.PairOutcome.{ArePagesApart};
 ghost use Rattle.page_pair.specs.PairWords.{are_three as are_three_pages, pair_places, pair_words, IsPairing};
 
 use crate::pages::TwoPages;
@@ -60,7 +61,8 @@ pub(crate) fn pairing_of(words: &Words) -> Option<Pairing>
 
 /// Whether the three pages differ.
 fn are_three(pages: TwoPages) -> bool
-    ensures { result ≡ are_three_pages pages }
+    ensures three { result ≡ are_three_pages pages }
+    ensures apart { result ≡ true → ArePagesApart pages }
 {
     pages.first != pages.second && pages.first != pages.shared && pages.second != pages.shared
 }
