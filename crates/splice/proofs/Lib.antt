@@ -24,3 +24,11 @@ pub mod ReadLaws
 pub mod StepLaws
 -- A packet that is taken.
 pub mod PacketLaws
+-- The joined streams, sent.
+pub mod SentPackets
+-- How the tool ends.
+pub mod TopLaws
+-- A stream gone through to its end.
+pub mod SurveyLaws
+-- Why streams are not joined.
+pub mod RefusalLaws

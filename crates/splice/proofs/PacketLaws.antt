@@ -17,8 +17,9 @@ use Rattle.set_receiver.specs.Receiving.{IsSame, Receiving, Reception, Stands, r
 use Rattle.set_receiver.specs.Taking.{AreBytes, HasPast}
 use Rattle.set_receiver.proofs.PastLaws.{losses_read}
 use Rattle.set_receiver.proofs.TakenSets.{are_losses}
+use Rattle.splice.specs.KeptSets.{kept_among}
 use Rattle.splice.specs.StreamTests.{IsFirstLost, IsLossless, is_lost}
-use Rattle.splice.specs.Private.Parts.{shown_before}
+use Rattle.splice.specs.Private.Parts.{placed, shown_before}
 use Rattle.splice.specs.Private.Surveys.{HasFound, IsFoundSo, IsGoodSo, IsUnshownIn, TakesPacket, TakesSets, finding_lost, found_with, lost_after}
 use Rattle.splice.specs.declared.found.Finding.{Finding}
 use Rattle.splice.specs.declared.found.Finding.TheVariants.{Good, Unshown, Lost}
@@ -91,9 +92,9 @@ still_so made part earlier packets packet past before found joined Good more so 
   begin = so.begin;
   joined_are = so.joined_are;
 }
-still_so made part earlier packets packet past before found joined (Unshown set) more so = (more so.0, so.1)
+still_so made part earlier packets packet past before found joined (Unshown set) more so = (more so.0, so.1, so.2)
 still_so made part earlier packets packet past before found joined (Lost place) more so =
-    lost_later made packets packet place so
+    (lost_later made packets packet place so.0, so.1)
 
 -- something is lost with it
 lost_so : (made : Reception) (part : Part) (earlier : List RawSet) (packets : List (List ℕ)) (packet : List ℕ)
@@ -103,11 +104,11 @@ lost_so : (made : Reception) (part : Part) (earlier : List RawSet) (packets : Li
     → IsFoundSo made part earlier packets past before found joined finding
     → IsFoundSo made part earlier (packets ++ packet ∷ []) more after is joined (finding_lost place finding)
 lost_so made part earlier packets packet past more before after found is joined place Good brings so =
-    brings so.lossless
+    (brings so.lossless, (earlier ++ placed part (kept_among made.anchor before), so.joined_are))
 lost_so made part earlier packets packet past more before after found is joined place (Unshown set) brings so =
-    brings so.0
+    (brings so.0, so.2)
 lost_so made part earlier packets packet past more before after found is joined place (Lost first) brings so =
-    lost_later made packets packet first so
+    (lost_later made packets packet first so.0, so.1)
 
 some_more : (n : ℕ) → (suc n == 0) ≡ false
 some_more n = grind (arith, nat_tests)

@@ -78,7 +78,7 @@ bad_stays : (made : Reception) (part : Part) (earlier : List RawSet) (packets : 
     → IsFoundSo made part earlier packets (one ∷ past) after found joined finding
 bad_stays made part earlier packets past one before after found joined Good bad so = absurd (cc)
 bad_stays made part earlier packets past one before after found joined (Unshown set) bad so =
-    (so.0, unshown_later made (shown_before part) past set one so.1)
+    (so.0, unshown_later made (shown_before part) past set one so.1, so.2)
 bad_stays made part earlier packets past one before after found joined (Lost packet) bad so = so
 
 -- a set is passed over

@@ -26,7 +26,7 @@ use Rattle.set_receiver.proofs.TakenSets.{next_read, read_more}
 use Rattle.splice.specs.KeptSets.{kept_among, set_at}
 use Rattle.splice.specs.SplicedSets.{ArePaintedIn}
 use Rattle.splice.specs.StreamTests.{IsLookedAt, IsLossless}
-use Rattle.splice.specs.Private.JoinedSets.{IsJoinedOf}
+use Rattle.splice.specs.Private.JoinedSets.{HasSets, IsJoinedOf}
 use Rattle.splice.specs.Private.Parts.{cut_of, is_looked_at, placed, sent_time, shown_before}
 use Rattle.splice.specs.Private.Puts.{IsPut}
 use Rattle.splice.specs.Private.Surveys.{HasFound, IsFoundSo, IsGoodSo, IsPlacedFor, IsPreparedOf, IsUnshownIn, TakesSets, begins_anew, first_time, found_after, is_anew, is_good, is_shown}
@@ -196,12 +196,12 @@ kept_one made part earlier kept past delivery one placing load end start fin at 
 
 -- the set that is not shown, though it has to be
 unshown_one : (made : Reception) (part : Part) (earlier : List RawSet) (packets : List (List ℕ))
-    (past : List (Delivery Reading)) (before : List (Delivery (List ℕ))) (was : Found) (start : Joined)
+    (past : List (Delivery Reading)) (before : List (Delivery (List ℕ))) (was : Found) (start fin : Joined)
     (one : Delivery Reading) (end : SetEnd) → IsGoodSo made part earlier packets past before was start
-    → Some end ≡ verdict_of made.profile made.anchor past one
+    → fin ≡ start → Some end ≡ verdict_of made.profile made.anchor past one
     → (is_looked_at part (lifted_time made.anchor past one) && not (is_shown end)) ≡ true
-    → IsLossless made packets × IsUnshownIn made (shown_before part) (one ∷ past) was.sets
-unshown_one made part earlier packets past before was start one end so verdict test = (
+    → IsLossless made packets × IsUnshownIn made (shown_before part) (one ∷ past) was.sets × HasSets fin
+unshown_one made part earlier packets past before was start fin one end so same verdict test = (
   so.lossless,
   record {
     later = [];
@@ -217,6 +217,7 @@ unshown_one made part earlier packets past before was start one end so verdict t
         (second_of (is_looked_at part (lifted_time made.anchor past one)) (is_shown end) test) (verdict ∙ is);
     first = so.shown;
   },
+  subst HasSets (sym same) (earlier ++ placed part (kept_among made.anchor before), so.joined_are),
 )
 
 -- a set that need not be shown, or is
@@ -290,7 +291,8 @@ module _ (part : Part) (old new : Receiving) (was : Found) (start fin : Joined) 
     (same : IsSame old new) (good : is_good was.finding ≡ true) (cut : cut_of part < 2 ^ 34)
     (short : new.load.painted < 2 ^ 62)
     (put : is_good (found_after part next.glimpse end was).finding ≡ true
-    → IsPut next.placed new.load.painted start fin) where
+    → IsPut next.placed new.load.painted start fin)
+    (stays : is_good (found_after part next.glimpse end was).finding ≡ false → fin ≡ start) where
   taken_next : (ended : Bool) (packets : List (List ℕ)) (past : List (Delivery Reading))
       (has : HasPast ended packets past old)
       → IsTakenNext part was.begin next (reception old) ended packets past has.given new end
@@ -368,19 +370,21 @@ module _ (part : Part) (old new : Receiving) (was : Found) (start fin : Joined) 
           (found_after part next.glimpse end was) fin (found_after part next.glimpse end was).finding
       step made earlier packets past before delivery one so read is verdict loads prepared few low =
           by (is_looked_at part next.glimpse.lifted && not (is_shown end)) refl
-          (ap (λ (a : Option ℕ). is_looked_at part a && not (is_shown end)) (sym prepared.lifted_is)) put
+          (ap (λ (a : Option ℕ). is_looked_at part a && not (is_shown end)) (sym prepared.lifted_is)) put stays
         where
           by : (test : Bool) → (is_looked_at part next.glimpse.lifted && not (is_shown end)) ≡ test
               → (is_looked_at part (lifted_time made.anchor past one) && not (is_shown end))
               ≡ (is_looked_at part next.glimpse.lifted && not (is_shown end))
               → (is_good (cond test (bad_after was) (good_after next.glimpse was)).finding ≡ true
               → IsPut next.placed new.load.painted start fin)
+              → (is_good (cond test (bad_after was) (good_after next.glimpse was)).finding ≡ false → fin ≡ start)
               → IsFoundSo made part earlier packets (one ∷ past) (delivery ∷ before)
               (cond test (bad_after was) (good_after next.glimpse was)) fin
               (cond test (bad_after was) (good_after next.glimpse was)).finding
-          by true test at puts =
-              unshown_one made part earlier packets past before was start one end so verdict (at ∙ test)
-          by false test at puts =
+          by true test at puts same =
+              unshown_one made part earlier packets past before was start fin one end so (same refl) verdict
+              (at ∙ test)
+          by false test at puts same =
               subst (λ (f : Finding). IsFoundSo made part earlier packets (one ∷ past) (delivery ∷ before)
               (good_after next.glimpse was) fin f) (sym (good_is was.finding good))
               (good_one made part earlier packets past before was start fin delivery one next end new.load so
@@ -423,3 +427,6 @@ module _ (part : Part) (old new : Receiving) (was : Found) (start : Joined) (end
 
 pub never_good : (good : Bool) → false ≡ good → good ≡ true → ⊥
 never_good good is good_is = cc
+
+pub never_bad : (good : Bool) → true ≡ good → good ≡ false → ⊥
+never_bad good is bad = cc

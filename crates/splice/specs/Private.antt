@@ -6,3 +6,7 @@ pub mod Parts
 pub mod Surveys
 pub mod Puts
 pub mod Stops
+pub mod Surveyed
+pub mod Refusals
+pub mod Sent
+pub mod Inputs

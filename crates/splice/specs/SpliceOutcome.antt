@@ -1,17 +1,19 @@
 -- How `splice` ends: when it is done, why it refuses its streams, and what the output has received.
 use Rattle.std.specs.Prelude.{◌≡◌, ◌≢◌, ℕ, ◌+◌, ◌≤◌, ◌⊎◌, Bool, true, false, List, length, All, Some, None, codes}
 use Rattle.std.specs.List.{AllZip, concat}
-use Rattle.sub_base.specs.Endpoints.{WasRead, Wrote, WrotePrefix, WroteNothing}
+use Rattle.sub_base.specs.Endpoints.{Received, WasRead, Wrote, WrotePrefix, WroteNothing}
 use Rattle.sub_base.specs.Seen.{Seen}
 use Rattle.sub_base.specs.ToolOutcome.{Causes}
 use Rattle.sub_base.specs.declared.load.WriteLoad.{WriteLoad}
+use Rattle.sub_base.specs.declared.status.ToolStatus.{ToolStatus}
+use Rattle.sub_base.specs.declared.status.ToolStatus.TheVariants as tool
 use Rattle.packet_source.specs.InHand.{whole_packets}
 use Rattle.stream_syntax.specs.declared.transport.PacketFault.{PacketFault}
 use Rattle.schedule.specs.Refusals.{IsCause}
 use Rattle.schedule.specs.declared.fault.ScheduleFault.{ScheduleFault}
 use Rattle.schedule.specs.declared.fault.ScheduleFault.TheVariants.{Memory}
 use Rattle.splice.specs.SplicedSets.{Streams, IsLoadOf, first_reception, second_reception, splice_pace, spliced_sets}
-use Rattle.splice.specs.SplicedStream.{AreBothTaken, AreGood, AreWhole, CLOSE, CanBeJoined, FAR, IsLastBefore, IsSplicedTo}
+use Rattle.splice.specs.SplicedStream.{AreBothTaken, AreGood, AreWhole, CLOSE, CanBeJoined, FAR, IsLastBefore, IsShownAsBefore, IsSplicedTo}
 use Rattle.splice.specs.StreamTests.{AreShown, AreTaken, BeginsAnew, IsFirstLost, IsFirstRefused, IsFirstUnshown, IsLossless}
 use Rattle.splice.specs.declared.limits.TheConstants.{SPLICE_LIMIT}
 use Rattle.splice.specs.declared.splice_fault.SpliceFault.{SpliceFault}
@@ -91,7 +93,8 @@ IsSpliceRefused splicing streams (splice.Schedule fault) = IsUnscheduled splicin
 
 -- ---- causes
 
--- both streams were read, and the packets of the joined streams were written
+-- both streams were read, and the packets of the joined streams were written, of which a receiver shows before the cut
+-- what the first stream shows, and from the cut on what the second shows
 pub record IsSpliced (splicing : Splicing) (before now : Seen) : Type 0 where
   pub streams : Streams
   pub read : AreRead before now streams
@@ -99,6 +102,7 @@ pub record IsSpliced (splicing : Splicing) (before now : Seen) : Type 0 where
   pub each : All (λ packet. length packet ≡ 188) packets
   pub sent : IsSplicedTo splicing streams (concat packets)
   pub written : Wrote before.out now.out (concat packets)
+  pub shown : IsShownAsBefore splicing streams packets
 
 -- both streams were read, and are refused for that; nothing was written
 pub record IsRefusedFor (splicing : Splicing) (before now : Seen) (fault : SpliceFault) : Type 0 where
@@ -123,3 +127,13 @@ splice_causes splicing before now = record {
   IsStopped = WroteNothing before.out now.out ⊎ IsSplicedInPart splicing before now;
   limit = SPLICE_LIMIT;
 }
+
+-- nothing was written but with `Done` and with a write fault
+abbrev pub LeavesEmpty : Received → Received → ToolStatus SpliceFault → Type 0
+LeavesEmpty before now tool.Done = Unit {0}
+LeavesEmpty before now tool.Usage = WroteNothing before now
+LeavesEmpty before now (tool.Refused fault) = WroteNothing before now
+LeavesEmpty before now (tool.ReadFault which) = WroteNothing before now
+LeavesEmpty before now (tool.WriteFault which) = Unit {0}
+LeavesEmpty before now tool.Memory = WroteNothing before now
+LeavesEmpty before now (tool.InputTooLong which) = WroteNothing before now

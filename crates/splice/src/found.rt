@@ -6,6 +6,7 @@ ghost use Rattle.splice.specs.Private.Surveys.{is_shown as is_shown_end};
 
 use crate::part::Part;
 use decoder_model::SetEnd;
+use stream_syntax::PacketFault;
 
 /// What keeps a stream from being joined.
 #[derive(Clone, Copy)]
@@ -29,6 +30,15 @@ pub(crate) struct Found {
     pub anew: bool,
     /// The lifted time of the first set that is kept, in ticks.
     pub begin: Option<u64>,
+}
+
+/// What came of going through the packets of a stream.
+#[derive(Clone, Copy, Drop)]
+pub(crate) enum Survey {
+    /// The packet of that number, from 0, is the first that cannot be taken.
+    Refused { packet: u64, fault: PacketFault },
+    /// Each packet was taken, and this was found.
+    Whole(Found),
 }
 
 /// A set before a receiver takes it: its lifted time, the time at which it is kept where it is

@@ -19,14 +19,26 @@ mod part;
 mod found;
 mod prepared;
 mod stream_reader;
+mod survey;
+
+// Why streams that were gone through are not joined.
+mod refusal;
+
+// Two streams read and gone through, and the packets of the joined streams.
+mod input;
+mod joining;
+mod sent;
 
 // What receivers show of joined streams.
 mod laws;
 
+pub use joining::splice_top;
 pub use laws::spliced_is_shown;
 pub use limits::SPLICE_LIMIT;
 pub use splice_fault::SpliceFault;
 pub use splice_words::{Splicing, splice_inputs};
 
+#[cfg(test)]
+mod joining_tests;
 #[cfg(test)]
 mod tests;

@@ -2,6 +2,10 @@ ghost use Rattle.std.specs.Prelude.{◌≡◌, ◌<◌, ◌≤◌, ◌^◌, IfSo
 ghost use Rattle.command_words.specs.Ticks.{tick_of};
 ghost use Rattle.command_words.specs.Words.{page_of, pid_of, sending_profile as profile_of_word, word_at};
 ghost use Rattle.splice.specs.SpliceWords.{origin_of, splice_places, splice_words, splicing_of};
+ghost use Rattle.splice.specs.SplicedSets.{IsSplicing};
+ghost use Rattle.stream_syntax.specs.declared.wire.TheConstants.{NULL_PID};
+ghost use Rattle.sub_base.specs.Pace.{IsSending};
+ghost use Rattle.sub_base.specs.Profile.{profile_of};
 
 use command_words::{
     InputPlaces, LATEST_TICK, are_plain, has_word, no_files, page_in, pid_in, sending_profile,
@@ -43,7 +47,8 @@ pub fn splice_inputs(words: &Words) -> InputPlaces
 /// What the words `splice PROFILE PID PAGE ORIGIN CUT STREAM1 STREAM2 OUT` say, where they are such
 /// words.
 pub(crate) fn splicing_in(words: &Words) -> Option<Splicing>
-    ensures { result ≡ splice_words words.now }
+    ensures words { result ≡ splice_words words.now }
+    ensures ranges { IfSome result IsSplicing }
 {
     if !are_plain(words) || words.count() != 9 || !has_word(words, 0, "splice") {
         return None;
@@ -54,7 +59,8 @@ pub(crate) fn splicing_in(words: &Words) -> Option<Splicing>
 /// What the words behind the first say.
 fn splicing_at(words: &Words) -> Option<Splicing>
     requires { 5 < length words.now }
-    ensures { result ≡ splicing_of words.now }
+    ensures words { result ≡ splicing_of words.now }
+    ensures ranges { IfSome result IsSplicing }
 {
     let profile = profile_at(words, 1)?;
     let pid = pid_at(words, 2)?;
@@ -72,14 +78,16 @@ fn splicing_at(words: &Words) -> Option<Splicing>
 
 fn profile_at(words: &Words, place: usize) -> Option<ProfileName>
     requires { place < length words.now }
-    ensures { result ≡ profile_of_word (word_at words.now place) }
+    ensures profile { result ≡ profile_of_word (word_at words.now place) }
+    ensures sends { IfSome result (λ name. IsSending (profile_of name)) }
 {
     sending_profile(words.word(place))
 }
 
 fn pid_at(words: &Words, place: usize) -> Option<u16>
     requires { place < length words.now }
-    ensures { result ≡ pid_of (word_at words.now place) }
+    ensures pid { result ≡ pid_of (word_at words.now place) }
+    ensures free { IfSome result (λ pid. pid < NULL_PID) }
 {
     pid_in(words.word(place))
 }
@@ -94,7 +102,8 @@ fn page_at(words: &Words, place: usize) -> Option<u16>
 /// The tick of 33 bits that the word at a place is.
 fn origin_at(words: &Words, place: usize) -> Option<u64>
     requires { place < length words.now }
-    ensures { result ≡ origin_of (word_at words.now place) }
+    ensures tick { result ≡ origin_of (word_at words.now place) }
+    ensures range { IfSome result (λ origin. origin < 2 ^ 33) }
 {
     number_in(words.word(place).as_bytes(), 0, TIME_ROUND - 1)
 }
@@ -102,7 +111,8 @@ fn origin_at(words: &Words, place: usize) -> Option<u64>
 /// The tick that the word at a place is.
 fn tick_at(words: &Words, place: usize) -> Option<u64>
     requires { place < length words.now }
-    ensures { result ≡ tick_of (word_at words.now place) }
+    ensures tick { result ≡ tick_of (word_at words.now place) }
+    ensures range { IfSome result (λ tick. tick < 2 ^ 34) }
 {
     number_in(words.word(place).as_bytes(), 0, LATEST_TICK)
 }

@@ -73,7 +73,7 @@ pub(crate) fn take_packet(
 }
 
 /// Takes the sets that are ready, one after the other.
-fn take_ready(
+pub(crate) fn take_ready(
     alloc: Global,
     part: Part,
     receiver: &mut SetReceiver,

@@ -28,6 +28,10 @@ pub record IsJoinedOf (sets : List RawSet) (joined : Joined) : Type 0 where
   pub sized : AreSizedAs joined.loads.items units
   pub written : HaveRoom joined.loads.items → map concat units ≡ joined.written.items
 
+-- some sets are kept
+abbrev pub HasSets : Joined → Type 0
+HasSets joined = (sets : List RawSet) × IsJoinedOf sets joined
+
 -- the time of the last of these sets, where there is one
 abbrev pub IsLastTime : List RawSet → Option ℕ → Type 0
 IsLastTime sets None = sets ≡ []

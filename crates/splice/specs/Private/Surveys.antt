@@ -16,7 +16,7 @@ use Rattle.set_receiver.specs.Receiving.{Receiving, Reception, reception}
 use Rattle.set_receiver.specs.Taking.{HasPast}
 use Rattle.splice.specs.KeptSets.{kept_among, kept_sets, set_at}
 use Rattle.splice.specs.StreamTests.{AreShown, AreShownUpTo, BeginsAnew, IsFirstLost, IsFirstUnshown, IsLookedAt, IsLossless}
-use Rattle.splice.specs.Private.JoinedSets.{IsJoinedOf}
+use Rattle.splice.specs.Private.JoinedSets.{HasSets, IsJoinedOf}
 use Rattle.splice.specs.Private.Parts.{is_looked_at, placed, sent_time, shown_before}
 use Rattle.splice.specs.Private.Sendings.{IsSendingOf}
 use Rattle.splice.specs.declared.found.Finding.{Finding}
@@ -145,8 +145,9 @@ abbrev pub IsFoundSo : Reception → Part → List RawSet → List (List ℕ) �
 IsFoundSo made part earlier packets past before found joined Good =
     IsGoodSo made part earlier packets past before found joined
 IsFoundSo made part earlier packets past before found joined (Unshown set) =
-    IsLossless made packets × IsUnshownIn made (shown_before part) past set
-IsFoundSo made part earlier packets past before found joined (Lost packet) = IsFirstLost made packets packet
+    IsLossless made packets × IsUnshownIn made (shown_before part) past set × HasSets joined
+IsFoundSo made part earlier packets past before found joined (Lost packet) =
+    IsFirstLost made packets packet × HasSets joined
 
 -- the receiver was fed the packets, and this was found of them
 pub record HasFound (made : Reception) (part : Part) (earlier : List RawSet) (ended : Bool)
@@ -185,5 +186,5 @@ pub record IsGoodStream (made : Reception) (part : Part) (earlier : List RawSet)
 abbrev pub IsSurveyed : Reception → Part → List RawSet → List (List ℕ) → Found → Joined → Finding → Type 0
 IsSurveyed made part earlier packets found joined Good = IsGoodStream made part earlier packets found joined
 IsSurveyed made part earlier packets found joined (Unshown set) =
-    IsLossless made packets × IsFirstUnshown made (shown_before part) packets set
-IsSurveyed made part earlier packets found joined (Lost packet) = IsFirstLost made packets packet
+    IsLossless made packets × IsFirstUnshown made (shown_before part) packets set × HasSets joined
+IsSurveyed made part earlier packets found joined (Lost packet) = IsFirstLost made packets packet × HasSets joined

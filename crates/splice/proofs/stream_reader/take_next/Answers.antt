@@ -5,7 +5,7 @@ use Rattle.splice.specs.Private.Puts.{IsPut}
 use Rattle.splice.specs.Private.Surveys.{TakesSets, found_after, is_good}
 use Rattle.splice.specs.declared.found.Finding.{Finding}
 use Rattle.splice.specs.declared.found.Found.{Found}
-use Rattle.splice.proofs.StepLaws.{never_good, set_passed, set_taken}
+use Rattle.splice.proofs.StepLaws.{never_bad, never_good, set_passed, set_taken}
 use Rattle.splice.proofs.stream_reader.take_next.Goals as goal
 
 pub returns-then-not-is_good-clause-sets : goal.returns-then-not-is_good-clause-sets
@@ -38,7 +38,10 @@ returns-in_ok-put-clause-sets c =
     c.take-end.ensures.same (sym c.if-not-is_good.ensures) c.requires.cut
     (subst (λ load. load.painted < 2 ^ 62) c.load-painted.ensures.load c.load-painted.ensures.painted)
     (λ good. subst (λ load. IsPut c.in_ok-next.next.placed load.painted c.args.joined.now c.put.new.joined)
-    c.load-painted.ensures.load c.in_ok-put.ensures))
+    c.load-painted.ensures.load c.in_ok-put.ensures)
+    (λ bad. absurd (never_bad (is_good (found_after c.args.part c.in_ok-next.next.glimpse c.take-end.result
+    c.args.found.now).finding)
+    (c.if-is_good.ensures ∙ ap (λ (found : Found). is_good found.finding) c.with_set.ensures) bad)))
 
 pub returns-else-is_good-clause-sets : goal.returns-else-is_good-clause-sets
 returns-else-is_good-clause-sets c =
@@ -60,4 +63,5 @@ returns-else-is_good-clause-sets c =
     (subst (λ load. load.painted < 2 ^ 62) c.load-painted.ensures.load c.load-painted.ensures.painted)
     (λ good. absurd (never_good (is_good (found_after c.args.part c.in_ok-next.next.glimpse c.take-end.result
     c.args.found.now).finding)
-    (c.if-is_good.ensures ∙ ap (λ (found : Found). is_good found.finding) c.with_set.ensures) good)))
+    (c.if-is_good.ensures ∙ ap (λ (found : Found). is_good found.finding) c.with_set.ensures) good))
+    (λ bad. refl))
