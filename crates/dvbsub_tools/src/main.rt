@@ -9,18 +9,22 @@ ghost use Rattle.sub_base.specs.ToolOutcome.{tool_code, untold_tool};
 ghost use Rattle.dvbsub_tools.specs.Ends.{unkept};
 
 use command_text::tell_tool;
+use command_words::InputPlaces;
+use page_pair::{dump_inputs, pair_inputs, pair_top};
 use program_files::{
     Output, OutputKind, WordsFault, is_kept, numbers_of, opened, output_name, word_at, words_of,
 };
 use service_mux::{MuxFault, mux_inputs, mux_top, take_inputs, take_top};
+use splice::{splice_inputs, splice_top};
 use std::io;
 use std::process::ExitCode;
-use sub_base::{FaultName, FileSink, FileSource, ToolStatus, Which, Words};
+use std::thread::Threads;
+use sub_base::{FaultName, FileSink, FileSource, NoGate, ToolStatus, Which, Words};
 use table::TOOLS;
 
 fn main(rt: HostRuntime) -> ExitCode {
     let code = match words_of(&rt) {
-        Ok(words) => carry_out(&rt, &words),
+        Ok(words) => carry_out(&rt, &rt, &words),
         Err(WordsFault::Memory) => told(&rt, without_a_tool(ToolStatus::Memory), false),
         Err(WordsFault::NotText) => {
             let _ = eprintln!(&rt; "a word of the command line is no text in UTF-8");
@@ -38,10 +42,13 @@ fn without_a_tool(status: ToolStatus<MuxFault>) -> ToolStatus<MuxFault>
 }
 
 /// Carries out the tool that the first word names, and answers the code of its status.
-fn carry_out(rt: &HostRuntime, words: &Words) -> u8 {
+fn carry_out<T: Threads + Sync>(rt: &HostRuntime, threads: &T, words: &Words) -> u8 {
     match word_at(words, Some(0)) {
         Some(word) if word == "mux" => mux(rt, words),
+        Some(word) if word == "splice" => join(rt, words),
         Some(word) if word == "take" => take(rt, words),
+        Some(word) if word == "pair" => pair(rt, threads, words, pair_inputs(words)),
+        Some(word) if word == "pairdump" => pair(rt, threads, words, dump_inputs(words)),
         _ => told(rt, without_a_tool(ToolStatus::Usage), false),
     }
 }
@@ -71,6 +78,31 @@ fn mux(rt: &HostRuntime, words: &Words) -> u8 {
     told(rt, status, output.is_standard_output())
 }
 
+/// Joins two streams at a cut.
+fn join(rt: &HostRuntime, words: &Words) -> u8 {
+    let places = splice_inputs(words);
+    let first_name = word_at(words, places.first);
+    let second_name = word_at(words, places.second);
+    let first = opened(rt, first_name);
+    let second = opened(rt, second_name);
+    let mut output = Output::whole(
+        rt,
+        output_name(word_at(words, places.out), first_name, second_name),
+        numbers_of(&first),
+        numbers_of(&second),
+    );
+    let status = splice_top(
+        rt.alloc(),
+        words,
+        &mut FileSource::make(first),
+        &mut FileSource::make(second),
+        &mut FileSink::make(Some(&mut output)),
+        &mut FileSink::make(Some(io::sink())),
+    );
+    let status = ended(&mut output, status);
+    told(rt, status, output.is_standard_output())
+}
+
 /// Takes a service out of a multiplex.
 fn take(rt: &HostRuntime, words: &Words) -> u8 {
     let places = take_inputs(words);
@@ -88,6 +120,38 @@ fn take(rt: &HostRuntime, words: &Words) -> u8 {
         &mut FileSource::make(stream),
         &mut FileSink::make(Some(&mut output)),
         &mut FileSink::make(Some(io::sink())),
+    );
+    let status = ended(&mut output, status);
+    told(rt, status, output.is_standard_output())
+}
+
+/// Sends two scripts on one PID, or tells the pictures of one of them: `pairdump` names no second
+/// file, and does not call the second source.
+fn pair<T: Threads + Sync>(
+    rt: &HostRuntime,
+    threads: &T,
+    words: &Words,
+    places: InputPlaces,
+) -> u8 {
+    let first_name = word_at(words, places.first);
+    let second_name = word_at(words, places.second);
+    let first = opened(rt, first_name);
+    let second = opened(rt, second_name);
+    let mut output = Output::whole(
+        rt,
+        output_name(word_at(words, places.out), first_name, second_name),
+        numbers_of(&first),
+        numbers_of(&second),
+    );
+    let status = pair_top(
+        threads,
+        rt.alloc(),
+        words,
+        &mut FileSource::make(first),
+        &mut FileSource::make(second),
+        &mut FileSink::make(Some(&mut output)),
+        &mut FileSink::make(Some(io::sink())),
+        &NoGate,
     );
     let status = ended(&mut output, status);
     told(rt, status, output.is_standard_output())

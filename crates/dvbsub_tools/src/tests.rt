@@ -8,22 +8,37 @@ fn codes_of_tools_that_fail(rt: HostRuntime) -> Result<(), Fail> {
     let none_there = "take 1 /dev/null no_such_folder/out.ts";
     let empty = "mux 1 100 256 1 eng 2 101 257 1 fre /dev/null /dev/null no_such_folder/out.ts";
     let same_pid = "mux 1 100 256 1 eng 2 101 256 1 fre /dev/null /dev/null out.ts";
+    let no_script = "pair sd 256 1 2 3 /dev/null /dev/null no_such_folder/out.ts";
+    let no_second = "pair sd 256 1 2 3 /dev/null no_such.csv no_such_folder/out.ts";
+    let missing_first = "pair sd 256 1 2 3 no_such.csv /dev/null no_such_folder/out.ts";
+    let same_page = "pair sd 256 1 2 1 /dev/null /dev/null no_such_folder/out.ts";
+    let no_stream = "pairdump sd 256 1 3 1 no_such.ts no_such_folder/out.txt 0";
+    let untold = "pairdump sd 256 1 3 1 /dev/null no_such_folder/out.txt 0";
     let overwriting = "mux 1 100 256 1 eng 2 101 257 1 fre /dev/null /dev/null /dev/null";
     let cases = [
         ("list 256 a b", 2),
         ("take 0 a b", 2),
+        (same_page, 2),
+        (no_script, 3),
+        (no_second, 3),
+        (missing_first, 5),
+        (no_stream, 5),
+        (untold, 6),
         (same_pid, 2),
         (none_there, 3),
         (missing, 5),
         (empty, 6),
         (overwriting, 6),
+        ("splice sd 256 1 0 1 /dev/null /dev/null no_such_folder/out.ts", 3),
+        ("splice sd 256 1 0 1 /dev/null no_such_stream.ts out.ts", 5),
+        ("splice sd 256 1 8589934592 1 /dev/null /dev/null out.ts", 2),
     ];
     for (line, code) in cases {
         let mut words = Words::make(rt.alloc());
         for word in line.split(' ') {
             words.push(word)?;
         }
-        assert_eq!(rt; carry_out(&rt, &words), code);
+        assert_eq!(rt; carry_out(&rt, &rt, &words), code);
     }
     Ok(())
 }
