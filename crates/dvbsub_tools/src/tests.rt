@@ -29,7 +29,10 @@ fn codes_of_tools_that_fail(rt: HostRuntime) -> Result<(), Fail> {
         (missing, 5),
         (empty, 6),
         (overwriting, 6),
-        ("splice sd 256 1 0 1 /dev/null /dev/null no_such_folder/out.ts", 3),
+        (
+            "splice sd 256 1 0 1 /dev/null /dev/null no_such_folder/out.ts",
+            3,
+        ),
         ("splice sd 256 1 0 1 /dev/null no_such_stream.ts out.ts", 5),
         ("splice sd 256 1 8589934592 1 /dev/null /dev/null out.ts", 2),
     ];

@@ -1,7 +1,6 @@
 -- The objects of the cues of a set.
-use Rattle.std.proofs.Common.{◌≡◌, ◌+◌, ◌<◌, ◌≤◌, ℕ, List, [], ◌∷◌, ◌++◌, length, get_or, map, take, Some, refl, sym, subst, arith}
+use Rattle.std.proofs.Common.{◌≡◌, ◌+◌, ◌<◌, ◌≤◌, ℕ, List, [], ◌∷◌, ◌++◌, length, get_or, map, take, Some, refl, sym, subst}
 use Rattle.std.specs.Prelude.{slice_get}
-use Rattle.std.specs.List.{AllZip}
 use Rattle.std.proofs.lemmas.List.{take_all}
 use Rattle.sub_base.specs.Picture.{Picture}
 use Rattle.cue_list.specs.declared.epoch.Epoch.{Epoch}
@@ -11,7 +10,7 @@ use Rattle.page_epoch.specs.declared.planned_set.PlannedSet.{PlannedSet}
 use Rattle.set_coder.specs.SetSegments.{AreObjectsOf}
 use Rattle.set_coder.specs.Usable.{IsUsable}
 use Rattle.script_stream.proofs.UnitLaws.{AllZip-more}
-use Rattle.page_pair.specs.PairSets.{CueObject, Side}
+use Rattle.page_pair.specs.PairSets.{CueObject}
 use Rattle.page_pair.specs.Private.Objects.{AreAt, IsAt, IsReady, by_cue}
 
 -- one object more

@@ -1,8 +1,7 @@
 -- The objects of two languages in their order, one shared object after another.
-use Rattle.std.proofs.Common.{◌≡◌, ◌∙◌, ◌+◌, ◌<◌, ◌≤◌, ℕ, eqb, Bool, true, false, cond, List, [], ◌∷◌, ◌++◌, length, get_or, drop, take, append-nil, append_assoc, refl, sym, ap, subst, arith}
+use Rattle.std.proofs.Common.{◌≡◌, ◌∙◌, ◌+◌, ◌<◌, ◌≤◌, ℕ, eqb, true, false, cond, List, [], ◌∷◌, ◌++◌, length, get_or, drop, take, append-nil, append_assoc, sym, ap, subst}
 use Rattle.std.proofs.lemmas.List.{drop_all, take_more, take_all}
 use Rattle.page_pair.specs.PairSets.{CueObject, Paged, at_cue, before_cue, behind_cue, in_order, own}
-use Rattle.page_pair.specs.Private.Objects.{IsPlaceOf}
 use Rattle.page_pair.specs.declared.pages.TwoPages.{TwoPages}
 use Rattle.page_pair.proofs.SharingLaws.{drop_at, drop_behind}
 use Rattle.shown_plan.specs.NamedSets.{Names}

@@ -12,7 +12,7 @@ use Rattle.cue_list.specs.declared.epoch.Epoch.{Epoch}
 use Rattle.page_epoch.specs.declared.planned_set.SentClut.{SentClut}
 use Rattle.set_coder.specs.SetSegments.{clut_segment_of}
 use Rattle.shown_plan.specs.NamedSets.{Names}
-use Rattle.page_pair.specs.PairSets.{CueObject, Paged, Side, at_cue, before_cue, behind_cue, first_names, in_order, names_of, own, paged_bytes, pair_segments, pairs_of, second_names, segments_size, pair_size, shared_objects, head_of, is_same_flag, is_same_segment, on, own_cluts, paged_length, shared_cluts}
+use Rattle.page_pair.specs.PairSets.{CueObject, Paged, Side, at_cue, before_cue, behind_cue, first_names, in_order, names_of, own, paged_bytes, pair_segments, pairs_of, second_names, segments_size, head_of, is_same_flag, is_same_segment, on, own_cluts, paged_length, shared_cluts}
 use Rattle.page_pair.specs.Private.Writing.{AreWritten, CanBeWritten, IsSetStop, WritesMore, behind, clut_bytes, cluts_by, leading_segments}
 use Rattle.page_pair.specs.declared.pages.TwoPages.{TwoPages}
 use Rattle.page_pair.specs.declared.written.Written.{Written}

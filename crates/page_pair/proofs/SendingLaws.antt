@@ -1,6 +1,6 @@
 -- The stream that is made of two plans, why none is, and the packets that are written of it.
-use Rattle.std.proofs.Common.{◌≡◌, ◌∙◌, refl, sym, ap, subst, suc, ℕ, ◌+◌, ◌^◌, ◌<◌, ◌≤◌, List, [], ◌∷◌, ◌++◌, length, get_or, map, take, All, arith, Option, Some, None}
-use Rattle.std.specs.Prelude.{zip, slice_get}
+use Rattle.std.proofs.Common.{◌≡◌, ◌∙◌, refl, sym, ap, subst, suc, ℕ, ◌+◌, ◌^◌, ◌<◌, ◌≤◌, List, [], ◌∷◌, ◌++◌, length, get_or, map, take, All, arith}
+use Rattle.std.specs.Prelude.{zip}
 use Rattle.std.specs.List.{AllByRecursion, AllZip, concat}
 use Rattle.std.specs.List.Sorted.{IsStrictlyIncreasing}
 use Rattle.std.proofs.lemmas.List.{append-nil, take_more}
@@ -20,10 +20,9 @@ use Rattle.sub_base.specs.Pace.{pace_of}
 use Rattle.sub_base.specs.Profile.{profile_of}
 use Rattle.sub_base.specs.declared.load.TheConstants.{UNIT_ROOM}
 use Rattle.sub_base.specs.declared.load.WriteLoad.{WriteLoad}
-use Rattle.sub_base.specs.declared.pace.Pace.{Pace}
 use Rattle.sub_base.specs.declared.profile.ProfileName.{ProfileName}
 use Rattle.page_pair.specs.PairSets.{Paged, ArePairSegments, pair_size, segments_size}
-use Rattle.page_pair.specs.PairStream.{ArePairLoads, ArePairPlans, ArePairSets, HaveEqualHeads, IsEven, IsPairedTo, IsUneven}
+use Rattle.page_pair.specs.PairStream.{ArePairLoads, ArePairPlans, HaveEqualHeads, IsEven, IsPairedTo}
 use Rattle.page_pair.specs.Private.Sending.{AreShort, CanBeSent, IsStreamStop, IsPlanStop, IsSlotStop, SentPair, first_refusal, pair_bytes, second_refusal, slots_refusal, units_refusal}
 use Rattle.page_pair.specs.Private.Units.{AreUnitsOf, IsUnitsStop}
 use Rattle.page_pair.specs.declared.pages.TwoPages.{TwoPages}

@@ -42,8 +42,8 @@ pub use pages::TwoPages;
 pub use pair_command::PairCommand;
 pub use pair_dump::{PairDump, dump_inputs};
 pub use pair_fault::PairFault;
-pub use top::pair_top;
 pub use pair_words::{Pairing, pair_inputs};
+pub use top::pair_top;
 
 #[cfg(test)]
 mod tests;

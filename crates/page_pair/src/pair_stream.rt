@@ -80,7 +80,9 @@ impl PairStream {
         if let Some(set) = first_uneven(one_sets, two_sets) {
             return Err(PairStop::Refused(PairFault::Uneven { set }));
         }
-        PairStream::of_plans(alloc, profile, pid, pages, first, second, one_sets, two_sets)
+        PairStream::of_plans(
+            alloc, profile, pid, pages, first, second, one_sets, two_sets,
+        )
     }
 
     /// The same, of two plans that are even.

@@ -66,7 +66,8 @@ const LAST_UNIT: [u8; 32] = [
 ];
 
 /// What both languages show.
-const PICTURES: &str = "picture 90000 4 2\n1*51F05AC0 3*912236C0\n4*D29210C0\npicture 180000 clear\n";
+const PICTURES: &str =
+    "picture 90000 4 2\n1*51F05AC0 3*912236C0\n4*D29210C0\npicture 180000 clear\n";
 
 /// How a command ended over sources in memory.
 #[derive(Drop)]
@@ -170,8 +171,14 @@ fn scripts_of_other_pictures(rt: HostRuntime) -> Result<(), Fail> {
     let sent = run(&rt, alloc, PAIR, script, OTHER_PICTURE.as_bytes(), 0)?;
     assert_eq!(&rt; sent.status, ToolStatus::Done);
     assert_eq!(&rt; sent.out.written().len(), 376);
-    assert_eq!(&rt; part(&sent.out, 4, 13), [2, 0, 0xFF, 0, 0, 1, 0xBD, 0, 175].as_slice());
-    assert_eq!(&rt; part(&sent.out, 331, 337), [0, 0, 1, 0xBD, 0, 39].as_slice());
+    assert_eq!(&rt;
+        part(&sent.out, 4, 13),
+        [2, 0, 0xFF, 0, 0, 1, 0xBD, 0, 175].as_slice()
+    );
+    assert_eq!(&rt;
+        part(&sent.out, 331, 337),
+        [0, 0, 1, 0xBD, 0, 39].as_slice()
+    );
     Ok(())
 }
 
@@ -181,7 +188,10 @@ fn pairs_that_are_refused(rt: HostRuntime) -> Result<(), Fail> {
     let alloc = rt.alloc();
     let script = SCRIPT.as_bytes();
     let uneven = run(&rt, alloc, PAIR, script, OTHER_END.as_bytes(), 0)?;
-    assert_eq!(&rt; uneven.status, ToolStatus::Refused(PairFault::Uneven { set: 1 }));
+    assert_eq!(&rt;
+        uneven.status,
+        ToolStatus::Refused(PairFault::Uneven { set: 1 })
+    );
     assert_eq!(&rt; uneven.notes.written(), b"refused Uneven\n".as_slice());
     assert_eq!(&rt; uneven.out.written().len(), 0);
     let unwritten = run(&rt, alloc, PAIR, script, script, 1)?;

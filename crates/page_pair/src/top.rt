@@ -26,14 +26,7 @@ use sub_base::{BandGate, Sink, Source, ToolStatus, Which, Words};
 /// `second`, are sent on one PID, and the packets written to `out`. Or `pairdump PROFILE PID PAGE
 /// ANC BANDS STREAM OUT TICK...`: the pictures of one language of a stream, `first`, are written
 /// to `out`. How it ended is told by the answer and by one line to `notes`.
-pub fn pair_top<
-    R: Threads + Sync,
-    A: Source,
-    B: Source,
-    K: Sink,
-    N: Sink,
-    G: BandGate + Sync,
->(
+pub fn pair_top<R: Threads + Sync, A: Source, B: Source, K: Sink, N: Sink, G: BandGate + Sync>(
     rt: &R,
     alloc: Global,
     words: &Words,
@@ -106,10 +99,11 @@ fn pair<A: Source, B: Source, K: Sink>(
     out: &mut K,
 ) -> ToolStatus<PairFault>
     requires pairing { IsPairing pairing }
-    ensures cause {
-        let before = seen (A.supplied first.old) (B.supplied second.old) (K.received out.old) in
-        let now = seen (A.supplied first.new) (B.supplied second.new) (K.received out.new) in
-        IsToolCause (pair_causes pairing before now) before now result }
+    ensures cause { IsToolCause (pair_causes pairing
+        (seen (A.supplied first.old) (B.supplied second.old) (K.received out.old))
+        (seen (A.supplied first.new) (B.supplied second.new) (K.received out.new)))
+        (seen (A.supplied first.old) (B.supplied second.old) (K.received out.old))
+        (seen (A.supplied first.new) (B.supplied second.new) (K.received out.new)) result }
     ensures kept { HasKept (Some (PairCommand.Pair pairing))
         (seen (A.supplied first.old) (B.supplied second.old) (K.received out.old))
         (seen (A.supplied first.new) (B.supplied second.new) (K.received out.new)) result }

@@ -1,6 +1,6 @@
 -- Where something is lost among packets, it is among their sets; and how many sets there are.
-use Rattle.std.proofs.Common.{◌≡◌, ◌∙◌, ℕ, ◌+◌, ◌*◌, ◌≤◌, ◌||◌, true, false, cond, eqb, Bool, List, [], ◌∷◌, ◌++◌, length, Option, Some, None, refl, sym, ap, subst, arith, length-append}
-use Rattle.std.specs.Prelude.{find, option_to_list}
+use Rattle.std.proofs.Common.{◌≡◌, ◌∙◌, ℕ, ◌+◌, ◌*◌, ◌≤◌, ◌||◌, true, false, cond, eqb, Bool, List, [], ◌∷◌, ◌++◌, length, Option, Some, None, refl, ap, arith, length-append}
+use Rattle.std.specs.Prelude.{find}
 use Rattle.std.specs.List.{list_any}
 use Rattle.std.specs.Option.{option_or}
 use Rattle.stream_syntax.specs.TransportPackets.{packet_fault}
@@ -11,7 +11,7 @@ use Rattle.decoder_model.specs.declared.set_fault.SetFault.{SetFault}
 use Rattle.decoder_model.specs.Arrivals.{PesUnit, Arrival, loss, refused_unit, aside, unit, arrivals_at, arrivals_of, losses_at, packets_taken, units_at}
 use Rattle.stream_syntax.specs.DataField.{Frame}
 use Rattle.decoder_model.specs.Sets.{Stretch, loss_between, run, joined_to, runs_of, Delivery, lost, whole, refused, excess_in, first_fault_in, frames_in, handed, is_ended, is_followed, set_of, sets_in, sets_of, size_in, units_to_end, has_ended}
-use Rattle.display_sets.proofs.PacketLaws.{arrivals_grow, none_arrived}
+use Rattle.display_sets.proofs.PacketLaws.{arrivals_grow}
 use Rattle.splice.specs.StreamTests.{is_lost}
 
 -- a loss that is handed over

@@ -1,5 +1,5 @@
 -- What is found with one more packet, before its sets are taken.
-use Rattle.std.proofs.Common.{◌≡◌, ◌∙◌, ℕ, zero, suc, ◌+◌, ◌^◌, ◌<◌, ◌≤◌, ◌==◌, ◌||◌, Bool, true, false, cond, List, [], ◌∷◌, ◌++◌, get_or, length, reverse, Option, None, refl, sym, ap, subst, arith, append-nil, append_assoc}
+use Rattle.std.proofs.Common.{◌≡◌, ◌∙◌, ℕ, zero, suc, ◌^◌, ◌<◌, ◌≤◌, ◌==◌, ◌||◌, Bool, true, false, cond, List, [], ◌∷◌, ◌++◌, get_or, length, reverse, None, refl, sym, ap, subst, arith, append-nil, append_assoc}
 use Rattle.std.proofs.lemmas.List.{get_or_default}
 use Rattle.std.specs.List.{list_any}
 use Rattle.std.proofs.lemmas.Bool.Decides.{nat_tests}
@@ -14,13 +14,13 @@ use Rattle.display_sets.specs.Standing.{AreReady}
 use Rattle.sent_sets.specs.RawSets.{RawSet}
 use Rattle.set_reader.specs.Collecting.{losses}
 use Rattle.set_receiver.specs.Receiving.{IsSame, Receiving, Reception, Stands, reception}
-use Rattle.set_receiver.specs.Taking.{AreBytes, HasPast}
+use Rattle.set_receiver.specs.Taking.{AreBytes}
 use Rattle.set_receiver.proofs.PastLaws.{losses_read}
 use Rattle.set_receiver.proofs.TakenSets.{are_losses}
 use Rattle.splice.specs.KeptSets.{kept_among}
 use Rattle.splice.specs.StreamTests.{IsFirstLost, IsLossless, is_lost}
-use Rattle.splice.specs.Private.Parts.{placed, shown_before}
-use Rattle.splice.specs.Private.Surveys.{HasFound, IsFoundSo, IsGoodSo, IsUnshownIn, TakesPacket, TakesSets, finding_lost, found_with, lost_after}
+use Rattle.splice.specs.Private.Parts.{placed}
+use Rattle.splice.specs.Private.Surveys.{HasFound, IsFoundSo, TakesPacket, TakesSets, finding_lost, found_with, lost_after}
 use Rattle.splice.specs.declared.found.Finding.{Finding}
 use Rattle.splice.specs.declared.found.Finding.TheVariants.{Good, Unshown, Lost}
 use Rattle.splice.specs.declared.found.Found.{Found}

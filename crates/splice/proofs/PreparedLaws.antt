@@ -1,6 +1,6 @@
 -- A set that is ready, whose segments are in memory.
-use Rattle.std.proofs.Common.{◌≡◌, ◌∙◌, ℕ, ◌^◌, ◌<◌, List, Option, Some, None, length, refl, sym, ap, subst}
-use Rattle.std.specs.Prelude.{IfOk, Result, Ok, Err, option_map}
+use Rattle.std.proofs.Common.{◌≡◌, ◌∙◌, ℕ, ◌^◌, ◌<◌, List, Option, Some, length, sym, ap, subst}
+use Rattle.std.specs.Prelude.{IfOk, Result, Ok, option_map}
 use Rattle.std.specs.Borrow.{Bor}
 use Rattle.std.specs.Option.{ForSome}
 use Rattle.std.proofs.lemmas.Result.{IfOk-weaker}

@@ -1,36 +1,28 @@
 -- What is found of a stream with one more set.
-use Rattle.std.proofs.Common.{◌≡◌, ◌∙◌, ℕ, suc, ◌+◌, ◌-◌, ◌*◌, ◌^◌, ◌<◌, ◌≤◌, ◌==◌, ◌&&◌, not, min, Bool, true, false, cond, List, [], ◌∷◌, ◌++◌, length, map, filter, reverse, Option, Some, None, refl, sym, ap, subst, arith, append-nil, append_assoc}
-use Rattle.std.specs.Prelude.{IsSome, nat_lt, option_map, unwrap_or}
+use Rattle.std.proofs.Common.{◌≡◌, ◌∙◌, ℕ, ◌+◌, ◌-◌, ◌^◌, ◌<◌, ◌≤◌, Bool, true, false, cond, List, [], ◌∷◌, ◌++◌, length, map, filter, reverse, Option, Some, None, refl, sym, ap, subst, arith, append-nil, append_assoc}
+use Rattle.std.specs.Prelude.{nat_lt, unwrap_or}
 use Rattle.std.specs.Option.{option_or}
 use Rattle.std.proofs.lemmas.Bool.Decides.{nat_tests}
-use Rattle.std.proofs.lemmas.List.{length-append, length-reverse, map-append, reverse-append}
+use Rattle.std.proofs.lemmas.List.{map-append}
 use Rattle.std.proofs.lemmas.List.Elements.{filter-append}
 use Rattle.sub_base.specs.declared.profile.Profile.{Profile}
-use Rattle.stream_syntax.specs.declared.wire.TheConstants.{HALF_ROUND, TIME_ROUND}
-use Rattle.decoder_model.specs.Kept.{last_time, lifted_behind, lifted_time}
-use Rattle.decoder_model.specs.Painting.{set_load}
-use Rattle.decoder_model.specs.Readings.{AreDeliveriesRead, AreReadings, IsDeliveryRead, Reading}
-use Rattle.decoder_model.specs.Sets.{Delivery, lost, whole, refused}
-use Rattle.decoder_model.specs.Verdict.{if_kept, sets_since, verdict_of, verdict_on_kept}
+use Rattle.decoder_model.specs.Kept.{last_time, lifted_behind}
+use Rattle.decoder_model.specs.Readings.{AreReadings, Reading}
+use Rattle.decoder_model.specs.Sets.{Delivery, whole}
+use Rattle.decoder_model.specs.Verdict.{if_kept, verdict_of}
 use Rattle.decoder_model.specs.declared.set_end.SetEnd.{SetEnd}
 use Rattle.decoder_model.specs.declared.set_end.SetEnd.TheVariants.{Shown, Waiting, Broken, NotLater}
 use Rattle.decoder_model.specs.declared.set_fault.SetFault.TheVariants.{NoPage}
-use Rattle.display_sets.specs.Gathered.{ReadySet}
-use Rattle.display_sets.specs.Standing.{IsFirst, IsReady}
-use Rattle.reading_laws.proofs.PacketsRead.{packets_read}
 use Rattle.sent_sets.specs.RawSets.{RawSet}
-use Rattle.set_receiver.specs.Receiving.{IsNext, IsSame, Receiving, Reception, Stands, reception, sets_received}
+use Rattle.set_receiver.specs.Receiving.{IsSame, Receiving, Reception}
 use Rattle.set_receiver.specs.Taking.{HasPast}
-use Rattle.set_receiver.proofs.TakenSets.{next_read, read_more}
-use Rattle.sub_base.specs.declared.load.SetLoad.{SetLoad}
-use Rattle.splice.specs.KeptSets.{kept_among, set_at}
 use Rattle.splice.specs.SplicedSets.{ArePaintedIn, begin_of, is_before, moved}
-use Rattle.splice.specs.StreamTests.{AreShownUpTo, IsLookedAt}
+use Rattle.splice.specs.StreamTests.{IsLookedAt}
 use Rattle.splice.specs.Private.JoinedSets.{IsJoinedOf}
 use Rattle.splice.specs.Private.Parts.{cut_of, is_looked_at, placed, sent_time, shown_before}
 use Rattle.splice.specs.Private.Puts.{IsPut}
 use Rattle.splice.specs.Private.Sendings.{IsSendingOf}
-use Rattle.splice.specs.Private.Surveys.{HasFound, IsFoundSo, IsGoodSo, IsPlacedAt, IsPlacedFor, IsPreparedOf, IsUnshownIn, TakesSets, begins_anew, first_time, found_after, is_anew, is_good, is_shown}
+use Rattle.splice.specs.Private.Surveys.{IsFoundSo, IsPlacedAt, IsUnshownIn, TakesSets, first_time, is_good, is_shown}
 use Rattle.splice.specs.declared.found.Finding.{Finding}
 use Rattle.splice.specs.declared.found.Finding.TheVariants.{Good, Unshown, Lost}
 use Rattle.splice.specs.declared.found.Found.{Found}
@@ -38,9 +30,6 @@ use Rattle.splice.specs.declared.joined.Joined.{Joined}
 use Rattle.splice.specs.declared.part.Part.{Part}
 use Rattle.splice.specs.declared.part.Part.TheVariants.{Before, From}
 use Rattle.splice.specs.declared.prepared.Placed.{Placed}
-use Rattle.splice.specs.declared.prepared.Prepared.{Prepared}
-use Rattle.splice.proofs.LossLaws.{few_sets}
-use Rattle.splice.proofs.TimeLaws.{lifted_less, same_lifted}
 
 -- ---- several steps
 

@@ -1,5 +1,5 @@
 -- The packets of two joined streams, one by one, and how sending them ends.
-use Rattle.std.proofs.Common.{◌≡◌, ◌∙◌, refl, sym, ap, subst, zero, suc, ℕ, ◌+◌, ◌-◌, ◌*◌, ◌<◌, ◌≤◌, ◌^◌, List, [], ◌∷◌, ◌++◌, length, get_or, map, take, drop, Option, Some, None, All, arith, length-append}
+use Rattle.std.proofs.Common.{◌≡◌, ◌∙◌, refl, sym, ap, subst, zero, suc, ℕ, ◌+◌, ◌-◌, ◌*◌, ◌<◌, ◌≤◌, ◌^◌, List, [], ◌∷◌, length, get_or, map, drop, Option, Some, None, All, arith, length-append}
 use Rattle.std.specs.List.{AllByRecursion, AllZip, concat, range_with_len}
 use Rattle.std.proofs.lemmas.List.{get_or_default, length-replicate, length-take}
 use Rattle.std.proofs.lemmas.List.Elements.{All-from_recursion}
@@ -8,7 +8,7 @@ use Rattle.sub_base.specs.Lists.{all_of}
 use Rattle.sub_base.specs.declared.load.TheConstants.{UNIT_ROOM}
 use Rattle.sub_base.specs.declared.load.WriteLoad.{WriteLoad}
 use Rattle.sub_base.specs.declared.pace.Pace.{Pace}
-use Rattle.stream_syntax.specs.TransportPackets.{adaptation_field, null_packet, packet_count}
+use Rattle.stream_syntax.specs.TransportPackets.{adaptation_field, packet_count}
 use Rattle.decoder_model.proofs.Lists.{all-append}
 use Rattle.schedule.specs.Packets.{no_load}
 use Rattle.schedule.specs.Refusals.{IsCause}
@@ -26,7 +26,6 @@ use Rattle.splice.specs.SplicedStream.{CanBeJoined, IsSplicedTo}
 use Rattle.splice.specs.Private.JoinedSets.{AreCut, HaveRoom, IsJoinedOf}
 use Rattle.splice.specs.Private.Sent.{AreInTime, AreSent, AreSentInPart, HaveSlots, IsSendEnd, unscheduled}
 use Rattle.splice.specs.declared.joined.Joined.{Joined}
-use Rattle.splice.specs.declared.splice_fault.SpliceFault.{SpliceFault}
 use Rattle.splice.specs.declared.splice_words.Splicing.{Splicing}
 
 -- ---- each packet has 188 bytes

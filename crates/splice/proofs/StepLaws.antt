@@ -1,16 +1,15 @@
 -- A set is taken from a receiver, and what is found then.
-use Rattle.std.proofs.Common.{◌≡◌, ◌∙◌, ℕ, zero, suc, ◌+◌, ◌-◌, ◌*◌, ◌^◌, ◌<◌, ◌≤◌, ◌==◌, ◌&&◌, not, min, Bool, true, false, cond, List, [], ◌∷◌, ◌++◌, length, reverse, Option, Some, None, refl, sym, ap, subst, arith, append-nil, append_assoc}
-use Rattle.std.specs.Prelude.{IsSome, if◌then◌else◌, option_map}
+use Rattle.std.proofs.Common.{◌≡◌, ◌∙◌, ℕ, suc, ◌+◌, ◌-◌, ◌*◌, ◌^◌, ◌<◌, ◌≤◌, ◌==◌, ◌&&◌, not, min, Bool, true, false, cond, List, [], ◌∷◌, ◌++◌, length, reverse, Option, Some, None, refl, sym, ap, subst, arith, append-nil}
+use Rattle.std.specs.Prelude.{IsSome, if◌then◌else◌}
 use Rattle.std.specs.Option.{option_or}
 use Rattle.std.proofs.lemmas.Bool.Decides.{nat_tests}
 use Rattle.std.proofs.lemmas.List.{length-append, length-reverse, reverse-append}
 use Rattle.sub_base.specs.declared.load.SetLoad.{SetLoad}
 use Rattle.sub_base.specs.declared.profile.Profile.{Profile}
-use Rattle.stream_syntax.specs.declared.wire.TheConstants.{HALF_ROUND, TIME_ROUND}
 use Rattle.decoder_model.specs.Faults.{contents_in}
 use Rattle.decoder_model.specs.Kept.{lifted_time}
 use Rattle.decoder_model.specs.Painting.{painting_by, set_load, set_painting}
-use Rattle.decoder_model.specs.Readings.{AreDeliveriesRead, AreReadings, IsDeliveryRead, Reading}
+use Rattle.decoder_model.specs.Readings.{AreDeliveriesRead, IsDeliveryRead, Reading}
 use Rattle.decoder_model.specs.Sets.{Delivery, lost, whole, refused}
 use Rattle.decoder_model.specs.Verdict.{verdict_of}
 use Rattle.decoder_model.specs.declared.set_end.SetEnd.{SetEnd}
@@ -25,9 +24,9 @@ use Rattle.set_receiver.proofs.PastLaws.{taken_past}
 use Rattle.set_receiver.proofs.TakenSets.{next_read, read_more}
 use Rattle.splice.specs.KeptSets.{kept_among, set_at}
 use Rattle.splice.specs.SplicedSets.{ArePaintedIn}
-use Rattle.splice.specs.StreamTests.{IsLookedAt, IsLossless}
+use Rattle.splice.specs.StreamTests.{IsLossless}
 use Rattle.splice.specs.Private.JoinedSets.{HasSets, IsJoinedOf}
-use Rattle.splice.specs.Private.Parts.{cut_of, is_looked_at, placed, sent_time, shown_before}
+use Rattle.splice.specs.Private.Parts.{cut_of, is_looked_at, placed, shown_before}
 use Rattle.splice.specs.Private.Puts.{IsPut}
 use Rattle.splice.specs.Private.Surveys.{HasFound, IsFoundSo, IsGoodSo, IsPlacedFor, IsPreparedOf, IsUnshownIn, TakesSets, begins_anew, first_time, found_after, is_anew, is_good, is_shown}
 use Rattle.splice.specs.declared.found.Finding.{Finding}

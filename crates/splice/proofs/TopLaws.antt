@@ -1,7 +1,7 @@
 -- How `splice` ends.
-use Rattle.std.proofs.Common.{◌≡◌, refl, sym, subst, ℕ, List, [], inl, inr, Option, Some, None}
+use Rattle.std.proofs.Common.{refl, sym, subst, ℕ, List, [], inl, inr, Option, Some, None}
 use Rattle.std.specs.Io.KnownBytes.{Keeps}
-use Rattle.sub_base.specs.Endpoints.{Received, Supplied, WroteNothing}
+use Rattle.sub_base.specs.Endpoints.{Received, WroteNothing}
 use Rattle.sub_base.specs.Seen.{Seen}
 use Rattle.sub_base.specs.ToolOutcome.{IsToolCause, TellsTool, untold_tool}
 use Rattle.sub_base.specs.declared.faults.ReadAllFault.{ReadAllFault}

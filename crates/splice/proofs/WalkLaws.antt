@@ -5,15 +5,14 @@ use Rattle.std.specs.List.{AllByRecursion, concat, cons_option, list_any}
 use Rattle.std.proofs.Math.ListN.{get_or-append}
 use Rattle.std.proofs.Math.Seq.{take-append_seam, drop-append_seam}
 use Rattle.std.proofs.lemmas.Bool.Decides.{nat_tests}
-use Rattle.stream_syntax.specs.SegmentTests.{IsSegmentFault, frame_tests, segment_size}
+use Rattle.stream_syntax.specs.SegmentTests.{IsSegmentFault, frame_tests}
 use Rattle.stream_syntax.specs.Segments.{IsSegment, Page, SegmentValue, state_number}
 use Rattle.stream_syntax.specs.Tests.{byte_at, word_at, first_fault}
 use Rattle.stream_syntax.specs.declared.page.State.TheVariants.{ModeChange}
 use Rattle.stream_syntax.specs.declared.segment_fault.SegmentFault.{SegmentFault}
-use Rattle.stream_syntax.specs.declared.segment_fault.SegmentKind.TheVariants.{NoSync}
 use Rattle.decoder_model.specs.Contents.{has_state, page_in, page_of}
 use Rattle.decoder_model.specs.Faults.{contents_in}
-use Rattle.decoder_model.specs.Readings.{Content, Reading, read, faulty, IsReading, AreReadings}
+use Rattle.decoder_model.specs.Readings.{Reading, read, faulty, IsReading, AreReadings}
 use Rattle.decoder_model.specs.Received.{IsFramed}
 use Rattle.display_sets.specs.Filling.{AreBytes}
 use Rattle.sent_sets.proofs.FieldFrames.{IsHead, head_of_framed}

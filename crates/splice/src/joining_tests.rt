@@ -26,6 +26,7 @@ const CLEARING: [u8; 31] = [
 
 /// The times 270000 and 360000 in a PES packet.
 const AT_270000: [u8; 5] = [0x21, 0x00, 0x11, 0x3D, 0x61];
+
 const AT_360000: [u8; 5] = [0x21, 0x00, 0x15, 0xFC, 0x81];
 
 /// The packet of PID 256 with that counter that ends with the unit, whose time is this one.

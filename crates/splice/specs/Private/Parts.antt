@@ -1,5 +1,5 @@
 -- Which display sets of a stream are sent, and when, as code has it.
-use Rattle.std.specs.Prelude.{ℕ, ◌+◌, ◌-◌, nat_lt, if◌then◌else◌, Bool, true, List, [], ◌∷◌, map, filter, Option, Some, None, unwrap_or}
+use Rattle.std.specs.Prelude.{ℕ, ◌+◌, ◌-◌, nat_lt, if◌then◌else◌, Bool, true, List, map, filter, Option, Some, None, unwrap_or}
 use Rattle.sent_sets.specs.RawSets.{RawSet}
 use Rattle.splice.specs.SplicedSets.{begin_of, is_before, moved}
 use Rattle.splice.specs.declared.part.Part.{Part}

@@ -1,5 +1,5 @@
 -- The PES packets in which a display set is sent, and their bytes.
-use Rattle.std.specs.Prelude.{◌≡◌, ℕ, ◌+◌, ◌≤◌, ◌==◌, ◌⊎◌, true, List, length, map, sum, All}
+use Rattle.std.specs.Prelude.{◌≡◌, ℕ, ◌≤◌, ◌==◌, ◌⊎◌, true, List, length, map, sum, All}
 use Rattle.std.specs.List.{concat, list_any, sum_by}
 use Rattle.sub_base.specs.Lists.{all_of}
 use Rattle.sub_base.specs.declared.load.TheConstants.{UNIT_ROOM}

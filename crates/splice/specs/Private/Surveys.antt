@@ -1,7 +1,6 @@
 -- What is found of a stream, packet by packet and set by set, and what that has to do with all that came.
 use Rattle.std.specs.Prelude.{◌≡◌, ℕ, ◌+◌, ◌-◌, ◌^◌, ◌<◌, ◌≤◌, ◌==◌, ◌&&◌, not, min, if◌then◌else◌, Bool, true, false, List, [], ◌∷◌, ◌++◌, length, reverse, Option, Some, None}
 use Rattle.std.specs.Option.{option_or}
-use Rattle.stream_syntax.specs.TransportPackets.{packet_fault}
 use Rattle.stream_syntax.specs.declared.page.State.TheVariants.{ModeChange}
 use Rattle.decoder_model.specs.Contents.{has_state}
 use Rattle.decoder_model.specs.Faults.{contents_in}

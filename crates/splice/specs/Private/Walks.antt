@@ -1,5 +1,5 @@
 -- A segment that begins an epoch anew.
-use Rattle.std.specs.Prelude.{ℕ, ◌==◌, Bool, false, Option, Some, None}
+use Rattle.std.specs.Prelude.{◌==◌, Bool, false, Option, Some, None}
 use Rattle.stream_syntax.specs.Segments.{Page, state_number}
 use Rattle.stream_syntax.specs.declared.page.State.TheVariants.{ModeChange}
 use Rattle.decoder_model.specs.Contents.{page_of}

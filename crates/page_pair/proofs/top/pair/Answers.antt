@@ -1,4 +1,4 @@
-use Rattle.std.proofs.Common.{◌≡◌, ap, refl, subst, sym}
+use Rattle.std.proofs.Common.{ap, refl, subst, sym}
 use Rattle.sub_base.specs.Endpoints.{Supplied}
 use Rattle.sub_base.specs.Seen.{Seen, seen}
 use Rattle.sub_base.specs.ToolOutcome.{IsToolCause}

@@ -1,4 +1,4 @@
-use Rattle.std.proofs.Common.{◌≡◌, ◌∙◌, Option, Some, ap, subst, sym}
+use Rattle.std.proofs.Common.{◌∙◌, Option, Some, ap, subst, sym}
 use Rattle.command_words.specs.Ticks.{asked_ticks}
 use Rattle.sub_base.specs.Seen.{seen}
 use Rattle.sub_base.specs.ToolOutcome.{IsToolRun}

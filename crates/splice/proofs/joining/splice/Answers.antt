@@ -1,6 +1,5 @@
-use Rattle.std.proofs.Common.{ℕ, List, [], Option}
 use Rattle.sub_base.specs.Seen.{Seen, seen}
-use Rattle.splice.specs.SplicedSets.{Streams, spliced_sets}
+use Rattle.splice.specs.SplicedSets.{spliced_sets}
 use Rattle.splice.proofs.TopLaws.{are_read, are_surveyed, ended_cause, ended_leaves, its_streams, nothing_written, refused_cause}
 use Rattle.splice.proofs.joining.splice.Goals as goal
 

@@ -1,4 +1,4 @@
-use Rattle.std.proofs.Common.{ℕ, ◌≤◌, List, Option, Some, length, refl, sym, subst}
+use Rattle.std.proofs.Common.{ℕ, Option, Some, refl, sym, subst}
 use Rattle.splice.specs.Private.Surveys.{IsPlacedAt}
 use Rattle.splice.proofs.prepared.placed_at.Goals as goal
 

@@ -1,4 +1,3 @@
-use Rattle.std.proofs.Common.{refl}
 use Rattle.splice.proofs.PreparedLaws.{prepared_whole, within_of}
 use Rattle.splice.proofs.prepared.prepare.Goals as goal
 

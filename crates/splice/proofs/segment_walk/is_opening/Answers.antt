@@ -1,5 +1,5 @@
 -- A segment that is read is the reading's, and one that is refused opens nothing.
-use Rattle.std.proofs.Common.{◌≡◌, ◌∙◌, Ok, Err}
+use Rattle.std.proofs.Common.{◌∙◌}
 use Rattle.segments.specs.Contents.{contents}
 use Rattle.splice.proofs.WalkLaws.{opens, opens_none}
 use Rattle.splice.proofs.segment_walk.is_opening.Goals as goal

@@ -1,9 +1,8 @@
 -- One segment more, and all of them.
-use Rattle.std.proofs.Common.{◌≡◌, ◌∙◌, ◌++◌, ◌∷◌, [], List, ℕ, length, All, arith, sym, ap, refl, subst}
-use Rattle.std.proofs.lemmas.List.{length-append}
-use Rattle.std.proofs.lemmas.List.Elements.{All-nil, All-push}
+use Rattle.std.proofs.Common.{List, ℕ, length, All, arith, sym, ap, refl, subst}
+use Rattle.std.proofs.lemmas.List.Elements.{All-nil}
 use Rattle.pes_packets.specs.Units.{IsSegmentLength}
-use Rattle.splice.proofs.WalkLaws.{AreLengthsSo, lengths_begin, lengths_end, lengths_more}
+use Rattle.splice.proofs.WalkLaws.{AreLengthsSo, lengths_begin, lengths_end}
 use Rattle.splice.proofs.segment_walk.segment_lengths.Goals as goal
 
 pub loop-segment-init : goal.loop-segment-init

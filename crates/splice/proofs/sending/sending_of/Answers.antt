@@ -1,5 +1,5 @@
 -- The units of the segments, their lengths and their packets.
-use Rattle.std.proofs.Common.{◌≡◌, ◌∙◌, ℕ, ◌≤◌, List, map, length, sym, ap, subst, arith, true}
+use Rattle.std.proofs.Common.{◌≡◌, ◌∙◌, ℕ, List, map, length, sym, ap, subst, arith, true}
 use Rattle.std.specs.Prelude.{nat_le}
 use Rattle.std.specs.List.{concat}
 use Rattle.std.proofs.lemmas.Bool.Decides.{nat_tests}

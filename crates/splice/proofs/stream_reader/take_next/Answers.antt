@@ -1,9 +1,8 @@
-use Rattle.std.proofs.Common.{◌≡◌, ◌∙◌, ◌<◌, ◌^◌, Bool, true, false, not, Option, Some, ℕ, refl, sym, ap, subst}
+use Rattle.std.proofs.Common.{◌∙◌, ◌<◌, ◌^◌, Option, refl, sym, ap, subst}
 use Rattle.std.specs.Prelude.{IsSome}
 use Rattle.display_sets.specs.Gathered.{ReadySet}
 use Rattle.splice.specs.Private.Puts.{IsPut}
 use Rattle.splice.specs.Private.Surveys.{TakesSets, found_after, is_good}
-use Rattle.splice.specs.declared.found.Finding.{Finding}
 use Rattle.splice.specs.declared.found.Found.{Found}
 use Rattle.splice.proofs.StepLaws.{never_bad, never_good, set_passed, set_taken}
 use Rattle.splice.proofs.stream_reader.take_next.Goals as goal

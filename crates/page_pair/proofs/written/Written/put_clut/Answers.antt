@@ -1,4 +1,4 @@
-use Rattle.std.proofs.Common.{◌∙◌, ap, arith, map, refl}
+use Rattle.std.proofs.Common.{ap, arith, map, refl}
 use Rattle.set_coder.specs.SetSegments.{clut_entry_of, clut_segment_of}
 use Rattle.set_coder.proofs.WritableLaws.{clut_writable}
 use Rattle.page_pair.proofs.WritingLaws.{one_more}

@@ -1,5 +1,5 @@
 -- The last of the loads is that of the last set.
-use Rattle.std.proofs.Common.{◌≡◌, ◌∙◌, [], length, ap, arith, sym, subst, List}
+use Rattle.std.proofs.Common.{◌∙◌, length, ap, arith, sym, subst, List}
 use Rattle.sub_base.specs.declared.load.WriteLoad.{WriteLoad}
 use Rattle.std.specs.List.{AllZip}
 use Rattle.splice.specs.SplicedSets.{IsLoadOf}

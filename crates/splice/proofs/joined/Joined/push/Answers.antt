@@ -1,5 +1,5 @@
 -- One set more is kept.
-use Rattle.std.proofs.Common.{refl, sym}
+use Rattle.std.proofs.Common.{refl}
 use Rattle.splice.proofs.JoinedLaws.{joined_more}
 use Rattle.splice.proofs.joined.Joined.push.Goals as goal
 
