@@ -8,7 +8,7 @@ mkdir -p bench/out
 ./dvbsub >/dev/null 2>&1 || true
 ./dvbsub_tools >/dev/null 2>&1 || true
 # Five records, and 450 cues whose texts have two lines. A stream of an hour is longer than `splice` takes.
-python3 bench/scripts.py hour | head -n 905 >bench/out/script.csv
+python3 bench/scripts.py hour | awk 'NR <= 905' >bench/out/script.csv
 program=./crates/dvbsub/out/dvbsub
 "$program" compile sd 256 1 bench/out/script.csv examples/subtitle.bdf bench/out/half.ts >/dev/null
 spent() {
