@@ -46,6 +46,8 @@ int main(int count, char **words)
     AVDictionary *options = NULL;
     /* Colours are those of the stream and the standard's own, and not guessed. */
     av_dict_set(&options, "compute_clut", "0", 0);
+    /* Pages are those that the descriptor names, and not all that there are. */
+    av_dict_set(&options, "dvb_substream", "0", 0);
     if (which < 0 || avcodec_parameters_to_context(context, format->streams[which]->codecpar) < 0
             || avcodec_open2(context, codec, &options) < 0)
         fail("there are no subtitles");

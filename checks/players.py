@@ -7,18 +7,24 @@ Without words it takes the scripts of `examples`. Each script is compiled and pu
 find the subtitles; then each display set's picture by `dump` is compared, pixel for pixel, with libavcodec's, in colours as
 libavcodec turns them (2 of 255 apart at the most, since entries that nothing sets come from its own table). A set is left out
 whose fault is libavcodec's own and known: a line of 8 bit codes that ends at the right edge of its region, or code 1 let through.
-Where libavcodec's headers are not installed nothing is compared, and the last line says so.
+Without words scripts that are made here are sent in pairs by `dvbsub_tools pair` too, each page behind tables that name it and the
+ancillary page, and compared with `pairdump`. Where libavcodec's headers are not installed nothing is compared, and the last line says so.
 """
 import os
+import random
 import re
 import struct
 import subprocess
 import sys
 import tempfile
 
+import paired_streams
+
 TOP = os.path.dirname(os.path.dirname(os.path.abspath(__file__)))
 PROGRAM = os.environ.get("DVBSUB", os.path.join(TOP, "dvbsub"))
+TOOLS = os.environ.get("DVBSUB_TOOLS", os.path.join(TOP, "dvbsub_tools"))
 PID, PAGE, TABLE_PID = 256, 1, 32
+PAIRS = 3
 ROUND = 1 << 33
 
 
@@ -42,9 +48,9 @@ def packet(pid, counter, payload):
     return struct.pack(">BHB", 0x47, 0x4000 | pid, 0x10 | counter) + payload.ljust(184, b"\xff")
 
 
-def with_tables(stream):
-    """The packets of a stream behind a PAT and a PMT, which come again every 500 packets."""
-    subtitles = b"\x59\x08eng\x10" + struct.pack(">HH", PAGE, PAGE)
+def with_tables(stream, page, ancillary):
+    """The packets of a stream behind a PAT and a PMT, which name its pages and come again every 500 packets."""
+    subtitles = b"\x59\x08eng\x10" + struct.pack(">HH", page, ancillary)
     pat = section(0, 1, struct.pack(">HH", 1, 0xE000 | TABLE_PID))
     pmt = section(2, 1, struct.pack(">HHBHH", 0xFFFF, 0xF000, 6, 0xE000 | PID, 0xF000 | len(subtitles)) + subtitles)
     out, counter = [], 0
@@ -136,14 +142,11 @@ def has_known_fault(script):
     return None
 
 
-def compare(folder, reader, profile, script, font):
-    """How many sets a script has, and how many libavcodec shows otherwise."""
-    stream, wrapped, text, sets = (os.path.join(folder, name) for name in ("s.ts", "w.ts", "d.txt", "sets"))
-    run = [PROGRAM, "compile", profile, str(PID), str(PAGE), script, font, stream]
-    if subprocess.run(run, stdout=subprocess.PIPE).returncode:
-        return None
+def compare(folder, reader, stream, pages, dump):
+    """How many sets a stream has, and how many libavcodec shows otherwise than the words DUMP, OUT and ticks tell."""
+    wrapped, text, sets = (os.path.join(folder, name) for name in ("w.ts", "d.txt", "sets"))
     with open(stream, "rb") as file, open(wrapped, "wb") as out:
-        out.write(with_tables(file.read()))
+        out.write(with_tables(file.read(), *pages))
     subprocess.run([reader, wrapped, sets], check=True, stderr=subprocess.DEVNULL)
     with open(sets, "rb") as file:
         shown = read_sets(file.read())
@@ -154,8 +157,7 @@ def compare(folder, reader, profile, script, font):
     rows = {}
     for first in range(0, len(times), 1000):
         ticks = [str(time) for time in times[first:first + 1000]]
-        subprocess.run([PROGRAM, "dump", profile, str(PID), str(PAGE), "4", stream, text] + ticks,
-                       stdout=subprocess.PIPE, check=True)
+        subprocess.run([*dump, stream, text, *ticks], stdout=subprocess.PIPE, check=True)
         with open(text) as file:
             rows.update(pictures_of(file.read()))
     # A set without a rectangle clears the display; one that libavcodec passes over leaves what was there.
@@ -165,6 +167,86 @@ def compare(folder, reader, profile, script, font):
         current = by_time.get(time, current)
         wrong += not is_same(rows[time], current)
     return len(times), wrong
+
+
+def compare_script(folder, reader, profile, script, font):
+    """How many sets a script has, and how many libavcodec shows otherwise; None where it is not compiled."""
+    stream = os.path.join(folder, "s.ts")
+    run = [PROGRAM, "compile", profile, str(PID), str(PAGE), script, font, stream]
+    if subprocess.run(run, stdout=subprocess.PIPE).returncode:
+        return None
+    return compare(folder, reader, stream, (PAGE, PAGE), [PROGRAM, "dump", profile, str(PID), str(PAGE), "4"])
+
+
+def objects_of(stream):
+    """The objects of a stream of two languages that stand on the ancillary page, set by set: whether an epoch begins, and their bytes by number."""
+    with open(stream, "rb") as file:
+        data = file.read()
+    packets = [data[k:k + 188] for k in range(0, len(data), 188)]
+    units = []
+    for one in packets:
+        if (one[1] & 0x1F) << 8 | one[2] == PID:
+            units += [b""] if one[1] & 0x40 else []
+            units[-1] += one[5 + one[4]:] if one[3] & 0x20 else one[4:]
+    for unit in units:
+        place, begins, objects = 9 + unit[8] + 2, False, {}
+        while unit[place] == 0x0F:
+            kind, page, length = struct.unpack(">BHH", unit[place + 1:place + 6])
+            body = unit[place + 6:place + 6 + length]
+            begins = begins or kind == 0x10 and body[1] >> 2 & 3 == 2
+            if kind == 0x13 and page == 3:
+                objects[body[:2]] = body
+            place += 6 + length
+        yield begins, objects
+
+
+def has_number_again(stream):
+    """A number of an object that both languages have comes again in an epoch, with other bytes. libavcodec paints such an object in each
+    region that still lists its number, whatever its version."""
+    known = {}
+    for begins, objects in objects_of(stream):
+        known = {} if begins else known
+        if any(known.get(number, body) != body for number, body in objects.items()):
+            return True
+        known.update(objects)
+    return False
+
+
+def compare_pair(folder, reader, number):
+    """The same of both languages of a pair that a number makes; None where it is not sent, where libavcodec
+    shows one of the scripts otherwise when it is sent alone, or where a number of an object comes again."""
+    rows = paired_streams.generated(number)
+    scripts = [os.path.join(folder, name) for name in ("one.csv", "two.csv")]
+    known = []
+    for language, path in zip((rows, paired_streams.other_language(rows, random.Random(number))), scripts):
+        paired_streams.written(language, path)
+        with open(path) as file:
+            known.append(has_known_fault(file.read()))
+    stream = os.path.join(folder, "p.ts")
+    run = [TOOLS, "pair", "hd", str(PID), "1", "2", "3", *scripts, stream]
+    if any(known) or subprocess.run(run, stdout=subprocess.PIPE, stderr=subprocess.DEVNULL).returncode or has_number_again(stream):
+        return None
+    try:
+        alone = [compare_script(folder, reader, "hd", path, "none") for path in scripts]
+        if any(wrong for _, wrong in alone):
+            return None
+        found = [compare(folder, reader, stream, (page, 3), [TOOLS, "pairdump", "hd", str(PID), str(page), "3", "4"]) for page in (1, 2)]
+    except subprocess.CalledProcessError:
+        # libavformat finds no stream in what is as short as that.
+        return None
+    return tuple(map(sum, zip(*found)))
+
+
+def compare_pairs(folder, reader):
+    """How many sets of the languages of pairs libavcodec shows otherwise."""
+    found, number = [], 0
+    while len(found) < PAIRS and number < 20 * PAIRS:
+        one = compare_pair(folder, reader, number)
+        found += [one] if one else []
+        number += 1
+    all_sets, bad = map(sum, zip(*found)) if found else (0, 1)
+    print("%d pairs, %d sets of both languages, %d differ" % (len(found), all_sets, bad))
+    return bad
 
 
 def main():
@@ -184,7 +266,7 @@ def main():
         for profile, script, font in scripts:
             with open(script, encoding="utf-8", errors="replace") as file:
                 known = has_known_fault(file.read())
-            found = compare(folder, reader, profile, script, font)
+            found = compare_script(folder, reader, profile, script, font)
             name = os.path.basename(script)
             if found is None:
                 print("%s: not compiled" % name)
@@ -193,7 +275,9 @@ def main():
             print("%s: %d sets, %d differ%s" % (name, *found, " (known of libavcodec: %s)" % known if known else ""))
             all_sets += found[0]
             bad += found[1] if not known else 0
-    print("%d scripts, %d sets, %d differ" % (len(scripts), all_sets, bad))
+        print("%d scripts, %d sets, %d differ" % (len(scripts), all_sets, bad))
+        if not words:
+            bad += compare_pairs(folder, reader)
     return 1 if bad else 0
 
 
