@@ -78,6 +78,10 @@ def letters(random):
     return film(random, ENGLISH + GREEK + CYRILLIC + LATIN)
 
 
+def greek(random):
+    return film(random, ["Mr O'Neill, please.", "Yes.", "No!"] + GREEK)
+
+
 def overlaps(random):
     """Cues of which up to a dozen are live at once, some of them twice the same."""
     cues = []
@@ -103,7 +107,9 @@ def odd(random):
     return cues
 
 
-KINDS = {"film": film, "dense": dense, "long": long, "letters": letters, "overlaps": overlaps, "odd": odd}
+KINDS = {"film": film, "dense": dense, "long": long, "letters": letters, "greek": greek, "overlaps": overlaps, "odd": odd}
+# The character tables of Tech 3264 with letters of other scripts.
+TABLES = {"letters": (b"01", "iso8859_5"), "greek": (b"03", "iso8859_7")}
 
 
 def stamp(time, comma):
@@ -178,9 +184,9 @@ def latin_bytes(text):
 
 
 def stl(cues, kind):
-    """Blocks of Tech 3264, the programme from 10:00:00:00 on; the letters of the kind `letters` are Cyrillic (table 01)."""
-    table = b"01" if kind == "letters" else b"00"
-    encode = latin_bytes if table == b"00" else lambda text: text.encode("iso8859_5", "replace")
+    """Blocks of Tech 3264, the programme from 10:00:00:00 on."""
+    table, name = TABLES.get(kind, (b"00", None))
+    encode = (lambda text: text.encode(name, "replace")) if name else latin_bytes
     teletext = {"red": 1, "lime": 2, "yellow": 3, "magenta": 5, "cyan": 6, "white": 7}
     head = b"850STL25.011" + table + b"09" + b"made".ljust(32) + b" " * 176
     head = (head + b" " * 256)[:238] + b"%05d%05d001" % (len(cues), len(cues)) + b"40231" + b"10000000" + b"10000000" + b"11"

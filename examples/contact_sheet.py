@@ -2,8 +2,8 @@
 
     python3 examples/contact_sheet.py STREAM PROFILE PID PAGE FOLDER
 
-writes FOLDER/index.html, the pictures in FOLDER/pictures, and the last texts of `check` and `dump` beside them. PROFILE is `sd`, `hd` or `large`.
-A picture has the colours and the transparency of the stream. It uses Python's standard library and `dvbsub`.
+writes FOLDER/index.html, the pictures in FOLDER/pictures, and the texts of `check` and `pictures` beside them. PROFILE is `sd`, `hd` or `large`.
+A picture has the colours and the transparency of the stream. It uses Python's standard library, `dvbsub` and `dvbsub_tools`.
 """
 
 import hashlib
@@ -15,8 +15,8 @@ from collections import Counter
 
 from picture_to_png import png
 
-PROGRAM = pathlib.Path(__file__).resolve().parent.parent / "dvbsub"
-MOST_TICKS = 1000
+TOP = pathlib.Path(__file__).resolve().parent.parent
+PROGRAM, TOOLS = TOP / "dvbsub", TOP / "dvbsub_tools"
 
 HEAD = """<!DOCTYPE html>
 <html lang="en">
@@ -49,12 +49,12 @@ TAIL = """</ol>
 """
 
 
-def run(out, *words):
+def run(program, out, *words):
     """Carries out a command that writes `out`, and gives the line of its status. A stream that is refused midway still has an output."""
-    ended = subprocess.run([PROGRAM, *map(str, words)], stdout=subprocess.PIPE, text=True, check=False)
+    ended = subprocess.run([program, *map(str, words)], stdout=subprocess.PIPE, text=True, check=False)
     line = ended.stdout.strip()
-    if ended.returncode not in (0, 4, 5, 8) or not out.exists():
-        sys.exit(f"dvbsub {words[0]}: {line}")
+    if ended.returncode not in (0, 3, 4, 5, 8) or not out.exists():
+        sys.exit(f"{program.name} {words[0]}: {line}")
     return line
 
 
@@ -71,7 +71,7 @@ def sets_in(text):
 
 
 def pictures_in(text):
-    """Each tick of the text of `dump` with the sides and the rows of its picture, or with nothing where it is clear."""
+    """Each tick of the text of `pictures` with the sides and the rows of its picture, or with nothing where it is clear."""
     with text.open() as lines:
         for line in lines:
             words = line.split()
@@ -92,26 +92,16 @@ def name_of(picture, folder):
     return name
 
 
-def shown_at(ticks, words, folder):
-    """The file of the picture at each tick, or nothing where it is clear."""
-    stream, profile, pid, page = words
-    shown = {}
-    # The first tick says from where on times are counted, so each call asks for it.
-    for at in range(1, max(len(ticks), 2), MOST_TICKS - 1):
-        asked = ticks[:1] + ticks[at : at + MOST_TICKS - 1]
-        text = folder / "dump.txt"
-        run(text, "dump", profile, pid, page, 4, stream, text, *asked)
-        for tick, picture in pictures_in(text):
-            shown[tick] = picture and name_of(picture, folder / "pictures")
-    return shown
+def shown_in(text, folder):
+    """The file of the picture at each tick that is told, in order, or nothing where it is clear."""
+    return {tick: picture and name_of(picture, folder / "pictures") for tick, picture in pictures_in(text)}
 
 
-def end_of(tick, later, shown):
-    """When a picture ends: with the next set, or by its time-out before that."""
-    if later is None:
-        return "with the last set: not told"
-    is_timed_out = shown.get(tick) and later - 1 > tick and not shown.get(later - 1)
-    return f"{'timed out before ' if is_timed_out else ''}{time_code(later)}"
+def end_of(following, times):
+    """When a picture ends: with the next set, or by its time-out before that, whichever tick follows its own."""
+    if following is None:
+        return "not in this stream"
+    return f"{'' if following in times else 'timed out at '}{time_code(following)}"
 
 
 def card(number, one, picture, end):
@@ -133,23 +123,23 @@ def main(stream, profile, pid, page, folder):
     folder = pathlib.Path(folder)
     (folder / "pictures").mkdir(parents=True, exist_ok=True)
     text = folder / "check.txt"
-    status = run(text, "check", profile, 0, pid, page, stream, text)
+    status = run(PROGRAM, text, "check", profile, 0, pid, page, stream, text)
     sets = sets_in(text)
-    times = [one[0] for one in sets if one[1] != "notlater"]
-    ends = [later - 1 for tick, later in zip(times, times[1:]) if later - 1 > tick]
-    shown = shown_at(sorted({*times, *ends}), (stream, profile, pid, page), folder) if times else {}
+    times = {one[0] for one in sets if one[1] != "notlater"}
+    text = folder / "pictures.txt"
+    run(TOOLS, text, "pictures", profile, pid, page, 4, stream, text)
+    shown = shown_in(text, folder)
+    following = dict(zip(shown, [*list(shown)[1:], None]))
     states = Counter(one[1] for one in sets)
     counts = ", ".join(f"{count} {state}" for state, count in states.items()) or "none"
     about = f"Profile {profile}, PID {pid}, page {page}: {len(sets)} display sets ({counts}); the stream: {status}."
-    kept = iter(times[1:])
     with (folder / "index.html").open("w") as out:
         out.write(HEAD.format(title=html.escape(pathlib.Path(stream).name), about=html.escape(about)))
         for number, one in enumerate(sets, 1):
             if one[1] == "notlater":
                 out.write(card(number, one, None, "it is dropped"))
                 continue
-            later = next(kept, None)
-            out.write(card(number, one, shown.get(one[0]), end_of(one[0], later, shown)))
+            out.write(card(number, one, shown.get(one[0]), end_of(following.get(one[0]), times)))
         out.write(TAIL)
     print(f"{len(sets)} display sets in {folder / 'index.html'}")
 

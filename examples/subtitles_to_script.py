@@ -102,8 +102,6 @@ def wishes_of(asked):
         wishes.rate = RATES[asked.rate]
     if asked.first_pts is not None:
         wishes.offset = asked.first_pts
-    if asked.start:
-        wishes.start = time_of(asked.start, wishes.rate)
     return wishes
 
 
@@ -163,8 +161,9 @@ def main():
         with open(asked.input, "rb") as file:
             data = file.read()
         options = {"speakers": asked.speakers}
-        cues, name = readers.read(data, report, asked.encoding, options)
+        cues, name, begin = readers.read(data, report, asked.encoding, options)
         wishes = wishes_of(asked)
+        wishes.start = time_of(asked.start, wishes.rate) if asked.start else begin
         face = face_of(asked, wishes.size()[1])
         wishes.style = face.style
         texts, report = convert(cues, face, wishes, report)

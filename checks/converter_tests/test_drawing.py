@@ -92,7 +92,7 @@ class Faces(unittest.TestCase):
 class Colours(unittest.TestCase):
     def test_names_and_numbers(self):
         for text, colour in (("#FF0", YELLOW), ("ffff00", YELLOW), ("rgb(255, 255, 0)", YELLOW), ("#ffff0080", YELLOW), ("Yellow", YELLOW),
-                             ("rgba(255,255,0,128)", YELLOW), ("no", None), ("#12", None)):
+                             ("rgba(255,255,0,128)", YELLOW), ("green", (0, 128, 0)), ("lime", (0, 255, 0)), ("no", None), ("#12", None)):
             self.assertEqual(colours.colour_of(text), colour, text)
 
     def test_entries(self):

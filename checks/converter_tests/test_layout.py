@@ -42,6 +42,12 @@ def times(cues, **wishes):
 
 
 class Letters(unittest.TestCase):
+    def test_letters_from_right_to_left_are_told_of(self):
+        hebrew = BitmapFace([line.replace("ENCODING 65", "ENCODING 1488") for line in LINES])
+        _, report = convert([cue(1, 2, "\u05d0b\nc")], hebrew, Wishes(offset=900_000))
+        self.assertEqual(report.counts["leftwards"], 1)
+        self.assertEqual(convert([cue(1, 2, "\u05d0b\nc")], face(), Wishes(offset=900_000))[1].counts["leftwards"], 0)
+
     def test_what_stands_for_a_letter(self):
         for letter, other in (("a", "a"), ("Ł", "L"), ("ş", "s"), ("ﬁ", "fi"), ("—", "-"), ("…", "..."), ("Я", "?"), ("é", "é")):
             self.assertEqual(letter_for(letter, face()), other)
@@ -99,6 +105,18 @@ class Times(unittest.TestCase):
     def test_almost_the_same_start(self):
         found, counts = times([cue(1, 3, "A"), cue("1.2", 4, "B")])
         self.assertEqual((found, counts["begun_together"]), ([(1, 4, "A"), (1, 4, "B")], 1))
+
+    def test_cues_that_begin_at_once_and_have_no_room_together(self):
+        found, counts = times([cue(1, 4, "A\nB"), cue(1, 5, "C\nD")])
+        self.assertEqual(found, [(1, 3, "A"), (1, 3, "B"), (3, 5, "C"), (3, 5, "D")])
+        self.assertEqual((counts["in_turn"], counts["left_out"], counts["cut"]), (2, 0, 0))
+        # The second has three times as many letters (with the line feed): 12 of 50 frames, and 38. The third begins when both have ended.
+        found, counts = times([cue(1, 2, "A\nB"), cue("1.2", 3, "CCCC\nDDDD"), cue("3.2", 4, "E")])
+        self.assertEqual(found, [(1, 1.48, "A"), (1, 1.48, "B"), (1.48, 3, "CCCC"), (1.48, 3, "DDDD"), (3.2, 4, "E")])
+
+    def test_cues_behind_each_other_keep_their_times(self):
+        found, counts = times([cue(1, "1.28", "A\nB"), cue("1.28", 3, "C\nD")])
+        self.assertEqual((found[-1], counts["in_turn"]), ((1.28, 3, "D"), 0))
 
     def test_short_cue_is_longer_where_there_is_room(self):
         self.assertEqual(times([cue(1, "1.1", "A"), cue(5, 6, "B")])[0], [(1, 1.52, "A"), (5, 6, "B")])

@@ -1,11 +1,13 @@
 """Smooth faces, where Pillow and DejaVu are installed, and what ffprobe tells of a video."""
 
 import os
+import subprocess
+import sys
 import unittest
 from fractions import Fraction
 
-import paths  # noqa: F401
-from subtitles import colours, truetype
+import paths
+from subtitles import bdf, colours, truetype
 from subtitles.cues import Span
 from subtitles.video import Video, video_in
 
@@ -14,6 +16,7 @@ try:
 except ImportError:
     PIL = None
 FONT = "/usr/share/fonts/truetype/dejavu/DejaVuSans.ttf"
+CONDENSED = "/usr/share/fonts/truetype/dejavu/DejaVuSansCondensed-Bold.ttf"
 WHITE, YELLOW = (255, 255, 255), (255, 255, 0)
 
 
@@ -23,8 +26,9 @@ class Videos(unittest.TestCase):
         self.assertEqual(video_in(told), Video(129_600, Fraction(25), 720, 576))
         told = '{"streams": [{"width": 1280, "height": 720, "r_frame_rate": "30000/1001", "time_base": "1/1000", "start_pts": 40}]}'
         self.assertEqual(video_in(told), Video(3_600, Fraction(30000, 1001), 1280, 720))
-        with self.assertRaises(ValueError):
-            video_in('{"streams": []}')
+        for told in ('{"streams": []}', '{"streams": [{"width": 1, "height": 1, "r_frame_rate": "0/0"}]}'):
+            with self.assertRaises(ValueError):
+                video_in(told)
 
 
 @unittest.skipUnless(os.path.exists(FONT), "DejaVu is not installed")
@@ -57,6 +61,28 @@ class Faces(unittest.TestCase):
     def test_narrow_letters(self):
         wide, narrow = (truetype.SmoothFace(FONT, 40, "outline", squeeze) for squeeze in (1, 45 / 64))
         self.assertAlmostEqual(narrow.width("Subtitle") / wide.width("Subtitle"), 45 / 64, delta=0.02)
+
+
+@unittest.skipUnless(PIL and os.path.exists(FONT), "Pillow or DejaVu is not installed")
+class Fonts(unittest.TestCase):
+    @staticmethod
+    def made(font, rows, *ranges):
+        words = [sys.executable, os.path.join(paths.EXAMPLES, "font_to_bdf.py"), font, str(rows), *ranges]
+        return subprocess.run(words, stdout=subprocess.PIPE, check=True).stdout.decode("latin-1")
+
+    def test_a_font_of_any_size(self):
+        font = bdf.Font(self.made(FONT, 31, "1EA0-1EF9").split("\n"))
+        self.assertEqual(font.box[1], 31)
+        self.assertTrue({ord(letter) for letter in "~ÿſώЯё€♪ệ"} <= set(font.glyphs))
+        # No letter is clipped: each has all rows of its box within the line.
+        for glyph in font.glyphs.values():
+            self.assertTrue(font.box[3] <= glyph.box[3] and glyph.box[1] + glyph.box[3] <= 31 + font.box[3])
+
+    @unittest.skipUnless(os.path.exists(CONDENSED), "fonts-dejavu-extra is not installed")
+    def test_fonts_of_the_examples_are_made_so(self):
+        for rows in (24, 36):
+            with open(os.path.join(paths.EXAMPLES, f"sans{rows}.bdf"), encoding="latin-1", newline="") as file:
+                self.assertEqual(self.made(CONDENSED, rows), file.read())
 
 
 if __name__ == "__main__":

@@ -119,7 +119,8 @@ def scaled(rows, width, scale):
     """Rows whose bits are as many times as wide and high."""
     if scale == 1:
         return rows
-    wide = [int("".join(bit * scale for bit in f"{row:0{width}b}"), 2) for row in rows]
+    bits = {ord(bit): bit * scale for bit in "01"}
+    wide = [int(f"{row:0{width}b}".translate(bits), 2) for row in rows]
     return [row for row in wide for _ in range(scale)]
 
 

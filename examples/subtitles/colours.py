@@ -4,13 +4,13 @@ import re
 from dataclasses import dataclass
 
 NAMES = {
-    "white": (255, 255, 255), "black": (0, 0, 0), "red": (255, 0, 0), "green": (0, 255, 0), "lime": (0, 255, 0),
+    "white": (255, 255, 255), "black": (0, 0, 0), "red": (255, 0, 0), "green": (0, 128, 0), "lime": (0, 255, 0),
     "blue": (0, 0, 255), "yellow": (255, 255, 0), "magenta": (255, 0, 255), "fuchsia": (255, 0, 255),
     "cyan": (0, 255, 255), "aqua": (0, 255, 255), "silver": (192, 192, 192), "gray": (128, 128, 128),
     "grey": (128, 128, 128), "maroon": (128, 0, 0), "olive": (128, 128, 0), "purple": (128, 0, 128),
     "navy": (0, 0, 128), "teal": (0, 128, 128), "orange": (255, 165, 0), "pink": (255, 192, 203),
 }
-TELETEXT = [NAMES[name] for name in ("black", "red", "green", "yellow", "blue", "magenta", "cyan", "white")]
+TELETEXT = [NAMES[name] for name in ("black", "red", "lime", "yellow", "blue", "magenta", "cyan", "white")]
 CLEAR = (16, 128, 128, 255)
 BLACK = (0, 0, 0)
 

@@ -5,13 +5,14 @@ from fractions import Fraction
 
 from .layout import Layout
 from .pages import Clock, pages_of
-from .report import Report
+from .report import Report, stamp
 from .script import scripts_of
 from .sending import PROFILES
 from .timing import RefreshTooShort
 
 LONGEST_REFRESH = 60
 SMALLEST = 14       # Pixels of a line.
+FAR = 3_600         # Seconds: a first cue that comes so late may be counted from a tape's start.
 
 
 class Unfit(Exception):
@@ -51,6 +52,9 @@ def usable(cues, start, report):
             report.add("before_start", cue.start, cue.text())
         else:
             out.append(replace(cue, start=max(cue.start, Fraction(0))))
+    if out and min(cue.start for cue in out) >= FAR:
+        report.note(f"the first cue comes {stamp(min(cue.start for cue in out))} after the video's first frame: "
+                    "--start names another time of that frame")
     return out
 
 
@@ -84,7 +88,8 @@ def convert(cues, face, wishes, report=None):
     report = report or Report()
     profile, (width, height) = PROFILES[wishes.profile], wishes.size()
     if width > profile.width or height > profile.height:
-        raise Unfit(f"a display of {width} by {height} is larger than that of the profile {wishes.profile}")
+        raise Unfit(f"a display of {width} by {height} is larger than that of the profile {wishes.profile}: --profile "
+                    f"names another, and --display a smaller one")
     clock = Clock(wishes.rate, wishes.offset)
     cues = usable(cues, wishes.start, report)
     layout, steps, report = with_room(cues, face, wishes, clock, report)

@@ -73,7 +73,10 @@ def shown_line(line, face, known, report, start):
                 report.add("replaced", start, letter)
             letters.append("" if known[letter] != letter and unicodedata.combining(letter) else known[letter])
         out.append(span.with_text("".join(letters)))
-    return joined(out)
+    out = joined(out)
+    if any(unicodedata.bidirectional(letter) in ("R", "AL") for span in out for letter in span.text):
+        report.add("leftwards", start, "".join(span.text for span in out))
+    return out
 
 
 def words_of(line):

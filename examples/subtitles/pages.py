@@ -75,20 +75,55 @@ class Step:
     asked: int
 
 
-def begun_together(cues, most_lines, clock, report):
-    """Cues of one place of which those that begin almost at once begin together, where their lines have room."""
-    near, group, out = clock.frames(NEAR), [], []
+def batches_of(cues, most_lines, near):
+    """Groups of cues that begin almost at once and have room together."""
+    batches = []
     for cue in cues:
-        lines = sum(len(other.lines) for other in group) + len(cue.lines)
-        if group and 0 < cue.start - group[0].start < near and lines <= most_lines:
-            report.add("begun_together", clock.seconds(cue.start), cue.text)
-            group.append(replace(cue, start=group[0].start))
-            end = max(other.end for other in group)
-            for other in group:
-                other.end = end
+        batch = batches[-1] if batches else []
+        lines = sum(len(other.lines) for other in batch) + len(cue.lines)
+        if batch and cue.start - batch[0].start < near and lines <= most_lines:
+            batch.append(cue)
         else:
-            group = [cue if group and cue.start == group[0].start else replace(cue)]
-        out.append(group[-1])
+            batches.append([cue])
+    return batches
+
+
+def end_of(batches):
+    return max(cue.end for batch in batches for cue in batch)
+
+
+def chains_of(batches, near):
+    """Groups of batches that begin almost at once too, before all cues of those before have ended."""
+    chains = []
+    for batch in batches:
+        start = batch[0].start
+        if chains and start - chains[-1][0][0].start < near and start < end_of(chains[-1]):
+            chains[-1].append(batch)
+        else:
+            chains.append([batch])
+    return chains
+
+
+def begun_together(cues, most_lines, clock, report):
+    """Cues of one place of which those that begin almost at once begin together, where their lines have room; else they
+    share their time, one behind the other, as their letters ask."""
+    out, near = [], clock.frames(NEAR)
+    batches = batches_of([replace(cue) for cue in cues], most_lines, near)
+    for batch in batches:
+        end, start = end_of([batch]), batch[0].start
+        for cue in batch if batch[-1].start != start else ():
+            if cue.start != start:
+                report.add("begun_together", clock.seconds(cue.start), cue.text)
+            cue.start, cue.end = start, end
+    for chain in chains_of(batches, near):
+        start, end, letters = chain[0][0].start, end_of(chain), [sum(len(cue.text) for cue in batch) for batch in chain]
+        marks = [start + (end - start) * sum(letters[:k]) // max(1, sum(letters)) for k in range(len(chain) + 1)]
+        for batch, *span in zip(chain, marks, marks[1:]) if len(set(marks)) == len(marks) > 2 else ():
+            for cue in batch:
+                report.add("in_turn", clock.seconds(cue.start), cue.text)
+                cue.start, cue.end = span
+    for batch in batches:
+        out += batch
     return out
 
 

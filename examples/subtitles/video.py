@@ -24,7 +24,10 @@ def video_in(told):
         raise ValueError("there is no video in it")
     stream = streams[0]
     first = Fraction(int(stream.get("start_pts", 0))) * Fraction(stream.get("time_base", "1/90000")) * 90_000
-    return Video(round(first) % (1 << 33), Fraction(stream["r_frame_rate"]), int(stream["width"]), int(stream["height"]))
+    frames, seconds = map(int, stream["r_frame_rate"].split("/"))
+    if not frames or not seconds:
+        raise ValueError("ffprobe knows no frame rate of it; --rate, --display and --first-pts say the same as --video")
+    return Video(round(first) % (1 << 33), Fraction(frames, seconds), int(stream["width"]), int(stream["height"]))
 
 
 def probed(path):

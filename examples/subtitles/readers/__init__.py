@@ -1,6 +1,7 @@
 """Readers of subtitle files. Each gives cues with times in seconds from the start of the programme."""
 
 import re
+from fractions import Fraction
 
 from . import ebu_stl, subrip, ttml, webvtt
 
@@ -27,12 +28,16 @@ def text_of(data, encoding=None):
     try:
         return data.decode("utf-8"), "utf-8"
     except UnicodeDecodeError:
-        return data.decode("cp1252", "replace"), "cp1252"
+        text = data.decode("utf-8", "replace")
+    faults = text.count("\ufffd")
+    letters = sum(letter > "\x7f" for letter in text) - faults
+    # Letters of two bytes and more come about by chance in few places of another encoding.
+    return (text, "utf-8 with faults") if letters > 4 * faults else (data.decode("cp1252", "replace"), "cp1252")
 
 
 def format_of(data):
     """Which format a file has, by its first bytes."""
-    if re.match(rb"\d{3}STL\d\d\.\d\d", data[:11]):
+    if re.match(rb"...STL\d\d\.\d\d", data[:11], re.S):
         return "stl"
     head = text_of(data[:4096])[0].lstrip("\ufeff \t\r\n")
     if head.startswith("WEBVTT"):
@@ -42,19 +47,27 @@ def format_of(data):
     return "srt"
 
 
+def begun(cues, begin, report):
+    """The start of the programme, where most cues do not stand before it; else 0."""
+    if 2 * sum(cue.start < begin for cue in cues) > len(cues):
+        report.note("times before the start of the programme that the file tells: taken as they are")
+        return Fraction(0)
+    return begin
+
+
 def read(data, report, encoding=None, options=None):
-    """The cues of a file in order of their starts, and the name of its format."""
-    which = format_of(data)
+    """The cues of a file in order of their starts, the name of its format, and the time of its programme's start."""
+    which, begin = format_of(data), Fraction(0)
     name, reader = FORMATS[which]
     try:
         if which == "stl":
-            cues = reader(data, report, encoding)
+            cues, begin = reader(data, report, encoding)
         elif which == "ttml":
-            cues = reader(data, report)
+            cues, begin = reader(data, report)
         else:
             text, encoding = text_of(data, encoding)
             name += f", {encoding}"
             cues = reader(text, report) if which == "srt" else reader(text, report, **(options or {}))
     except ValueError as fault:
         raise FormatFault(f"{name}: {fault}") from fault
-    return sorted(cues, key=lambda cue: (cue.start, cue.end)), name
+    return sorted(cues, key=lambda cue: (cue.start, cue.end)), name, begun(cues, begin, report)

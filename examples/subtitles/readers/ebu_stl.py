@@ -8,11 +8,15 @@ from ..cues import BOTTOM, CENTRE, LEFT, RIGHT, TOP, WHITE, Cue, Span, lines_of
 
 HEAD, BLOCK, TEXT = 1024, 128, 112
 NEW_LINE, UNUSED = 0x8A, 0x8F
+FIRST, BETWEEN, LAST = 1, 2, 3      # Of a cumulative set.
+DAY = 86_400
 # Character code tables 01 to 04; table 00 is ISO 6937.
 TABLES = {b"01": "iso8859_5", b"02": "iso8859_6", b"03": "iso8859_7", b"04": "iso8859_8"}
 MARKS = dict(zip(range(0xC1, 0xD0), (
-    "\u0300", "\u0301", "\u0302", "\u0303", "\u0304", "\u0306", "\u0307", "\u0308", "", "\u030a", "\u0327", "",
+    "\u0300", "\u0301", "\u0302", "\u0303", "\u0304", "\u0306", "\u0307", "\u0308", "\u0308", "\u030a", "\u0327", "",
     "\u030b", "\u0328", "\u030c")))
+# A mark before a space stands by itself.
+ALONE = dict(zip(MARKS.values(), "`´^~¯˘˙¨¨˚¸ ˝˛ˇ"))
 LATIN = {
     0xA0: "\u00a0", 0xA1: "¡", 0xA2: "¢", 0xA3: "£", 0xA4: "$", 0xA5: "¥", 0xA6: "#", 0xA7: "§", 0xA8: "¤", 0xA9: "‘",
     0xAA: "“", 0xAB: "«", 0xAC: "←", 0xAD: "↑", 0xAE: "→", 0xAF: "↓", 0xB0: "°", 0xB1: "±", 0xB2: "²", 0xB3: "³",
@@ -33,7 +37,7 @@ def latin_text(data):
             mark = MARKS[byte]
             continue
         letter = chr(byte) if byte < 0x80 else LATIN.get(byte, "")
-        out.append(unicodedata.normalize("NFC", letter + mark))
+        out.append(ALONE[mark] if mark and letter == " " else unicodedata.normalize("NFC", letter + mark))
         mark = ""
     return "".join(out)
 
@@ -80,6 +84,11 @@ def seconds_of(code, rate):
     return Fraction((hours * 60 + minutes) * 60 + seconds) + Fraction(frames, rate)
 
 
+def is_code(code):
+    """Whether four bytes are a time code."""
+    return code[0] < 24 and code[1] < 60 and code[2] < 60
+
+
 def start_of(head, rate):
     """The start of the programme (TCP), or 0 where it is none."""
     digits = head[256:264]
@@ -88,22 +97,67 @@ def start_of(head, rate):
 
 def blocks_of(data):
     """The blocks of each subtitle: the first one, and the texts of all of them. Comments and user data are left out."""
-    subtitles, is_open = [], False
+    subtitles, is_open, known = [], False, None
     for at in range(HEAD, len(data) - BLOCK + 1, BLOCK):
         block = data[at:at + BLOCK]
-        number, is_comment = block[3], block[15] == 1
-        if number == 0xFE or is_comment:
+        extension, is_comment = block[3], block[15] == 1
+        if extension == 0xFE or is_comment:
             continue
         text = block[16:].split(bytes([UNUSED]))[0]
-        if is_open:
+        if is_open and block[:3] == known:
             subtitles[-1][1].extend(text)
         else:
             subtitles.append((block, bytearray(text)))
-        is_open = number != 0xFF
+        is_open, known = extension != 0xFF, block[:3]
     return subtitles
 
 
+def timed(subtitles, report):
+    """The subtitles whose two times are time codes."""
+    out = []
+    for block, text in subtitles:
+        if is_code(block[5:9]) and is_code(block[9:13]):
+            out.append((block, text))
+        else:
+            report.add("no_times")
+    return out
+
+
+def cue_of(block, text, rate, rows, decode, report):
+    """The cue of a subtitle's first block and its text."""
+    place = TOP if block[13] * 2 < rows else BOTTOM
+    align = {1: LEFT, 3: RIGHT}.get(block[14], CENTRE)
+    lines = lines_of(spans_of(text, decode, report))
+    return Cue(seconds_of(block[5:9], rate), seconds_of(block[9:13], rate), lines, place, align)
+
+
+def over_midnight(cues):
+    """Moves times by a day where they go back by half a day or more from one subtitle to the next."""
+    day, last = 0, None
+    for cue in cues:
+        day += DAY if last is not None and cue.start + day <= last - DAY // 2 else 0
+        cue.start, cue.end = cue.start + day, cue.end + day
+        cue.end += DAY if cue.end <= cue.start - DAY // 2 else 0
+        last = cue.start
+
+
+def gathered(cues, states):
+    """Lets each subtitle of a cumulative set (states 1, 2 and 3: its first, those between, its last) be shown until the
+    set's end, or until the one that has its text once more."""
+    end, later = None, None
+    for cue, state in zip(reversed(cues), reversed(states)):
+        if state == LAST:
+            end = cue.end
+        elif state in (FIRST, BETWEEN) and end is not None:
+            is_again = later.lines[:len(cue.lines)] == cue.lines
+            cue.end = later.start if is_again else max(cue.end, end)
+        if state not in (BETWEEN, LAST):
+            end = None
+        later = cue
+
+
 def read(data, report, encoding=None):
+    """The cues of a file, and the time at which its programme starts."""
     if len(data) < HEAD:
         raise ValueError("it is shorter than 1,024 bytes")
     head = data[:HEAD]
@@ -113,15 +167,8 @@ def read(data, report, encoding=None):
     decode = decoder_of(head[12:14], encoding)
     # On teletext rows 1 to 23 count, else as many as the head says.
     rows = 23 if head[11:12] in b"12" else int(head[253:255]) if head[253:255].isdigit() else 99
-    found = [(seconds_of(block[5:9], rate), seconds_of(block[9:13], rate), block, text)
-             for block, text in blocks_of(data)]
-    begin = start_of(head, rate)
-    if found and min(start for start, *_ in found) < begin:
-        report.note("times before the start of the programme that the file tells: taken as they are")
-        begin = Fraction(0)
-    cues = []
-    for start, end, block, text in found:
-        place = TOP if block[13] * 2 < rows else BOTTOM
-        align = {1: LEFT, 3: RIGHT}.get(block[14], CENTRE)
-        cues.append(Cue(start - begin, end - begin, lines_of(spans_of(text, decode, report)), place, align))
-    return cues
+    found = timed(blocks_of(data), report)
+    cues = [cue_of(block, text, rate, rows, decode, report) for block, text in found]
+    over_midnight(cues)
+    gathered(cues, [block[4] for block, _ in found])
+    return cues, start_of(head, rate)

@@ -2,17 +2,18 @@
 
 import html
 import re
-from dataclasses import dataclass
+from dataclasses import dataclass, field
 
-from ..colours import TELETEXT, colour_of
+from ..colours import NAMES, TELETEXT, colour_of
 from ..cues import WHITE, Span
 
 ENTITY = re.compile(r"&(?:amp|lt|gt|quot|apos|nbsp|lrm|rlm|#\d{1,7}|#[xX][0-9a-fA-F]{1,6});")
-TAG = re.compile(r"<(/?)([A-Za-z]+)((?:[.\s][^<>]*)?)>")
+TAG = re.compile(r"<(/?)([A-Za-z]+)((?:[./\s][^<>]*)?)>")
 ANY_TAG = re.compile(r"<(/?)([^\s<>./]*)([^<>]*)>")
 BRACES = re.compile(r"\{(\\[^{}]*|[a-zA-Z]:[^{}]*)\}")
 KNOWN = {"i", "em", "b", "strong", "u", "s", "font", "c", "v", "lang", "ruby", "rt", "span", "br", "p", "cite"}
 PLAIN = {"b", "strong", "u", "s"}
+COLOUR = re.compile(r"(?<![-\w])color\s*[=:]\s*(\"[^\"]*\"|'[^']*'|rgba?\([^)]*\)|[^\s;>]+)", re.I)
 
 
 @dataclass(frozen=True)
@@ -20,6 +21,22 @@ class Look:
     italic: bool = False
     colour: tuple = WHITE
     unseen: bool = False
+
+
+@dataclass(frozen=True)
+class Sheet:
+    """What a style sheet says: the colour of each selector, and the selectors of italic letters.
+
+    A selector is a tag's name, "." and a class, "v " and a speaker's name, "#" and a cue's name, or "" for all cues.
+    """
+
+    colours: dict = field(default_factory=dict)
+    italics: frozenset = frozenset()
+
+    def look(self, look, selectors):
+        """A look within what the selectors name, the last that says something before the others."""
+        colour = next((self.colours[one] for one in reversed(selectors) if one in self.colours), look.colour)
+        return Look(look.italic or any(one in self.italics for one in selectors), colour, look.unseen)
 
 
 @dataclass(frozen=True)
@@ -33,30 +50,32 @@ def without_entities(text):
     return ENTITY.sub(lambda found: html.unescape(found.group()), text)
 
 
-def tag_colour(name, rest, colours):
-    """The colour that a tag asks for, or None."""
-    if name in ("font", "span"):
-        found = re.search(r"color\s*[=:]\s*(\"[^\"]*\"|'[^']*'|[^\s;>]+)", rest)
-        return colour_of(found.group(1)) if found else None
-    if name == "v":
-        return colours.get("v " + rest.lstrip(".").split(None, 1)[-1].strip()) if rest.strip() else None
-    for word in rest.split()[0].split(".") if rest.strip() else []:
-        if "." + word in colours:
-            return colours["." + word]
-        if word and not word.startswith("bg_") and colour_of(word):
-            return colour_of(word)
-    return colours.get(name)
+def classes_of(rest):
+    """The classes of a tag: its words from each point on, up to the first space."""
+    return re.match(r"\S*", rest).group().split(".")[1:]
 
 
-def look_within(name, rest, look, colours):
+def selectors_of(name, rest):
+    """The selectors of a style sheet that name a tag, the closest one last."""
+    voice = rest.strip() and rest.split(None, 1)[-1].strip() if name == "v" else ""
+    return [name, *("." + one for one in classes_of(rest))] + (["v " + voice] if voice else [])
+
+
+def look_within(name, rest, look, sheet):
     """The look of the letters behind an opening tag."""
-    colour = tag_colour(name, rest, colours) or look.colour
-    return Look(look.italic or name in ("i", "em", "cite"), colour, look.unseen or name == "rt")
+    colour = look.colour
+    if name in ("font", "span"):
+        found = COLOUR.search(rest)
+        colour = found and colour_of(found.group(1)) or colour
+    for one in classes_of(rest):
+        colour = NAMES.get(one, colour)
+    look = Look(look.italic or name in ("i", "em", "cite"), colour, look.unseen or name == "rt")
+    return sheet.look(look, selectors_of(name, rest))
 
 
-def tagged_spans(text, report, every_tag=False, colours=None):
+def tagged_spans(text, report, every_tag=False, sheet=Sheet(), first=Look()):
     """The spans of a text with tags: each of `<...>` where `every_tag`, else those that are known."""
-    spans, looks, at = [], [("", Look())], 0
+    spans, looks, at = [], [("", first)], 0
 
     def put(piece):
         if piece and not looks[-1][1].unseen:
@@ -77,7 +96,7 @@ def tagged_spans(text, report, every_tag=False, colours=None):
             depth = next((k for k in range(len(looks) - 1, 0, -1) if looks[k][0] == name), None)
             del looks[depth if depth is not None else len(looks):]
         elif name in KNOWN and not rest.endswith("/"):
-            looks.append((name, look_within(name, rest, looks[-1][1], colours or {})))
+            looks.append((name, look_within(name, rest, looks[-1][1], sheet)))
     put(text[at:])
     return spans
 
@@ -96,13 +115,13 @@ def braced(text, report):
                 key = {1: 1, 2: 2, 3: 3, 5: 7, 6: 8, 7: 9, 9: 4, 10: 5, 11: 6}.get(int(word[1:]), 2)
             elif word == "i1" or re.fullmatch("[yY]:i", word):
                 out += "<i>"
-            elif word == "i0":
-                out += "</i>"
+            elif word in ("i0", "c", "1c", "r"):
+                out += {"i0": "</i>", "r": "</i></font>"}.get(word, "</font>")
             elif re.fullmatch("1?c&H[0-9A-Fa-f]{6}&?", word):
                 digits = word[word.index("H") + 1:][:6]
                 out += f'<font color="#{digits[4:]}{digits[2:4]}{digits[:2]}">'
-            elif word and not re.fullmatch("[bus][01]|r", word):
-                report.add("markup", text=found.group())
+            elif word and not re.fullmatch("[bus]0", word):
+                report.add("plain" if re.fullmatch("[bus]1", word) else "markup", text=found.group())
         return out
     return BRACES.sub(replaced, text.replace("\\N", "\n").replace("\\h", " ")), Braces(key)
 
