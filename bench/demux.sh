@@ -13,7 +13,7 @@ with open(path, "wb") as stream:
     for place in range(count):
         stream.write(null if place % 8 else bytes([0x47, 0x41, 0x00, 0x10 + place // 8 % 16]) + unit)
 PYTHON
-(cd crates/bench_demux && rt run >/dev/null 2>&1)
-crates/bench_demux/out/bench_demux bench/out/stream.ts
+(cd crates/bench_libraries && rt run -- demux >/dev/null 2>&1)
+crates/bench_libraries/out/bench_libraries demux bench/out/stream.ts
 time (cat bench/out/stream.ts | wc -c)
 rm bench/out/stream.ts

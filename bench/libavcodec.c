@@ -2,7 +2,7 @@
  * libavcodec's DVB subtitle encoder and decoder, for the scripts beside this file to compare with.
  *
  *   libavcodec encode SCRIPT COUNT    encodes the pictures of a script of bench/text_pictures.py in turn, COUNT sets a round
- *   libavcodec decode SETS COUNT      decodes the display sets that bench_sets writes to a file, COUNT sets a round
+ *   libavcodec decode SETS COUNT      decodes the display sets that bench_libraries writes to a file, COUNT sets a round
  *
  * Each prints the sets a second of the best of 20 rounds, or 0 where libavcodec tells of a fault in a set. Sets to decode come in
  * groups, one a size and depth of the picture, of which each begins with a mode change: the group's first set is decoded once,

@@ -1,12 +1,15 @@
 #!/usr/bin/env bash
-# Reads compiled streams by `list`, `check` and `dump` (1,000 ticks, one band), beside `cat` of the same file: an hour of cues of
-# two lines, one every four seconds, and a script at its limits. Then the same of a PID that the hour's stream does not have. Each
-# line has the bytes of the stream, the best processor time of the program of three runs, and the greatest memory of these.
+# Reads compiled streams by `list`, `check`, `dump` (1,000 ticks, one band) and `pictures` (of all sets, one band), beside `cat` of the same
+# file: an hour of cues of two lines, one every four seconds, and a script at its limits. Then the same of a PID that the hour's stream
+# does not have. Each line has the bytes of the stream, the best processor time of the program of three runs, and the greatest memory
+# of these.
 set -e
 cd "$(dirname "${BASH_SOURCE[0]}")/.."
 mkdir -p bench/out
 ./dvbsub >/dev/null 2>&1 || true
+./dvbsub_tools >/dev/null 2>&1 || true
 program=crates/dvbsub/out/dvbsub
+tools=crates/dvbsub_tools/out/dvbsub_tools
 measure() {
     python3 - "$@" <<'PYTHON'
 import os, resource, subprocess, sys, time
@@ -33,6 +36,7 @@ for kind in hour limits; do
     measure "$kind, check" bench/out/stream.ts "$program" check sd 0 256 1 bench/out/stream.ts bench/out/check.txt
     # shellcheck disable=SC2086
     measure "$kind, dump" bench/out/stream.ts "$program" dump sd 256 1 1 bench/out/stream.ts bench/out/dump.txt $ticks
+    measure "$kind, pictures" bench/out/stream.ts "$tools" pictures sd 256 1 1 bench/out/stream.ts bench/out/pictures.txt
     tail -n 2 bench/out/check.txt
     echo "$(grep -c '^set' bench/out/check.txt) sets"
     if [ "$kind" = hour ]; then
@@ -40,4 +44,4 @@ for kind in hour limits; do
         measure "$kind, another PID, check" bench/out/stream.ts "$program" check sd 0 257 1 bench/out/stream.ts bench/out/check.txt
     fi
 done
-rm bench/out/script.csv bench/out/stream.ts bench/out/list.txt bench/out/check.txt bench/out/dump.txt
+rm bench/out/script.csv bench/out/stream.ts bench/out/list.txt bench/out/check.txt bench/out/dump.txt bench/out/pictures.txt

@@ -1,5 +1,5 @@
 #!/usr/bin/env bash
-# Builds the proved program bench_sets and prints how many display sets a second it reads, takes into a page memory, and takes and
+# Builds the proved program bench_libraries and prints how many display sets a second it reads, takes into a page memory, and takes and
 # draws, row by row of the whole display: sets of text of 720 by 80 pixels in 8, 4 and 2 bits, and of 1,920 by 160 pixels in 8
 # bits. Each line has the best of 20 rounds. The one word is how many sets a round has (500 where it is left out). Where
 # libavcodec's headers are installed, its decoder is given the same sets, and what is taken is compared with what it decodes.
@@ -7,12 +7,12 @@ set -e
 cd "$(dirname "${BASH_SOURCE[0]}")/.."
 mkdir -p bench/out
 count=${1:-500} sets=bench/out/sets.bin lines=bench/out/lines.txt decoded=bench/out/decoded.txt
-(cd crates/bench_sets && rt run -- 1 >/dev/null 2>&1)
+(cd crates/bench_libraries && rt run -- sets 1 >/dev/null 2>&1)
 # shellcheck source=bench/common.sh
 . bench/common.sh
-crates/bench_sets/out/bench_sets 1 $sets >/dev/null 2>&1
+crates/bench_libraries/out/bench_libraries sets 1 $sets >/dev/null 2>&1
 for round in 1 2 3 4 5 6 7 8 9 10 11 12 13 14 15 16 17 18 19 20; do
-    $first crates/bench_sets/out/bench_sets "$count" 2>&1 >/dev/null
+    $first crates/bench_libraries/out/bench_libraries sets "$count" 2>&1 >/dev/null
 done | awk '
     /:$/ { picture = $0; next }
     {

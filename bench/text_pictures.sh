@@ -25,7 +25,7 @@ compile() {
 }
 # Pictures of the script coded and read: million pixels a second.
 pictures() {
-    (cd crates/bench_pixel_rows && rt run -- "$1" ../../$script 2>&1) | sed -n 's/.* bytes, \([0-9]*\) million pixels a second written, \([0-9]*\) read/\1 \2/p'
+    (cd crates/bench_libraries && rt run -- pixel_rows "$1" ../../$script 2>&1) | sed -n 's/.* bytes, \([0-9]*\) million pixels a second written, \([0-9]*\) read/\1 \2/p'
 }
 for depth in 8 4 2; do
     python3 bench/text_pictures.py $font $depth 8 8 >$script

@@ -4,9 +4,9 @@
     python3 checks/make_program.py dvbsub
 
 Crates that do not stand on each other are proved side by side, each by a worker in a copy of the repository of its own, since commands of
-`rt` in one copy wait for each other. What is proved in one copy serves every other on the machine. Of the crates that could be next the
-one on the longest chain is taken first. A line on standard error tells of each crate as it is proved. Exit status 1, with what `rt` said,
-where a crate is refused.
+`rt` in one copy wait for each other. What a worker has proved is copied to the others as they need it. Of the crates that could be next
+the one on the longest chain is taken first, and processors for which no crate is left to begin share the next one. A line on standard
+error tells of each crate as it is proved. Exit status 1, with what `rt` said, where a crate is refused.
 """
 
 import os
@@ -22,7 +22,7 @@ TOP = pathlib.Path(__file__).resolve().parent.parent
 SOURCES = ("src", "specs", "proofs")
 # What the proof of a large crate takes of memory, in bytes.
 ROOM = 3 * 2**30
-FIRST_CALL = "about half an hour on four processors"
+FIRST_CALL = "some 25 minutes on four processors"
 
 
 def tell(line):
@@ -59,12 +59,17 @@ def files_of(crate):
     return [file for part in parts if part.exists() for file in (part, *part.rglob("*"))]
 
 
-def changed_since(made, crates, libraries):
-    """The crates that are newer than that time, or stand on one that is."""
+def is_built(crate):
+    """Whether what was proved of a crate is newer than its sources."""
+    stamp = TOP / "crates" / crate / "out" / "rlib" / "stamp"
+    return stamp.exists() and all(file.stat().st_mtime < stamp.stat().st_mtime for file in files_of(crate))
+
+
+def changed_of(crates, libraries):
+    """The crates that are to be proved: what was proved of them is older than their sources, or they stand on such a one."""
     changed = []
     for crate in crates:
-        is_newer = any(file.stat().st_mtime > made for file in files_of(crate))
-        if is_newer or any(below in changed for below in libraries[crate]):
+        if not is_built(crate) or any(below in changed for below in libraries[crate]):
             changed.append(crate)
     return changed
 
@@ -94,27 +99,35 @@ class Run:
         self.lengths = chain_lengths(crates, libraries)
         self.libraries = libraries
         self.proved = set()
-        self.taken = set()
+        # How many processors work on each crate that is being proved.
+        self.taken = {}
         self.fault = None
         self.turn = threading.Condition()
 
     def next_crate(self):
-        """Waits for a crate of which all below is proved; None where nothing is left to do."""
+        """Waits for a crate of which all below is proved, and says how many processors it gets; None where nothing is left to do."""
         with self.turn:
             while self.left and self.fault is None:
-                waits = set(self.left) | self.taken
+                waits = self.taken.keys() | set(self.left)
                 ready = [crate for crate in self.left if not waits.intersection(self.libraries[crate])]
-                if ready:
+                idle = len(os.sched_getaffinity(0)) - sum(self.taken.values())
+                if ready and (idle > 0 or not self.taken):
                     crate = max(ready, key=self.lengths.get)
                     self.left.remove(crate)
-                    self.taken.add(crate)
-                    return crate
+                    self.taken[crate] = self.share_of(crate, idle, len(ready))
+                    return crate, self.taken[crate]
                 self.turn.wait()
             return None
 
+    def share_of(self, crate, idle, ready):
+        """How many of the idle processors a crate gets: two or more where all others wait for it, or none is there for them."""
+        longest = max(self.lengths[other] for other in (*self.left, *self.taken, crate))
+        fair = max(1, min(4, idle // ready))
+        return max(fair, min(2, idle)) if self.lengths[crate] >= longest else fair
+
     def ends(self, crate, fault):
         with self.turn:
-            self.taken.remove(crate)
+            del self.taken[crate]
             self.proved.add(crate)
             self.fault = self.fault or fault
             if fault is None:
@@ -127,10 +140,39 @@ def output_of(words, folder):
     return run.returncode, run.stdout
 
 
+def crates_below(crate, libraries):
+    """All that a crate stands on, at whatever depth."""
+    below = set()
+    waiting = list(libraries[crate])
+    while waiting:
+        one = waiting.pop()
+        if one not in below:
+            below.add(one)
+            waiting.extend(libraries[one])
+    return below
+
+
+def bring(crate, parts, at, top):
+    """Copies parts of what a crate's proof left in one copy of the repository to another one, in the place of what that has."""
+    for part in parts:
+        made, wanted = at / "crates" / crate / "out" / part, top / "crates" / crate / "out" / part
+        if at != top and made.exists():
+            shutil.rmtree(wanted, ignore_errors=True)
+            shutil.copytree(made, wanted)
+
+
 def prove(run, top):
-    """Proves crates in that copy of the repository for as long as there are any."""
-    while (crate := run.next_crate()) is not None:
-        status, said = output_of(["rt", "lib"], top / "crates" / crate)
+    """Proves crates in that copy of the repository for as long as there are any, over what was proved in others."""
+    while (step := run.next_crate()) is not None:
+        crate, jobs = step
+        for below in crates_below(crate, run.libraries):
+            if not (top / "crates" / below / "out" / "rlib").exists():
+                bring(below, ["rlib"], TOP, top)
+        # What an earlier call kept of the crate is checked no more.
+        bring(crate, ["incremental"], TOP, top)
+        status, said = output_of(["rt", "lib", "--jobs", str(jobs)], top / "crates" / crate)
+        if status == 0:
+            bring(crate, ["rlib", "incremental"], top, TOP)
         run.ends(crate, said if status != 0 else None)
 
 
@@ -165,10 +207,8 @@ def make(program):
 def main(program):
     libraries = libraries_of()
     made = TOP / "crates" / program / "out" / "made"
-    crates = crates_of(program, libraries)
-    newest = made.stat().st_mtime if made.exists() else 0
     begun = time.time()
-    changed = changed_since(newest, crates[:-1], libraries)
+    changed = changed_of(crates_of(program, libraries)[:-1], libraries)
     tell(f"{program}: the program is proved and made first, with {len(changed)} crates. From nothing that takes {FIRST_CALL}, once.")
     fault = prove_all(Run(changed, libraries)) or make(program)
     if fault is not None:

@@ -5,6 +5,3 @@
 mod drawing;
 
 pub use drawing::draw;
-
-#[cfg(test)]
-mod tests;

@@ -26,6 +26,3 @@ mod layout;
 pub use font::Font;
 pub use font_fault::{FontFault, FontKind};
 pub use set_fault::SetFault;
-
-#[cfg(test)]
-mod tests;

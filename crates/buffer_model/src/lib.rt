@@ -13,6 +13,3 @@ mod levels;
 pub use breach::Breach;
 pub use laws::{moved_within, no_breach};
 pub use levels::Levels;
-
-#[cfg(test)]
-mod tests;

@@ -7,6 +7,3 @@ mod check;
 mod lines;
 
 pub use check::Check;
-
-#[cfg(test)]
-mod tests;

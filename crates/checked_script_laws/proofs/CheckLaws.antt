@@ -1,12 +1,12 @@
 -- What `check` tells of the packets of a script ends in the line that there is no breach.
-use Rattle.std.proofs.Common.{◌≡◌, ◌∙◌, ℕ, ◌++◌, true, List, None, sym, ap}
+use Rattle.std.proofs.Common.{◌∙◌, ℕ, ◌++◌, true, List, None, sym, ap}
 use Rattle.std.proofs.lemmas.List.{append_assoc}
 use Rattle.sub_base.specs.Pace.{pace_of, tick_of}
 use Rattle.sub_base.specs.Profile.{profile_of}
 use Rattle.sub_base.specs.declared.load.WriteLoad.{WriteLoad}
 use Rattle.sub_base.specs.declared.pace.Pace.{Pace}
 use Rattle.sub_base.specs.declared.profile.ProfileName.{ProfileName}
-use Rattle.buffer_model.specs.Calls.{Call, first_breach_of, greatest}
+use Rattle.buffer_model.specs.Calls.{Call, greatest}
 use Rattle.buffer_model.specs.Within.{AreWithin}
 use Rattle.buffer_model.proofs.LevelLaws.{no_breach}
 use Rattle.check_text.specs.CheckText.{IsCheckText, breach_line, peak_line, sets_text}
@@ -14,7 +14,7 @@ use Rattle.cue_list.specs.declared.script.Script.{Script}
 use Rattle.decoder_model.specs.Frames.{only}
 use Rattle.decoder_model.specs.Streams.{entered_at}
 use Rattle.page_epoch.specs.declared.planned_set.PlannedSet.{PlannedSet}
-use Rattle.received_level_laws.specs.ToldSets.{ToldCall, calls_told}
+use Rattle.received_level_laws.specs.ToldSets.{calls_told}
 use Rattle.received_level_laws.proofs.ToldLaws.{are_calls}
 use Rattle.schedule.specs.Slots.{Timetable}
 use Rattle.script_stream.specs.ShownRightly.{IsShownRightly}

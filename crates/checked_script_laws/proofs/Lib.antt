@@ -1,1 +1,3 @@
 pub mod CheckLaws
+pub mod ToldRightly
+pub mod DoneTicks

@@ -1,1 +1,2 @@
 pub mod Unbreached
+pub mod Scheduled

@@ -2,6 +2,7 @@
 
 ghost use Rattle.std.specs.Prelude.{List, true, ℕ};
 ghost use Rattle.check_text.specs.CheckText.{IsCheckText};
+ghost use Rattle.checked_script_laws.specs.Scheduled.{TellsSchedule};
 ghost use Rattle.checked_script_laws.specs.Unbreached.{EndsUnbreached};
 ghost use Rattle.cue_list.specs.declared.script.Script.{Script};
 ghost use Rattle.decoder_model.specs.Frames.{only};
@@ -27,4 +28,15 @@ pub fn check_of_a_script_finds_no_breach()
         → IsCheckText (profile_of profile) (tick_of (sent_pace profile script) missed)
         pid (only page) true (entered_at missed shown.packets) text
         → EndsUnbreached text }
+{}
+
+/// Of all packets of a script `check`, whose ORIGIN is the script's, tells the display sets of the
+/// plan, in order of their presentation times, each done at its tick of the schedule, and no
+/// breach.
+pub fn check_tells_the_schedule()
+    ensures { (profile : ProfileName) (pid page : ℕ) (script : Script) (sets : List PlannedSet)
+        (loads : List WriteLoad) (table : Timetable) (bytes text : List ℕ)
+        → (shown : IsShownRightly profile pid page script sets loads table bytes)
+        → IsCheckText (profile_of profile) script.origin pid (only page) true shown.packets text
+        → TellsSchedule sets table text }
 {}

@@ -8,6 +8,3 @@ mod table;
 
 pub use positional::positional_words;
 pub use table::COMMANDS;
-
-#[cfg(test)]
-mod tests;

@@ -17,4 +17,3 @@ pub mod PairLaws
 pub mod ItemLaws
 pub mod NodeLaws
 pub mod WalkLaws
-pub mod SampleLaws

@@ -1,4 +1,3 @@
 -- What functions of this crate do inside: no other crate cites these.
 pub mod Links
 pub mod View
-pub mod Sample

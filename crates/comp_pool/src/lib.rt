@@ -13,6 +13,3 @@ mod pool;
 pub use fault::Full;
 pub use node::NodeId;
 pub use pool::Pool;
-
-#[cfg(test)]
-mod tests;

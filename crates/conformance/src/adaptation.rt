@@ -1,6 +1,6 @@
-use crate::first_run::{CHECK, LIST};
 use crate::running::{Wanted, done, ends_as, reading, sound};
-use crate::streams::{ENCODER_LINES, ENCODER_UNIT, packet_of, piece_packet};
+use samples::first_run::{CHECK, LIST};
+use samples::streams::{ENCODER_LINES, ENCODER_UNIT, packet_of, piece_packet};
 use std::alloc::Global;
 use std::process::Abort;
 use std::test::Fail;

@@ -1,5 +1,5 @@
-use crate::first_run::{CHECK, DUMP, LIST, stream};
 use crate::running::{reading, run, sound};
+use samples::first_run::{CHECK, DUMP, LIST, stream};
 use std::alloc::Global;
 use std::process::Abort;
 use std::test::Fail;

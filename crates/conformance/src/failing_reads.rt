@@ -1,6 +1,6 @@
 use crate::failing::{each_font_read_fails, each_read_fails};
-use crate::first_run::*;
 use crate::running::{Asked, reading};
+use samples::first_run::*;
 use std::alloc::Global;
 use std::process::Abort;
 use std::test::Fail;

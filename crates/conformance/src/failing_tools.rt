@@ -1,7 +1,7 @@
 use crate::failing::{each_note_fails, each_write_fails};
 use crate::refused_growth::ends_with_or_without_memory;
 use crate::running::{Asked, Edges, Wanted, done, ends_as, reading, run, sound};
-use crate::streams::packet_of;
+use samples::streams::packet_of;
 use std::alloc::Global;
 use std::process::Abort;
 use std::test::Fail;

@@ -1,6 +1,6 @@
 use crate::failing::{each_note_fails, each_write_fails};
-use crate::first_run::*;
 use crate::running::{Edges, Wanted, done, ends_as, reading, run, sound};
+use samples::first_run::*;
 use std::alloc::Global;
 use std::process::Abort;
 use std::test::Fail;

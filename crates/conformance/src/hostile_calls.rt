@@ -1,7 +1,7 @@
-use crate::streams::{ENCODER_UNIT, Sent, encoder_segments, put_unit};
 use decoder_model::{SetEnd, SetFault};
 use page_core::Core;
 use receiver::Receiver;
+use samples::streams::{ENCODER_UNIT, Sent, encoder_segments, put_unit};
 use std::alloc::Global;
 use std::test::Fail;
 use std::thread::Threads;

@@ -1,6 +1,6 @@
-use crate::first_run::{CHECK, LIST};
 use crate::running::{Wanted, done, ends_as, reading, sound};
-use crate::streams::{ENCODER_UNIT, Sent, packet_of, put_unit};
+use samples::first_run::{CHECK, LIST};
+use samples::streams::{ENCODER_UNIT, Sent, packet_of, put_unit};
 use std::alloc::Global;
 use std::test::Fail;
 

@@ -1,6 +1,6 @@
-use crate::first_run::{CHECK, COMPILE};
 use crate::running::{done, ends_as, reading, run, sound};
-use crate::streams::{ENCODER_UNIT, Sent, encoder_segments, put_unit};
+use samples::first_run::{CHECK, COMPILE};
+use samples::streams::{ENCODER_UNIT, Sent, encoder_segments, put_unit};
 use std::alloc::Global;
 use std::test::Fail;
 

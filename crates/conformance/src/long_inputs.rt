@@ -1,6 +1,6 @@
-use crate::counting::Counting;
-use crate::first_run::*;
 use crate::running::{Wanted, done, is_as, run_over, sound};
+use samples::Counting;
+use samples::first_run::*;
 use std::alloc::Global;
 use std::process::Abort;
 use std::test::Fail;

@@ -1,6 +1,6 @@
-use crate::first_run::{FIRST_UNIT, PICTURES, SCRIPT, SECOND_UNIT};
 use crate::running::{Asked, done, ends_as, reading, run, sound};
-use crate::streams::packet_of;
+use samples::first_run::{FIRST_UNIT, PICTURES, SCRIPT, SECOND_UNIT};
+use samples::streams::packet_of;
 use std::alloc::Global;
 use std::test::Fail;
 

@@ -1,5 +1,5 @@
-use crate::first_run::*;
 use crate::running::{Asked, reading, run, sound};
+use samples::first_run::*;
 use std::alloc::Global;
 use std::process::Abort;
 use std::test::Fail;

@@ -1,12 +1,13 @@
 ghost use Rattle.std.specs.Prelude.{◌≤◌};
 
 use dvbsub_cmd::top;
+use samples::words_of;
 use service_mux::{mux_top, take_top};
 use std::alloc::Global;
 use std::process::Abort;
 use std::test::Fail;
 use std::thread::Threads;
-use sub_base::{MemSink, MemSource, NoGate, Sink, Source, Words};
+use sub_base::{MemSink, MemSource, NoGate, Sink, Source};
 
 /// A command, and what its first and its second source hold.
 #[derive(Clone, Copy)]
@@ -55,14 +56,6 @@ pub(crate) struct Ended {
     pub code: u8,
     pub out: MemSink,
     pub notes: MemSink,
-}
-
-pub(crate) fn words_of(alloc: Global, line: &str) -> Result<Words, Fail> {
-    let mut words = Words::make(alloc);
-    for word in line.split(' ') {
-        words.push(word)?;
-    }
-    Ok(words)
 }
 
 /// Carries out a command.

@@ -1,5 +1,5 @@
-use crate::first_run::{CLEAR_PICTURES, COMPILE, EXPECT, SCRIPT};
 use crate::running::{Wanted, done, ends_as, reading, run, sound};
+use samples::first_run::{CLEAR_PICTURES, COMPILE, EXPECT, SCRIPT};
 use std::alloc::Global;
 use std::process::Abort;
 use std::test::Fail;

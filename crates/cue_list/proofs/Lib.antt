@@ -1,8 +1,10 @@
 pub mod AnswerLaws
 pub mod CodesLaws
+pub mod CopyLaws
 pub mod CueLaws
 pub mod EpochLaws
 pub mod FactLaws
+pub mod FirstTickLaws
 pub mod HexLaws
 pub mod PastLaws
 pub mod ReadLaws
@@ -12,6 +14,7 @@ pub mod ScriptLaws
 pub mod SettingLaws
 pub mod SoundLaws
 pub mod SoundSteps
+pub mod StandsLaws
 pub mod TextLaws
 pub mod PlaneLaws
 pub mod EntryLaws

@@ -57,7 +57,7 @@ few-rows bytes =
     let short = bom-shorter bytes in
     omega arith
 
-length-numbered : (n : ℕ) (rows : List Row) → length (numbered n rows) ≡ length rows
+pub length-numbered : (n : ℕ) (rows : List Row) → length (numbered n rows) ≡ length rows
 length-numbered n [] = refl
 length-numbered n (row ∷ rows) = ap suc (length-numbered (n + 1) rows)
 
@@ -122,7 +122,8 @@ cue-open font past kind number cells right is =
     not-none past.epoch (ap (is_misplaced past) (sym is) ∙ placed)
 
 -- only a cue's picture depends on the regions
-brings-with : (font : FontValue) (first second : List Region) (kind : RowKind) (cells : Row) (old new : List Picture)
+pub brings-with : (font : FontValue) (first second : List Region) (kind : RowKind) (cells : Row)
+    (old new : List Picture)
     → (kind ≡ kinds.Cue → first ≡ second)
     → Brings font first kind cells old new → Brings font second kind cells old new
 brings-with font first second kinds.Origin cells old new same brings = brings

@@ -1,5 +1,5 @@
 ghost use Rattle.cue_list.specs.declared.limits.TheConstants.{MOST_CODES, MOST_CUES, MOST_HEIGHT, MOST_WIDTH};
-ghost use Rattle.std.specs.Prelude.{◌≡◌, ◌≤◌, ◌<◌, ◌+◌, ◌^◌, ◌∷◌, [], ◌++◌, true, false, None, Some, chars, length, map, option_map, IfNone, IfSome, OnOk, IfOk, IfErr};
+ghost use Rattle.std.specs.Prelude.{◌≡◌, ◌≤◌, ◌<◌, ◌+◌, ◌^◌, ◌∷◌, [], ◌++◌, true, false, None, Some, chars, length, map, option_map, IfNone, IfSome, OnOk, OnErr, IfOk, IfErr};
 ghost use Rattle.csv.specs.Records.{fields_of};
 ghost use Rattle.cue_list.specs.CellFaults.{first_of, is_text_row, value_at, place_cells as place_cells_of, cue_cells as cue_cells_of};
 ghost use Rattle.cue_list.specs.Cells.{cell_at};
@@ -204,6 +204,7 @@ impl Reader {
             ∷ cue_fault_of font.now (past_of self.old) (placing_in (fields_of row.now))
             (value_at (fields_of row.now) 6) (value_at (fields_of row.now) 7)
             (chars (cell_at (fields_of row.now) 8)) ∷ []))) }
+        ensures kept { OnErr result (self.new.pictures.items ≡ self.old.pictures.items) }
     {
         let cue = cue_cells(row, self.origin)?;
         let picture = self.cue_picture(font, cue, text_cell(row, 8))?;

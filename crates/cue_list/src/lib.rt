@@ -2,7 +2,8 @@
 //! programme.
 //!
 //! `Script::read` reads a whole script. Each record is tested by those before it; the first faulty one is
-//! refused by the first of its tests that fails. `picture_at` draws what a script shows at a tick.
+//! refused by the first of its tests that fails. A `ScriptReader` takes records as they come.
+//! `picture_at` draws what a script shows at a tick.
 #![tactic(auto)]
 
 // A script's values, and its limits.
@@ -26,6 +27,7 @@ mod runs;
 mod texts;
 
 // What is kept of the records so far.
+mod copies;
 mod names;
 mod reader;
 mod ticks;
@@ -38,19 +40,27 @@ mod row_tests;
 mod setting;
 mod take;
 
+// Records that come one after another, and the script of those so far.
+mod kept_rows;
+mod lent_script;
+mod script_reader;
+mod single_rows;
+mod tick_rows;
+
 // The whole script, and what it shows.
 mod painting;
 mod read;
 
 pub use epoch::{ColourRow, Cue, Epoch, Region};
 pub use fault::{ScriptFault, ScriptKind};
+pub use kept_rows::{LentScript, RowBefore, ScriptReader};
 pub use limits::{
     CLOSE_TICKS, LATEST_ORIGIN, LONGEST_CUE, LONGEST_NAME, LONGEST_RUN, LONGEST_SCRIPT, MOST_CODES,
     MOST_COLOURS, MOST_CUES, MOST_DIGITS, MOST_EPOCHS, MOST_HEIGHT, MOST_PICTURES, MOST_REGIONS,
     MOST_WIDTH,
 };
 pub use painting::picture_at;
-pub use script::Script;
-
-#[cfg(test)]
-mod read_tests;
+pub use script::{Pictures, Script};
+pub use script_reader::RecordFault;
+pub use single_rows::{OnlyRow, only_row};
+pub use tick_rows::is_tick_row;

@@ -1,10 +1,11 @@
-ghost use Rattle.std.specs.Prelude.{◌≡◌, ℕ, List, None, OnOk, IfErr};
+ghost use Rattle.std.specs.Prelude.{◌≡◌, ℕ, List, None, OnOk, IfErr, IfOk};
 ghost use Rattle.cue_list.specs.Private.State.{IsRowFault};
 ghost use Rattle.cue_list.specs.Private.Names.{place_by, named_with};
 
 use crate::row_fault::RowFault;
 use std::alloc::Global;
 use std::collections::BTreeMap;
+use sub_base::NoMemory;
 
 /// The last picture of each name: its place in the list of pictures.
 #[derive(Drop)]
@@ -19,6 +20,15 @@ impl Names {
         Names {
             places: BTreeMap::new(alloc),
         }
+    }
+
+    /// The same places, in memory of their own.
+    pub(crate) fn copy(&self) -> Result<Names, NoMemory>
+        ensures { IfOk result (λ copy. place_by copy ≡ place_by self.now) }
+    {
+        Ok(Names {
+            places: self.places.clone()?,
+        })
     }
 
     /// The place of the last picture of that name.

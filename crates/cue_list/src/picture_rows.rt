@@ -1,5 +1,5 @@
 ghost use Rattle.cue_list.specs.declared.limits.TheConstants.{MOST_CODES, MOST_PICTURES};
-ghost use Rattle.std.specs.Prelude.{◌≡◌, ◌≤◌, ◌<◌, ◌+◌, ◌*◌, ◌∷◌, [], ◌++◌, true, None, Some, length, All, OnOk, IfOk, IfErr};
+ghost use Rattle.std.specs.Prelude.{◌≡◌, ◌≤◌, ◌<◌, ◌+◌, ◌*◌, ◌∷◌, [], ◌++◌, true, None, Some, length, All, OnOk, OnErr, IfOk, IfErr};
 ghost use Rattle.csv.specs.Records.{fields_of};
 ghost use Rattle.sub_base.specs.Depth.{code_count};
 ghost use Rattle.cue_list.specs.CellFaults.{first_of, is_text_row, picture_cells as picture_cells_of};
@@ -76,6 +76,7 @@ impl Reader {
             ∷ picture_fault_of (past_of self.old) (head_in (fields_of row.now))
             (fields_of row.now)
             ∷ []))) }
+        ensures kept { OnErr result (self.new.pictures.items ≡ self.old.pictures.items) }
     {
         let head = picture_cells(row)?;
         let picture = self.picture_in(alloc, head, row)?;

@@ -15,7 +15,7 @@ use crate::fault::{ScriptFault, ScriptKind};
 use crate::reader::Reader;
 use crate::row_fault::RowFault;
 use crate::rows::{next_row, reader_of};
-use crate::script::Script;
+use crate::script::{Pictures, Script};
 use bitmap_font::Font;
 use csv::ByteRecord;
 use std::alloc::Global;
@@ -69,7 +69,7 @@ fn script_of(alloc: Global, bytes: &[u8], font: &Font) -> Result<Script, ScriptF
         height: reader.height,
         refresh,
         epochs: Items::new(alloc, epochs),
-        pictures: Items::new(alloc, reader.pictures),
+        pictures: Pictures::new(alloc, reader.pictures),
     })
 }
 

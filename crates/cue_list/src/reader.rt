@@ -1,13 +1,16 @@
-ghost use Rattle.std.specs.Prelude.{◌≡◌, []};
+ghost use Rattle.std.specs.Prelude.{◌≡◌, [], IfOk, OnOk, OnErr};
 ghost use Rattle.bitmap_font.specs.Font.{FontValue};
 ghost use Rattle.cue_list.specs.Past.{looking_back};
 ghost use Rattle.cue_list.specs.Private.State.{IsReader, past_of};
 
+use crate::copies::{epochs_copy, last_copy};
 use crate::epoch::Epoch;
 use crate::names::Names;
 use crate::ticks::Ticks;
 use indexed_picture::Indexed;
 use std::alloc::Global;
+use std::mem;
+use sub_base::NoMemory;
 
 /// What is kept of the records of a script so far.
 #[derive(Drop)]
@@ -64,5 +67,37 @@ impl Reader {
             ticks: Ticks::new(alloc),
             names: Names::new(alloc),
         }
+    }
+
+    /// The same, in memory of its own, but for the pictures: they are moved to it.
+    pub(crate) fn copy(&mut self, alloc: Global) -> Result<Reader, NoMemory>
+        requires reader { IsReader self.old }
+        ensures same { IfOk result (λ copy. past_of copy ≡ past_of self.old) }
+        ensures reader { IfOk result (λ copy. IsReader copy) }
+        ensures pictures { IfOk result (λ copy. copy.pictures ≡ self.old.pictures) }
+        ensures left { OnOk result
+            (self.new ≡ record self.old { pictures = self.new.pictures }) }
+        ensures none { OnOk result (self.new.pictures.items ≡ []) }
+        ensures still { OnOk result (IsReader self.new) }
+        ensures kept { OnErr result (self.new ≡ self.old) }
+    {
+        let mut copy = Reader {
+            rows: self.rows,
+            origin: self.origin,
+            width: self.width,
+            height: self.height,
+            seconds: self.seconds,
+            ended: epochs_copy(alloc, self.ended.as_slice())?,
+            epoch: last_copy(alloc, &self.epoch)?,
+            colours: self.colours,
+            named: self.named,
+            cues: self.cues,
+            pictures: Vec::new(alloc),
+            codes: self.codes,
+            ticks: self.ticks.copy()?,
+            names: self.names.copy()?,
+        };
+        mem::swap(&mut self.pictures, &mut copy.pictures);
+        Ok(copy)
     }
 }

@@ -74,7 +74,7 @@ fn short_cell(cell: &[u8], least: u16, most: u16) -> Result<u16, ScriptKind>
 }
 
 /// The tick in a cell.
-fn tick_cell(cell: &[u8], origin: u64) -> Result<u64, ScriptKind>
+pub fn tick_cell(cell: &[u8], origin: u64) -> Result<u64, ScriptKind>
     requires { origin ≤ LATEST_ORIGIN }
     ensures fault { fault_in result ≡ number_fault origin (origin + LONGEST_SCRIPT) cell.now }
     ensures value { IfOk result (λ number. number ≡ value_of cell.now) }

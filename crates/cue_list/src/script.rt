@@ -1,7 +1,10 @@
+ghost use Rattle.std.specs.Prelude.{◌≡◌, length};
 ghost use Rattle.cue_list.specs.Sound.{IsSound};
 
 use crate::epoch::Epoch;
 use indexed_picture::Indexed;
+use std::alloc::Global;
+use std::marker::Model;
 use sub_base::Items;
 
 /// A cue script: the subtitles of a programme. Its values pass every test of a script's records, so
@@ -19,7 +22,52 @@ pub struct Script {
     /// The epochs, in order of their starts.
     pub epochs: Items<Epoch>,
     /// The pictures of the script's picture and cue records, in the order of the records.
-    pub pictures: Items<Indexed>,
+    pub pictures: Pictures,
     /// What each script keeps to, as its records passed their tests.
     pub ghost sound: { ∥ IsSound origin width height refresh epochs pictures ∥₁ },
+}
+
+/// The pictures of a script, in order. Contracts see the list of them.
+#[derive(Drop)]
+pub struct Pictures {
+    pictures: Vec<Indexed>,
+}
+
+impl Model for Pictures {
+    ghost use Rattle.std.specs.Prelude.{List};
+    ghost use Rattle.sub_base.specs.Picture.{Picture};
+
+    ghost Value = { List Picture };
+
+    ghost view = { λ list. list.pictures.items };
+}
+
+impl Pictures {
+    /// The list of these pictures. Takes no memory.
+    pub fn new(_alloc: Global, pictures: Vec<Indexed>) -> Pictures
+        ensures { result ≡ pictures.items }
+    {
+        Pictures { pictures }
+    }
+
+    /// The pictures in order.
+    pub fn as_slice(&self) -> &[Indexed]
+        ensures { result.now ≡ self.now }
+    {
+        &self.pictures
+    }
+
+    /// How many pictures there are.
+    pub fn len(&self) -> usize
+        ensures { result ≡ length self.now }
+    {
+        self.pictures.len()
+    }
+
+    /// The pictures, for a list that goes on.
+    pub fn into_vec(self) -> Vec<Indexed>
+        ensures { result.items ≡ self }
+    {
+        self.pictures
+    }
 }

@@ -1,4 +1,4 @@
-ghost use Rattle.std.specs.Prelude.{◌≡◌, ◌+◌, ◌<◌, ◌^◌, true, false, None, OnOk, IfErr, IfNone};
+ghost use Rattle.std.specs.Prelude.{◌≡◌, ◌+◌, ◌<◌, ◌^◌, true, false, None, OnOk, OnErr, IfErr, IfNone};
 ghost use Rattle.csv.specs.Records.{fields_of};
 ghost use Rattle.cue_list.specs.CellFaults.{is_text_row as is_text_row_of};
 ghost use Rattle.cue_list.specs.Drawn.{Brings};
@@ -42,6 +42,7 @@ impl Reader {
             (IsRowFault
             (fault_with font.now (past_of self.old)
             (record_of (self.old.rows + 1) (fields_of row.now)))) }
+        ensures kept { OnErr result (self.new.pictures.items ≡ self.old.pictures.items) }
     {
         let kind = RowKind::of(cell(row, 0));
         if let Some(fault) = shape_fault(kind, row) {
@@ -80,6 +81,7 @@ impl Reader {
         ensures refused { IfErr result
             (IsRowFault
             (content_fault font.now (past_of self.old) kind number (fields_of row.now))) }
+        ensures kept { OnErr result (self.new.pictures.items ≡ self.old.pictures.items) }
     {
         match kind {
             RowKind::Origin => self.take_origin(row),

@@ -5,6 +5,7 @@ ghost use Rattle.cue_list.specs.Private.Ticks.{IsTicks, near_by, near_with, name
 
 use std::alloc::{AllocFailed, Global};
 use std::collections::BTreeMap;
+use sub_base::NoMemory;
 
 /// The ticks that the records of a script have named. No two of them are 1 to 3,600 ticks apart, so
 /// a span of 3,601 ticks has one of them at most.
@@ -24,6 +25,15 @@ impl Ticks {
         Ticks {
             spans: BTreeMap::new(alloc),
         }
+    }
+
+    /// The same ticks, in memory of their own.
+    pub(crate) fn copy(&self) -> Result<Ticks, NoMemory>
+        ensures { IfOk result (λ copy. named_by copy ≡ named_by self.now) }
+    {
+        Ok(Ticks {
+            spans: self.spans.clone()?,
+        })
     }
 
     /// Whether a tick is too close to one of them.

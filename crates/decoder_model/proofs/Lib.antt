@@ -14,7 +14,6 @@ pub mod Depths
 pub mod Planes
 pub mod Views
 pub mod SoleCue
-pub mod SoleCueView
 pub mod ServicePages
 pub mod SentUnits
 pub mod Lifts

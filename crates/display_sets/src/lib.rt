@@ -16,6 +16,3 @@ pub use gathering::Gathering;
 pub use hand::UnitEnd;
 pub use laws::{bytes_are_read, packet_brings_arrivals, sets_of_arrivals};
 pub use ready::Ready;
-
-#[cfg(test)]
-mod tests;

@@ -8,4 +8,5 @@ mod streaming;
 
 pub use dump::Dump;
 pub use laws::packets_are_shown;
+pub use pictures::put_shown;
 pub use streaming::dump_stream;

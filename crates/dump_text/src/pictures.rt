@@ -60,8 +60,8 @@ pub(crate) fn put_rest<K: Sink>(
     }
 }
 
-/// Puts out the text of what a receiver shows at a tick from its current picture on.
-fn put_shown<K: Sink>(out: &mut K, buffer: &mut TextBuffer, receiver: &Receiver, tick: u64)
+/// Puts out the text of what a receiver shows at a tick, no earlier than the last kept set.
+pub fn put_shown<K: Sink>(out: &mut K, buffer: &mut TextBuffer, receiver: &Receiver, tick: u64)
     ensures { PutsShown receiver.now
         (K.received out.old)
         (K.received out.new)

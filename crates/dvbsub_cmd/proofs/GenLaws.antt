@@ -29,7 +29,7 @@ use Rattle.shown_stream.proofs.Sent.PlannedTimes.{pts_of, pts_rise, times_in_spa
 use Rattle.slot_stream.proofs.SentPieces.{IsFree, none_refused}
 use Rattle.slot_stream.proofs.SentStream.{pieces_are}
 use Rattle.shown_stream.specs.Compiled.{IsCompiledFor, IsCompiledTo, all_units}
-use Rattle.shown_stream.specs.SentSets.{sent_sets, times_from}
+use Rattle.shown_stream.specs.SentSets.{sent_sets, first_times_from}
 use Rattle.shown_stream.specs.Shows.{IsAnchorOf, ShowsFrom, authored_view}
 use Rattle.slot_stream.specs.SlotStream.{all_pieces}
 use Rattle.received_level_laws.specs.StreamCalls.{AreCallsOf, calls_from, itself, set_calls}
@@ -91,17 +91,18 @@ module _ (name : ProfileName) (script : Script) (bytes : List ℕ) (is_for : IsG
   abbrev packets_sent : List (List ℕ)
   packets_sent = packets_in name generated_pid generated_page script bytes compiled
 
-  suits : (missed : ℕ) → IsAnchorOf (times_from missed (sent_sets compiled.table compiled.sets)) 0
+  suits : (missed : ℕ) → IsAnchorOf (first_times_from missed (sent_sets compiled.table compiled.sets)) 0
   suits missed =
-      anchor_suits name script compiled.table compiled.sets missed 0 compiled.planned.plan (omega arith)
-      (omega (arith, zero_is))
+      first_of_all_times 0 missed (sent_sets compiled.table compiled.sets)
+      (anchor_suits name script compiled.table compiled.sets missed 0 compiled.planned.plan (omega arith)
+      (omega (arith, zero_is)))
 
   shows : (missed tick : ℕ)
       → ShowsFrom (profile_of name) generated_pid (only generated_page) 0 (entered_at missed packets_sent)
       (entry_set missed (sent_sets compiled.table compiled.sets)) tick (authored_view script tick)
   shows missed tick =
       (compiled_entered name generated_pid generated_page script bytes free (sends name is_for) compiled missed).shown 0
-      (first_of_all_times 0 missed (sent_sets compiled.table compiled.sets) (suits missed)) tick
+      (suits missed) tick
 
   -- the packets in memory are these
   are_sent : (packets : List (List ℕ)) → packets ≡ whole_packets bytes → packets ≡ packets_sent

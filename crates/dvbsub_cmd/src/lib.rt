@@ -43,8 +43,3 @@ pub use command_words::InputPlaces;
 pub use status::Status;
 pub use sub_base::Which;
 pub use top_call::{tell, top};
-
-#[cfg(test)]
-mod list_tests;
-#[cfg(test)]
-mod tests;

@@ -10,6 +10,3 @@ mod picture;
 mod script;
 
 pub use script::generate;
-
-#[cfg(test)]
-mod tests;

@@ -3,7 +3,7 @@ ghost use Rattle.generated_script.specs.Generated.{IsGenerated};
 
 use crate::epoch::epochs;
 use crate::picture::pictures;
-use cue_list::Script;
+use cue_list::{Pictures, Script};
 use std::alloc::Global;
 use sub_base::{Items, NoMemory};
 
@@ -31,6 +31,6 @@ pub fn generate(alloc: Global, number: u64) -> Result<Script, NoMemory>
         height: HEIGHT,
         refresh: REFRESH,
         epochs: Items::new(alloc, epochs),
-        pictures: Items::new(alloc, pictures),
+        pictures: Pictures::new(alloc, pictures),
     })
 }

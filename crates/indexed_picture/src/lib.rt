@@ -12,6 +12,3 @@ mod fields;
 pub use fault::PictureFault;
 pub use fields::FieldRows;
 pub use picture::Indexed;
-
-#[cfg(test)]
-mod tests;

@@ -12,6 +12,3 @@ mod reader;
 pub use limits::STREAM_LIMIT;
 pub use reader::PacketSource;
 pub use stream_end::StreamEnd;
-
-#[cfg(test)]
-mod tests;

@@ -2,22 +2,14 @@
 
 ghost use Rattle.std.specs.Prelude.{◌≡◌, List, Some, ℕ};
 ghost use Rattle.decoder_model.specs.BehindLoss.{IsBehindLoss, IsNormal, IsWaitingOrBroken};
-ghost use Rattle.decoder_model.specs.Faults.{contents_in, display_in_force};
+ghost use Rattle.decoder_model.specs.Faults.{contents_in};
 ghost use Rattle.decoder_model.specs.Kept.{lifted_time};
-ghost use Rattle.decoder_model.specs.Readings.{Content, Reading};
+ghost use Rattle.decoder_model.specs.Readings.{Reading};
 ghost use Rattle.decoder_model.specs.Sets.{Delivery, whole};
 ghost use Rattle.decoder_model.specs.Verdict.{verdict_of};
 ghost use Rattle.decoder_model.specs.declared.set_end.SetEnd.{SetEnd};
 ghost use Rattle.page_core.specs.Losses.{IsAllFree};
-ghost use Rattle.page_core.specs.Memory.{Holds, Memory, Stands, showing};
-ghost use Rattle.page_core.specs.Private.RegionTests.{before_regions};
-
-/// The display and the page of a set change nothing of a memory but the display.
-pub fn display_and_page()
-    ensures { (older set : List Content) (memory : Memory) → Holds older memory
-        → Holds (before_regions older set)
-        (showing (display_in_force (before_regions older set)) memory) }
-{}
+ghost use Rattle.page_core.specs.Memory.{Memory, Stands};
 
 /// Behind a loss or a broken set, until a kept set comes that is not of state normal, no epoch is
 /// known, and all nodes and all bytes of pixels are free; and each kept set of state normal waits

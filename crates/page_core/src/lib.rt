@@ -33,16 +33,3 @@ pub use decoder_model::{SetEnd, SetFault};
 pub use laws::behind_a_loss;
 pub use memory::{Core, Scene};
 pub use painted_time::painting_time;
-
-#[cfg(test)]
-mod core_tests;
-#[cfg(test)]
-mod fault_tests;
-#[cfg(test)]
-mod painting_tests;
-#[cfg(test)]
-mod room_tests;
-#[cfg(test)]
-mod rows_tests;
-#[cfg(test)]
-mod set_tests;

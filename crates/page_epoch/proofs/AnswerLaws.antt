@@ -72,7 +72,7 @@ in_tail x y xs ys z rise same own there =
       | inr more ↦ more
     ]
 
-same_rising : (xs ys : List ℕ) → IsStrictlyIncreasing xs → IsStrictlyIncreasing ys
+pub same_rising : (xs ys : List ℕ) → IsStrictlyIncreasing xs → IsStrictlyIncreasing ys
     → ((z : ℕ) → Contains xs z → Contains ys z) → ((z : ℕ) → Contains ys z → Contains xs z)
     → xs ≡ ys
 same_rising [] [] first second there back = refl

@@ -20,7 +20,7 @@ use Rattle.page_epoch.proofs.LiveLaws.{late_live}
 
 -- ---- the version of the page
 
-all_reversed : {X : Type 0} (P : X → Type 0) (xs : List X) → All P xs → All P (reverse xs)
+pub all_reversed : {X : Type 0} (P : X → Type 0) (xs : List X) → All P xs → All P (reverse xs)
 all_reversed P xs each k d within =
     let long = length-reverse xs in
     let short : k < length xs = omega (arith, within, long) in
@@ -39,7 +39,7 @@ page_version_stays horizon old new instants grow early =
 
 -- ---- live cues
 
-places_split : (n a m : ℕ) → range_with_len a (n + m) ≡ range_with_len a n ++ range_with_len (a + n) m
+pub places_split : (n a m : ℕ) → range_with_len a (n + m) ≡ range_with_len a n ++ range_with_len (a + n) m
 places_split zero a m = ap (range_with_len a) (omega arith) ∙ ap (λ k. range_with_len k m) (omega arith)
 places_split (suc n) a m =
     let more : suc n + m ≡ suc (n + m) = omega arith in

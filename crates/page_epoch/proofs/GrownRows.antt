@@ -135,7 +135,7 @@ rows_stay horizon old new past tick row grow early is =
 -- ---- epochs
 
 -- an epoch of the script stands at its place as it went on
-grown_at : (horizon : ℕ) (old new : List Epoch) (place : ℕ) (epoch : Epoch) → EpochsGrow horizon old new
+pub grown_at : (horizon : ℕ) (old new : List Epoch) (place : ℕ) (epoch : Epoch) → EpochsGrow horizon old new
     → slice_get old place ≡ Some epoch
     → (grown : Epoch) × (slice_get new place ≡ Some grown) × EpochGrows horizon epoch grown
 grown_at horizon [] later place epoch grow found = absurd (let no : None ≡ Some epoch = found in cc)

@@ -81,7 +81,7 @@ same_order number items one other apart first second =
 -- ---- what a set carries
 
 -- no two regions of an epoch begin on the same row of the display
-abbrev HaveOwnRows : Epoch → Type 0
+abbrev pub HaveOwnRows : Epoch → Type 0
 HaveOwnRows epoch = AllPairs (λ (first second : Region). first.y ≢ second.y) epoch.regions
 
 less_or_same : (a b : ℕ) → (a < b) ⊎ ((b < a) ⊎ (a ≡ b))
@@ -203,7 +203,7 @@ one_next epochs refresh past s t apart time first second =
     }
 
 -- the sets of as many instants, the latest first, are one list
-one_past : (epochs : List Epoch) (refresh : ℕ) (instants : List ℕ) (a b : List PlannedSet)
+pub one_past : (epochs : List Epoch) (refresh : ℕ) (instants : List ℕ) (a b : List PlannedSet)
     → All HaveOwnRows epochs → IsPast epochs refresh instants a → IsPast epochs refresh instants b →
     length a ≡ length b → a ≡ b
 one_past epochs refresh instants [] [] apart first second count = refl
@@ -261,7 +261,7 @@ own_rows_from origin width height refresh epochs pictures sound k d h i j e orde
 own_rows_prop : (epochs : List Epoch) → IsProp (All HaveOwnRows epochs)
 own_rows_prop epochs = hlevel props
 
-own_rows : (script : Script) → All HaveOwnRows script.epochs
+pub own_rows : (script : Script) → All HaveOwnRows script.epochs
 own_rows script =
     ∥∥₁_elim script.sound (own_rows_prop script.epochs)
     (own_rows_from script.origin script.width script.height script.refresh script.epochs script.pictures)

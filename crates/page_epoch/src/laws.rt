@@ -1,12 +1,14 @@
 ghost use Rattle.std.specs.Prelude.{◌+◌, ◌≡◌, ◌≤◌, All, List, ℕ};
 ghost use Rattle.cue_list.specs.declared.epoch.Epoch.{Epoch};
-ghost use Rattle.page_epoch.specs.Growth.{EpochGrows, EpochsGrow};
+ghost use Rattle.cue_list.specs.declared.script.Script.{Script};
+ghost use Rattle.page_epoch.specs.Growth.{BeginAlike, EpochGrows, EpochsGrow, Grows};
 ghost use Rattle.page_epoch.specs.Instants.{is_named, IsInstant};
 ghost use Rattle.page_epoch.specs.Live.{live_places};
-ghost use Rattle.page_epoch.specs.Plan.{IsEpochAt, IsRow};
+ghost use Rattle.page_epoch.specs.Plan.{IsEpochAt, IsPlan, IsRow};
 ghost use Rattle.page_epoch.specs.States.{page_version};
 ghost use Rattle.page_epoch.specs.declared.instants.TheConstants.{REFRESH_ROOM};
 ghost use Rattle.page_epoch.specs.declared.planned_set.PlannedSet.{PlannedSet};
+ghost use Rattle.sub_base.specs.declared.profile.Profile.{Profile};
 
 /// A script that goes on above a horizon keeps its instants up to the room of a refresh below the
 /// horizon, and has no others there.
@@ -48,4 +50,12 @@ pub fn page_version_stays()
 pub fn live_places_stay()
     ensures { (horizon : ℕ) (old new : Epoch) (region tick : ℕ) → EpochGrows horizon old new
         → tick ≤ horizon → live_places new.cues region tick ≡ live_places old.cues region tick }
+{}
+
+/// Plans of a script and of one that goes on above a horizon begin with the same sets: with those
+/// that lie the room of a refresh below the horizon, or more.
+pub fn sets_stay()
+    ensures { (horizon : ℕ) (old new : Script) (profile : Profile) (before now : List PlannedSet)
+        → Grows horizon old new → IsPlan old profile before → IsPlan new profile now
+        → BeginAlike horizon before now }
 {}

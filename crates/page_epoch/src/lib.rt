@@ -32,12 +32,8 @@ pub use epoch_state::is_entry_state;
 pub use fault::PlanFault;
 pub use laws::{
     epochs_stay, instants_stay, live_places_stay, names_stay, page_version_stays, rows_stay,
+    sets_stay,
 };
 pub use plan::Plan;
 pub use planned_set::{PlannedSet, SentClut, SentRegion};
 pub use stream_syntax::State;
-
-#[cfg(test)]
-mod tests;
-#[cfg(test)]
-mod wanted;

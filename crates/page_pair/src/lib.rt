@@ -44,6 +44,3 @@ pub use pair_dump::{PairDump, dump_inputs};
 pub use pair_fault::PairFault;
 pub use pair_words::{Pairing, pair_inputs};
 pub use top::pair_top;
-
-#[cfg(test)]
-mod tests;

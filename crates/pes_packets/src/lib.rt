@@ -15,6 +15,3 @@ pub use reading::{Pes, read_pes};
 pub use stream_syntax::PesFault;
 pub use units::{OTHER_BYTES, OpenUnit, unit_lengths};
 pub use writing::{write_pes, write_unit};
-
-#[cfg(test)]
-mod tests;

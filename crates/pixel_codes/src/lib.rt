@@ -34,6 +34,3 @@ pub use row::write_row;
 pub use runs::Runs;
 pub use size::row_size;
 pub use stream_syntax::{CodeFault, CodeKind, Run};
-
-#[cfg(test)]
-mod tests;

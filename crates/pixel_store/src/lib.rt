@@ -9,6 +9,3 @@ mod span;
 mod store;
 
 pub use store::{Slot, Store, StoreFull};
-
-#[cfg(test)]
-mod tests;

@@ -22,6 +22,3 @@ pub use laws::{own_crc, read_again, section_laws};
 pub use section::{Section, read_section};
 pub use service::Service;
 pub use writing::{write_pat, write_pmt};
-
-#[cfg(test)]
-mod tests;

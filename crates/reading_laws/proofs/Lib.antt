@@ -3,3 +3,4 @@ pub mod OneReading
 pub mod ReceivedBytes
 pub mod ReceivedSets
 pub mod PacketsRead
+pub mod UsualPacket

@@ -27,13 +27,13 @@ block_of : (top : List ℕ) (parts : List Part) → AreParts Eight parts top
 block_of top parts are = record { parts = parts; whole = are; drawn = refl }
 
 -- both blocks of an object
-record HaveParts (top bottom : List ℕ) : Type 0 where
-  top_parts : List Part
-  top_are : AreParts Eight top_parts top
-  bottom_parts : List Part
-  bottom_are : AreParts Eight bottom_parts bottom
+pub record HaveParts (top bottom : List ℕ) : Type 0 where
+  pub top_parts : List Part
+  pub top_are : AreParts Eight top_parts top
+  pub bottom_parts : List Part
+  pub bottom_are : AreParts Eight bottom_parts bottom
 
-are_blocks : (top bottom : List ℕ) → HaveParts top bottom → AreBlocks top bottom
+pub are_blocks : (top bottom : List ℕ) → HaveParts top bottom → AreBlocks top bottom
 are_blocks top bottom parts = record {
   top_runs = runs_after Eight [] parts.top_parts;
   top_is = block_of top parts.top_parts parts.top_are;
@@ -149,6 +149,16 @@ by_tests : (bytes : List ℕ) → AreBytes bytes → IsFramed bytes → (fault :
     → first_fault (body_tests (byte_at 1 bytes) (body_of bytes)) ≡ fault → IsRead bytes
 by_tests bytes fits framed (Some fault) is = (faulty fault, in_body framed.framed (in_tests is))
 by_tests bytes fits framed None is = by_kind bytes fits framed is (cases_eq (byte_at 1 bytes) 19)
+
+-- bytes that pass their tests are a segment with the value that is read from them
+pub segment_is : (bytes : List ℕ) → AreBytes bytes → IsFramed bytes
+    → first_fault (body_tests (byte_at 1 bytes) (body_of bytes)) ≡ None
+    → (byte_at 1 bytes ≡ 19 → AreBlocks (top_in (body_of bytes)) (bottom_in (body_of bytes)))
+    → IsSegment bytes (value_in (byte_at 1 bytes) (body_of bytes))
+segment_is bytes fits framed passes blocks =
+    whole_segment bytes (value_in (byte_at 1 bytes) (body_of bytes)) framed
+    (is_segment bytes (value_in (byte_at 1 bytes) (body_of bytes)) fits framed.framed
+    (laid_body bytes fits passes blocks))
 
 pub segment_is_read : (bytes : List ℕ) → All (λ (byte : ℕ). byte < 256) bytes → IsFramed bytes
     → (reading : Reading) × IsReading bytes reading

@@ -1,11 +1,17 @@
 //! Laws on the readings of segments and of packets, over all bytes.
 
-ghost use Rattle.std.specs.Prelude.{◌≡◌, ◌<◌, ℕ, All, Bool, List};
+ghost use Rattle.std.specs.Prelude.{◌≡◌, ◌<◌, [], ◌∷◌, ℕ, All, Bool, List, map, true};
+ghost use Rattle.decoder_model.specs.Frames.{only};
 ghost use Rattle.decoder_model.specs.declared.pages.Pages.{Pages};
-ghost use Rattle.decoder_model.specs.Readings.{AreDeliveriesRead, IsReading, Reading};
+ghost use Rattle.decoder_model.specs.Readings.{AreDeliveriesRead, IsReading, Reading, read};
 ghost use Rattle.decoder_model.specs.Received.{HasReceived, IsFramed};
-ghost use Rattle.decoder_model.specs.Sets.{Delivery};
+ghost use Rattle.decoder_model.specs.Sets.{Delivery, whole};
+ghost use Rattle.decoder_model.specs.UsualEncoder.{usual_contents, usual_delivery, usual_packet};
+ghost use Rattle.sub_base.specs.Profile.{profile_of};
 ghost use Rattle.sub_base.specs.declared.profile.Profile.{Profile};
+ghost use Rattle.sub_base.specs.declared.profile.ProfileName.TheVariants.{Sd};
+
+use decoder_model::usual_set_is_shown;
 
 /// Bytes that are one segment by their head are read: they have a content or a fault.
 pub fn every_segment_is_read()
@@ -36,3 +42,13 @@ pub fn packets_are_read()
         → All (λ packet. All (λ byte. byte < 256) packet) packets
         → (past : List (Delivery Reading)) × HasReceived profile pid pages ended packets past }
 {}
+
+/// The packet of a usual encoder, byte by byte, is received as one set with the contents that law
+/// `usual_set_is_shown` of `decoder_model` shows.
+pub fn usual_packet_is_read()
+    ensures received { HasReceived (profile_of Sd) 256 (only 1) true
+        (usual_packet ∷ []) (usual_delivery ∷ []) }
+    ensures contents { usual_delivery ≡ whole 90000 84 (map read usual_contents) }
+{
+    usual_set_is_shown();
+}

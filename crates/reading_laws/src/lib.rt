@@ -4,4 +4,4 @@
 
 mod laws;
 
-pub use laws::{every_segment_is_read, one_reading, packets_are_read};
+pub use laws::{every_segment_is_read, one_reading, packets_are_read, usual_packet_is_read};

@@ -9,8 +9,3 @@ mod view;
 pub use receiver::Receiver;
 pub use set_receiver::Arrival;
 pub use view::View;
-
-#[cfg(test)]
-mod loss_tests;
-#[cfg(test)]
-mod tests;

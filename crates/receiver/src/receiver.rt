@@ -52,6 +52,7 @@ impl Receiver {
     ghost use Rattle.decoder_model.specs.Sets.{Delivery};
     ghost use Rattle.decoder_model.specs.Shown.{view_at};
     ghost use Rattle.decoder_model.specs.Shown.{View as Shows};
+    ghost use Rattle.decoder_model.specs.declared.set_end.SetEnd.TheVariants.{Shown};
     ghost use Rattle.display_sets.specs.Gathered.{first_ready, ready_sets, sets_behind};
     ghost use Rattle.set_reader.specs.Arrived.{arrival_value};
     ghost use Rattle.receiver.specs.Lent.{IsWholeView, view_lent};
@@ -226,6 +227,7 @@ impl Receiver {
             → IsDeliveryRead delivery one
             → Some self.new.load ≡ set_load (reception self.old).profile
             (reception self.old).anchor past one }
+        ensures known { result ≡ Shown → self.new.showing.core.known ≡ true }
         ensures left { ready_sets self.new.sets ≡ sets_behind (ready_sets self.old.sets) }
         ensures arrival { self.new.arrival ≡ self.old.arrival }
         ensures page { self.new.showing.core.page ≡ self.old.showing.core.page }

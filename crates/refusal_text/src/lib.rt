@@ -35,6 +35,3 @@ pub use packet::packet_refusal;
 pub use plan::{plan_refusal, schedule_refusal};
 pub use script::script_refusal;
 pub use text::Text;
-
-#[cfg(test)]
-mod tests;

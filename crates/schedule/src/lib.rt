@@ -18,6 +18,3 @@ pub use fault::ScheduleFault;
 pub use laws::{front_is_schedule, packets_are_of_near_sets, slots_stay};
 pub use limits::SEND_WINDOW;
 pub use schedule::Schedule;
-
-#[cfg(test)]
-mod tests;

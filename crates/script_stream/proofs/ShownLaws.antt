@@ -1,17 +1,18 @@
 -- What a script is compiled to is shown, and so is the stream that is made of it.
 use Rattle.std.specs.List.{AllByRecursion, filter, list_any}
 use Rattle.std.specs.Prelude.{nat_le}
-use Rattle.std.proofs.Common.{◌≡◌, ◌∙◌, ℕ, ◌+◌, ◌<◌, ◌≤◌, List, [], ◌∷◌, sym, subst, arith}
+use Rattle.std.proofs.Common.{◌≡◌, ◌∙◌, ℕ, ◌+◌, ◌<◌, ◌≤◌, Bool, List, [], ◌∷◌, map, sym, subst, arith}
 use Rattle.std.proofs.lemmas.List.Elements.{All-filter, All-from_recursion, All-map}
 use Rattle.cue_list.specs.Sound.{IsTick}
 use Rattle.cue_list.specs.declared.limits.TheConstants.{LONGEST_SCRIPT}
 use Rattle.cue_list.specs.declared.script.Script.{Script}
-use Rattle.decoder_model.specs.Streams.{SentSet}
+use Rattle.decoder_model.specs.Streams.{SentSet, Sending, is_received_at}
 use Rattle.page_epoch.specs.Plan.{IsPlan}
 use Rattle.page_epoch.specs.declared.planned_set.PlannedSet.{PlannedSet}
 use Rattle.schedule.specs.Slots.{Timetable}
 use Rattle.shown_stream.proofs.Calls.CheckedCalls.{checked_calls}
 use Rattle.shown_stream.proofs.Calls.CompiledStays.{compiled_stays, compiled_scheduled}
+use Rattle.shown_stream.proofs.Late.LateCuts.{late_is_cut}
 use Rattle.shown_stream.proofs.Late.LateGood.{compiled_good, good_compiled}
 use Rattle.shown_stream.proofs.Lost.LostShown.{compiled_cut}
 use Rattle.shown_stream.proofs.Sent.CompiledPackets.{packets_in, are_packets}
@@ -19,7 +20,7 @@ use Rattle.shown_stream.proofs.Sent.PlannedTimes.{pts_of, times_in_span}
 use Rattle.shown_stream.proofs.Shown.CompiledShown.{compiled_entered}
 use Rattle.shown_stream.proofs.Shown.FirstTimes.{first_of_all_times}
 use Rattle.shown_stream.specs.Compiled.{IsCompiledFor, IsCompiledTo}
-use Rattle.shown_stream.specs.SentSets.{sent_from, sent_sets, times_from}
+use Rattle.shown_stream.specs.SentSets.{sent_from, sent_sets, times_from, times_received}
 use Rattle.shown_stream.specs.Shows.{IsAnchorOf, Suits}
 use Rattle.sub_base.specs.Profile.{profile_of}
 use Rattle.slot_stream.proofs.SentPieces.{IsFree}
@@ -59,14 +60,14 @@ times_early : (origin number : ℕ) (table : Timetable) (sets : List PlannedSet)
 times_early origin number table [] all = tt
 times_early origin number table (set ∷ sets) all = (all.0, times_early origin (number + 1) table sets all.1)
 
--- lifted times may begin at an anchor that is no later than the script's origin, and near enough to its end
-pub anchor_suits : (name : ProfileName) (script : Script) (table : Timetable) (sets : List PlannedSet)
-    (missed anchor : ℕ) → IsPlan script (profile_of name) sets → anchor ≤ script.origin
+-- lifted times may begin at an anchor that is no later than the script's origin, and near enough to its end, whatever
+-- sets are asked about
+any_suit : (name : ProfileName) (script : Script) (table : Timetable) (sets : List PlannedSet)
+    (comes : SentSet → Bool) (anchor : ℕ) → IsPlan script (profile_of name) sets → anchor ≤ script.origin
     → script.origin + LONGEST_SCRIPT < anchor + TIME_ROUND
-    → IsAnchorOf (times_from missed (sent_sets table sets)) anchor
-anchor_suits name script table sets missed anchor plan early near =
+    → IsAnchorOf (map (λ (set : SentSet). set.time) (filter comes (sent_sets table sets))) anchor
+any_suit name script table sets comes anchor plan early near =
     let own = λ (set : SentSet). Suits anchor set.time in
-    let comes = λ (set : SentSet). list_any (λ at. nat_le missed at) set.places in
     let all =
     All-from_recursion (λ (set : SentSet). IsTick script.origin set.time) (sent_sets table sets)
     (times_early script.origin 0 table sets (times_in_span script (profile_of name) sets plan)) in
@@ -74,6 +75,22 @@ anchor_suits name script table sets missed anchor plan early near =
     (All-filter comes own (sent_sets table sets)
     (λ k d inside. let tick = all k d inside in
     (omega (arith, tick.late, early), omega (arith, tick.early, near))))
+
+-- those of which a packet comes
+pub anchor_suits : (name : ProfileName) (script : Script) (table : Timetable) (sets : List PlannedSet)
+    (missed anchor : ℕ) → IsPlan script (profile_of name) sets → anchor ≤ script.origin
+    → script.origin + LONGEST_SCRIPT < anchor + TIME_ROUND
+    → IsAnchorOf (times_from missed (sent_sets table sets)) anchor
+anchor_suits name script table sets missed anchor plan early near =
+    any_suit name script table sets (λ set. list_any (λ at. nat_le missed at) set.places) anchor plan early near
+
+-- and those of which one is received
+received_suits : (name : ProfileName) (script : Script) (table : Timetable) (sets : List PlannedSet)
+    (sendings : List Sending) (anchor : ℕ) → IsPlan script (profile_of name) sets → anchor ≤ script.origin
+    → script.origin + LONGEST_SCRIPT < anchor + TIME_ROUND
+    → IsAnchorOf (times_received sendings (sent_sets table sets)) anchor
+received_suits name script table sets sendings anchor plan early near =
+    any_suit name script table sets (λ set. list_any (is_received_at sendings) set.places) anchor plan early near
 
 -- ---- what is shown
 
@@ -94,12 +111,16 @@ compiled_is_shown profile pid page script bytes below made compiled =
       first_suits =
           λ missed anchor early near. first_of_all_times anchor missed (sent_sets compiled.table compiled.sets)
           (anchor_suits profile script compiled.table compiled.sets missed anchor compiled.planned.plan early near);
+      received_suits =
+          λ sendings anchor early near. received_suits profile script compiled.table compiled.sets sendings anchor
+          compiled.planned.plan early near;
       entered = compiled_entered profile pid page script bytes free made compiled;
       cut = compiled_cut profile pid page script bytes free made compiled;
       good = λ missed. record {
         good = compiled_good profile pid page script bytes compiled known missed;
         only = good_compiled profile pid page script bytes compiled known missed;
       };
+      late = λ missed. late_is_cut pid missed (packets_in profile pid page script bytes compiled);
       stays =
           λ missed anchor suits. compiled_stays profile pid page script bytes free compiled known missed anchor suits;
       checked = checked_calls profile pid page script bytes free compiled known;

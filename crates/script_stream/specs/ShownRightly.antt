@@ -12,8 +12,8 @@ use Rattle.schedule.specs.Slots.{Timetable}
 use Rattle.received_level_laws.specs.StreamCalls.{AreCallsOf}
 use Rattle.shown_stream.specs.Compiled.{sent_pace}
 use Rattle.shown_stream.specs.Entered.{IsEnteredRightly, IsCutRightly}
-use Rattle.shown_stream.specs.GoodTicks.{AreGoodFromEntry}
-use Rattle.shown_stream.specs.SentSets.{sent_sets, first_times_from, times_from}
+use Rattle.shown_stream.specs.GoodTicks.{AreGoodFromEntry, late_sendings}
+use Rattle.shown_stream.specs.SentSets.{sent_sets, first_times_from, times_from, times_received}
 use Rattle.shown_stream.specs.Shows.{IsAnchorOf}
 use Rattle.shown_stream.specs.StaysWithin.{StaysWithin, IsAsScheduled}
 use Rattle.stream_syntax.specs.declared.wire.TheConstants.{TIME_ROUND}
@@ -26,12 +26,12 @@ use Rattle.sub_base.specs.declared.profile.ProfileName.{ProfileName}
 -- page what the script authors from its entry set on, each set that comes whole is kept, and its page memory holds the
 -- script; and whatever packets it loses, at most 14 between two payload packets that it gets, it shows what the script
 -- authors wherever, from some set on that is not of state normal, all sets have come whole, each set that comes whole
--- is kept, and its page memory holds the script; a receiver that enters late and loses nothing more shows it so exactly
--- from its entry set on; wherever it enters, with an anchor that suits the sets of which
--- packets come, its coded data buffer has room and each set is decoded by its time, and with the whole stream its
--- levels and done ticks are those of the schedule; and so it is for one that takes its first packet for the first one
--- of all, at that packet's own tick. Such an anchor is each that is no later than the script's origin,
--- and less than 2 to the 33 ticks before the end of the longest script
+-- is kept, and its page memory holds the script; a receiver that enters late is one that loses the packets before, and
+-- one that loses nothing more shows it so exactly from its entry set on; wherever it enters, with an anchor that suits
+-- the sets of which packets come, up to the first that comes whole, its coded data buffer has room and each set is
+-- decoded by its time, and with the whole stream its levels and done ticks are those of the schedule; and so it is for
+-- one that takes its first packet for the first one of all, at that packet's own tick. Such an anchor is each that is
+-- no later than the script's origin, and less than 2 to the 33 ticks before the end of the longest script
 pub record IsShownRightly (profile : ProfileName) (pid page : ℕ) (script : Script) (sets : List PlannedSet)
     (loads : List WriteLoad) (table : Timetable) (bytes : List ℕ) : Type 0 where
   pub packets : List (List ℕ)
@@ -43,15 +43,19 @@ pub record IsShownRightly (profile : ProfileName) (pid page : ℕ) (script : Scr
   pub first_suits : (missed anchor : ℕ) → anchor ≤ script.origin
       → script.origin + LONGEST_SCRIPT < anchor + TIME_ROUND
       → IsAnchorOf (first_times_from missed (sent_sets table sets)) anchor
+  pub received_suits : (sendings : List Sending) (anchor : ℕ) → anchor ≤ script.origin
+      → script.origin + LONGEST_SCRIPT < anchor + TIME_ROUND
+      → IsAnchorOf (times_received sendings (sent_sets table sets)) anchor
   pub entered : (missed : ℕ) → IsEnteredRightly profile pid (only page) script sets table packets missed
   pub cut : (sendings : List Sending) (received : List (List ℕ)) → IsCutTo pid packets sendings received
       → IsCutRightly profile pid (only page) script sets table sendings received
   pub good : (missed : ℕ) → AreGoodFromEntry (sent_sets table sets) packets missed
-  pub stays : (missed anchor : ℕ) → IsAnchorOf (times_from missed (sent_sets table sets)) anchor
+  pub late : (missed : ℕ) → IsCutTo pid packets (late_sendings missed packets) (entered_at missed packets)
+  pub stays : (missed anchor : ℕ) → IsAnchorOf (first_times_from missed (sent_sets table sets)) anchor
       → StaysWithin profile pid (only page) script sets table packets missed anchor
   pub checked : (missed : ℕ) (calls : List Call)
       → AreCallsOf (profile_of profile) pid (only page) (tick_of (sent_pace profile script) missed) 0 true
       (entered_at missed packets) calls
       → AreWithin (pace_of (tick_of (sent_pace profile script) missed) (profile_of profile)) calls
-  pub scheduled : (anchor : ℕ) → IsAnchorOf (times_from 0 (sent_sets table sets)) anchor
+  pub scheduled : (anchor : ℕ) → IsAnchorOf (first_times_from 0 (sent_sets table sets)) anchor
       → IsAsScheduled profile pid (only page) script sets loads table packets anchor

@@ -38,6 +38,3 @@ pub use stream_syntax::{
     ClutEntry, Listing, PageEntry, RegionHead, SegmentFault, SegmentKind, State, Window,
 };
 pub use writing::{SegmentOut, write_segment};
-
-#[cfg(test)]
-mod tests;

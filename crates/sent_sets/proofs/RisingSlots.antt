@@ -9,14 +9,14 @@ use Rattle.sub_base.specs.declared.load.WriteLoad.{WriteLoad}
 use Rattle.slot_stream.proofs.LaidPackets.{IsAhead}
 
 -- the set of a packet, and its place there
-record PlaceOf (loads : List WriteLoad) (n packet : ℕ) : Type 0 where
-  set : ℕ
-  place : ℕ
-  among : set < n
-  within : place < packets_of loads set
-  there : first_packet loads set + place ≡ packet
+pub record PlaceOf (loads : List WriteLoad) (n packet : ℕ) : Type 0 where
+  pub set : ℕ
+  pub place : ℕ
+  pub among : set < n
+  pub within : place < packets_of loads set
+  pub there : first_packet loads set + place ≡ packet
 
-place_of : (loads : List WriteLoad) (n packet : ℕ) → packet < first_packet loads n → PlaceOf loads n packet
+pub place_of : (loads : List WriteLoad) (n packet : ℕ) → packet < first_packet loads n → PlaceOf loads n packet
 place_of loads zero packet h = absurd (omega (arith, sum_below-zero (packets_of loads)))
 place_of loads (suc n) packet h = by (cases_lt packet (first_packet loads n)) (place_of loads n packet)
   where

@@ -36,8 +36,3 @@ pub use table_reader::TableReader;
 pub use take::take_top;
 pub use take_fault::TakeFault;
 pub use take_words::take_inputs;
-
-#[cfg(test)]
-mod mux_tests;
-#[cfg(test)]
-mod tests;

@@ -13,7 +13,7 @@ use Rattle.cue_list.specs.declared.epoch.Epoch.{Epoch}
 use Rattle.cue_list.specs.declared.epoch.Region.{Region}
 use Rattle.page_epoch.specs.Sendable.{find_region}
 use Rattle.set_coder.specs.declared.coded_picture.CodedPicture.{CodedPicture}
-use Rattle.set_coder.specs.KeptBlocks.{IsCoded, IsOf, IsKept, IsCueKept}
+use Rattle.set_coder.specs.KeptBlocks.{IsCoded, IsSmall, IsOf, IsKept, IsCueKept}
 use Rattle.set_coder.specs.Private.Keeping.{StaysKept}
 
 -- ---- each is right
@@ -40,6 +40,13 @@ one_more pictures picture number region coded kept more found n r right all e =
     (All-append (IsOneOf pictures) kept (coded ∷ []) all
     (All-cons (IsOneOf pictures) coded [] (coded_right pictures picture number region coded found n r right)
     (All-nil (IsOneOf pictures))))
+
+-- and no buffer is too small for any
+pub one_more_small : (kept : List CodedPicture) (coded : CodedPicture) (more : List CodedPicture)
+    → more ≡ kept ++ coded ∷ [] → IsSmall coded → All IsSmall kept → All IsSmall more
+one_more_small kept coded more e small all =
+    subst (All IsSmall) (sym e)
+    (All-append IsSmall kept (coded ∷ []) all (All-cons IsSmall coded [] small (All-nil IsSmall)))
 
 -- ---- what is kept stays
 

@@ -1,12 +1,12 @@
 pub mod BlockLaws
 pub mod Drawing
 pub mod FieldLaws
+pub mod GrownPackets
 pub mod KeptLaws
 pub mod MeasureLaws
 pub mod NextSizeLaws
 pub mod ObjectLaws
 pub mod OnePackets
-pub mod SampleLaws
 pub mod SetPacketLaws
 pub mod SetSizeLaws
 pub mod SizeLaws

@@ -41,6 +41,10 @@ pub record CanBeKept (picture : Picture) (region : Depth) : Type 0 where
   pub sizes : AreFieldSizes picture region top bottom
   pub fits : top + bottom ≤ MOST_BYTES
 
+-- the blocks fit into the largest coded data buffer
+abbrev pub IsSmall : CodedPicture → Type 0
+IsSmall coded = coded.lengths.top + coded.lengths.bottom ≤ MOST_BYTES
+
 -- the blocks are those of the picture of that number for a region of that depth
 abbrev pub IsOf : ℕ → Depth → CodedPicture → Type 0
 IsOf number region coded = (coded.number ≡ number) × (coded.region ≡ region)

@@ -3,6 +3,5 @@ pub mod BothBlocks
 pub mod Rows
 pub mod SizesLeft
 pub mod UnitParts
-pub mod Sample
 pub mod Measuring
 pub mod Keeping

@@ -1,8 +1,8 @@
 ghost use Rattle.std.specs.Prelude.{◌≡◌, ℕ, ◌+◌, ◌*◌, ◌<◌, ◌≤◌, ◌++◌, [], List, length, slice_get, slice_index_or, IfOk, IfSome, IsSome, OnOk, IsTrue, ◌↔◌, All, Any, Contains};
 ghost use Rattle.stream_syntax.specs.PixelBlocks.{IsNoDeeper};
 ghost use Rattle.stream_syntax.specs.FieldBlocks.{AreFieldBlocks, AreFieldSizes, DrawsPicture};
-ghost use Rattle.set_coder.specs.KeptBlocks.{IsCoded, AreCoded, CanBeKept, IsOf, IsKept, IsCueKept, AreKept, place_in, place_of, AreLedTo};
-ghost use Rattle.set_coder.specs.Private.Keeping.{StaysKept, with_place, HasSlots};
+ghost use Rattle.set_coder.specs.KeptBlocks.{IsCoded, AreCoded, CanBeKept, IsSmall, IsOf, IsKept, IsCueKept, AreKept, place_in, place_of, AreLedTo};
+ghost use Rattle.set_coder.specs.Private.Keeping.{StaysKept, with_place, FitsBuffer, IsKeeping};
 
 use crate::coded_picture::{BlockLookup, CodedPicture, KeptBlocks, Slots};
 use crate::field_sizes::{FieldSizes, field_sizes};
@@ -18,9 +18,6 @@ use sub_base::{Depth, LARGEST_BUFFER, NoMemory};
 /// picture are kept.
 const MOST_BYTES: u64 = LARGEST_BUFFER;
 
-/// A picture of fewer pixels has fewer bytes than that: it is not measured before it is coded.
-const FEW_PIXELS: u32 = 131_072;
-
 impl KeptBlocks {
     /// Codes the pictures that the cues of a script show. Blocks of more bytes than the largest
     /// coded data buffer has are not kept.
@@ -28,6 +25,7 @@ impl KeptBlocks {
         ensures right { IfOk result (λ kept. AreCoded script.now.pictures kept.coded.items) }
         ensures kept { IfOk result (λ kept. AreKept script.now kept.coded.items) }
         ensures led { IfOk result (λ kept. AreLedTo kept.slots.items kept.coded.items) }
+        ensures small { IfOk result (λ kept. All IsSmall kept.coded.items) }
     {
         let mut kept = KeptBlocks {
             slots: vec![in alloc; Slots::none(); script.pictures.len()]?,
@@ -42,9 +40,9 @@ impl KeptBlocks {
     /// Keeps the blocks of the pictures that the cues of an epoch show.
     fn keep_epoch(&mut self, pictures: &[Indexed], epoch: &Epoch) -> Result<(), NoMemory>
         requires right { AreCoded pictures.now self.old.coded.items }
-        requires slots { HasSlots pictures.now self.old }
+        requires keeping { IsKeeping pictures.now self.old }
         ensures right { OnOk result (AreCoded pictures.now self.new.coded.items) }
-        ensures slots { OnOk result (HasSlots pictures.now self.new) }
+        ensures keeping { OnOk result (IsKeeping pictures.now self.new) }
         ensures kept { OnOk result
             (All (IsCueKept pictures.now self.new.coded.items epoch.now) epoch.now.cues) }
         ensures stay { OnOk result (StaysKept self.old.coded.items self.new.coded.items) }
@@ -58,9 +56,9 @@ impl KeptBlocks {
     /// Keeps the blocks of the picture that a cue shows, for the depth of its region.
     fn keep_cue(&mut self, pictures: &[Indexed], epoch: &Epoch, cue: &Cue) -> Result<(), NoMemory>
         requires right { AreCoded pictures.now self.old.coded.items }
-        requires slots { HasSlots pictures.now self.old }
+        requires keeping { IsKeeping pictures.now self.old }
         ensures right { OnOk result (AreCoded pictures.now self.new.coded.items) }
-        ensures slots { OnOk result (HasSlots pictures.now self.new) }
+        ensures keeping { OnOk result (IsKeeping pictures.now self.new) }
         ensures kept { OnOk result
             (IsCueKept pictures.now self.new.coded.items epoch.now cue.now) }
         ensures stay { OnOk result (StaysKept self.old.coded.items self.new.coded.items) }
@@ -74,9 +72,9 @@ impl KeptBlocks {
     /// Keeps the blocks of a picture, where they are not kept yet.
     fn keep(&mut self, pictures: &[Indexed], number: u32, region: Depth) -> Result<(), NoMemory>
         requires right { AreCoded pictures.now self.old.coded.items }
-        requires slots { HasSlots pictures.now self.old }
+        requires keeping { IsKeeping pictures.now self.old }
         ensures right { OnOk result (AreCoded pictures.now self.new.coded.items) }
-        ensures slots { OnOk result (HasSlots pictures.now self.new) }
+        ensures keeping { OnOk result (IsKeeping pictures.now self.new) }
         ensures kept { OnOk result (IsKept pictures.now self.new.coded.items number region) }
         ensures stay { OnOk result (StaysKept self.old.coded.items self.new.coded.items) }
     {
@@ -103,10 +101,11 @@ impl KeptBlocks {
         requires coded { AreCoded pictures.now self.old.coded.items }
         requires picture { slice_get pictures.now number ≡ Some picture.now }
         requires shallow { IsNoDeeper picture.now.depth region }
-        requires slots { HasSlots pictures.now self.old }
+        requires fits { FitsBuffer picture.now region }
+        requires keeping { IsKeeping pictures.now self.old }
         requires fresh { Any (IsOf number region) self.old.coded.items → ⊥ }
         ensures right { OnOk result (AreCoded pictures.now self.new.coded.items) }
-        ensures slots { OnOk result (HasSlots pictures.now self.new) }
+        ensures keeping { OnOk result (IsKeeping pictures.now self.new) }
         ensures kept { OnOk result (Any (IsOf number region) self.new.coded.items) }
         ensures stay { OnOk result (StaysKept self.old.coded.items self.new.coded.items) }
     {
@@ -183,12 +182,15 @@ impl Slots {
 /// Whether a picture can be coded for a region of a depth, and has not too many bytes then.
 fn can_be_kept(picture: &Indexed, region: Depth) -> bool
     ensures shallow { IsTrue result → IsNoDeeper picture.now.depth region }
+    ensures fits { IsTrue result → FitsBuffer picture.now region }
     ensures all { CanBeKept picture.now region → IsTrue result }
 {
     if !is_no_deeper(picture.depth(), region) {
         return false;
     }
-    if u32::from(picture.width()) * u32::from(picture.height()) <= FEW_PIXELS {
+    // Twice the most bytes: three a pixel, ten a row, and those of two tables and an empty field.
+    let row = 3 * u64::from(picture.width()) + 10;
+    if 70 + u64::from(picture.height()) * row <= 2 * MOST_BYTES {
         return true;
     }
     // Measured before it is coded, so that no memory is taken for what no buffer holds.
@@ -203,8 +205,10 @@ fn code(
     number: u32,
     region: Depth,
 ) -> Result<CodedPicture, NoMemory>
-    requires { IsNoDeeper picture.now.depth region }
+    requires shallow { IsNoDeeper picture.now.depth region }
+    requires fits { FitsBuffer picture.now region }
     ensures coded { IfOk result (IsCoded picture.now region) }
+    ensures small { IfOk result IsSmall }
     ensures number { IfOk result (λ coded. coded.number ≡ number) }
     ensures region { IfOk result (λ coded. coded.region ≡ region) }
 {

@@ -21,18 +21,15 @@ mod segment_sizes;
 mod set_packets;
 mod set_sizes;
 
+// Sets of scripts that go on.
+mod laws;
+
 pub use coded_picture::KeptBlocks;
 pub use cue_blocks::CueBlocks;
 pub use fields::{FieldLengths, write_fields};
+pub use laws::{loads_stay, packets_stay};
 pub use named::epoch_of;
 pub use set_objects::append_blocks;
 pub use set_packets::write_set;
 pub use set_segments::{append_clut, append_display, append_end, append_listed, append_page};
 pub use set_sizes::{load_of, painted_in, size_of};
-
-#[cfg(test)]
-mod set_tests;
-#[cfg(test)]
-mod tests;
-#[cfg(test)]
-mod unit_tests;

@@ -1,12 +1,13 @@
 -- What a reader of sets stands for with one more packet.
-use Rattle.std.proofs.Common.{◌≡◌, ◌∙◌, ℕ, ◌||◌, Bool, false, List, [], ◌∷◌, ◌++◌, Option, None, refl, sym, ap, subst}
+use Rattle.std.proofs.Common.{◌≡◌, ◌∙◌, ℕ, ◌||◌, Bool, false, List, [], ◌∷◌, ◌++◌, length, Option, None, refl, sym, ap, subst, append-nil}
 use Rattle.stream_syntax.specs.TransportPackets.{packet_fault}
-use Rattle.stream_syntax.specs.Units.{event_at}
+use Rattle.stream_syntax.specs.Units.{event_at, unit_at}
 use Rattle.stream_syntax.specs.declared.transport.Event.{Event}
+use Rattle.stream_syntax.specs.declared.transport.Event.TheVariants as events
 use Rattle.ts_packets.specs.Brought.{bytes_by, too_long_by}
 use Rattle.ts_packets.specs.Demuxing as packets
 use Rattle.ts_packets.specs.Demuxing.{Demuxing, GoesOn}
-use Rattle.decoder_model.specs.Arrivals.{Arrival, arrivals_at, arrivals_of, packets_taken, ends_too_long}
+use Rattle.decoder_model.specs.Arrivals.{Arrival, arrivals_at, arrivals_of, losses_at, units_at, packets_taken, ends_too_long}
 use Rattle.decoder_model.specs.PacketArrivals.{PacketArrival, is_dropped, makes_ready, packet_arrival, run_before, unit_ended}
 use Rattle.decoder_model.specs.Sets.{Delivery, runs_of, sets_in}
 use Rattle.display_sets.specs.Gathered.{Gathered, ReadySet, ready_sets}
@@ -74,6 +75,28 @@ fed_stands old new fed packet given all is stands none goes_on same gathers = re
   sets = subst (λ (arrivals : List Arrival). sets.Stands arrivals false all new.sets)
       (grown old new fed packet is stands.taken none same) gathers;
 }
+
+-- a packet that can be taken and brings nothing need not be fed
+pub passed_by : (collecting : Collecting) (fed : List (List ℕ)) (packet : List ℕ) (given : List (Delivery (List ℕ)))
+    → IsCollecting collecting → Stands false fed given collecting
+    → packet_fault collecting.demux.pid packet ≡ None → GoesOn collecting.demux collecting.demux packet
+    → event_at collecting.demux.pid collecting.demux.size fed packet ≡ events.Other
+    → unit_at collecting.demux.pid collecting.demux.size fed packet ≡ None
+    → Stands false (fed ++ packet ∷ []) given collecting
+passed_by collecting fed packet given is stands none goes_on other no_unit =
+    fed_stands collecting collecting fed packet given given is stands none goes_on
+    (record { pid = refl; pages = refl; coded = refl })
+    (subst (λ (arrivals : List Arrival). sets.Stands arrivals false given collecting.sets) (sym nothing) stands.sets)
+  where
+    arrived : List Arrival
+    arrived = arrived_at collecting fed
+
+    nothing : arrived ++ arrivals_at collecting.demux.size collecting.demux.pid collecting.sets.pages fed packet
+        ≡ arrived
+    nothing =
+        ap (λ (more : List Arrival). arrived ++ more)
+        (λ i. losses_at (other i) ++ units_at collecting.sets.pages (length fed) (no_unit i))
+        ∙ append-nil arrived
 
 -- ---- what it brought
 

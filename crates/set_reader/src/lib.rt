@@ -9,6 +9,3 @@ mod units;
 
 pub use arrival::Arrival;
 pub use reader::{Came, SetReader};
-
-#[cfg(test)]
-mod tests;

@@ -54,7 +54,7 @@ impl Model for SetReader {
 impl SetReader {
     ghost use Rattle.std.specs.Prelude.{◌≡◌, ◌<◌, ◌≤◌, ◌^◌, ℕ, Bool, true, false};
     ghost use Rattle.std.specs.Prelude.{List, [], ◌∷◌, ◌++◌, length, None, Some, option_map};
-    ghost use Rattle.std.specs.Prelude.{IfErr, IfOk, MatchResult, OnOk};
+    ghost use Rattle.std.specs.Prelude.{IfErr, IfOk, IsTrue, MatchResult, OnOk};
     ghost use Rattle.std.specs.Option.{ForSome};
     ghost use Rattle.stream_syntax.specs.TransportPackets.{packet_fault};
     ghost use Rattle.stream_syntax.specs.Units.{event_at};
@@ -118,6 +118,20 @@ impl SetReader {
             event: outcome.event,
             losses: outcome.losses,
         })
+    }
+
+    /// Whether a packet can be taken and is of another PID, as most packets of a stream are. To
+    /// feed it would bring no loss and no set, so that a walk that asks for no arrivals need not do
+    /// it.
+    #[inline(always)]
+    pub fn is_other(&self, packet: &[u8; 188]) -> bool
+        ensures taken { IsTrue result → packet_fault self.now.demux.pid packet.now ≡ None }
+        ensures stands { IsTrue result
+            → (fed : List (List ℕ)) (given : List (Delivery (List ℕ)))
+            → Stands false fed given self.now
+            → Stands false (fed ++ packet.now ∷ []) given self.now }
+    {
+        self.demux.is_other(packet)
     }
 
     /// The stream has ended: a set in hand without its end is ready as it stands.

@@ -8,6 +8,3 @@ mod taking;
 
 pub use receiver::SetReceiver;
 pub use set_reader::{Arrival, Came};
-
-#[cfg(test)]
-mod tests;

@@ -41,7 +41,7 @@ impl SetReceiver {
     ghost use Rattle.std.specs.Prelude.{List, [], ◌∷◌, ◌++◌, length, reverse};
     ghost use Rattle.std.specs.Option.{ForSome};
     ghost use Rattle.std.specs.Prelude.{None, Some, option_and_then, option_map};
-    ghost use Rattle.std.specs.Prelude.{IfErr, IfOk, IfSome, IsSome, MatchResult, OnOk};
+    ghost use Rattle.std.specs.Prelude.{IfErr, IfOk, IfSome, IsSome, IsTrue, MatchResult, OnOk};
     ghost use Rattle.stream_syntax.specs.TransportPackets.{packet_fault};
     ghost use Rattle.stream_syntax.specs.Units.{event_at};
     ghost use Rattle.stream_syntax.specs.declared.wire.TheConstants.{PAYLOAD_LENGTH};
@@ -146,6 +146,20 @@ impl SetReceiver {
         let came = self.reader.feed(packet)?;
         lose(&mut self.core, came.losses);
         Ok(came)
+    }
+
+    /// Whether a packet can be taken and is of another PID, as most packets of a stream are. To
+    /// feed it would bring no loss and no set, so that a walk that asks for no arrivals need not do
+    /// it.
+    #[inline(always)]
+    pub fn is_other(&self, packet: &[u8; 188]) -> bool
+        ensures taken { IsTrue result → packet_fault (reception self.now).pid packet.now ≡ None }
+        ensures stands { IsTrue result
+            → (fed : List (List ℕ)) (given : List (Delivery (List ℕ)))
+            → Stands false fed given self.now
+            → Stands false (fed ++ packet.now ∷ []) given self.now }
+    {
+        self.reader.is_other(packet)
     }
 
     /// The stream has ended: a set in hand without its end is ready as it stands.

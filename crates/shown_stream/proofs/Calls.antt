@@ -12,10 +12,11 @@ pub mod LateCalls
 pub mod CompiledCalls
 pub mod KeptCalls
 pub mod SetsUpTo
+pub mod EntrySizes
 pub mod CompiledTimes
 pub mod CompiledKept
-pub mod EntrySizes
 pub mod ReceivedLoads
 pub mod CompiledHeard
+pub mod NoneDropped
 pub mod CompiledStays
 pub mod CheckedCalls

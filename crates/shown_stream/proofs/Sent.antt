@@ -1,6 +1,5 @@
 -- The packets that a script is compiled to: the units of its sets, their sizes, times and places in the stream.
 pub mod WrittenSets
-pub mod BlockSizes
 pub mod UnitSizes
 pub mod ScheduledLevels
 pub mod SetPackets

@@ -13,7 +13,7 @@ use Rattle.decoder_model.specs.Sets.{Delivery}
 use Rattle.decoder_model.specs.Streams.{entered_at, entry_set, is_from, Sending, IsReceived, IsGoodTick}
 use Rattle.shown_stream.specs.HoldsWhole.{HoldsWhole}
 use Rattle.shown_stream.specs.KeptSets.{IsFromEntry, IsKept}
-use Rattle.shown_stream.specs.SentSets.{sent_set, sent_sets, first_times_from, times_received}
+use Rattle.shown_stream.specs.SentSets.{sent_set, sent_sets, first_times_from, first_times_received}
 use Rattle.shown_stream.specs.Shows.{authored_view, IsAnchorOf, Shows, ShowsFrom}
 
 -- a receiver of the profile, for a PID and these pages, that gets these packets but for the first so many, with any
@@ -39,21 +39,22 @@ pub record IsEnteredRightly (profile : ProfileName) (pid : ℕ) (pages : Pages) 
       ≡ true) past
 
 -- a receiver of the profile, for a PID and these pages, that gets these packets of a compiled stream, between two
--- neighbouring payload packets of which at most 14 are lost, with any anchor that suits the sets of which packets come.
--- At each tick up to which, from some set on that is not of state normal, all sets have come whole, it shows what the
--- script authors; each set that comes whole is kept at its own time and is not broken, and is shown where that time is
--- such a tick; and with each of them whose epoch is known its page memory holds the script
+-- neighbouring payload packets of which at most 14 are lost, with any anchor that suits the sets of which packets come,
+-- up to the first of which all do. At each tick up to which, from some set on that is not of state normal, all sets
+-- have come whole, it shows what the script authors; each set that comes whole is kept at its own time and is not
+-- broken, and is shown where that time is such a tick; and with each of them whose epoch is known its page memory holds
+-- the script
 pub record IsCutRightly (profile : ProfileName) (pid : ℕ) (pages : Pages) (script : Script) (sets : List PlannedSet)
     (table : Timetable) (sendings : List Sending) (received : List (List ℕ)) : Type 0 where
-  pub shown : (anchor : ℕ) → IsAnchorOf (times_received sendings (sent_sets table sets)) anchor → (tick : ℕ)
+  pub shown : (anchor : ℕ) → IsAnchorOf (first_times_received sendings (sent_sets table sets)) anchor → (tick : ℕ)
       → IsGoodTick (sent_sets table sets) sendings tick
       → Shows (profile_of profile) pid pages anchor received tick (authored_view script tick)
-  pub kept : (anchor : ℕ) → IsAnchorOf (times_received sendings (sent_sets table sets)) anchor
+  pub kept : (anchor : ℕ) → IsAnchorOf (first_times_received sendings (sent_sets table sets)) anchor
       → (past : List (Delivery Reading)) → HasReceived (profile_of profile) pid pages true received past
       → (number : ℕ) (set : PlannedSet) → slice_get sets number ≡ Some set
       → IsReceived sendings (sent_set table number set)
       → IsKept (profile_of profile) anchor (IsGoodTick (sent_sets table sets) sendings) past set
-  pub held : (anchor : ℕ) → IsAnchorOf (times_received sendings (sent_sets table sets)) anchor
+  pub held : (anchor : ℕ) → IsAnchorOf (first_times_received sendings (sent_sets table sets)) anchor
       → (past : List (Delivery Reading)) → HasReceived (profile_of profile) pid pages true received past
       → HoldsWhole script (profile_of profile) anchor sets
       (λ number set. IsReceived sendings (sent_set table number set)) past

@@ -1,6 +1,6 @@
 -- The display sets of a plan as they stand in the stream that is sent of them.
 use Rattle.std.specs.Prelude.{ℕ, ◌+◌, ◌&&◌, nat_le, Bool, List, [], ◌∷◌, map, filter, unwrap_or}
-use Rattle.std.specs.List.{list_any}
+use Rattle.std.specs.List.{list_all, list_any}
 use Rattle.stream_syntax.specs.Segments.{is_entry_state}
 use Rattle.page_epoch.specs.declared.planned_set.PlannedSet.{PlannedSet}
 use Rattle.schedule.specs.Slots.{Timetable, slots_of}
@@ -38,3 +38,14 @@ first_times_from place sets = times_from place (unwrap_or (up_to_first (comes_fr
 abbrev pub times_received : List Sending → List SentSet → List ℕ
 times_received sendings sets =
     map (λ (set : SentSet). set.time) (filter (λ (set : SentSet). list_any (is_received_at sendings) set.places) sets)
+
+-- the set has packets, and all of them are received
+abbrev pub comes_whole : List Sending → SentSet → Bool
+comes_whole sendings set =
+    list_any (is_received_at sendings) set.places && list_all (is_received_at sendings) set.places
+
+-- of the times of the sets of which a packet is received those up to the first set of which all are: a receiver that
+-- loses packets lifts no later time by its anchor
+abbrev pub first_times_received : List Sending → List SentSet → List ℕ
+first_times_received sendings sets =
+    times_received sendings (unwrap_or (up_to_first (comes_whole sendings) sets) sets)

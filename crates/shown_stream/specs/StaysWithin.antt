@@ -1,7 +1,7 @@
 -- The coded data buffer of a receiver that gets a compiled stream, wherever it enters (EN 300 743, clause 5.2): what it
 -- holds, and when the display sets are decoded. The packets of the stream arrive in slots: the one of number s in slot
 -- s, whoever gets it.
-use Rattle.std.specs.Prelude.{◌≡◌, ℕ, ◌+◌, ◌≤◌, true, false, List, length, map, take, reverse, Some, slice_get}
+use Rattle.std.specs.Prelude.{◌≡◌, ℕ, ◌+◌, ◌≤◌, true, false, List, All, length, map, take, reverse, Some, slice_get}
 use Rattle.sub_base.specs.Profile.{profile_of}
 use Rattle.sub_base.specs.declared.load.WriteLoad.{WriteLoad}
 use Rattle.sub_base.specs.declared.profile.ProfileName.{ProfileName}
@@ -9,12 +9,12 @@ use Rattle.cue_list.specs.declared.script.Script.{Script}
 use Rattle.page_epoch.specs.declared.planned_set.PlannedSet.{PlannedSet}
 use Rattle.schedule.specs.Arrivals.{level_at as scheduled_level}
 use Rattle.schedule.specs.Slots.{Timetable}
-use Rattle.buffer_model.specs.Calls.{Call, level_at}
+use Rattle.buffer_model.specs.Calls.{Call, Dropped, level_at}
 use Rattle.buffer_model.specs.Within.{AreWithin}
 use Rattle.scheduled_level_laws.specs.DoneSets.{DoneSet, done_sets, AreDoneNoLater, IsDecodedBy}
 use Rattle.decoder_model.specs.declared.pages.Pages.{Pages}
 use Rattle.decoder_model.specs.Streams.{entered_at, is_from}
-use Rattle.shown_stream.specs.SentSets.{sent_set, sent_sets, times_from}
+use Rattle.shown_stream.specs.SentSets.{sent_set, sent_sets, first_times_from}
 use Rattle.shown_stream.specs.Shows.{IsAnchorOf}
 use Rattle.received_level_laws.specs.StreamCalls.{AreCallsOf}
 use Rattle.shown_stream.specs.Compiled.{sent_pace}
@@ -49,13 +49,18 @@ pub record StaysWithin (profile : ProfileName) (pid : ℕ) (pages : Pages) (scri
   pub ended : (calls : List Call)
       → AreCallsOf (profile_of profile) pid pages anchor missed true (entered_at missed packets) calls
       → AreCallsBefore (length packets) profile pid pages anchor missed packets calls
-  -- at each slot the level is no higher than in a receiver that gets the whole stream, with any anchor that suits it,
-  -- and the same sets, from the latest on, are done no later than there
-  pub no_worse : (slot other : ℕ) (calls whole : List Call) → IsAnchorOf (times_from 0 (sent_sets table sets)) other
+  -- at each slot the level is no higher than in a receiver that gets the whole stream, with any anchor that suits its
+  -- first set, and the same sets, from the latest on, are done no later than there
+  pub no_worse : (slot other : ℕ) (calls whole : List Call)
+      → IsAnchorOf (first_times_from 0 (sent_sets table sets)) other
       → AreCallsBefore (slot + 1) profile pid pages anchor missed packets calls
       → AreCallsBefore (slot + 1) profile pid pages other 0 packets whole
       → (level_at (sent_pace profile script) slot 0 calls ≤ level_at (sent_pace profile script) slot 0 whole)
       × AreDoneNoLater (done_sets (sent_pace profile script) calls) (done_sets (sent_pace profile script) whole)
+
+-- no bytes are dropped
+abbrev pub IsKeptCall : Call → Type 0
+IsKeptCall call = call ≡ Dropped → ⊥
 
 -- the coded data buffer of a receiver with that anchor that gets all packets of a compiled stream
 pub record IsAsScheduled (profile : ProfileName) (pid : ℕ) (pages : Pages) (script : Script) (sets : List PlannedSet)
@@ -69,6 +74,9 @@ pub record IsAsScheduled (profile : ProfileName) (pid : ℕ) (pages : Pages) (sc
   pub times : (calls : List Call) → AreCallsBefore (length packets) profile pid pages anchor 0 packets calls
       → map (λ (set : DoneSet). set.time) (done_sets (sent_pace profile script) calls)
       ≡ reverse (map (λ (set : PlannedSet). set.pts) sets)
+  -- none is left out, and nothing is dropped
+  pub kept : (calls : List Call) → AreCallsBefore (length packets) profile pid pages anchor 0 packets calls
+      → All IsKeptCall calls
   -- each is done at its tick of the schedule
   pub dones : (calls : List Call) → AreCallsBefore (length packets) profile pid pages anchor 0 packets calls
       → map (λ (set : DoneSet). set.done) (done_sets (sent_pace profile script) calls) ≡ reverse table.dones

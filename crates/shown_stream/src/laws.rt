@@ -3,12 +3,12 @@ ghost use Rattle.std.specs.List.{concat};
 ghost use Rattle.cue_list.specs.declared.script.Script.{Script};
 ghost use Rattle.decoder_model.specs.declared.pages.Pages.{Pages};
 ghost use Rattle.decoder_model.specs.Shown.{View, IsShown};
-ghost use Rattle.decoder_model.specs.Streams.{SentSet};
+ghost use Rattle.decoder_model.specs.Streams.{Sending, SentSet};
 ghost use Rattle.page_epoch.specs.declared.planned_set.PlannedSet.{PlannedSet};
 ghost use Rattle.schedule.specs.Slots.{Timetable};
 ghost use Rattle.shown_stream.specs.Compiled.{IsCompiledTo};
 ghost use Rattle.shown_stream.specs.Entered.{IsEnteredRightly};
-ghost use Rattle.shown_stream.specs.SentSets.{first_times_from, times_from};
+ghost use Rattle.shown_stream.specs.SentSets.{first_times_from, first_times_received, times_from, times_received};
 ghost use Rattle.shown_stream.specs.SentPlan.{IsSentPlan};
 ghost use Rattle.shown_stream.specs.Shows.{IsAnchorOf};
 ghost use Rattle.stream_syntax.specs.declared.wire.TheConstants.{NULL_PID};
@@ -41,6 +41,14 @@ pub fn sent_plan_is_entered()
 pub fn fewer_times_suit()
     ensures { (anchor missed : ℕ) (sets : List SentSet) → IsAnchorOf (times_from missed sets) anchor
         → IsAnchorOf (first_times_from missed sets) anchor }
+{}
+
+/// And so where packets are lost: an anchor that suits all display sets of which packets are
+/// received suits those up to the first that is received whole.
+pub fn fewer_received_times_suit()
+    ensures { (anchor : ℕ) (sendings : List Sending) (sets : List SentSet)
+        → IsAnchorOf (times_received sendings sets) anchor
+        → IsAnchorOf (first_times_received sendings sets) anchor }
 {}
 
 /// A script is compiled to one stream, for a profile, a PID and a page: whoever plans and codes it

@@ -10,4 +10,7 @@
 
 mod laws;
 
-pub use laws::{fewer_times_suit, one_stream, one_view_is_shown, sent_plan_is_entered};
+pub use laws::{
+    fewer_received_times_suit, fewer_times_suit, one_stream, one_view_is_shown,
+    sent_plan_is_entered,
+};

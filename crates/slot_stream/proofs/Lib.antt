@@ -1,4 +1,8 @@
+pub mod FilledFrames
+pub mod FrameLaws
 pub mod FrontLaws
+pub mod FrontPackets
+pub mod KeptLaws
 pub mod LaidPackets
 pub mod SentPieces
 pub mod SentStream

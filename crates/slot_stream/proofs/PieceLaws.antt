@@ -5,7 +5,7 @@ use Rattle.std.proofs.lemmas.List.FromFn.{map-range_with_len_more}
 use Rattle.std.specs.List.{range_with_len}
 use Rattle.slot_stream.specs.SlotStream.{Piece, piece_of}
 
-at_most_or_above : (a b : ℕ) → (a ≤ b) ⊎ (b < a)
+pub at_most_or_above : (a b : ℕ) → (a ≤ b) ⊎ (b < a)
 at_most_or_above a b = grind arith
 
 -- up to 184 bytes from a place on, however few are left

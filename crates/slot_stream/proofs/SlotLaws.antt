@@ -6,7 +6,6 @@ use Rattle.std.proofs.lemmas.Grind.{flat_map-append}
 use Rattle.std.proofs.lemmas.List.{get_or_default, append-nil}
 use Rattle.std.specs.List.{flat_map, range_with_len}
 use Rattle.std.proofs.lemmas.Bool.{eq-eqb, ne_eqb}
-use Rattle.stream_syntax.specs.TransportPackets.{null_packet}
 use Rattle.slot_stream.proofs.LaidPackets.{range-split}
 use Rattle.slot_stream.specs.SlotStream.{Piece, place_from, slot_packet, packet_at, packet_of, no_piece}
 use Rattle.slot_stream.specs.SlotWalk.{IsNext}
@@ -114,14 +113,6 @@ pub slot_packet-next : (pid : ℕ) (pieces : List Piece) (slots : List ℕ) (nex
 slot_packet-next pid pieces slots next slot d at pairs within is =
     ap (packet_at pid pieces) (place_from-next slots next slot at within is)
     ∙ ap (packet_of pid next) (get_or_default pieces next no_piece d (omega arith))
-
--- the null packet, where the slot is that of no piece
-pub slot_packet-idle : (pid : ℕ) (pieces : List Piece) (slots : List ℕ) (next slot : ℕ)
-    → IsStrictlyIncreasing slots
-    → IsNext slots next slot → (next < length slots → get_or slots next 0 ≢ slot)
-    → slot_packet pid pieces slots slot ≡ null_packet
-slot_packet-idle pid pieces slots next slot rising at idle =
-    ap (packet_at pid pieces) (place_from-idle slots next slot rising at idle)
 
 -- one number more
 range-suc : (n a : ℕ) → range_with_len a (suc n) ≡ range_with_len a n ++ (a + n) ∷ []

@@ -1,3 +1,5 @@
+pub mod KeptPackets
+pub mod Private
 pub mod SlotStream
 pub mod SlotWalk
 pub mod UnitBytes

@@ -6,12 +6,16 @@
 mod piece;
 mod pieces;
 
-// The packets of all slots, many written at a time.
+// The packets of all slots, many written at a time; and packets that are kept until a part of the
+// slots is written.
+mod frame;
+mod kept;
 mod stream;
 
 // What holds of the packets of slots.
 mod laws;
 
+pub use kept::KeptPackets;
 pub use laws::{later_pieces_leave_the_front, stream_begins_with_its_front};
 pub use piece::Piece;
 pub use pieces::push_units;

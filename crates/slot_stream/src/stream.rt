@@ -1,63 +1,15 @@
-ghost use Rattle.std.specs.Prelude.{◌≡◌, ◌+◌, ◌%◌, ◌<◌, ◌≤◌, length, OnOk, IfErr, All, ◌^◌};
+ghost use Rattle.std.specs.Prelude.{◌≡◌, ◌<◌, ◌≤◌, length, OnOk, IfErr, All, ◌^◌};
 ghost use Rattle.std.specs.List.Sorted.{IsStrictlyIncreasing};
 ghost use Rattle.std.specs.Io.KnownBytes.{Appends, Keeps};
 ghost use Rattle.sub_base.specs.Counts.{HasRisen};
 ghost use Rattle.sub_base.specs.Endpoints.{AppendsPrefix};
-ghost use Rattle.slot_stream.specs.SlotStream.{IsPiece, packet_of, slot_packet, slot_count as slot_count_of, stream_of};
-ghost use Rattle.slot_stream.specs.SlotWalk.{IsNext};
+ghost use Rattle.slot_stream.specs.SlotStream.{IsPiece, slot_count as slot_count_of, stream_of};
 
+use crate::frame::{room_for, write_slots};
 use crate::piece::Piece;
-use command_text::{TextBuffer, flush, put};
 use std::alloc::Global;
-use stream_syntax::PACKET_LENGTH;
-use sub_base::Sink;
-use ts_packets::{Packetiser, null_packet};
-
-/// Makes the packet of a slot: that of the next piece where this is its slot, and else the null
-/// packet. Answers how many pieces were sent up to this slot.
-fn packet_at(
-    packetiser: &mut Packetiser,
-    pieces: &[Piece<'_>],
-    slots: &[u64],
-    next: usize,
-    slot: u64,
-    packet: &mut [u8; PACKET_LENGTH],
-) -> usize
-    requires each { All IsPiece pieces.now }
-    requires pairs { length slots.now ≡ length pieces.now }
-    requires rising { IsStrictlyIncreasing slots.now }
-    requires next { IsNext slots.now next slot }
-    requires counter { packetiser.old.counter ≡ next % 16 }
-    ensures packet { packet.new ≡ slot_packet packetiser.old.pid pieces.now slots.now slot }
-    ensures pid { packetiser.new.pid ≡ packetiser.old.pid }
-    ensures counter { packetiser.new.counter ≡ result % 16 }
-    ensures next { IsNext slots.now result (slot + 1) }
-{
-    // Slots rise, so no later piece can have this one.
-    if next < slots.len() && slots[next] == slot {
-        send(packetiser, &pieces[next], next, packet);
-        next + 1
-    } else {
-        null_packet(packet);
-        next
-    }
-}
-
-/// Makes the packet of a piece, the one of that number among all pieces.
-fn send(
-    packetiser: &mut Packetiser,
-    piece: &Piece<'_>,
-    number: usize,
-    packet: &mut [u8; PACKET_LENGTH],
-)
-    requires piece { IsPiece piece.now }
-    requires counter { packetiser.old.counter ≡ number % 16 }
-    ensures packet { packet.new ≡ packet_of packetiser.old.pid number piece.now }
-    ensures pid { packetiser.new.pid ≡ packetiser.old.pid }
-    ensures counter { packetiser.new.counter ≡ (number + 1) % 16 }
-{
-    packetiser.packet(piece.bytes, piece.starts, packet);
-}
+use sub_base::{Sink, WriteFailed};
+use ts_packets::Packetiser;
 
 /// Why packets were not all written.
 #[derive(Drop)]
@@ -94,24 +46,15 @@ pub fn write_stream<K: Sink>(
     ensures cause { IfErr result (λ fault. fault ≡ StreamFault.Write
         → HasRisen (K.received sink.old).faults (K.received sink.new).faults) }
 {
-    let Ok(mut buffer) = TextBuffer::make(alloc) else {
+    let count = slot_count(slots);
+    let Ok(mut room) = room_for(alloc, count) else {
         return Err(StreamFault::Memory);
     };
-    let mut packetiser = Packetiser::make(pid);
-    let mut packet = [0u8; PACKET_LENGTH];
-    let mut next = 0;
-    for slot in 0..slot_count(slots) {
-        next = packet_at(&mut packetiser, pieces, slots, next, slot, &mut packet);
-        put(sink, &mut buffer, &packet);
-        if buffer.has_failed() {
-            return Err(StreamFault::Write);
-        }
+    let packetiser = Packetiser::make(pid);
+    match write_slots(sink, packetiser, pieces, slots, count, room.as_mut_slice()) {
+        Ok(()) => Ok(()),
+        Err(WriteFailed) => Err(StreamFault::Write),
     }
-    flush(sink, &mut buffer);
-    if buffer.has_failed() {
-        return Err(StreamFault::Write);
-    }
-    Ok(())
 }
 
 /// How many slots there are up to the last one of the list.

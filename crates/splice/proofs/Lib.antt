@@ -30,5 +30,7 @@ pub mod SentPackets
 pub mod TopLaws
 -- A stream gone through to its end.
 pub mod SurveyLaws
+-- A stream gone through as it is read.
+pub mod InputLaws
 -- Why streams are not joined.
 pub mod RefusalLaws

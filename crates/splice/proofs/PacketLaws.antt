@@ -215,6 +215,19 @@ module _ (part : Part) (old mid : Receiving) (packet : List ℕ) (place count : 
         (fed_by count feeds made earlier packets many so));
   }
 
+-- a packet was passed by, which brings nothing
+pub passed_by : (part : Part) (receiving : Receiving) (packet : List ℕ) (place : ℕ) (found : Found) (joined : Joined)
+    → AreBytes packet → place < 2 ^ 26 → packet_fault (reception receiving).pid packet ≡ None
+    → ((fed : List (List ℕ)) (given : List (Delivery (List ℕ))) → Stands false fed given receiving
+    → Stands false (fed ++ packet ∷ []) given receiving)
+    → TakesPacket part packet place receiving receiving found found joined joined
+passed_by part receiving packet place found joined bytes few none goes_on =
+    packet_taken part receiving receiving packet place 0 found joined bytes few none
+    (λ fed given stands.
+    subst (λ (all : List (Delivery (List ℕ))). Stands false (fed ++ packet ∷ []) all receiving)
+    (sym (append-nil given)) (goes_on fed given stands))
+    refl receiving found found joined refl (record { goes = λ made earlier ended packets. λ so. so })
+
 -- the bytes of a packet
 pub bytes_of : (packet : List ℕ) → ((k : ℕ) → get_or packet k 0 < 256) → AreBytes packet
 bytes_of packet small k d within = omega (arith, small k, get_or_default packet k d 0 within)

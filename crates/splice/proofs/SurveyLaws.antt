@@ -1,6 +1,6 @@
 -- A stream gone through from its first packet to its end.
-use Rattle.std.proofs.Common.{◌≡◌, ◌∙◌, ℕ, ◌+◌, ◌^◌, ◌<◌, true, false, List, [], ◌∷◌, ◌++◌, length, get_or, take, drop, reverse, Some, None, refl, sym, ap, subst, arith, append-nil, append_assoc}
-use Rattle.std.proofs.lemmas.List.{length-take-le, take-append-drop, take_more}
+use Rattle.std.proofs.Common.{◌≡◌, ◌∙◌, ℕ, ◌+◌, ◌^◌, ◌<◌, true, false, List, [], ◌∷◌, ◌++◌, length, get_or, take, drop, length-append, length-take-le, reverse, Some, None, Result, Ok, Err, IfOk, refl, sym, ap, subst, arith, append-nil, append_assoc}
+use Rattle.std.proofs.lemmas.List.{take-append-drop, take_more}
 use Rattle.std.proofs.lemmas.List.Elements.{All-nil, All-push}
 use Rattle.std.specs.List.{list_any}
 use Rattle.stream_syntax.specs.TransportPackets.{packet_fault}
@@ -10,6 +10,7 @@ use Rattle.decoder_model.specs.Contents.{has_state}
 use Rattle.decoder_model.specs.Faults.{contents_in}
 use Rattle.decoder_model.specs.Readings.{AreDeliveriesRead, Reading}
 use Rattle.decoder_model.specs.Sets.{Delivery, lost, whole, refused}
+use Rattle.display_sets.specs.Gathered.{ready_sets}
 use Rattle.display_sets.proofs.PacketLaws.{none_arrived}
 use Rattle.reading_laws.proofs.OneReading.{same_past}
 use Rattle.sent_sets.specs.RawSets.{RawSet}
@@ -19,7 +20,7 @@ use Rattle.splice.specs.StreamTests.{AreTaken, BeginsAnew, IsFirstRefused, is_lo
 use Rattle.splice.specs.Private.JoinedSets.{IsJoinedOf}
 use Rattle.splice.specs.Private.Parts.{placed}
 use Rattle.splice.specs.Private.Stops.{IsStopAt}
-use Rattle.splice.specs.Private.Surveyed.{HasEnded, HasGone, IsStopIn}
+use Rattle.splice.specs.Private.Surveyed.{EndsGone, GoesThrough, HasEnded, HasGone, IsStopped}
 use Rattle.splice.specs.Private.Surveys.{HasFound, IsFoundSo, IsGoodSo, IsGoodStream, IsSurveyed, TakesPacket, TakesSets, begins_anew, is_anew, nothing_found}
 use Rattle.splice.specs.declared.found.Finding.{Finding}
 use Rattle.splice.specs.declared.found.Finding.TheVariants.{Good, Unshown, Lost}
@@ -28,45 +29,49 @@ use Rattle.splice.specs.declared.joined.Joined.{Joined}
 use Rattle.splice.specs.declared.part.Part.{Part}
 use Rattle.splice.specs.declared.part.Part.TheVariants.{Before, From}
 use Rattle.splice.specs.declared.stream_reader.ReadStop.{ReadStop}
-use Rattle.splice.specs.declared.stream_reader.ReadStop.TheVariants.{Memory, Refused}
+use Rattle.splice.specs.declared.stream_reader.ReadStop.TheVariants as stop
+use Rattle.splice.specs.declared.found.Survey.{Survey}
+use Rattle.splice.specs.declared.found.Survey.TheVariants.{Refused, Whole}
 
 -- ---- packets
 
-pub none_taken : (pid : ℕ) → AreTaken pid []
+none_taken : (pid : ℕ) → AreTaken pid []
 none_taken pid = All-nil (λ packet. packet_fault pid packet ≡ None)
 
--- one more can be taken
-pub taken_more : (pid : ℕ) (packets : List (List ℕ)) (k : ℕ) → k < length packets
-    → AreTaken pid (take k packets) → packet_fault pid (get_or packets k []) ≡ None
-    → AreTaken pid (take (k + 1) packets)
-taken_more pid packets k inside taken none =
-    subst (AreTaken pid) (sym (take_more packets k [] inside))
-    (All-push (λ packet. packet_fault pid packet ≡ None) (take k packets) (get_or packets k []) taken none)
+-- a packet behind those that were taken can be taken
+taken_more : (pid : ℕ) (packets : List (List ℕ)) (packet : List ℕ) → AreTaken pid packets
+    → packet_fault pid packet ≡ None → AreTaken pid (packets ++ packet ∷ [])
+taken_more pid packets packet taken none =
+    All-push (λ packet. packet_fault pid packet ≡ None) packets packet taken none
 
 -- or it is the first that cannot
-first_refused : (pid : ℕ) (packets : List (List ℕ)) (k : ℕ) (fault : PacketFault) → k < length packets
-    → AreTaken pid (take k packets) → packet_fault pid (get_or packets k []) ≡ Some fault
-    → IsFirstRefused pid packets k fault
-first_refused pid packets k fault inside taken is = record {
-  before = take k packets;
-  packet = get_or packets k [];
-  rest = drop (k + 1) packets;
-  parts =
-      sym (take-append-drop (k + 1) packets)
-      ∙ ap (λ (front : List (List ℕ)). front ++ drop (k + 1) packets) (take_more packets k [] inside)
-      ∙ append_assoc (take k packets) (get_or packets k [] ∷ []) (drop (k + 1) packets);
-  place_is = sym (length-take-le k packets (omega (arith, inside)));
+first_refused : (pid : ℕ) (before : List (List ℕ)) (packet : List ℕ) (rest : List (List ℕ)) (fault : PacketFault)
+    → AreTaken pid before → packet_fault pid packet ≡ Some fault
+    → IsFirstRefused pid (before ++ packet ∷ rest) (length before) fault
+first_refused pid before packet rest fault taken is = record {
+  before = before;
+  packet = packet;
+  rest = rest;
+  parts = refl;
+  place_is = refl;
   taken = taken;
   is_fault = is;
 }
 
--- why packets are not gone through to their end
-pub stopped_in : (pid : ℕ) (packets : List (List ℕ)) (k : ℕ) (stop : ReadStop) → k < length packets
-    → AreTaken pid (take k packets) → IsStopAt pid k (get_or packets k []) stop → IsStopIn pid packets stop
-stopped_in pid packets k Memory inside taken is = tt
-stopped_in pid packets k (Refused place fault) inside taken is =
-    subst (λ (n : ℕ). IsFirstRefused pid packets n fault) (sym is.0)
-    (first_refused pid packets k fault inside taken is.1)
+-- it stays the first with others behind
+refused_still : (pid : ℕ) (packets more : List (List ℕ)) (place : ℕ) (fault : PacketFault)
+    → IsFirstRefused pid packets place fault → IsFirstRefused pid (packets ++ more) place fault
+refused_still pid packets more place fault is = record {
+  before = is.before;
+  packet = is.packet;
+  rest = is.rest ++ more;
+  parts =
+      ap (λ (all : List (List ℕ)). all ++ more) is.parts
+      ∙ append_assoc is.before (is.packet ∷ is.rest) more;
+  place_is = is.place_is;
+  taken = is.taken;
+  is_fault = is.is_fault;
+}
 
 -- ---- packet by packet
 
@@ -77,8 +82,11 @@ none_placed (From cut) = refl
 -- before the first packet
 pub gone_nowhere : (made : Reception) (part : Part) (receiving : Receiving) (start : Joined)
     → reception receiving ≡ made → made.anchor < 2 ^ 33 → Stands false [] [] receiving
-    → HasGone made part [] receiving nothing_found start start
-gone_nowhere made part receiving start own low stands = record {
+    → ready_sets receiving.collecting.sets ≡ [] → HasGone made part [] receiving nothing_found start start
+gone_nowhere made part receiving start own low stands none = record {
+  own = own;
+  none = none;
+  taken = none_taken made.pid;
   goes = λ earlier joined. record {
     own = own;
     low = low;
@@ -99,19 +107,115 @@ gone_nowhere made part receiving start own low stands = record {
   };
 }
 
--- with one packet more
-pub gone_further : (made : Reception) (part : Part) (packets : List (List ℕ)) (k : ℕ) (old new : Receiving)
-    (was is : Found) (start mid end : Joined) → k < length packets
-    → HasGone made part (take k packets) old was start mid
-    → TakesPacket part (get_or packets k []) k old new was is mid end
-    → HasGone made part (take (k + 1) packets) new is start end
-gone_further made part packets k old new was is start mid end inside gone takes =
-    subst (λ (fed : List (List ℕ)). HasGone made part fed new is start end) (sym (take_more packets k [] inside))
-    (record {
-      goes = λ earlier joined.
-          takes.goes made earlier (take k packets) (length-take-le k packets (omega (arith, inside)))
-          (gone.goes earlier joined);
-    })
+-- no packet more
+pub through_none : (part : Part) (first : ℕ) (packets : List (List ℕ)) (receiving : Receiving) (found : Found)
+    (start : Joined)
+    → GoesThrough part first (take 0 packets) receiving receiving (Whole found) (Whole found) start start
+through_none part first packets receiving found start = record {
+  goes = λ made origin before count gone.
+      subst (λ (all : List (List ℕ)). HasGone made part all receiving found origin start) (sym (append-nil before))
+      gone;
+}
+
+-- one packet more, which is taken
+taken_one : (made : Reception) (part : Part) (before : List (List ℕ)) (packet : List ℕ) (place : ℕ)
+    (old new : Receiving) (was is : Found) (origin start end : Joined) → length before ≡ place
+    → HasGone made part before old was origin start → TakesPacket part packet place old new was is start end
+    → packet_fault (reception old).pid packet ≡ None → ready_sets new.collecting.sets ≡ [] → IsSame old new
+    → HasGone made part (before ++ packet ∷ []) new is origin end
+taken_one made part before packet place old new was is origin start end count gone takes passed none same = record {
+  own = same ∙ gone.own;
+  none = none;
+  taken =
+      taken_more made.pid before packet gone.taken
+      (subst (λ (own : Reception). packet_fault own.pid packet ≡ None) gone.own passed);
+  goes = λ earlier joined. takes.goes made earlier before count (gone.goes earlier joined);
+}
+
+placed_behind : (first k place : ℕ) (before packets : List (List ℕ)) → place ≡ first + k → length before ≡ first
+    → k < length packets → length (before ++ take k packets) ≡ place
+placed_behind first k place before packets at count inside =
+    omega (arith, at, count, length-append before (take k packets), length-take-le k packets (omega (arith, inside)))
+
+pub through_one : (part : Part) (first k place : ℕ) (packets : List (List ℕ)) (old mid new : Receiving)
+    (was half is : Found) (start between end : Joined) → place ≡ first + k → k < length packets
+    → GoesThrough part first (take k packets) old mid (Whole was) (Whole half) start between
+    → TakesPacket part (get_or packets k []) place mid new half is between end
+    → packet_fault (reception mid).pid (get_or packets k []) ≡ None → ready_sets new.collecting.sets ≡ []
+    → IsSame mid new
+    → GoesThrough part first (take (k + 1) packets) old new (Whole was) (Whole is) start end
+through_one part first k place packets old mid new was half is start between end at inside through takes passed none
+    same = record {
+      goes = λ made origin before count gone.
+          subst (λ (all : List (List ℕ)). HasGone made part all new is origin end)
+          (append_assoc before (take k packets) (get_or packets k [] ∷ [])
+          ∙ ap (λ (more : List (List ℕ)). before ++ more) (sym (take_more packets k [] inside)))
+          (taken_one made part (before ++ take k packets) (get_or packets k []) place mid new half is origin between end
+          (placed_behind first k place before packets at count inside) (through.goes made origin before count gone)
+          takes passed none same);
+    }
+
+-- a packet that cannot be taken
+through_refused : (part : Part) (first k place : ℕ) (packets : List (List ℕ)) (old mid new : Receiving)
+    (was half : Found) (start between end : Joined) (number : ℕ) (fault : PacketFault) → place ≡ first + k
+    → k < length packets → GoesThrough part first (take k packets) old mid (Whole was) (Whole half) start between
+    → number ≡ place → packet_fault (reception mid).pid (get_or packets k []) ≡ Some fault
+    → GoesThrough part first packets old new (Whole was) (Refused number fault) start end
+through_refused part first k place packets old mid new was half start between end number fault at inside through is
+    cannot = record {
+      goes = λ made origin before count gone.
+          let so_far = through.goes made origin before count gone in
+          subst (λ (all : List (List ℕ)). IsFirstRefused made.pid all number fault)
+          (append_assoc before (take k packets) (get_or packets k [] ∷ drop (k + 1) packets)
+          ∙ ap (λ (more : List (List ℕ)). before ++ more) (parted packets k inside))
+          (subst (λ (n : ℕ). IsFirstRefused made.pid
+          ((before ++ take k packets) ++ get_or packets k [] ∷ drop (k + 1) packets) n fault)
+          (placed_behind first k place before packets at count inside ∙ sym is)
+          (first_refused made.pid (before ++ take k packets) (get_or packets k []) (drop (k + 1) packets) fault
+          so_far.taken
+          (subst (λ (own : Reception). packet_fault own.pid (get_or packets k []) ≡ Some fault) so_far.own cannot)));
+    }
+  where
+    parted : (packets : List (List ℕ)) (k : ℕ) → k < length packets
+        → take k packets ++ get_or packets k [] ∷ drop (k + 1) packets ≡ packets
+    parted packets k inside =
+        sym (append_assoc (take k packets) (get_or packets k [] ∷ []) (drop (k + 1) packets))
+        ∙ ap (λ (front : List (List ℕ)). front ++ drop (k + 1) packets) (sym (take_more packets k [] inside))
+        ∙ take-append-drop (k + 1) packets
+
+pub through_stopped : (part : Part) (first k place : ℕ) (packets : List (List ℕ)) (old mid new : Receiving)
+    (was half : Found) (start between end : Joined) (why : ReadStop) (is : Survey) → place ≡ first + k
+    → k < length packets → GoesThrough part first (take k packets) old mid (Whole was) (Whole half) start between
+    → IsStopAt (reception mid).pid place (get_or packets k []) why → IsStopped why is
+    → GoesThrough part first packets old new (Whole was) is start end
+through_stopped part first k place packets old mid new was half start between end stop.Memory is at inside through stops
+    stopped = absurd stopped
+through_stopped part first k place packets old mid new was half start between end (stop.Refused number fault) is at
+    inside through stops stopped =
+    subst (λ (so : Survey). GoesThrough part first packets old new (Whole was) so start end) (sym stopped)
+    (through_refused part first k place packets old mid new was half start between end number fault at inside through
+    stops.0 stops.1)
+
+pub stopped_through : {E : Type 0} (part : Part) (first k place : ℕ) (packets : List (List ℕ))
+    (old mid new : Receiving) (was half : Found) (start between end : Joined) (why : ReadStop)
+    (result : Result Survey E) → place ≡ first + k → k < length packets
+    → GoesThrough part first (take k packets) old mid (Whole was) (Whole half) start between
+    → IsStopAt (reception mid).pid place (get_or packets k []) why → IfOk result (IsStopped why)
+    → IfOk result (λ is. GoesThrough part first packets old new (Whole was) is start end)
+stopped_through part first k place packets old mid new was half start between end why (Ok is) at inside through stops
+    stopped =
+    through_stopped part first k place packets old mid new was half start between end why is at inside through stops
+    stopped
+stopped_through part first k place packets old mid new was half start between end why (Err fault) at inside through
+    stops stopped = tt
+
+-- behind a packet that cannot be taken
+pub through_passed : (part : Part) (first : ℕ) (more : List (List ℕ)) (receiving : Receiving) (number : ℕ)
+    (fault : PacketFault) (start : Joined)
+    → GoesThrough part first more receiving receiving (Refused number fault) (Refused number fault) start start
+through_passed part first more receiving number fault start = record {
+  goes = λ made origin packets count gone. refused_still made.pid packets more number fault gone;
+}
 
 -- ---- the end
 
@@ -256,3 +360,17 @@ stream_ended part old mid new was is start end ends same takes all = record {
       (takes.goes made earlier true packets
       (ended_found made part earlier packets old mid was start ends same so));
 }
+
+-- what going through its packets came to, then
+pub ends_gone : (part : Part) (receiving : Receiving) (was is : Found) (start end : Joined)
+    → HasEnded part receiving was is start end → EndsGone part receiving (Whole was) (Whole is) start end
+ends_gone part receiving was is start end ended = record {
+  goes = λ made origin packets gone. (
+    gone.taken,
+    λ earlier joined. ended.goes made earlier packets (gone.goes earlier joined),
+  );
+}
+
+pub ends_refused : (part : Part) (receiving : Receiving) (number : ℕ) (fault : PacketFault) (start : Joined)
+    → EndsGone part receiving (Refused number fault) (Refused number fault) start start
+ends_refused part receiving number fault start = record { goes = λ made origin packets gone. gone }

@@ -37,8 +37,3 @@ pub use laws::spliced_is_shown;
 pub use limits::SPLICE_LIMIT;
 pub use splice_fault::SpliceFault;
 pub use splice_words::{Splicing, splice_inputs};
-
-#[cfg(test)]
-mod joining_tests;
-#[cfg(test)]
-mod tests;

@@ -44,6 +44,3 @@ pub use profile::{
 pub use status::{FaultName, ToolStatus, Which};
 pub use transfer::{Sink, Source, read_all, write_whole};
 pub use words::Words;
-
-#[cfg(test)]
-mod tests;

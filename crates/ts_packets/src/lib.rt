@@ -19,6 +19,3 @@ pub use kind::is_of_pid;
 pub use laws::every_cutting_gives_its_unit;
 pub use packetiser::{Packetiser, null_packet};
 pub use stream_syntax::{Event, PacketFault};
-
-#[cfg(test)]
-mod tests;

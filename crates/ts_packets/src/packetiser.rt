@@ -41,6 +41,16 @@ impl Packetiser {
         Packetiser { pid, counter: 0 }
     }
 
+    /// Begins with a counter, behind packets that others have sent.
+    pub fn from_counter(pid: u16, counter: u8) -> Packetiser
+        requires pid { pid < 8192 }
+        requires counter { counter < 16 }
+        ensures pid { result.pid ≡ pid }
+        ensures counter { result.counter ≡ counter }
+    {
+        Packetiser { pid, counter }
+    }
+
     /// Writes one packet with this piece of a unit, 1 to 184 bytes; `start` says that the unit
     /// begins with it.
     pub fn packet(&mut self, piece: &[u8], start: bool, out: &mut [u8; 188])

@@ -1,12 +1,8 @@
--- The numbers of a region segment's head fit their fields: the code that fills the region is one of its depth.
+-- The numbers of a region segment's head fit their fields.
 use Rattle.std.proofs.Common.{subst, ℕ, ◌<◌, List}
-use Rattle.sub_base.specs.Depth.{code_count}
-use Rattle.sub_base.specs.declared.depth.Depth.{Depth}
-use Rattle.sub_base.specs.declared.depth.Depth.TheVariants.{Two, Four, Eight}
 use Rattle.stream_syntax.specs.Fields.{Field, FitsFields}
 use Rattle.stream_syntax.specs.Segments.{SegmentValue, Region, of_page, of_region, of_clut, of_object, of_display, end_of_set, passed_over, region_fields, segment_fields, IsSegment}
 use Rattle.stream_syntax.specs.declared.region.RegionHead.{RegionHead}
-use Rattle.decoder_model.specs.Pixels.{fill_code}
 use Rattle.page_core.specs.Private.Painted.{FitsHead}
 use Rattle.page_core.specs.Private.RegionSteps.{IsRightHead, IsRightValue}
 
@@ -36,12 +32,3 @@ right_value bytes (of_object value) is = tt
 right_value bytes (of_display value) is = tt
 right_value bytes end_of_set is = tt
 right_value bytes passed_over is = tt
-
--- the code that fills the region is one of its depth
-pub fill_in_depth : (head : RegionHead) → FitsHead head → fill_code head.depth head < code_count head.depth
-fill_in_depth head fields = by head.depth
-  where
-    by : (depth : Depth) → fill_code depth head < code_count depth
-    by Two = fields.code2
-    by Four = fields.code4
-    by Eight = fields.code8

@@ -1,10 +1,9 @@
 -- A receiver that takes the first packet that it gets for the first one of all, at the tick at which it comes, counts
 -- as one that knows its slot.
-use Rattle.std.proofs.Common.{◌≡◌, ◌∙◌, ℕ, zero, suc, ◌+◌, ◌-◌, ◌<◌, ◌≤◌, Bool, true, false, ◌||◌, Some, None, List, [], ◌∷◌, length, map, filter, take, drop, get_or, refl, sym, ap, subst, arith, length-drop, mul-le-mul_right}
-use Rattle.std.specs.Prelude.{All, nat_le, slice_get, slice_index}
+use Rattle.std.proofs.Common.{◌≡◌, ◌∙◌, ℕ, zero, suc, ◌+◌, ◌-◌, ◌<◌, ◌≤◌, Bool, true, false, ◌||◌, Some, None, List, [], ◌∷◌, length, filter, drop, get_or, refl, sym, ap, subst, arith, length-drop, mul-le-mul_right}
+use Rattle.std.specs.Prelude.{nat_le, slice_get, slice_index}
 use Rattle.std.specs.Bool.{if◌then◌else◌}
 use Rattle.std.specs.List.{AllByRecursion, list_any}
-use Rattle.std.specs.List.Sorted.{IsStrictlyIncreasing}
 use Rattle.std.proofs.lemmas.Bool.Decides.{nat_tests}
 use Rattle.std.proofs.lemmas.List.{get_or-take, get_or-drop, length-take-le}
 use Rattle.std.proofs.lemmas.List.Elements.{All-from_recursion, All-map}
@@ -21,7 +20,7 @@ use Rattle.buffer_model.specs.Calls.{Call, Arrived, SetWhole, Dropped}
 use Rattle.buffer_model.specs.Within.{AreWithin, AllHeard, has_arrived, moved}
 use Rattle.buffer_model.proofs.MovedLaws.{moved_within}
 use Rattle.schedule.specs.Packets.{first_packet, load_of, packets_of}
-use Rattle.schedule.specs.Slots.{Timetable, IsLoad, IsSchedule, slot_of, slots_of, start_of}
+use Rattle.schedule.specs.Slots.{Timetable, IsSchedule, slot_of, slots_of, start_of}
 use Rattle.schedule.proofs.AnswerLaws.{rises}
 use Rattle.schedule.proofs.EarliestLaws.{rise-le}
 use Rattle.schedule.proofs.SumLaws.{sum_below-suc, sum_below-rises}
@@ -34,10 +33,9 @@ use Rattle.received_level_laws.proofs.LaterSlots.{told_later}
 use Rattle.sent_sets.proofs.PacketCounts.{as_many}
 use Rattle.sent_sets.proofs.SlotPlaces.{start_is}
 use Rattle.slot_stream.proofs.SentPieces.{IsFree}
-use Rattle.stream_syntax.specs.declared.wire.TheConstants.{TIME_ROUND}
-use Rattle.cue_list.specs.declared.limits.TheConstants.{LONGEST_SCRIPT}
 use Rattle.shown_stream.specs.Compiled.{IsCompiledTo, sent_pace}
-use Rattle.shown_stream.specs.SentSets.{sent_set, sent_from, sent_sets, times_from}
+use Rattle.shown_stream.specs.SentSets.{sent_set, sent_from, sent_sets, times_from, first_times_from}
+use Rattle.shown_stream.proofs.Shown.FirstTimes.{first_of_all_times}
 use Rattle.shown_stream.specs.Shows.{IsAnchorOf, Suits}
 use Rattle.shown_stream.specs.StaysWithin.{AreCallsBefore, StaysWithin}
 use Rattle.shown_stream.proofs.Calls.CompiledCalls.{compiled_entry}
@@ -218,8 +216,10 @@ checked_calls name pid page script bytes free compiled known missed calls given 
     later : List Call
     later = moved missed calls
 
-    suits : IsAnchorOf (times_from missed (sent_sets compiled.table compiled.sets)) anchor
-    suits = slot_suits name pid page script bytes compiled known missed
+    suits : IsAnchorOf (first_times_from missed (sent_sets compiled.table compiled.sets)) anchor
+    suits =
+        first_of_all_times anchor missed (sent_sets compiled.table compiled.sets)
+        (slot_suits name pid page script bytes compiled known missed)
 
     stays : StaysWithin name pid (only page) script compiled.sets compiled.table packets missed anchor
     stays = compiled_stays name pid page script bytes free compiled known missed anchor suits

@@ -23,14 +23,15 @@ use Rattle.scheduled_level_laws.specs.EnteredCalls.{Entry, from_of, entered_call
 use Rattle.scheduled_level_laws.proofs.EnteredDone.{same_bound}
 use Rattle.scheduled_level_laws.proofs.EnteredSums.{within_slots}
 use Rattle.shown_stream.specs.Compiled.{IsCompiledTo, all_units}
-use Rattle.shown_stream.specs.SentSets.{sent_sets, times_from}
+use Rattle.shown_stream.specs.SentSets.{sent_sets, first_times_from}
 use Rattle.shown_stream.specs.Shows.{IsAnchorOf}
 use Rattle.slot_stream.specs.SlotStream.{Piece, all_pieces, packet_of}
 use Rattle.shown_stream.specs.StaysWithin.{AreCallsBefore}
 use Rattle.received_level_laws.specs.StreamCalls.{set_calls, AreCallsOf}
 use Rattle.shown_stream.proofs.Calls.CallsOfPieces.{AreLeft}
 use Rattle.shown_stream.proofs.Calls.CompiledCalls.{compiled_stream, compiled_entry, compiled_calls}
-use Rattle.shown_stream.proofs.Calls.CompiledKept.{AreWholeUpTo, cut_units, compiled_kept, read_turned}
+use Rattle.shown_stream.proofs.Calls.CompiledKept.{AreWholeUpTo, compiled_kept, read_turned}
+use Rattle.shown_stream.proofs.Calls.CompiledTimes.{cut_units}
 use Rattle.shown_stream.proofs.Sent.CompiledPackets.{packets_in, ArePackets}
 use Rattle.shown_stream.proofs.Calls.EnteredSlots.{IsNotBegun, nothing_yet}
 use Rattle.shown_stream.proofs.Calls.EntrySizes.{heard_sizes, count_behind}
@@ -63,7 +64,7 @@ many_read (delivery ∷ deliveries) (one ∷ past) h = ap suc (many_read deliver
 pub compiled_left : (name : ProfileName) (pid page : ℕ) (script : Script) (bytes : List ℕ) → IsFree pid
     → (compiled : IsCompiledTo name pid page script bytes) (known : ArePackets name pid page script bytes compiled)
     (loads_are : All IsLoad compiled.loads)
-    → (anchor missed m : ℕ) → IsAnchorOf (times_from missed (sent_sets compiled.table compiled.sets)) anchor
+    → (anchor missed m : ℕ) → IsAnchorOf (first_times_from missed (sent_sets compiled.table compiled.sets)) anchor
     → (late : IsEnteredLate name pid page script bytes compiled known.sent missed)
     → (past : List (Delivery Reading))
     → HasReceived (profile_of name) pid (only page) false
@@ -167,7 +168,7 @@ compiled_left name pid page script bytes free compiled known loads_are anchor mi
 pub compiled_read : (name : ProfileName) (pid page : ℕ) (script : Script) (bytes : List ℕ) → IsFree pid
     → (compiled : IsCompiledTo name pid page script bytes) (known : ArePackets name pid page script bytes compiled)
     (loads_are : All IsLoad compiled.loads)
-    → (anchor missed m : ℕ) → IsAnchorOf (times_from missed (sent_sets compiled.table compiled.sets)) anchor
+    → (anchor missed m : ℕ) → IsAnchorOf (first_times_from missed (sent_sets compiled.table compiled.sets)) anchor
     → (late : IsEnteredLate name pid page script bytes compiled known.sent missed)
     → (past : List (Delivery Reading))
     × HasReceived (profile_of name) pid (only page) false
@@ -281,7 +282,7 @@ before_slot missed slot packets = elim (cases_lt slot missed) [
 pub heard_calls : (name : ProfileName) (pid page : ℕ) (script : Script) (bytes : List ℕ) → IsFree pid
     → (compiled : IsCompiledTo name pid page script bytes) (known : ArePackets name pid page script bytes compiled)
     (loads_are : All IsLoad compiled.loads)
-    → (anchor missed slot : ℕ) → IsAnchorOf (times_from missed (sent_sets compiled.table compiled.sets)) anchor
+    → (anchor missed slot : ℕ) → IsAnchorOf (first_times_from missed (sent_sets compiled.table compiled.sets)) anchor
     → (late : IsEnteredLate name pid page script bytes compiled known.sent missed) → (calls : List Call)
     → AreCallsBefore slot name pid (only page) anchor missed (packets_in name pid page script bytes compiled) calls
     → calls ≡ entered_calls compiled.loads compiled.table.slots slot (heard_painting compiled.loads late.first)

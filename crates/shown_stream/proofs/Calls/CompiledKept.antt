@@ -18,15 +18,14 @@ use Rattle.decoder_model.specs.Received.{HasReceived}
 use Rattle.decoder_model.specs.Sets.{Delivery, sets_of}
 use Rattle.decoder_model.specs.Streams.{entered_at}
 use Rattle.shown_stream.specs.Compiled.{IsCompiledTo, all_units}
-use Rattle.shown_stream.specs.SentSets.{sent_sets, times_from}
+use Rattle.shown_stream.specs.SentSets.{sent_sets, first_times_from}
 use Rattle.shown_stream.specs.Shows.{IsAnchorOf}
 use Rattle.received_level_laws.specs.StreamCalls.{set_calls}
 use Rattle.shown_stream.proofs.Calls.CompiledCalls.{compiled_stream, compiled_entry}
 use Rattle.shown_stream.proofs.Sent.CompiledPackets.{packets_in, ArePackets}
 use Rattle.shown_stream.proofs.Sent.CompiledSets.{AreSentAs}
-use Rattle.shown_stream.proofs.Calls.CompiledTimes.{compiled_ahead}
+use Rattle.shown_stream.proofs.Calls.CompiledTimes.{compiled_ahead, cut_units}
 use Rattle.shown_stream.proofs.Calls.KeptCalls.{AreTimed, IsWholeAt, each_kept}
-use Rattle.shown_stream.proofs.Calls.LateCalls.{units_missed}
 use Rattle.shown_stream.proofs.Late.LatePlaces.{same_many}
 use Rattle.shown_stream.proofs.Sent.PlannedTimes.{pts_of}
 use Rattle.slot_stream.proofs.SentPieces.{IsFree}
@@ -82,19 +81,11 @@ pub record AreWholeUpTo (profile : Profile) (anchor : ℕ) (planned : List Plann
       → IsWholeAt (set_calls profile anchor (reverse past)) j (get_or (pts_of planned) j 0)
       (get_or (map (λ (one : TimedSet). size_of_units one.units) (take count behind)) j 0)
 
--- how many units of a compiled stream do not come whole behind so many packets
-abbrev pub cut_units : (name : ProfileName) (pid page : ℕ) (script : Script) (bytes : List ℕ)
-    (compiled : IsCompiledTo name pid page script bytes) (known : ArePackets name pid page script bytes compiled)
-    → All IsLoad compiled.loads → ℕ → ℕ
-cut_units name pid page script bytes compiled known loads_are missed =
-    units_missed (profile_of name).coded missed (all_units compiled.units) compiled.table.slots
-    (compiled_stream name pid page script bytes compiled known loads_are).whole
-
 -- up to any packet, by every anchor that suits
 pub compiled_kept : (name : ProfileName) (pid page : ℕ) (script : Script) (bytes : List ℕ) → IsFree pid
     → (compiled : IsCompiledTo name pid page script bytes) (known : ArePackets name pid page script bytes compiled)
     (loads_are : All IsLoad compiled.loads)
-    → (anchor missed m : ℕ) → IsAnchorOf (times_from missed (sent_sets compiled.table compiled.sets)) anchor
+    → (anchor missed m : ℕ) → IsAnchorOf (first_times_from missed (sent_sets compiled.table compiled.sets)) anchor
     → (past : List (Delivery Reading))
     → HasReceived (profile_of name) pid (only page) false
     (take m (entered_at missed (packets_in name pid page script bytes compiled))) past
@@ -131,6 +122,6 @@ compiled_kept name pid page script bytes free compiled known loads_are anchor mi
       each =
           λ j inside. each_kept (profile_of name) anchor None [] (drop entry.set compiled.sets) sets (reverse past)
           (none_before anchor)
-          (compiled_ahead name pid page script bytes compiled known loads_are missed anchor suits) are_timed read j
+          (compiled_ahead name pid page script bytes free compiled known loads_are missed anchor suits) are_timed read j
           (omega (arith, inside, length-reverse past));
     }

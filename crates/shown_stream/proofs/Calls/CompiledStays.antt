@@ -34,21 +34,22 @@ use Rattle.scheduled_level_laws.proofs.EnteredSums.{last_packet}
 use Rattle.scheduled_level_laws.proofs.EnteredWithin.{Holds, no_higher, level_within, entered_within}
 use Rattle.scheduled_level_laws.proofs.WholeLevels.{one_level}
 use Rattle.shown_stream.specs.Compiled.{all_units, IsCompiledTo}
-use Rattle.shown_stream.specs.SentSets.{sent_set, sent_sets, times_from}
+use Rattle.shown_stream.specs.SentSets.{sent_set, sent_sets, first_times_from}
 use Rattle.shown_stream.specs.Shows.{IsAnchorOf}
-use Rattle.shown_stream.specs.StaysWithin.{AreCallsBefore, StaysWithin, IsAsScheduled}
+use Rattle.shown_stream.specs.StaysWithin.{AreCallsBefore, IsKeptCall, StaysWithin, IsAsScheduled}
 use Rattle.received_level_laws.specs.StreamCalls.{itself, set_calls, calls_from, AreCallsOf}
 use Rattle.shown_stream.proofs.Calls.CompiledCalls.{compiled_stream, compiled_entry}
 use Rattle.shown_stream.proofs.Calls.CompiledHeard.{compiled_read, ended_sets, heard_calls, before_slot, packet_inside}
-use Rattle.shown_stream.proofs.Calls.CompiledKept.{cut_units}
+use Rattle.shown_stream.proofs.Calls.CompiledTimes.{cut_units, entry_before}
 use Rattle.shown_stream.proofs.Sent.CompiledPackets.{packets_in, ArePackets}
 use Rattle.shown_stream.proofs.Sent.CompiledWithin.{compiled_holds, compiled_is_entry}
 use Rattle.shown_stream.proofs.Calls.LateCalls.{entry_behind}
+use Rattle.shown_stream.proofs.Calls.NoneDropped.{none_dropped}
 use Rattle.sent_sets.proofs.SentLate.{have_packets}
 use Rattle.shown_stream.proofs.Late.LateCompiled.{IsEnteredLate, compiled_late}
 use Rattle.shown_stream.proofs.Late.LatePlaces.{count_sets}
 use Rattle.shown_stream.proofs.Sent.PlannedTimes.{pts_of}
-use Rattle.shown_stream.proofs.Calls.ReceivedLoads.{heard_painting, heard_from, heard_most, entry_before, planned_times}
+use Rattle.shown_stream.proofs.Calls.ReceivedLoads.{heard_painting, heard_from, heard_most, planned_times}
 use Rattle.slot_stream.proofs.SentPieces.{IsFree}
 use Rattle.sent_sets.proofs.LateStream.{passed, pieces_left}
 use Rattle.sent_sets.proofs.PacketCounts.{as_many}
@@ -118,7 +119,7 @@ none_cut name pid page script bytes compiled known late = elim (cases_lt 0 late.
 whole_calls : (name : ProfileName) (pid page : ℕ) (script : Script) (bytes : List ℕ) → IsFree pid
     → (compiled : IsCompiledTo name pid page script bytes) (known : ArePackets name pid page script bytes compiled)
     (loads_are : All IsLoad compiled.loads)
-    → (anchor slot : ℕ) → IsAnchorOf (times_from 0 (sent_sets compiled.table compiled.sets)) anchor
+    → (anchor slot : ℕ) → IsAnchorOf (first_times_from 0 (sent_sets compiled.table compiled.sets)) anchor
     → (calls : List Call)
     → AreCallsBefore slot name pid (only page) anchor 0 (packets_in name pid page script bytes compiled) calls
     → calls ≡ entered_calls compiled.loads compiled.table.slots slot (planned_painting compiled.loads) whole_entry
@@ -158,7 +159,7 @@ all_whole name pid page script bytes compiled known loads_are i inside =
 pub compiled_scheduled : (name : ProfileName) (pid page : ℕ) (script : Script) (bytes : List ℕ) → IsFree pid
     → (compiled : IsCompiledTo name pid page script bytes) (known : ArePackets name pid page script bytes compiled)
     → (anchor : ℕ)
-    → IsAnchorOf (times_from 0 (sent_sets compiled.table compiled.sets)) anchor
+    → IsAnchorOf (first_times_from 0 (sent_sets compiled.table compiled.sets)) anchor
     → IsAsScheduled name pid (only page) script compiled.sets compiled.loads compiled.table
     (packets_in name pid page script bytes compiled) anchor
 compiled_scheduled name pid page script bytes free compiled known anchor suits = record {
@@ -177,6 +178,9 @@ compiled_scheduled name pid page script bytes free compiled known anchor suits =
       ∙ ap reverse
       (take_all (length loads) (pts_of sets)
       (omega (arith, many, length-map sets (λ (set : PlannedSet). set.pts))));
+  kept =
+      λ calls given. subst (All IsKeptCall) (sym (are (length packets) calls given))
+      (none_dropped loads compiled.table.slots (length packets) (planned_painting loads) whole_entry (length loads));
   dones =
       λ calls given. ap (λ found. map (λ (set : DoneSet). set.done) (done_sets pace found))
       (are (length packets) calls given)
@@ -224,7 +228,7 @@ time_found (first ∷ sets) (suc i) set found = time_found sets i set found
 pub compiled_stays : (name : ProfileName) (pid page : ℕ) (script : Script) (bytes : List ℕ) → IsFree pid
     → (compiled : IsCompiledTo name pid page script bytes) (known : ArePackets name pid page script bytes compiled)
     → (missed anchor : ℕ)
-    → IsAnchorOf (times_from missed (sent_sets compiled.table compiled.sets)) anchor
+    → IsAnchorOf (first_times_from missed (sent_sets compiled.table compiled.sets)) anchor
     → StaysWithin name pid (only page) script compiled.sets compiled.table
     (packets_in name pid page script bytes compiled) missed anchor
 compiled_stays name pid page script bytes free compiled known missed anchor suits = record {
@@ -349,7 +353,7 @@ compiled_stays name pid page script bytes free compiled known missed anchor suit
         })
 
     not_worse : (slot other : ℕ) (calls whole : List Call)
-        → IsAnchorOf (times_from 0 (sent_sets compiled.table sets)) other
+        → IsAnchorOf (first_times_from 0 (sent_sets compiled.table sets)) other
         → AreCallsBefore (slot + 1) name pid (only page) anchor missed packets calls
         → AreCallsBefore (slot + 1) name pid (only page) other 0 packets whole
         → (level_at pace slot 0 calls ≤ level_at pace slot 0 whole)

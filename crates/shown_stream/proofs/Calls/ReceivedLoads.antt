@@ -1,14 +1,14 @@
 -- What the sets of a compiled stream ask of a receiver that enters it behind any number of packets: each its own time,
 -- the bytes that come of it, and the painting of the plan, but for a set of which the first packets do not come, which
 -- is not painted.
-use Rattle.std.proofs.Common.{◌≡◌, ◌∙◌, inl, inr, ℕ, zero, suc, ◌+◌, ◌-◌, ◌<◌, ◌≤◌, Bool, true, false, cond, List, [], ◌∷◌, ◌++◌, length, map, take, drop, reverse, get_or, Some, refl, sym, ap, subst, arith, append-nil, length-append, length-drop}
+use Rattle.std.proofs.Common.{◌≡◌, ◌∙◌, inl, inr, ℕ, zero, suc, ◌+◌, ◌-◌, ◌<◌, ◌≤◌, Bool, true, false, cond, List, [], ◌∷◌, ◌++◌, length, map, take, drop, reverse, get_or, Some, refl, sym, ap, subst, arith, append-nil, length-append}
 use Rattle.std.specs.Prelude.{All, nat_le, slice_index_or}
 use Rattle.std.specs.List.{AllZip, take-map, sum_by}
 use Rattle.std.proofs.Math.ListN.{get_or-append}
 use Rattle.std.proofs.Math.Seq.{drop-append_seam}
 use Rattle.std.proofs.lemmas.Bool.{cases_lt}
 use Rattle.std.proofs.lemmas.Bool.Decides.{nat_tests}
-use Rattle.std.proofs.lemmas.List.{length-map, get_or-drop, reverse-append, reverse-reverse}
+use Rattle.std.proofs.lemmas.List.{get_or-drop, reverse-append, reverse-reverse}
 use Rattle.sub_base.specs.Profile.{profile_of}
 use Rattle.sub_base.specs.declared.load.WriteLoad.{WriteLoad}
 use Rattle.sub_base.specs.declared.profile.Profile.{Profile}
@@ -26,16 +26,15 @@ use Rattle.decoder_model.specs.Sets.{Delivery, sets_of}
 use Rattle.decoder_model.specs.Streams.{entered_at}
 use Rattle.scheduled_level_laws.specs.EnteredCalls.{Entry, planned_painting}
 use Rattle.shown_stream.specs.Compiled.{IsCompiledTo, all_units}
-use Rattle.shown_stream.specs.SentSets.{sent_sets, times_from}
+use Rattle.shown_stream.specs.SentSets.{sent_sets, first_times_from}
 use Rattle.shown_stream.specs.Shows.{IsAnchorOf}
 use Rattle.received_level_laws.specs.StreamCalls.{set_call, set_calls}
 use Rattle.shown_stream.proofs.Calls.CompiledCalls.{compiled_stream, compiled_entry}
-use Rattle.shown_stream.proofs.Calls.CompiledKept.{AreWholeUpTo, cut_units, read_turned}
+use Rattle.shown_stream.proofs.Calls.CompiledKept.{AreWholeUpTo, read_turned}
+use Rattle.shown_stream.proofs.Calls.CompiledTimes.{cut_units, entry_before}
 use Rattle.shown_stream.proofs.Sent.CompiledPackets.{packets_in, ArePackets}
-use Rattle.shown_stream.proofs.Shown.FirstTimes.{first_of_all_times}
 use Rattle.shown_stream.proofs.Shown.SentShown.{all_turned, ComesInParts, comes_in_parts}
 use Rattle.shown_stream.proofs.Shown.EnteredRuns.{turned, turned_is}
-use Rattle.shown_stream.proofs.Calls.EntrySizes.{count_behind}
 use Rattle.shown_stream.proofs.Late.LateCompiled.{IsEnteredLate, compiled_plan}
 use Rattle.reading_laws.proofs.OneReading.{same_past}
 use Rattle.shown_stream.proofs.Sent.PlannedTimes.{pts_of}
@@ -151,36 +150,10 @@ pub record AreAllHeard (name : ProfileName) (pid page : ℕ) (script : Script) (
       ≡ heard_painting compiled.loads first
       ((compiled_entry name pid page script bytes compiled known loads_are missed).set + j)
 
--- at most one set is cut, and it stands before the sets that come whole
-pub entry_before : (name : ProfileName) (pid page : ℕ) (script : Script) (bytes : List ℕ) → IsFree pid
-    → (compiled : IsCompiledTo name pid page script bytes) (known : ArePackets name pid page script bytes compiled)
-    (loads_are : All IsLoad compiled.loads) (missed : ℕ)
-    → (late : IsEnteredLate name pid page script bytes compiled known.sent missed)
-    → (compiled_entry name pid page script bytes compiled known loads_are missed).set + length late.rest
-    ≡ late.first
-entry_before name pid page script bytes free compiled known loads_are missed late =
-    let coded = (profile_of name).coded in
-    let is = compiled_stream name pid page script bytes compiled known loads_are in
-    let n = cut_units name pid page script bytes compiled known loads_are missed in
-    let same =
-    late_sets coded pid (only page) missed (all_units compiled.units) known.sent compiled.table.slots free is.whole
-    known.are.carry known.apart is.pieces is.ahead in
-    omega (
-      arith,
-      count_behind coded (only page) compiled.loads n 0 compiled.units known.sent is.sent,
-      late.few,
-      late.most,
-      length-map (sets_behind n known.sent) delivered,
-      length-map (late.rest ++ drop late.first known.sent) delivered,
-      ap length (sym same ∙ late.come),
-      length-append late.rest (drop late.first known.sent),
-      length-drop late.first known.sent,
-    )
-
 pub all_heard : (name : ProfileName) (pid page : ℕ) (script : Script) (bytes : List ℕ) → IsFree pid
     → (compiled : IsCompiledTo name pid page script bytes) (known : ArePackets name pid page script bytes compiled)
     (loads_are : All IsLoad compiled.loads)
-    → (missed anchor : ℕ) → IsAnchorOf (times_from missed (sent_sets compiled.table compiled.sets)) anchor
+    → (missed anchor : ℕ) → IsAnchorOf (first_times_from missed (sent_sets compiled.table compiled.sets)) anchor
     → (late : IsEnteredLate name pid page script bytes compiled known.sent missed)
     → AreAllHeard name pid page script bytes compiled known loads_are missed anchor late.first
 all_heard name pid page script bytes free compiled known loads_are missed anchor suits late = record {
@@ -211,7 +184,7 @@ all_heard name pid page script bytes free compiled known loads_are missed anchor
         comes_in_parts profile pid (only page) script compiled.table compiled.sets
         (packets_in name pid page script bytes compiled) known.sent
         (compiled_plan name pid page script bytes free compiled known) missed anchor
-        (first_of_all_times anchor missed (sent_sets compiled.table compiled.sets) suits) late
+        suits late
 
     past : List (Delivery Reading)
     past = parts.come.past

@@ -1,7 +1,7 @@
 -- A receiver of a compiled stream of which some packets are lost shows at each good tick what the script authors, and
 -- its page memory holds the script behind each set that comes whole and whose epoch is known.
-use Rattle.std.proofs.Common.{◌≡◌, ◌∙◌, ℕ, zero, suc, ◌+◌, ◌-◌, ◌<◌, ◌≤◌, ◌⊎◌, inl, inr, Bool, true, false, ◌&&◌, ◌||◌, cond, List, [], ◌∷◌, ◌++◌, length, map, filter, take, drop, reverse, Some, None, refl, sym, ap, subst, arith, length-append}
-use Rattle.std.specs.Prelude.{nat_le, slice_get}
+use Rattle.std.proofs.Common.{◌≡◌, ◌∙◌, ℕ, zero, suc, ◌+◌, ◌-◌, ◌<◌, ◌≤◌, ◌⊎◌, inl, inr, Bool, true, false, ◌&&◌, ◌||◌, cond, List, [], ◌∷◌, ◌++◌, length, map, filter, take, drop, reverse, None, refl, sym, ap, subst, arith, length-append}
+use Rattle.std.specs.Prelude.{nat_le}
 use Rattle.std.specs.List.{AllByRecursion, list_all, list_any}
 use Rattle.std.specs.Option.{is_none}
 use Rattle.std.proofs.lemmas.Bool.{cases_lt}
@@ -11,13 +11,13 @@ use Rattle.sub_base.specs.declared.profile.Profile.{Profile}
 use Rattle.stream_syntax.specs.TransportPackets.{packet_fault}
 use Rattle.cue_list.specs.declared.script.Script.{Script}
 use Rattle.page_epoch.specs.declared.planned_set.PlannedSet.{PlannedSet}
-use Rattle.schedule.specs.Slots.{Timetable, slots_of}
+use Rattle.schedule.specs.Slots.{Timetable}
 use Rattle.decoder_model.specs.declared.pages.Pages.{Pages}
 use Rattle.decoder_model.specs.Arrivals.{arrivals_of}
 use Rattle.decoder_model.specs.Sets.{has_ended, runs_of, sets_in, sets_of}
 use Rattle.decoder_model.specs.Streams.{Sending, received_of, SentSet, IsReceived, is_received_at}
 use Rattle.decoder_model.proofs.SentUnits.{all_taken}
-use Rattle.shown_stream.specs.SentSets.{sent_set, sent_from, times_received}
+use Rattle.shown_stream.specs.SentSets.{sent_set, sent_from}
 use Rattle.shown_stream.proofs.Late.LateTicks.{at_seam}
 use Rattle.shown_stream.proofs.Lost.LostPieces.{there_at, flow}
 use Rattle.shown_stream.proofs.Lost.LostPlaces.{all_of, some_of}
@@ -25,7 +25,6 @@ use Rattle.shown_stream.proofs.Lost.LostStretches.{all_come}
 use Rattle.shown_stream.proofs.Lost.LostViews.{GoodFrom, AreFit}
 use Rattle.shown_stream.proofs.Sent.PlannedTimes.{pts_of}
 use Rattle.stream_syntax.specs.Segments.{is_entry_state}
-use Rattle.shown_stream.specs.Shows.{Suits}
 use Rattle.sent_sets.proofs.Units.{TimedSet}
 
 -- ---- flags and places
@@ -73,43 +72,6 @@ pub length-there : (sendings : List Sending) (from : ℕ) (slots : List ℕ)
     → length (there_at sendings from slots) ≡ length slots
 length-there sendings from [] = refl
 length-there sendings from (slot ∷ slots) = ap suc (length-there sendings from slots)
-
--- ---- anchors
-
--- the anchor suits a set of which a packet is received
-pub suits_received : (anchor number place : ℕ) (sendings : List Sending) (table : Timetable) (sets : List PlannedSet)
-    (set : PlannedSet) → AllByRecursion (Suits anchor) (times_received sendings (sent_from table number sets))
-    → slice_get sets place ≡ Some set
-    → list_any (is_received_at sendings) (slots_of table (number + place)) ≡ true → Suits anchor set.pts
-suits_received anchor number place sendings table [] set suits found there = absurd (cc)
-suits_received anchor number zero sendings table (first ∷ sets) set suits found there =
-    let same : first ≡ set = cc in
-    let here : list_any (is_received_at sendings) (slots_of table number) ≡ true =
-    ap (λ n. list_any (is_received_at sendings) (slots_of table n)) (omega arith) ∙ there in
-    subst (λ (one : PlannedSet). Suits anchor one.pts) same
-    (subst (λ (b : Bool). AllByRecursion (Suits anchor)
-    (map (λ (one : SentSet). one.time)
-    (cond b (sent_set table number first
-    ∷ filter (λ (one : SentSet). list_any (is_received_at sendings) one.places)
-    (sent_from table (number + 1) sets))
-    (filter (λ (one : SentSet). list_any (is_received_at sendings) one.places)
-    (sent_from table (number + 1) sets)))))
-    here suits).0
-suits_received anchor number (suc place) sendings table (first ∷ sets) set suits found there =
-    suits_received anchor (number + 1) place sendings table sets set
-    (behind (list_any (is_received_at sendings) (slots_of table number)) suits) found
-    (ap (λ n. list_any (is_received_at sendings) (slots_of table n)) (omega arith) ∙ there)
-  where
-    rest : List SentSet
-    rest =
-        filter (λ (one : SentSet). list_any (is_received_at sendings) one.places) (sent_from table (number + 1) sets)
-
-    behind : (b : Bool)
-        → AllByRecursion (Suits anchor)
-        (map (λ (one : SentSet). one.time) (cond b (sent_set table number first ∷ rest) rest))
-        → AllByRecursion (Suits anchor) (map (λ (one : SentSet). one.time) rest)
-    behind true h = h.1
-    behind false h = h
 
 -- ---- good ticks
 

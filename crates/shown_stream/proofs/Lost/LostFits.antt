@@ -18,6 +18,7 @@ use Rattle.shown_stream.proofs.Shown.ComingSets.{SetComes}
 use Rattle.shown_stream.proofs.Sent.CompiledSets.{AreSentAs}
 use Rattle.shown_stream.proofs.Late.LatePlaces.{same_many}
 use Rattle.shown_stream.proofs.Late.LateRest.{IsPlannedWell}
+use Rattle.shown_stream.proofs.Lost.LostKept.{NoneBefore}
 use Rattle.shown_stream.proofs.Lost.LostPlaces.{all_of, some_of, all_whole, some_whole, whole-append, length-whole}
 use Rattle.shown_stream.proofs.Lost.LostUnits.{come_whole}
 use Rattle.shown_stream.proofs.Lost.LostViews.{AreFit}
@@ -56,7 +57,8 @@ module _ (script : Script) (profile : Profile) (anchor origin page : ℕ) (sets 
     pub whole : (n : ℕ) (set : PlannedSet) → slice_get left n ≡ Some set → ComesWhole (number + n) set
         → all_of (flags_at units flags n) ≡ true
     pub suits : (n : ℕ) (set : PlannedSet) → slice_get left n ≡ Some set
-        → some_of (flags_at units flags n) ≡ true → IsAheadOf anchor None set.pts
+        → some_of (flags_at units flags n) ≡ true → NoneBefore ComesWhole sets (number + n)
+        → IsAheadOf anchor None set.pts
 
   pub are_fit : (number : ℕ) (plan left : List PlannedSet) (units : List (List (List ℕ))) (sent : List TimedSet)
       (flags : List Bool) → origin < TIME_ROUND → length (reverse plan) ≡ number
@@ -140,9 +142,9 @@ module _ (script : Script) (profile : Profile) (anchor origin page : ℕ) (sets 
         above = above_first set.pts left rise;
         low = (let early = within.0.early in omega (arith, early, low));
         suits =
-            λ e. told.suits 0 set refl
+            λ e none. told.suits 0 set refl
             (some_whole profile.coded page packets flags units_are.0 (omega (arith, long, total))
-            (sym (ap some_of taken) ∙ e));
+            (sym (ap some_of taken) ∙ e)) (λ i one before. none i one (omega (arith, before, many)));
         told =
             λ own. ap all_of taken
             ∙ all_whole profile.coded page packets flags
@@ -165,5 +167,7 @@ module _ (script : Script) (profile : Profile) (anchor origin page : ℕ) (sets 
         whole =
             λ n other found own. ap all_of (sym (behind n))
             ∙ told.whole (suc n) other found (subst (λ (k : ℕ). ComesWhole k other) (omega arith) own);
-        suits = λ n other found e. told.suits (suc n) other found (ap some_of (behind n) ∙ e);
+        suits =
+            λ n other found e none. told.suits (suc n) other found (ap some_of (behind n) ∙ e)
+            (λ i one before. none i one (omega (arith, before)));
       }

@@ -203,9 +203,10 @@ pub record Ahead (anchor : ℕ) (past : List (Delivery Reading)) (time : ℕ) : 
   pub ahead : IsAheadOf anchor last time
 
 pub ahead_by : (origin anchor : ℕ) (past : List (Delivery Reading)) (set : PlannedSet) (left : List PlannedSet)
-    → LastBy origin anchor past (set ∷ left) → IsTick origin set.pts → IsAheadOf anchor None set.pts
-    → Ahead anchor past set.pts
-ahead_by origin anchor past set left (inl none) within suits = record { last = None; is_last = none; ahead = suits }
+    → LastBy origin anchor past (set ∷ left) → IsTick origin set.pts
+    → (last_time anchor past ≡ None → IsAheadOf anchor None set.pts) → Ahead anchor past set.pts
+ahead_by origin anchor past set left (inl none) within suits =
+    record { last = None; is_last = none; ahead = suits none }
 ahead_by origin anchor past set left (inr some) within suits =
     let late = some.2.late in
     let early = within.early in

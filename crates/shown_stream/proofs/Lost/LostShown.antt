@@ -1,6 +1,6 @@
 -- A receiver of a compiled stream of which some packets are lost shows at each good tick what the script authors, keeps
 -- each set that comes whole, and its page memory holds the script behind each of them whose epoch is known.
-use Rattle.std.proofs.Common.{◌≡◌, ◌∙◌, ℕ, suc, ◌+◌, ◌-◌, ◌<◌, ◌≤◌, inl, Bool, true, false, List, [], ◌∷◌, length, take, drop, get_or, reverse, Some, None, refl, sym, ap, subst, arith, append-nil}
+use Rattle.std.proofs.Common.{◌≡◌, ◌∙◌, ℕ, suc, ◌-◌, ◌<◌, ◌≤◌, inl, Bool, true, false, List, [], ◌∷◌, length, take, drop, get_or, reverse, Some, None, refl, sym, ap, subst, arith, append-nil}
 use Rattle.std.specs.Prelude.{slice_index, slice_get}
 use Rattle.std.specs.List.{AllByRecursion, list_all, list_any}
 use Rattle.std.proofs.lemmas.List.Elements.{recursion_from_All}
@@ -29,7 +29,7 @@ use Rattle.shown_stream.specs.Compiled.{IsCompiledFor, IsCompiledTo, all_units}
 use Rattle.shown_stream.specs.Entered.{IsCutRightly}
 use Rattle.shown_stream.specs.HoldsWhole.{HoldsWhole}
 use Rattle.shown_stream.specs.KeptSets.{IsKept}
-use Rattle.shown_stream.specs.SentSets.{sent_set, sent_sets, times_received}
+use Rattle.shown_stream.specs.SentSets.{sent_set, sent_sets, first_times_received}
 use Rattle.shown_stream.specs.Shows.{authored_view, IsAnchorOf, Shows}
 use Rattle.slot_stream.specs.SlotStream.{Piece, all_pieces, IsPiece}
 use Rattle.shown_stream.proofs.Late.LateCompiled.{timed_as}
@@ -40,8 +40,9 @@ use Rattle.shown_stream.proofs.Shown.EnteredRuns.{turned_is}
 use Rattle.shown_stream.proofs.Shown.HeldSets.{holds_none}
 use Rattle.slot_stream.proofs.LaidPackets.{IsAhead}
 use Rattle.shown_stream.proofs.Late.LatePlaces.{count_sets}
-use Rattle.shown_stream.proofs.Lost.LostCompiled.{all_there, some_there, there-take, there-drop, length-there, suits_received, good_from, received_sound, sets_by_flow}
+use Rattle.shown_stream.proofs.Lost.LostCompiled.{all_there, some_there, there-take, there-drop, length-there, good_from, received_sound, sets_by_flow}
 use Rattle.shown_stream.proofs.Lost.LostCuts.{near_from}
+use Rattle.shown_stream.proofs.Shown.FirstTimes.{first_received_suits}
 use Rattle.shown_stream.proofs.Lost.LostGood.{kept_if_whole}
 use Rattle.shown_stream.proofs.Lost.LostFits.{flags_at, AreTold, are_fit}
 use Rattle.shown_stream.proofs.Lost.LostPieces.{there_at, flow, walked}
@@ -54,7 +55,6 @@ use Rattle.shown_stream.proofs.Shown.PlannedRegions.{planned_well}
 use Rattle.shown_stream.proofs.Sent.PlannedTimes.{times_in_span, pts_rise}
 use Rattle.slot_stream.proofs.SentPieces.{IsFree, none_refused}
 use Rattle.slot_stream.proofs.SentStream.{pieces_are}
-use Rattle.stream_syntax.specs.declared.wire.TheConstants.{TIME_ROUND}
 use Rattle.sent_sets.proofs.LateStream.{no_counter}
 use Rattle.sent_sets.proofs.PacketCounts.{as_many, count_pieces, count_before, count_of_set}
 use Rattle.sent_sets.proofs.RisingSlots.{slots_rise}
@@ -80,7 +80,7 @@ pub received_cut : (name : ProfileName) (pid page : ℕ) (script : Script) (byte
     → IsCompiledFor name → (compiled : IsCompiledTo name pid page script bytes)
     → (sendings : List Sending) (received : List (List ℕ))
     → IsCutTo pid (packets_in name pid page script bytes compiled) sendings received → (anchor : ℕ)
-    → IsAnchorOf (times_received sendings (sent_sets compiled.table compiled.sets)) anchor → (tick : ℕ)
+    → IsAnchorOf (first_times_received sendings (sent_sets compiled.table compiled.sets)) anchor → (tick : ℕ)
     → IsReceivedCut name pid page script bytes compiled sendings received anchor tick
 received_cut name pid page script bytes free made compiled sendings received cut anchor suits tick = record {
   past = ends.past;
@@ -225,13 +225,11 @@ received_cut name pid page script bytes free made compiled sendings received cut
           ∙ all_there sendings (slots_of table n)
           (recursion_from_All (λ place. is_received_at sendings place ≡ true) (slots_of table n)
           (subst (λ (k : ℕ). IsReceived sendings (sent_set table k set)) (omega arith) own));
-      suits = λ n set found e.
-          suits_received anchor 0 n sendings table sets set
-          (recursion_from_All (λ time. (anchor ≤ time) × (time < anchor + TIME_ROUND))
-          (times_received sendings (sent_sets table sets)) suits) found
-          (ap (λ k. list_any (is_received_at sendings) (slots_of table k)) (omega arith)
-          ∙ some_there sendings (slots_of table n)
-          (ap (λ all. list_any (λ b. b) all) (sym (flags_are n (slice_get_within sets n set found))) ∙ e));
+      suits = λ n set found e none.
+          first_received_suits anchor n sendings table sets set suits found
+          (some_there sendings (slots_of table n)
+          (ap (λ all. list_any (λ b. b) all) (sym (flags_are n (slice_get_within sets n set found))) ∙ e))
+          (λ i one before. none i one (omega (arith, before)));
     }
 
     fits : AreFit script profile anchor script.origin page sets ComesWhole [] sets sent come
@@ -259,7 +257,7 @@ pub cut_shown : (name : ProfileName) (pid page : ℕ) (script : Script) (bytes :
     → IsCompiledFor name → (compiled : IsCompiledTo name pid page script bytes)
     → (sendings : List Sending) (received : List (List ℕ))
     → IsCutTo pid (packets_in name pid page script bytes compiled) sendings received → (anchor : ℕ)
-    → IsAnchorOf (times_received sendings (sent_sets compiled.table compiled.sets)) anchor → (tick : ℕ)
+    → IsAnchorOf (first_times_received sendings (sent_sets compiled.table compiled.sets)) anchor → (tick : ℕ)
     → IsGoodTick (sent_sets compiled.table compiled.sets) sendings tick
     → Shows (profile_of name) pid (only page) anchor received tick (authored_view script tick)
 cut_shown name pid page script bytes free made compiled sendings received cut anchor suits tick good =
@@ -275,7 +273,7 @@ pub cut_kept : (name : ProfileName) (pid page : ℕ) (script : Script) (bytes : 
     → IsCompiledFor name → (compiled : IsCompiledTo name pid page script bytes)
     → (sendings : List Sending) (received : List (List ℕ))
     → IsCutTo pid (packets_in name pid page script bytes compiled) sendings received → (anchor : ℕ)
-    → IsAnchorOf (times_received sendings (sent_sets compiled.table compiled.sets)) anchor
+    → IsAnchorOf (first_times_received sendings (sent_sets compiled.table compiled.sets)) anchor
     → (past : List (Delivery Reading)) → HasReceived (profile_of name) pid (only page) true received past
     → (number : ℕ) (set : PlannedSet) → slice_get compiled.sets number ≡ Some set
     → IsReceived sendings (sent_set compiled.table number set)
@@ -294,7 +292,7 @@ pub cut_held : (name : ProfileName) (pid page : ℕ) (script : Script) (bytes : 
     → IsCompiledFor name → (compiled : IsCompiledTo name pid page script bytes)
     → (sendings : List Sending) (received : List (List ℕ))
     → IsCutTo pid (packets_in name pid page script bytes compiled) sendings received → (anchor : ℕ)
-    → IsAnchorOf (times_received sendings (sent_sets compiled.table compiled.sets)) anchor
+    → IsAnchorOf (first_times_received sendings (sent_sets compiled.table compiled.sets)) anchor
     → (past : List (Delivery Reading)) → HasReceived (profile_of name) pid (only page) true received past
     → HoldsWhole script (profile_of name) anchor compiled.sets
     (λ number set. IsReceived sendings (sent_set compiled.table number set)) past

@@ -7,6 +7,7 @@ use Rattle.cue_list.specs.declared.script.Script.{Script}
 use Rattle.page_epoch.specs.Plan.{IsPlan}
 use Rattle.page_epoch.specs.declared.planned_set.PlannedSet.{PlannedSet}
 use Rattle.decoder_model.specs.Frames.{only}
+use Rattle.decoder_model.specs.Kept.{last_time}
 use Rattle.decoder_model.specs.Readings.{Reading, AreDeliveriesRead}
 use Rattle.decoder_model.specs.Sets.{Delivery}
 use Rattle.decoder_model.specs.Shown.{Agrees, view_at}
@@ -16,7 +17,7 @@ use Rattle.shown_stream.specs.Shows.{authored_view}
 use Rattle.shown_stream.proofs.Shown.ComingSets.{reading_of, is_read, turned_more}
 use Rattle.shown_stream.proofs.Shown.EnteredRuns.{turned}
 use Rattle.shown_stream.proofs.Shown.HeldSets.{holds_next}
-use Rattle.shown_stream.proofs.Lost.LostKept.{HaveCome, AreKept, kept_over}
+use Rattle.shown_stream.proofs.Lost.LostKept.{HaveCome, AreKept, NoneBefore, kept_over, none_came}
 use Rattle.shown_stream.proofs.Lost.LostRuns.{IsRunning, KnownBy, whole_after, none_known_of, LastBy, ahead_by, last_passed, known_pushed, known_before}
 use Rattle.shown_stream.proofs.Lost.LostStretches.{losts, count_before, all_come, some_come, part_of_set, Bound, MissedOut, goes_by, stays_open}
 use Rattle.shown_stream.proofs.Lost.LostSets.{SetOut, set_whole, set_missed, set_out, NothingOut, nothing_out}
@@ -58,7 +59,8 @@ module _ (script : Script) (profile : Profile) (anchor origin page : ℕ) (sets 
     pub within : IsTick origin set.pts
     pub above : AllByRecursion (λ time. set.pts < time) (pts_of left)
     pub low : set.pts < TICK_LIMIT
-    pub suits : some_come (length one.units) come ≡ true → IsAheadOf anchor None set.pts
+    pub suits : some_come (length one.units) come ≡ true → NoneBefore ComesWhole sets (length (reverse plan))
+        → IsAheadOf anchor None set.pts
     pub told : ComesWhole (length (reverse plan)) set → all_come (length one.units) come ≡ true
 
   -- where it stands behind the set
@@ -140,7 +142,7 @@ module _ (script : Script) (profile : Profile) (anchor origin page : ℕ) (sets 
       (plan left : List PlannedSet) (set : PlannedSet) (one : TimedSet) (sent : List TimedSet) (come : List Bool)
       (deliveries behind : List (Delivery (List ℕ))) → IsPlan script profile sets
       → Before kind taken past plan (set ∷ left) (one ∷ sent) come deliveries
-      → IsFit plan left set one sent come → IsAheadOf anchor None set.pts
+      → IsFit plan left set one sent come → (last_time anchor past ≡ None → IsAheadOf anchor None set.pts)
       → Bound profile.coded (only page) Joined sent (drop (length one.units) come) behind
       → deliveries ≡ losts (count_before kind) ++ delivered one ∷ behind
       → After kind taken past plan left set one sent come deliveries
@@ -212,7 +214,7 @@ module _ (script : Script) (profile : Profile) (anchor origin page : ℕ) (sets 
       (plan left : List PlannedSet) (set : PlannedSet) (one : TimedSet) (sent : List TimedSet) (come : List Bool)
       (deliveries : List (Delivery (List ℕ))) → IsPlan script profile sets
       → Before kind taken past plan (set ∷ left) (one ∷ sent) come deliveries
-      → IsFit plan left set one sent come → IsAheadOf anchor None set.pts
+      → IsFit plan left set one sent come → (last_time anchor past ≡ None → IsAheadOf anchor None set.pts)
       → all_come (length one.units) come ≡ false
       → MissedOut profile.coded (only page) (missed_from kind) one sent (drop (length one.units) come) deliveries
       → After kind taken past plan left set one sent come deliveries
@@ -335,7 +337,8 @@ module _ (script : Script) (profile : Profile) (anchor origin page : ℕ) (sets 
   after kind taken past plan left set one sent come deliveries is_plan stands fit =
       by (some_come (length one.units) come) refl
     where
-      by_all : IsAheadOf anchor None set.pts → (all : Bool) → all_come (length one.units) come ≡ all
+      by_all : (last_time anchor past ≡ None → IsAheadOf anchor None set.pts) → (all : Bool)
+          → all_come (length one.units) come ≡ all
           → SetOut profile.coded (only page) kind one sent (drop (length one.units) come) deliveries all
           → After kind taken past plan left set one sent come deliveries
       by_all suits true e (set_whole behind bound are) =
@@ -349,6 +352,9 @@ module _ (script : Script) (profile : Profile) (anchor origin page : ℕ) (sets 
           nothing_after kind taken past plan left set one sent come deliveries stands fit
           (nothing_out profile.coded (only page) kind one sent come deliveries fit.any none stands.bound)
       by true some =
-          by_all (fit.suits some) (all_come (length one.units) come) refl
+          by_all
+          (λ none. fit.suits some
+          (none_came profile anchor ComesWhole past sets plan (set ∷ left) stands.parts stands.kept none))
+          (all_come (length one.units) come) refl
           (set_out profile.coded (only page) kind one sent come deliveries fit.timed fit.any fit.apart fit.some
           stands.bound)

@@ -1,65 +1,21 @@
 -- The times of the sets that come to a receiver are lifted as they are, by an anchor that suits those of which a packet
 -- comes.
-use Rattle.std.proofs.Common.{◌≡◌, ◌∙◌, ℕ, zero, suc, ◌+◌, ◌<◌, ◌≤◌, Bool, true, false, ◌||◌, ◌&&◌, cond, List, [], ◌∷◌, length, map, filter, drop, Some, None, refl, ap, subst, arith}
+use Rattle.std.proofs.Common.{◌≡◌, ◌∙◌, ℕ, zero, suc, ◌+◌, ◌<◌, ◌≤◌, Bool, true, false, ◌||◌, ◌&&◌, cond, List, [], ◌∷◌, length, drop, Some, None, refl, ap, arith}
 use Rattle.std.specs.Prelude.{nat_le, slice_get}
 use Rattle.std.specs.List.{AllByRecursion, list_all, list_any}
 use Rattle.std.specs.List.Sorted.{IsStrictlyIncreasing}
-use Rattle.std.proofs.lemmas.List.Elements.{recursion_from_All}
 use Rattle.cue_list.specs.Sound.{IsTick}
 use Rattle.page_epoch.specs.declared.planned_set.PlannedSet.{PlannedSet}
-use Rattle.schedule.specs.Slots.{Timetable, slots_of}
-use Rattle.decoder_model.specs.Streams.{SentSet, is_from, entry_set}
-use Rattle.shown_stream.specs.SentSets.{sent_set, sent_from, times_from}
-use Rattle.shown_stream.specs.Shows.{IsAnchorOf, Suits}
+use Rattle.schedule.specs.Slots.{Timetable}
+use Rattle.decoder_model.specs.Streams.{is_from, entry_set}
+use Rattle.shown_stream.specs.SentSets.{sent_set, sent_from}
 use Rattle.shown_stream.proofs.Shown.EnteredRuns.{AreFrom}
 use Rattle.shown_stream.proofs.Sent.PlannedOrder.{rest_rises}
 use Rattle.shown_stream.proofs.Sent.PlannedTimes.{pts_of}
 use Rattle.shown_stream.proofs.Shown.ShownSets.{IsAheadOf, AreAheadOf}
 use Rattle.stream_syntax.specs.declared.wire.TheConstants.{TIME_ROUND}
 
--- ---- anchors
-
-abbrev some_there : ℕ → List ℕ → Bool
-some_there missed places = list_any (λ at. nat_le missed at) places
-
--- the anchor suits a set of which a packet comes
-anchor_in : (anchor missed number place : ℕ) (table : Timetable) (sets : List PlannedSet) (set : PlannedSet)
-    → AllByRecursion (Suits anchor) (times_from missed (sent_from table number sets))
-    → slice_get sets place ≡ Some set
-    → some_there missed (slots_of table (number + place)) ≡ true → Suits anchor set.pts
-anchor_in anchor missed number place table [] set suits found there = absurd (cc)
-anchor_in anchor missed number zero table (first ∷ sets) set suits found there =
-    let same : first ≡ set = cc in
-    let here : some_there missed (slots_of table number) ≡ true =
-    ap (λ n. some_there missed (slots_of table n)) (omega arith) ∙ there in
-    subst (λ (one : PlannedSet). Suits anchor one.pts) same
-    (subst (λ (b : Bool). AllByRecursion (Suits anchor)
-    (map (λ (one : SentSet). one.time)
-    (cond b (sent_set table number first
-    ∷ filter (λ (one : SentSet). some_there missed one.places) (sent_from table (number + 1) sets))
-    (filter (λ (one : SentSet). some_there missed one.places) (sent_from table (number + 1) sets)))))
-    here suits).0
-anchor_in anchor missed number (suc place) table (first ∷ sets) set suits found there =
-    anchor_in anchor missed (number + 1) place table sets set (behind (some_there missed (slots_of table number)) suits)
-    found (ap (λ n. some_there missed (slots_of table n)) (omega arith) ∙ there)
-  where
-    rest : List SentSet
-    rest = filter (λ (one : SentSet). some_there missed one.places) (sent_from table (number + 1) sets)
-
-    behind : (b : Bool)
-        → AllByRecursion (Suits anchor)
-        (map (λ (one : SentSet). one.time) (cond b (sent_set table number first ∷ rest) rest))
-        → AllByRecursion (Suits anchor) (map (λ (one : SentSet). one.time) rest)
-    behind true h = h.1
-    behind false h = h
-
-pub anchor_suits : (anchor missed number : ℕ) (table : Timetable) (sets : List PlannedSet) (set : PlannedSet)
-    → IsAnchorOf (times_from missed (sent_from table 0 sets)) anchor → slice_get sets number ≡ Some set
-    → list_any (λ at. nat_le missed at) (slots_of table number) ≡ true → IsAheadOf anchor None set.pts
-anchor_suits anchor missed number table sets set suits found there =
-    anchor_in anchor missed 0 number table sets set
-    (recursion_from_All (Suits anchor) (times_from missed (sent_from table 0 sets)) suits) found
-    (ap (λ n. some_there missed (slots_of table n)) (omega arith) ∙ there)
+-- ---- packets
 
 -- of a set of which all packets come one does, as it has some
 pub one_of_all : (missed : ℕ) (places : List ℕ) → 1 ≤ length places

@@ -1,4 +1,4 @@
-use Rattle.std.proofs.Common.{arith, ◌≤◌, ◌+◌}
+use Rattle.std.proofs.Common.{arith, ◌≤◌, ◌+◌, inr}
 use Rattle.std.proofs.lemmas.Bool.Decides.{nat_tests}
 use Rattle.set_coder.proofs.FieldLaws.{one_sizes}
 use Rattle.set_coder.specs.declared.kept_blocks.TheConstants.{MOST_BYTES}
@@ -12,3 +12,13 @@ returns-clause-all c = λ can.
     found.ensures.sizes can.sizes in
     let few : found.result.top + found.result.bottom ≤ MOST_BYTES = omega (arith, same.0, same.1, can.fits) in
     grind (arith, nat_tests)
+
+pub returns-clause-fits : goal.returns-clause-fits
+returns-clause-fits c = λ is.
+    let found = c.field_sizes-sizes in
+    let few : found.result.top + found.result.bottom ≤ MOST_BYTES = grind (arith, nat_tests) in
+    inr
+    (λ top bottom sizes. let same =
+    one_sizes c.args.picture.now c.args.region found.result.top found.result.bottom top bottom found.ensures.sizes
+    sizes in
+    omega (arith, same.0, same.1, few))

@@ -1,6 +1,6 @@
 use Rattle.std.proofs.Common.{◌≡◌, length, arith, rules, Some, ap, ◌∙◌}
 use Rattle.std.proofs.lemmas.Option.{slice_get_within}
-use Rattle.set_coder.proofs.KeptLaws.{one_more, last_kept, more_stay}
+use Rattle.set_coder.proofs.KeptLaws.{one_more, one_more_small, last_kept, more_stay}
 use Rattle.set_coder.proofs.SlotLaws.{more_led}
 use Rattle.set_coder.proofs.coded_picture.KeptBlocks.add.Goals as goal
 
@@ -8,7 +8,7 @@ pub lead-requires : goal.lead-requires
 lead-requires c =
     omega (
       arith,
-      c.requires.slots.each,
+      c.requires.keeping.each,
       slice_get_within c.args.pictures.now c.args.number c.args.picture.now
           c.requires.picture,
     )
@@ -32,15 +32,19 @@ returns-clause-stay c =
     more_stay c.in_ok-coded.coded c.args.self.now.coded.items c.lead.new.self.coded.items
     (ap (λ v. v.items) c.lead.ensures.coded ∙ c.in_ok-push.ensures.items)
 
-pub returns-clause-slots : goal.returns-clause-slots
-returns-clause-slots c =
+pub returns-clause-keeping : goal.returns-clause-keeping
+returns-clause-keeping c =
     let coded = c.in_ok-coded in
     let last : c.len-last.result ≡ length c.args.self.now.coded.items = search rules in
     record {
-      each = c.lead.ensures.each ∙ c.requires.slots.each;
+      each = c.lead.ensures.each ∙ c.requires.keeping.each;
       led =
           more_led c.args.self.now.slots.items c.lead.new.self.slots.items coded.coded c.args.self.now.coded.items
-          c.lead.new.self.coded.items c.args.number c.args.region c.requires.slots.led
+          c.lead.new.self.coded.items c.args.number c.args.region c.requires.keeping.led
           (ap (λ v. v.items) c.lead.ensures.coded ∙ c.in_ok-push.ensures.items) coded.ensures.number
           coded.ensures.region (c.lead.ensures.here ∙ ap Some last) c.lead.ensures.others c.requires.fresh;
+      small =
+          one_more_small c.args.self.now.coded.items coded.coded c.lead.new.self.coded.items
+          (ap (λ v. v.items) c.lead.ensures.coded ∙ c.in_ok-push.ensures.items) coded.ensures.small
+          c.requires.keeping.small;
     }

@@ -11,7 +11,7 @@ loop-cue-preserved c =
     omega (arith, ap length c.as_slice-cue-items.ensures) in
     record {
       right = next.right;
-      slots = next.slots;
+      keeping = next.keeping;
       kept =
           next_cue c.args.pictures.now c.args.epoch.now c.args.epoch.now.cues c.as_slice-cue-items.result.now
           c.loop-cue.cue-index _ c.loop-cue.self.coded.items c.keep_cue.new.self.coded.items lt

@@ -2,7 +2,7 @@ use Rattle.std.proofs.Common.{List, All, ◌<◌, ◌≤◌, ◌≡◌, length, 
 use Rattle.sub_base.specs.Picture.{Picture}
 use Rattle.cue_list.specs.declared.epoch.Epoch.{Epoch}
 use Rattle.set_coder.specs.KeptBlocks.{AreCoded, IsCueKept}
-use Rattle.set_coder.specs.Private.Keeping.{HasSlots}
+use Rattle.set_coder.specs.Private.Keeping.{IsKeeping}
 use Rattle.set_coder.proofs.KeptLaws.{next_epoch, all_taken}
 use Rattle.set_coder.proofs.coded_picture.KeptBlocks.of_script.Goals as goal
 
@@ -19,7 +19,7 @@ loop-epoch-preserved c =
     ∙ ap (λ (es : List Epoch). get_or es c.loop-epoch.epoch-index epoch) c.as_slice-epoch-items.ensures in
     record {
       right = subst (λ (ps : List Picture). AreCoded ps more) c.as_slice.ensures next.right;
-      slots = subst (λ (ps : List Picture). HasSlots ps c.keep_epoch.new.self) c.as_slice.ensures next.slots;
+      keeping = subst (λ (ps : List Picture). IsKeeping ps c.keep_epoch.new.self) c.as_slice.ensures next.keeping;
       kept =
           next_epoch c.args.script.now.pictures c.args.script.now.epochs c.loop-epoch.epoch-index epoch
           c.loop-epoch.kept.coded.items more lt is next.stay before.kept

@@ -1,8 +1,0 @@
-use Rattle.std.proofs.Common.{arith}
-use Rattle.pixel_store.specs.Regions.{region_at}
-use Rattle.bench_region_paint.proofs.Codes.{low_code}
-use Rattle.bench_region_paint.proofs.fill_region.Goals as goal
-
-pub fill-requires-clause-code : goal.fill-requires-clause-code
-fill-requires-clause-code c =
-    low_code (region_at c.args.store.now c.args.slot).depth c.args.code (omega (arith, c.requires.code))

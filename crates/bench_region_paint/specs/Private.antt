@@ -1,2 +1,0 @@
--- What functions of this crate do inside: no other crate cites these.
-pub mod Painted

@@ -1,3 +1,0 @@
--- What functions of this crate do inside: no other crate cites these.
-pub mod Appended
-pub mod Sent

@@ -1,0 +1,134 @@
+use crate::texts::FONT;
+use bitmap_font::{Font, FontFault, FontKind, SetFault};
+use std::alloc::Global;
+use std::process::Abort;
+use std::test::Fail;
+use sub_base::Depth;
+
+fn fault(alloc: Global, bytes: &[u8]) -> Option<FontFault> {
+    Font::read(alloc, bytes).err()
+}
+
+fn refused<R: Abort>(rt: &R, alloc: Global, bytes: &[u8], line: u64, kind: FontKind) {
+    assert_eq!(rt;
+        fault(alloc, bytes),
+        Some(FontFault::Refused { line, kind })
+    );
+}
+
+#[test]
+fn sets_two_lines_in_a_font_of_one_glyph(rt: HostRuntime) -> Result<(), Fail> {
+    let font = Font::read(rt.alloc(), FONT)?;
+    let picture = font.set("A\nAA", 1, 0, Depth::Four)?;
+    assert_eq!(rt; picture.width(), 6);
+    assert_eq!(rt; picture.height(), 8);
+    let codes = [
+        0, 1, 0, 0, 0, 0, 1, 1, 0, 0, 0, 0, 0, 1, 0, 0, 0, 0, 0, 0, 0, 0, 0, 0, //
+        0, 1, 0, 0, 1, 0, 1, 1, 0, 1, 1, 0, 0, 1, 0, 0, 1, 0, 0, 0, 0, 0, 0, 0,
+    ];
+    assert_eq!(rt; picture.codes(), codes.as_slice());
+    Ok(())
+}
+
+#[test]
+fn refuses_texts_in_order(rt: HostRuntime) -> Result<(), Fail> {
+    let font = Font::read(rt.alloc(), FONT)?;
+    assert_eq!(rt;
+        font.set("AB", 1, 0, Depth::Four).err(),
+        Some(SetFault::MissingGlyph('B'))
+    );
+    assert_eq!(rt;
+        font.set("", 1, 0, Depth::Four).err(),
+        Some(SetFault::Empty)
+    );
+    assert_eq!(rt;
+        font.set("\n\n", 1, 0, Depth::Four).err(),
+        Some(SetFault::Empty)
+    );
+    let wide = "AAAAAAAAAAAAAAAAAAAAAAAAAAAAAAAAAAAAAAAA".repeat(rt.alloc(), 17)?;
+    assert_eq!(rt;
+        font.set(&wide, 1, 0, Depth::Four).err(),
+        Some(SetFault::TooWide)
+    );
+    let none = Font::empty(rt.alloc());
+    assert_eq!(rt;
+        none.set("A", 1, 0, Depth::Four).err(),
+        Some(SetFault::MissingGlyph('A'))
+    );
+    Ok(())
+}
+
+#[test]
+fn refuses_fonts_at_their_first_wrong_line(rt: HostRuntime) -> Result<(), Fail> {
+    let alloc = rt.alloc();
+    refused(&rt, alloc, b"", 1, FontKind::Truncated);
+    refused(&rt, alloc, b"\tSTARTFONT 2.1\n", 1, FontKind::NotBdf);
+    refused(&rt, alloc, b"  STARTFONT\r\nENDFONT", 2, FontKind::NotBdf);
+    refused(
+        &rt,
+        alloc,
+        b"STARTFONT\nFONTBOUNDINGBOX 0 1 0 0\n",
+        2,
+        FontKind::BadNumber,
+    );
+    refused(
+        &rt,
+        alloc,
+        b"STARTFONT\nFONTBOUNDINGBOX 1 1 +0 0\n",
+        2,
+        FontKind::BadNumber,
+    );
+    refused(
+        &rt,
+        alloc,
+        b"STARTFONT\nFONTBOUNDINGBOX 1 1 0\n",
+        2,
+        FontKind::BadNumber,
+    );
+    refused(&rt, alloc, b"STARTFONT\nSTARTCHAR A\n", 2, FontKind::NotBdf);
+    refused(
+        &rt,
+        alloc,
+        b"STARTFONT\nSTARTPROPERTIES 9\nENDFONT\nBBX\n",
+        5,
+        FontKind::Truncated,
+    );
+    refused(
+        &rt,
+        alloc,
+        b"STARTFONT\nFONTBOUNDINGBOX 007 1 -0 0\nFONTBOUNDINGBOX 1 1 0 0\n",
+        3,
+        FontKind::NotBdf,
+    );
+    refused(
+        &rt,
+        alloc,
+        b"STARTFONT\nFONTBOUNDINGBOX 9 9 0 0\nSTARTCHAR A\nBITMAP\n",
+        4,
+        FontKind::NotBdf,
+    );
+    let head = b"STARTFONT\n\
+          FONTBOUNDINGBOX 9 9 0 0\n\
+          STARTCHAR A\n\
+          ENCODING 65\n\
+          DWIDTH 9 x\n\
+          BBX 9 1 0 0\n\
+          BITMAP\n";
+    for (row, kind) in [
+        (b"ff8".as_slice(), FontKind::BadRow),
+        (b"ff80 ".as_slice(), FontKind::BadRow),
+        (b"fg80".as_slice(), FontKind::BadRow),
+        (b"".as_slice(), FontKind::BadRow),
+        (b"ENDCHAR".as_slice(), FontKind::NotBdf),
+        (b"STARTFONT".as_slice(), FontKind::BadRow),
+    ] {
+        let mut bytes = head.to_vec(alloc)?;
+        bytes.extend_from_slice(row)?;
+        bytes.push(b'\n')?;
+        refused(&rt, alloc, &bytes, 8, kind);
+    }
+    let mut twice = head.to_vec(alloc)?;
+    twice.extend_from_slice(b"Ff80\nCOMMENT\nENDCHAR\nSTARTCHAR B\nENCODING 65\n")?;
+    refused(&rt, alloc, &twice, 12, FontKind::DoubleGlyph);
+    Ok(())
+}

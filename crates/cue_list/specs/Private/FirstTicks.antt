@@ -1,0 +1,21 @@
+-- The first tick of a row, as it is read from its second cell.
+use Rattle.std.specs.Prelude.{ℕ, List, Option, None, option_map}
+use Rattle.sub_base.specs.Number.{number_of}
+use Rattle.cue_list.specs.declared.limits.TheConstants.{MOST_DIGITS}
+use Rattle.cue_list.specs.declared.row_kind.RowKind.{RowKind}
+use Rattle.cue_list.specs.declared.row_kind.RowKind.TheVariants as kinds
+use Rattle.cue_list.specs.Cells.{cell_at}
+use Rattle.cue_list.specs.Past.{Past}
+use Rattle.cue_list.specs.Rows.{Row}
+
+-- the tick in a row's second cell
+abbrev pub tick_in : Row → Option ℕ
+tick_in cells = number_of MOST_DIGITS (cell_at cells 1)
+
+abbrev pub tick_read : Past → RowKind → Row → Option ℕ
+tick_read past kinds.Epoch cells = tick_in cells
+tick_read past kinds.Place cells = tick_in cells
+tick_read past kinds.Cue cells = tick_in cells
+tick_read past kinds.Colour cells = tick_in cells
+tick_read past kinds.Region cells = option_map (λ epoch. epoch.start) past.epoch
+tick_read past _ cells = None

@@ -1,0 +1,8 @@
+//! Commands and tools over files: the codes that they end with, what is told, what is kept. There
+//! is no code here but tests.
+#![tactic(auto)]
+
+#[cfg(test)]
+mod commands;
+#[cfg(test)]
+mod tools;

@@ -1,0 +1,83 @@
+use buffer_model::{Breach, Levels};
+use std::test::Fail;
+use sub_base::{Profile, ProfileName, SetLoad};
+
+/// A set of 20,000 bytes leaves where it is done, at the tick of slot 29; a packet that does not
+/// fit is a breach.
+#[test]
+fn set_leaves_when_done(rt: HostRuntime) -> Result<(), Fail> {
+    let mut levels = Levels::make(rt.alloc(), &Profile::of(ProfileName::Sd), 0)?;
+    assert_eq!(rt; levels.arrive(0, 20_000), 20_000);
+    let load = SetLoad {
+        pts: 300_000,
+        size: 20_000,
+        painted: 7,
+    };
+    assert_eq!(rt; levels.set_whole(load), 20_007);
+    assert_eq!(rt; levels.arrive(1, 4_416), 24_416);
+    assert_eq!(rt; levels.arrive(29, 184), 4_600);
+    assert_eq!(rt; levels.tick(), 20_445);
+    levels.drop_unit();
+    assert_eq!(rt; levels.peak(), 24_416);
+    assert_eq!(rt; levels.first_breach(), None);
+    assert_eq!(rt; levels.arrive(30, 24_577), 24_577);
+    assert_eq!(rt; levels.arrive(31, 1), 24_577);
+    assert_eq!(rt; levels.peak(), 24_577);
+    assert_eq!(rt;
+        levels.first_breach(),
+        Some(Breach::Coded {
+            slot: 30,
+            level: 24_577
+        })
+    );
+    Ok(())
+}
+
+/// A packet of 184 bytes is done at 184, too late for a set that is shown at 183.
+#[test]
+fn set_done_late(rt: HostRuntime) -> Result<(), Fail> {
+    let mut levels = Levels::make(rt.alloc(), &Profile::of(ProfileName::Sd), 0)?;
+    assert_eq!(rt; levels.arrive(0, 184), 184);
+    let load = SetLoad {
+        pts: 183,
+        size: 184,
+        painted: 0,
+    };
+    assert_eq!(rt; levels.set_whole(load), 184);
+    assert_eq!(rt;
+        levels.first_breach(),
+        Some(Breach::Late {
+            done: 184,
+            pts: 183
+        })
+    );
+    Ok(())
+}
+
+/// A set in three packets in the largest buffer, which then fills up to its last byte, and past it.
+#[test]
+fn largest_buffer(rt: HostRuntime) -> Result<(), Fail> {
+    let mut levels = Levels::make(rt.alloc(), &Profile::of(ProfileName::Large), 0)?;
+    assert_eq!(rt; levels.arrive(556, 60_090), 60_090);
+    assert_eq!(rt; levels.arrive(1_000, 60_031), 120_121);
+    assert_eq!(rt; levels.arrive(1_536, 60_037), 180_158);
+    let load = SetLoad {
+        pts: 500_000,
+        size: 180_158,
+        painted: 32_400,
+    };
+    assert_eq!(rt; levels.set_whole(load), 350_798);
+    assert_eq!(rt; levels.arrive(1_537, 65_536), 245_694);
+    assert_eq!(rt; levels.arrive(1_538, 16_450), 262_144);
+    assert_eq!(rt; levels.first_breach(), None);
+    assert_eq!(rt; levels.arrive(1_539, 1), 262_145);
+    assert_eq!(rt; levels.peak(), 262_145);
+    assert_eq!(rt;
+        levels.first_breach(),
+        Some(Breach::Coded {
+            slot: 1_539,
+            level: 262_145
+        })
+    );
+    Ok(())
+}

@@ -1,0 +1,15 @@
+-- Rows as they are let in, and the scripts that they are.
+pub mod TakenRows
+pub mod GrownScripts
+-- The packets that are due.
+pub mod ZippedLists
+pub mod LateSlots
+pub mod DuePackets
+pub mod DueFronts
+pub mod OneBatch
+-- The packets that an outlet writes.
+pub mod OutletLaws
+-- Pieces of a script.
+pub mod PieceLaws
+-- What is due while a script goes in.
+pub mod DueRows

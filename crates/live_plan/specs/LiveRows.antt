@@ -1,0 +1,229 @@
+-- Which rows a live inserter lets in, and which packets are due. What was let in stands in a list, the latest first.
+use Rattle.std.specs.Prelude.{◌≡◌, ℕ, ◌+◌, ◌*◌, ◌-◌, ◌/◌, ◌⊎◌, ◌==◌, nat_le, nat_lt, not, Bool, true, false, ◌&&◌, if◌then◌else◌, List, [], ◌∷◌, ◌++◌, length, take, reverse, Option, Some, None, Result, Ok, Err, codes}
+use Rattle.std.specs.List.{list_any}
+use Rattle.std.specs.Str.{bytes_eq}
+use Rattle.sub_base.specs.Pace.{pace_of}
+use Rattle.sub_base.specs.Profile.{profile_of}
+use Rattle.sub_base.specs.declared.profile.ProfileName.{ProfileName}
+use Rattle.bitmap_font.specs.Font.{FontValue}
+use Rattle.cue_list.specs.CellFaults.{first_of, fails, value_at, tick_fault, is_text_row}
+use Rattle.cue_list.specs.Cells.{cell_at}
+use Rattle.cue_list.specs.Past.{looking_back}
+use Rattle.cue_list.specs.Records.{Record, is, kind_of, record_of, records_from, records_before}
+use Rattle.cue_list.specs.RowFaults.{fault_of}
+use Rattle.cue_list.specs.Rows.{Row, rows_of}
+use Rattle.cue_list.specs.ScriptRows.{AreRight, Lists}
+use Rattle.cue_list.specs.declared.epoch.Epoch.{Epoch}
+use Rattle.cue_list.specs.declared.fault.ScriptKind.{ScriptKind}
+use Rattle.cue_list.specs.declared.fault.ScriptKind.TheVariants as faults
+use Rattle.cue_list.specs.declared.row_kind.RowKind.{RowKind}
+use Rattle.cue_list.specs.declared.row_kind.RowKind.TheVariants as kinds
+use Rattle.cue_list.specs.declared.script.Script.{Script}
+use Rattle.page_epoch.specs.declared.fault.PlanFault.{PlanFault}
+use Rattle.schedule.specs.declared.fault.ScheduleFault.{ScheduleFault}
+use Rattle.script_stream.specs.Refused.{IsPlanRefused, IsScheduleRefused}
+use Rattle.shown_stream.specs.Compiled.{IsCompiledTo}
+use Rattle.stream_syntax.specs.declared.wire.TheConstants.{PACKET_LENGTH}
+use Rattle.live_plan.specs.declared.faults.RowFault.{RowFault}
+use Rattle.live_plan.specs.declared.faults.RowFault.TheVariants as refused
+
+-- ---- what was let in
+
+-- a row of the script, or a tick
+pub data Taken : Type 0 where
+  row : Row → Taken
+  tick : ℕ → Taken
+
+-- the script's rows, in order
+abbrev pub rows_in : List Taken → List Row
+rows_in [] = []
+rows_in (row cells ∷ past) = rows_in past ++ cells ∷ []
+rows_in (tick time ∷ past) = rows_in past
+
+-- these rows as records that are counted from 1
+abbrev pub records_in : List Taken → List Record
+records_in past = records_from 1 (rows_in past)
+
+-- the records, the nearest first
+abbrev pub nearest_in : List Taken → List Record
+nearest_in past = reverse (records_in past)
+
+-- the last tick row
+abbrev pub last_tick : List Taken → Option ℕ
+last_tick [] = None
+last_tick (row cells ∷ past) = last_tick past
+last_tick (tick time ∷ past) = Some time
+
+-- what was let in before the last tick row
+abbrev pub before_tick : List Taken → List Taken
+before_tick [] = []
+before_tick (row cells ∷ past) = before_tick past
+before_tick (tick time ∷ past) = past
+
+-- ---- the tests of a row
+
+-- a row is a tick row by its first cell
+abbrev pub is_tick_row : Row → Bool
+is_tick_row cells = bytes_eq (cell_at cells 0) (codes "tick")
+
+-- a tick is not above the last one
+abbrev pub is_not_above : Option ℕ → ℕ → Bool
+is_not_above None time = false
+is_not_above (Some last) time = nat_le time last
+
+-- the first test of `tick`, T that fails: a tick needs the origin's row, and lies above the last one
+abbrev pub tick_row_fault : FontValue → List Taken → Row → Option ScriptKind
+tick_row_fault font past cells = first_of (
+    fails (not (is_text_row cells)) faults.NotUtf8
+    ∷ fails (not (length cells == 2)) faults.Count
+    ∷ fails (length (rows_in past) == 0) faults.Order
+    ∷ tick_fault (looking_back font (nearest_in past)).origin (cell_at cells 1)
+    ∷ fails (is_not_above (last_tick past) (value_at cells 1)) faults.Order
+    ∷ [])
+
+-- the record that a row becomes behind those that were let in
+abbrev pub next_record : List Taken → Row → Record
+next_record past cells = record_of (length (rows_in past) + 1) cells
+
+-- the first test of a row that fails: those of a tick row, or those of a record behind the records before it
+abbrev pub row_fault : FontValue → List Taken → Row → Option ScriptKind
+row_fault font past cells =
+    if is_tick_row cells then tick_row_fault font past cells
+    else fault_of font (nearest_in past) (next_record past cells)
+
+-- what a row is, once it is let in
+abbrev pub taken_as : Row → Taken
+taken_as cells = if is_tick_row cells then tick (value_at cells 1) else row cells
+
+-- ---- the horizon
+
+-- how far the horizon lies ahead of a tick: packets come at most 450,000 ticks before their set is shown, and a refresh
+-- lies at least 3,600 ticks before the next set
+abbrev pub AHEAD : ℕ
+AHEAD = 453600
+
+-- the start of an epoch
+abbrev pub start_in : Option Epoch → Option ℕ
+start_in None = None
+start_in (Some epoch) = Some epoch.start
+
+-- the first tick that a row has a part in: its own, and for a region the start of its epoch
+abbrev pub early_tick : FontValue → List Taken → RowKind → Row → Option ℕ
+early_tick font past kinds.Epoch cells = Some (value_at cells 1)
+early_tick font past kinds.Place cells = Some (value_at cells 1)
+early_tick font past kinds.Cue cells = Some (value_at cells 1)
+early_tick font past kinds.Colour cells = Some (value_at cells 1)
+early_tick font past kinds.Region cells = start_in (looking_back font (nearest_in past)).epoch
+early_tick font past _ cells = None
+
+-- there is such a tick, and it does not lie above the horizon
+abbrev pub is_within : Option ℕ → ℕ → Bool
+is_within None horizon = false
+is_within (Some time) horizon = nat_le time horizon
+
+-- the horizon that a row does not lie above, where the last tick is given
+abbrev pub early_behind : FontValue → List Taken → Row → Option ℕ → Option ℕ
+early_behind font past cells None = None
+early_behind font past cells (Some time) =
+    if not (is_tick_row cells) && is_within (early_tick font past (kind_of (cell_at cells 0)) cells) (time + AHEAD)
+    then Some (time + AHEAD) else None
+
+abbrev pub early_of : FontValue → List Taken → Row → Option ℕ
+early_of font past cells = early_behind font past cells (last_tick past)
+
+-- ---- scripts of rows
+
+-- a script of records: all of them are right, and they list its values
+pub record IsScriptOf (font : FontValue) (records : List Record) (script : Script) : Type 0 where
+  pub right : AreRight font records (length records)
+  pub lists : Lists font (records_before records (length records)) script.origin script.width script.height
+      script.refresh
+      script.epochs script.pictures
+
+-- an epoch's row is among them
+abbrev pub has_epoch : List Record → Bool
+has_epoch records = list_any (is kinds.Epoch) records
+
+-- ---- answers
+
+-- who the inserter writes for
+pub record Inserter : Type 0 where
+  pub profile : ProfileName
+  pub pid : ℕ
+  pub page : ℕ
+  pub font : FontValue
+
+-- the plan of the script of these rows is refused
+pub record IsUnplanned (inserter : Inserter) (past : List Taken) (fault : PlanFault) : Type 0 where
+  pub epoch : has_epoch (records_in past) ≡ true
+  pub script : Script
+  pub right : IsScriptOf inserter.font (records_in past) script
+  pub cause : IsPlanRefused inserter.profile script fault
+
+-- the schedule of its sets is refused
+pub record IsUnscheduled (inserter : Inserter) (past : List Taken) (fault : ScheduleFault) : Type 0 where
+  pub epoch : has_epoch (records_in past) ≡ true
+  pub script : Script
+  pub right : IsScriptOf inserter.font (records_in past) script
+  pub place : ℕ
+  pub cause : IsScheduleRefused inserter.profile script place fault
+
+-- the packets of the script of these rows, and none where no epoch's row is among them
+abbrev pub IsBatchOf : Inserter → List Taken → List ℕ → Type 0
+IsBatchOf inserter past packets =
+    ((has_epoch (records_in past) ≡ false) × (packets ≡ []))
+    ⊎ ((has_epoch (records_in past) ≡ true) × (script : Script) × IsScriptOf inserter.font (records_in past) script
+    × IsCompiledTo inserter.profile inserter.pid inserter.page script packets)
+
+-- the row is let in: no test fails, it is not early, and the rows with it have a batch
+pub record IsLetIn (inserter : Inserter) (past : List Taken) (cells : Row) : Type 0 where
+  pub right : row_fault inserter.font past cells ≡ None
+  pub late : early_of inserter.font past cells ≡ None
+  pub packets : List ℕ
+  pub batch : IsBatchOf inserter (taken_as cells ∷ past) packets
+
+-- why a piece is refused; want of memory has no cause
+abbrev pub IsRefusedFor : Inserter → List Taken → List ℕ → RowFault → Type 0
+IsRefusedFor inserter past piece refused.Memory = Unit {0}
+IsRefusedFor inserter past piece (refused.Records count) =
+    (count ≡ length (rows_of piece)) × (length (rows_of piece) ≡ 1 → ⊥)
+IsRefusedFor inserter past piece (refused.Script kind) =
+    (cells : Row) × (rows_of piece ≡ cells ∷ []) × (row_fault inserter.font past cells ≡ Some kind)
+IsRefusedFor inserter past piece (refused.Early horizon) =
+    (cells : Row) × (rows_of piece ≡ cells ∷ []) × (row_fault inserter.font past cells ≡ None)
+    × (early_of inserter.font past cells ≡ Some horizon)
+IsRefusedFor inserter past piece (refused.Plan fault) =
+    (cells : Row) × (rows_of piece ≡ cells ∷ []) × (row_fault inserter.font past cells ≡ None)
+    × (early_of inserter.font past cells ≡ None) × IsUnplanned inserter (taken_as cells ∷ past) fault
+IsRefusedFor inserter past piece (refused.Schedule fault) =
+    (cells : Row) × (rows_of piece ≡ cells ∷ []) × (row_fault inserter.font past cells ≡ None)
+    × (early_of inserter.font past cells ≡ None) × IsUnscheduled inserter (taken_as cells ∷ past) fault
+
+-- the answer to a piece, and what was let in before and now
+abbrev pub IsAnswer : Inserter → List Taken → List Taken → List ℕ → Result Unit RowFault → Type 0
+IsAnswer inserter past now piece (Ok done) =
+    (cells : Row) × (rows_of piece ≡ cells ∷ []) × IsLetIn inserter past cells × (now ≡ taken_as cells ∷ past)
+IsAnswer inserter past now piece (Err fault) = IsRefusedFor inserter past piece fault × (now ≡ past)
+
+-- ---- what is due
+
+-- how many slots have a tick of at most that
+abbrev pub slots_by : (origin step time : ℕ) → ℕ
+slots_by origin step time = if nat_lt time origin then 0 else (time - origin) / step + 1
+
+-- the front of a batch with the slots that are due
+abbrev pub due_front : Inserter → List Taken → ℕ → List ℕ → List ℕ
+due_front inserter past time packets =
+    take
+    (PACKET_LENGTH * slots_by (looking_back inserter.font (nearest_in past)).origin
+    (pace_of 0 (profile_of inserter.profile)).step time) packets
+
+-- what is due for the last tick row that was let in, over the rows before it
+abbrev pub IsDueBy : Inserter → List Taken → Option ℕ → List ℕ → Type 0
+IsDueBy inserter past None bytes = bytes ≡ []
+IsDueBy inserter past (Some time) bytes =
+    (packets : List ℕ) × IsBatchOf inserter (before_tick past) packets
+    × (bytes ≡ due_front inserter (before_tick past) time packets)
+
+abbrev pub IsDue : Inserter → List Taken → List ℕ → Type 0
+IsDue inserter past bytes = IsDueBy inserter past (last_tick past) bytes

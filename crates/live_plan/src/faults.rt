@@ -1,0 +1,62 @@
+ghost use Rattle.live_plan.specs.FaultNames.{live_fault_name, row_fault_name};
+
+use bitmap_font::FontFault;
+use cue_list::ScriptKind;
+use page_epoch::PlanFault;
+use schedule::ScheduleFault;
+use sub_base::FaultName;
+
+/// Why a record that comes while the stream is sent is refused. The kinds are tested in this order;
+/// want of memory may come at any time.
+#[derive(Clone, Copy, Debug, PartialEq, Eq)]
+pub enum RowFault {
+    /// No memory was found.
+    Memory,
+    /// The piece has not exactly one record; the count is that of its records.
+    Records { count: u64 },
+    /// The record is faulty behind those that were accepted.
+    Script(ScriptKind),
+    /// The record names a tick of 90 kHz that is not above the horizon: packets that are due for
+    /// the last tick could depend on it.
+    Early { horizon: u64 },
+    /// The records have no plan with this one; the fault is never want of memory.
+    Plan(PlanFault),
+    /// The sets of the records cannot be sent in time with this one; the fault is never want of
+    /// memory.
+    Schedule(ScheduleFault),
+}
+
+impl FaultName for RowFault {
+    ghost name_of = { row_fault_name };
+
+    fn name(&self) -> &'static str {
+        match self {
+            RowFault::Memory => "Memory",
+            RowFault::Records { .. } => "Records",
+            RowFault::Script(_) => "Script",
+            RowFault::Early { .. } => "Early",
+            RowFault::Plan(_) => "Plan",
+            RowFault::Schedule(_) => "Schedule",
+        }
+    }
+}
+
+/// Why a script that comes record by record has no stream.
+#[derive(Clone, Copy, Debug, PartialEq, Eq)]
+pub enum LiveFault {
+    /// The font is none.
+    Font(FontFault),
+    /// The script ended, and no epoch's record was accepted.
+    NoEpoch,
+}
+
+impl FaultName for LiveFault {
+    ghost name_of = { live_fault_name };
+
+    fn name(&self) -> &'static str {
+        match self {
+            LiveFault::Font(_) => "Font",
+            LiveFault::NoEpoch => "NoEpoch",
+        }
+    }
+}

@@ -1,0 +1,27 @@
+//! A script that is written while its stream is sent: records come one by one, each is accepted or
+//! refused at once, and packets go out as soon as no later record can change them.
+#![tactic(auto)]
+
+// Why a record is refused, and why a script has no stream.
+mod faults;
+
+// The packets that are not written yet.
+mod outlet;
+
+// Records that come later leave what is due as it is.
+mod laws;
+
+// The words of the command.
+mod live_words;
+
+// The bytes of a script in pieces.
+mod pieces;
+
+// The font that is named, and the line of a refused row.
+mod font_input;
+mod told;
+
+pub use faults::{LiveFault, RowFault};
+pub use laws::{due_stays, one_batch, one_due, rows_grow};
+pub use live_words::{LiveCommand, live_inputs};
+pub use outlet::{Outlet, slots_by};

@@ -1,0 +1,357 @@
+use crate::sending::{END, FILLED, NORMAL, OPEN};
+use crate::trial::{Seen, Trial};
+use page_core::SetEnd;
+use std::process::Abort;
+use std::test::Fail;
+use std::thread::Threads;
+use stream_syntax::{Event, PacketFault};
+use sub_base::{CLEAR, Colour};
+
+/// The same for the page id 2.
+const OTHER_PAGE: [u8; 14] = [
+    0x0F, 0x10, 0x00, 0x02, 0x00, 0x02, 0x0C, 0x13, 0x0F, 0x80, 0x00, 0x02, 0x00, 0x00,
+];
+
+/// The same display, and on page 2 a CLUT in which the code is white.
+#[rattlefmt::skip]
+const SHARED: [u8; 61] = [
+    0x0F, 0x14, 0x00, 0x01, 0x00, 0x05, 0x07, 0x00, 0x03, 0x00, 0x01,
+    0x0F, 0x10, 0x00, 0x01, 0x00, 0x08, 0x0C, 0x0B, 0x00, 0xFF, 0x00, 0x00, 0x00, 0x00,
+    0x0F, 0x11, 0x00, 0x01, 0x00, 0x0A, 0x00, 0x0F, 0x00, 0x04, 0x00, 0x02, 0x6F, 0x00, 0x01, 0x03,
+    0x0F, 0x12, 0x00, 0x02, 0x00, 0x08, 0x00, 0x1F, 0x01, 0x3F, 0xEB, 0x80, 0x80, 0x00,
+    0x0F, 0x80, 0x00, 0x01, 0x00, 0x00,
+];
+
+/// The default colour of that code.
+const RED: Colour = Colour {
+    y: 81,
+    cr: 240,
+    cb: 90,
+    t: 192,
+};
+
+const WHITE: Colour = Colour {
+    y: 235,
+    cr: 128,
+    cb: 128,
+    t: 0,
+};
+
+const FOLLOWED: Option<Result<Event, PacketFault>> = Some(Ok(Event::Followed));
+
+#[test]
+fn nothing_was_fed(rt: HostRuntime) -> Result<(), Fail> {
+    let trial = Trial::new(rt.alloc())?;
+    assert_eq!(rt; trial.ready(), None);
+    assert_eq!(rt; trial.ready_at(), None);
+    assert_eq!(rt; trial.from(), 0);
+    assert_eq!(rt; trial.seen_at(0), Seen::Clear);
+    assert_eq!(rt; trial.free_nodes(), 512);
+    Ok(())
+}
+
+/// A set that ends with its packet is ready at once.
+#[test]
+fn set_is_ready_with_its_end(rt: HostRuntime) -> Result<(), Fail> {
+    let mut trial = Trial::new(rt.alloc())?;
+    assert_eq!(rt; trial.send(90_000, &FILLED), FOLLOWED);
+    assert_eq!(rt; trial.ready(), Some(90_000));
+    assert_eq!(rt; trial.ready_at(), Some(90_000));
+    assert_eq!(rt; trial.send(180_000, &NORMAL), None);
+    Ok(())
+}
+
+/// What a set asks: its time, its 64 bytes, and a tick for its eight pixels. In the page memory its
+/// page entry and its region take a node each, and the pixels, of 8 bits, eight bytes.
+#[test]
+fn what_a_set_asks(rt: HostRuntime) -> Result<(), Fail> {
+    let mut trial = Trial::new(rt.alloc())?;
+    assert_eq!(rt; trial.show_filled(&rt, 90_000), Some(SetEnd::Shown));
+    let load = trial.load();
+    assert_eq!(rt; (load.pts, load.size, load.painted), (90_000, 64, 1));
+    assert_eq!(rt; trial.free_nodes(), 510);
+    assert_eq!(rt; trial.free_pixels(), 81_912);
+    Ok(())
+}
+
+#[test]
+fn set_is_shown_from_its_time_on(rt: HostRuntime) -> Result<(), Fail> {
+    let mut trial = Trial::new(rt.alloc())?;
+    assert_eq!(rt; trial.show_filled(&rt, 90_000), Some(SetEnd::Shown));
+    assert_eq!(rt; trial.ready(), None);
+    assert_eq!(rt; trial.from(), 0);
+    assert_eq!(rt; trial.seen_at(89_999), Seen::Clear);
+    assert_eq!(rt; trial.seen_at(90_000), Seen::Picture(Some(RED)));
+    Ok(())
+}
+
+/// Up to the time of the next set the one before it is shown.
+#[test]
+fn set_is_shown_up_to_the_next_one(rt: HostRuntime) -> Result<(), Fail> {
+    let mut trial = Trial::new(rt.alloc())?;
+    assert_eq!(rt; trial.show_filled(&rt, 90_000), Some(SetEnd::Shown));
+    assert_eq!(rt; trial.send(180_000, &NORMAL), FOLLOWED);
+    assert_eq!(rt; trial.take(&rt), Some(SetEnd::Shown));
+    assert_eq!(rt; trial.from(), 90_000);
+    assert_eq!(rt; trial.seen_at(89_999), Seen::TooEarly);
+    assert_eq!(rt; trial.seen_at(179_999), Seen::Picture(Some(RED)));
+    assert_eq!(rt; trial.seen_at(180_000), Seen::Picture(Some(CLEAR)));
+    Ok(())
+}
+
+/// Twelve seconds after its time a set is timed out.
+#[test]
+fn set_is_timed_out(rt: HostRuntime) -> Result<(), Fail> {
+    let mut trial = Trial::new(rt.alloc())?;
+    assert_eq!(rt; trial.show_filled(&rt, 90_000), Some(SetEnd::Shown));
+    assert_eq!(rt; trial.seen_at(1_169_999), Seen::Picture(Some(RED)));
+    assert_eq!(rt; trial.seen_at(1_170_000), Seen::Clear);
+    Ok(())
+}
+
+/// A set without an end is ready with the first unit of another time, and the set of that one is
+/// behind it.
+#[test]
+fn set_is_ready_with_another_time(rt: HostRuntime) -> Result<(), Fail> {
+    let mut trial = Trial::new(rt.alloc())?;
+    assert_eq!(rt; trial.send(90_000, &OPEN), FOLLOWED);
+    assert_eq!(rt; trial.ready(), None);
+    assert_eq!(rt; trial.send(180_000, &FILLED), FOLLOWED);
+    assert_eq!(rt; trial.ready(), Some(90_000));
+    assert_eq!(rt; trial.take(&rt), Some(SetEnd::Shown));
+    assert_eq!(rt; trial.load().size, 25);
+    assert_eq!(rt; trial.ready(), Some(180_000));
+    Ok(())
+}
+
+/// The units of one time are one set, of 25 and 23 bytes.
+#[test]
+fn set_of_two_units(rt: HostRuntime) -> Result<(), Fail> {
+    let mut trial = Trial::new(rt.alloc())?;
+    assert_eq!(rt; trial.send(90_000, &OPEN), FOLLOWED);
+    assert_eq!(rt; trial.send(90_000, &END), FOLLOWED);
+    assert_eq!(rt; trial.take(&rt), Some(SetEnd::Shown));
+    assert_eq!(rt; trial.load().size, 48);
+    Ok(())
+}
+
+#[test]
+fn set_is_ready_with_the_end_of_the_stream(rt: HostRuntime) -> Result<(), Fail> {
+    let mut trial = Trial::new(rt.alloc())?;
+    assert_eq!(rt; trial.send(90_000, &OPEN), FOLLOWED);
+    assert!(rt; trial.finish());
+    assert_eq!(rt; trial.ready(), Some(90_000));
+    assert_eq!(rt; trial.take(&rt), Some(SetEnd::Shown));
+    assert_eq!(rt; trial.ready(), None);
+    Ok(())
+}
+
+/// Behind a lost packet the page memory is empty, no epoch is known, and a set of state normal
+/// waits.
+#[test]
+fn nothing_is_known_behind_a_lost_packet(rt: HostRuntime) -> Result<(), Fail> {
+    let mut trial = Trial::new(rt.alloc())?;
+    assert_eq!(rt; trial.show_filled(&rt, 90_000), Some(SetEnd::Shown));
+    let _ = trial.next(135_000, &NORMAL);
+    assert_eq!(rt;
+        trial.send(180_000, &NORMAL),
+        Some(Ok(Event::Gap {
+            expected: 1,
+            found: 2
+        }))
+    );
+    assert_eq!(rt; trial.free_nodes(), 512);
+    assert_eq!(rt; trial.free_pixels(), 81_920);
+    assert_eq!(rt; trial.take(&rt), Some(SetEnd::Waiting));
+    assert_eq!(rt; trial.seen_at(179_999), Seen::Picture(Some(RED)));
+    assert_eq!(rt; trial.seen_at(180_000), Seen::Clear);
+    Ok(())
+}
+
+/// A set in hand is given up with a lost packet.
+#[test]
+fn set_in_hand_is_lost(rt: HostRuntime) -> Result<(), Fail> {
+    let mut trial = Trial::new(rt.alloc())?;
+    assert_eq!(rt; trial.send(90_000, &OPEN), FOLLOWED);
+    let _ = trial.next(90_000, &END);
+    let _ = trial.send(180_000, &OPEN);
+    assert_eq!(rt; trial.ready(), None);
+    assert!(rt; !trial.arrival().before);
+    Ok(())
+}
+
+/// A packet that cannot be taken changes nothing: the set in hand goes on behind it.
+#[test]
+fn refused_packet_changes_nothing(rt: HostRuntime) -> Result<(), Fail> {
+    let mut trial = Trial::new(rt.alloc())?;
+    assert_eq!(rt; trial.send(90_000, &OPEN), FOLLOWED);
+    assert_eq!(rt; trial.feed(&[0; 188]), Some(Err(PacketFault::NoSync)));
+    assert_eq!(rt; trial.arrival().bytes, 25);
+    assert_eq!(rt; trial.send(90_000, &END), FOLLOWED);
+    assert_eq!(rt; trial.take(&rt), Some(SetEnd::Shown));
+    Ok(())
+}
+
+/// A set that is not later than the last one changes no picture.
+#[test]
+fn set_that_is_not_later(rt: HostRuntime) -> Result<(), Fail> {
+    let mut trial = Trial::new(rt.alloc())?;
+    assert_eq!(rt; trial.show_filled(&rt, 90_000), Some(SetEnd::Shown));
+    assert_eq!(rt; trial.send(45_000, &FILLED), FOLLOWED);
+    assert_eq!(rt; trial.ready(), Some(45_000));
+    assert_eq!(rt; trial.ready_at(), None);
+    assert_eq!(rt; trial.take(&rt), Some(SetEnd::NotLater { last: 90_000 }));
+    assert_eq!(rt; trial.from(), 0);
+    assert_eq!(rt; trial.seen_at(89_999), Seen::Clear);
+    Ok(())
+}
+
+/// What it asks: its time as read, its size, and no painting.
+#[test]
+fn load_of_a_set_that_is_not_later(rt: HostRuntime) -> Result<(), Fail> {
+    let mut trial = Trial::new(rt.alloc())?;
+    assert_eq!(rt; trial.show_filled(&rt, 90_000), Some(SetEnd::Shown));
+    assert_eq!(rt;
+        trial.show_filled(&rt, 45_000),
+        Some(SetEnd::NotLater { last: 90_000 })
+    );
+    let load = trial.load();
+    assert_eq!(rt; (load.pts, load.size, load.painted), (45_000, 64, 0));
+    Ok(())
+}
+
+/// A PES packet without a time is a loss.
+#[test]
+fn unit_without_a_time_is_a_loss(rt: HostRuntime) -> Result<(), Fail> {
+    let mut trial = Trial::new(rt.alloc())?;
+    assert_eq!(rt; trial.show_filled(&rt, 90_000), Some(SetEnd::Shown));
+    let mut packet = trial.next(180_000, &NORMAL);
+    packet[164] = 0x00;
+    assert_eq!(rt; trial.feed(&packet), FOLLOWED);
+    assert!(rt; trial.arrival().dropped);
+    assert_eq!(rt; trial.send(180_000, &NORMAL), FOLLOWED);
+    assert_eq!(rt; trial.take(&rt), Some(SetEnd::Waiting));
+    Ok(())
+}
+
+/// A PES packet of another stream id is passed over.
+#[test]
+fn unit_of_another_stream_is_passed_over(rt: HostRuntime) -> Result<(), Fail> {
+    let mut trial = Trial::new(rt.alloc())?;
+    assert_eq!(rt; trial.show_filled(&rt, 90_000), Some(SetEnd::Shown));
+    let mut packet = trial.next(180_000, &NORMAL);
+    packet[160] = 0xC0;
+    assert_eq!(rt; trial.feed(&packet), FOLLOWED);
+    assert!(rt; trial.arrival().dropped);
+    assert_eq!(rt; trial.ready(), None);
+    assert_eq!(rt; trial.send(180_000, &NORMAL), FOLLOWED);
+    assert_eq!(rt; trial.take(&rt), Some(SetEnd::Shown));
+    Ok(())
+}
+
+/// A unit of another page neither counts nor makes the set in hand ready.
+#[test]
+fn unit_of_another_page_does_not_count(rt: HostRuntime) -> Result<(), Fail> {
+    let mut trial = Trial::new(rt.alloc())?;
+    assert_eq!(rt; trial.send(90_000, &OPEN), FOLLOWED);
+    assert_eq!(rt; trial.send(180_000, &OTHER_PAGE), FOLLOWED);
+    assert!(rt; trial.arrival().dropped);
+    assert_eq!(rt; trial.ready(), None);
+    assert_eq!(rt; trial.send(90_000, &END), FOLLOWED);
+    assert_eq!(rt; trial.ready(), Some(90_000));
+    Ok(())
+}
+
+/// What a receiver shows of the display with a CLUT on page 2.
+fn shows_shared<R: Threads + Sync + Abort>(rt: &R, mut trial: Trial, colour: Colour) {
+    assert_eq!(rt; trial.send(90_000, &SHARED), FOLLOWED);
+    assert_eq!(rt; trial.take(rt), Some(SetEnd::Shown));
+    assert_eq!(rt; trial.seen_at(90_000), Seen::Picture(Some(colour)));
+}
+
+/// A CLUT of the ancillary page is as one of the page; a receiver of the page alone has its default
+/// colours.
+#[test]
+fn clut_of_the_ancillary_page(rt: HostRuntime) -> Result<(), Fail> {
+    shows_shared(&rt, Trial::with_ancillary_page(rt.alloc())?, WHITE);
+    shows_shared(&rt, Trial::new(rt.alloc())?, RED);
+    Ok(())
+}
+
+/// A packet with the whole of a unit brings its bytes.
+#[test]
+fn bytes_of_a_unit_arrive(rt: HostRuntime) -> Result<(), Fail> {
+    let mut trial = Trial::new(rt.alloc())?;
+    assert_eq!(rt; trial.send(90_000, &FILLED), FOLLOWED);
+    let arrival = trial.arrival();
+    assert_eq!(rt;
+        (arrival.bytes, arrival.before, arrival.dropped),
+        (64, false, false)
+    );
+    Ok(())
+}
+
+/// A packet of another PID brings none.
+#[test]
+fn no_bytes_of_another_pid_arrive(rt: HostRuntime) -> Result<(), Fail> {
+    let mut trial = Trial::new(rt.alloc())?;
+    let mut packet = trial.next(90_000, &FILLED);
+    packet[2] = 0x01;
+    assert_eq!(rt; trial.feed(&packet), Some(Ok(Event::Other)));
+    let arrival = trial.arrival();
+    assert_eq!(rt;
+        (arrival.bytes, arrival.before, arrival.dropped),
+        (0, false, false)
+    );
+    Ok(())
+}
+
+/// A unit that needs more bytes than there are is dropped behind those that come.
+#[test]
+fn unit_that_is_too_long_is_dropped(rt: HostRuntime) -> Result<(), Fail> {
+    let mut trial = Trial::new(rt.alloc())?;
+    let mut packet = trial.next(90_000, &FILLED);
+    packet[128] = 0xF0;
+    assert_eq!(rt;
+        trial.feed(&packet),
+        Some(Ok(Event::TooLong {
+            need: 61_504,
+            size: 24_576
+        }))
+    );
+    let arrival = trial.arrival();
+    assert_eq!(rt;
+        (arrival.bytes, arrival.before, arrival.dropped),
+        (64, false, true)
+    );
+    Ok(())
+}
+
+/// A unit of another time makes the set in hand ready before its bytes.
+#[test]
+fn set_stands_before_bytes_of_another_time(rt: HostRuntime) -> Result<(), Fail> {
+    let mut trial = Trial::new(rt.alloc())?;
+    assert_eq!(rt; trial.send(90_000, &OPEN), FOLLOWED);
+    assert_eq!(rt; trial.send(180_000, &FILLED), FOLLOWED);
+    let arrival = trial.arrival();
+    assert_eq!(rt;
+        (arrival.bytes, arrival.before, arrival.dropped),
+        (64, true, false)
+    );
+    Ok(())
+}
+
+/// A unit behind the end of its set is dropped.
+#[test]
+fn unit_behind_its_set_is_dropped(rt: HostRuntime) -> Result<(), Fail> {
+    let mut trial = Trial::new(rt.alloc())?;
+    assert_eq!(rt; trial.show_filled(&rt, 90_000), Some(SetEnd::Shown));
+    assert_eq!(rt; trial.send(90_000, &OPEN), FOLLOWED);
+    let arrival = trial.arrival();
+    assert_eq!(rt;
+        (arrival.bytes, arrival.before, arrival.dropped),
+        (25, false, true)
+    );
+    assert_eq!(rt; trial.ready(), None);
+    Ok(())
+}

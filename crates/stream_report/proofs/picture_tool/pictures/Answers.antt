@@ -1,0 +1,25 @@
+use Rattle.std.proofs.Common.{sym, subst}
+use Rattle.stream_report.specs.PicturesOutcome.{pictures_causes}
+use Rattle.stream_report.specs.PicturesText.{tells_pictures}
+use Rattle.stream_report.specs.ReportOutcome.{HasReportedRead, seen_of_stream}
+use Rattle.stream_report.proofs.EndLaws.{report_cause, report_read}
+use Rattle.sub_base.specs.ToolOutcome.{IsToolCause}
+use Rattle.stream_report.proofs.picture_tool.pictures.Goals as goal
+
+pub returns-clause-cause : goal.returns-clause-cause
+returns-clause-cause g c =
+    let before = seen_of_stream (g.A.Source.supplied c.args.stream.now) (g.K.Sink.received c.args.out.now) in
+    let now =
+    seen_of_stream (g.A.Source.supplied c.tell_pictures.new.stream) (g.K.Sink.received c.tell_pictures.new.out) in
+    subst (IsToolCause (pictures_causes c.args.report before now) before now) (sym c.report_status.ensures)
+    (report_cause (tells_pictures c.args.report) c.args.report.pid _ _ _ _ c.tell_pictures.result
+    c.tell_pictures.ensures)
+
+pub returns-clause-told : goal.returns-clause-told
+returns-clause-told g c =
+    let before = seen_of_stream (g.A.Source.supplied c.args.stream.now) (g.K.Sink.received c.args.out.now) in
+    let now =
+    seen_of_stream (g.A.Source.supplied c.tell_pictures.new.stream) (g.K.Sink.received c.tell_pictures.new.out) in
+    subst (HasReportedRead (tells_pictures c.args.report) c.args.report.pid before now) (sym c.report_status.ensures)
+    (report_read (tells_pictures c.args.report) c.args.report.pid _ _ _ _ c.tell_pictures.result
+    c.tell_pictures.ensures)

@@ -1,0 +1,5 @@
+pub mod PicturesOutcome
+pub mod PicturesText
+pub mod PicturesWords
+pub mod ReportOutcome
+pub mod Private

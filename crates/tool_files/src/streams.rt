@@ -1,0 +1,51 @@
+use crate::files::{ToolFiles, end};
+use command_words::InputPlaces;
+use page_pair::pair_top;
+use splice::{splice_inputs, splice_top};
+use std::io;
+use std::thread::Threads;
+use sub_base::{FileSink, NoGate, Words};
+
+/// Sends two scripts on one PID, or tells the pictures of one of them: `pairdump` names no second
+/// file, and does not call the second source.
+pub(crate) fn pair<'a, T: Threads + Sync>(
+    rt: &'a HostRuntime,
+    threads: &T,
+    words: &'a Words,
+    places: InputPlaces,
+) -> u8 {
+    let ToolFiles {
+        mut first,
+        mut second,
+        mut output,
+    } = ToolFiles::of(rt, words, places);
+    let status = pair_top(
+        threads,
+        rt.alloc(),
+        words,
+        &mut first,
+        &mut second,
+        &mut FileSink::make(Some(&mut output)),
+        &mut FileSink::make(Some(io::sink())),
+        &NoGate,
+    );
+    end(rt, &mut output, status)
+}
+
+/// Joins two streams at a cut.
+pub(crate) fn join<'a>(rt: &'a HostRuntime, words: &'a Words) -> u8 {
+    let ToolFiles {
+        mut first,
+        mut second,
+        mut output,
+    } = ToolFiles::of(rt, words, splice_inputs(words));
+    let status = splice_top(
+        rt.alloc(),
+        words,
+        &mut first,
+        &mut second,
+        &mut FileSink::make(Some(&mut output)),
+        &mut FileSink::make(Some(io::sink())),
+    );
+    end(rt, &mut output, status)
+}

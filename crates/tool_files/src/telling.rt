@@ -1,0 +1,52 @@
+ghost use Rattle.std.specs.Prelude.{◌≡◌, ◌⊎◌};
+ghost use Rattle.sub_base.specs.Endpoints.{WroteNothing};
+ghost use Rattle.sub_base.specs.ToolOutcome.{tool_code, untold_tool};
+ghost use Rattle.program_files.specs.Table.{IsToldOn};
+ghost use Rattle.tool_files.specs.Ends.{tool_lines};
+
+use crate::table::TOOLS;
+use command_text::tell_tool;
+use program_files::tell_table;
+use std::io;
+use sub_base::{FaultName, FileSink, Sink, ToolStatus};
+
+/// Writes the line of a status to standard output, or to standard error where standard output has
+/// the tool's own, and the table of tools to standard error where the command line was wrong.
+/// Answers the code.
+pub(crate) fn tell_on<F: FaultName + Copy>(
+    rt: &HostRuntime,
+    status: ToolStatus<F>,
+    is_taken: bool,
+) -> u8
+    ensures { (result ≡ tool_code status) ⊎ (result ≡ tool_code (untold_tool status)) }
+{
+    let mut errors = FileSink::make(Some(rt.stderr()));
+    if is_taken {
+        told(status, &mut errors, &mut FileSink::make(Some(rt.stderr())))
+    } else {
+        told(
+            status,
+            &mut errors,
+            &mut FileSink::make(Some(io::writer(rt))),
+        )
+    }
+}
+
+/// Writes the table of tools to `errors` where the command line was wrong, and the line of the
+/// status to `out`. Answers the code.
+pub fn told<F: FaultName + Copy, E: Sink, O: Sink>(
+    status: ToolStatus<F>,
+    errors: &mut E,
+    out: &mut O,
+) -> u8
+    ensures code { (result ≡ tool_code status) ⊎ (result ≡ tool_code (untold_tool status)) }
+    ensures table { status ≡ ToolStatus.Usage
+        → IsToldOn (E.received errors.old) (E.received errors.new) tool_lines }
+    ensures no_table { (status ≡ ToolStatus.Usage → ⊥)
+        → WroteNothing (E.received errors.old) (E.received errors.new) }
+{
+    if let ToolStatus::Usage = status {
+        let _ = tell_table(errors, TOOLS);
+    }
+    tell_tool(status, out).code()
+}
