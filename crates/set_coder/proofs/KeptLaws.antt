@@ -14,7 +14,7 @@ use Rattle.cue_list.specs.declared.epoch.Region.{Region}
 use Rattle.page_epoch.specs.Sendable.{find_region}
 use Rattle.set_coder.specs.declared.coded_picture.CodedPicture.{CodedPicture}
 use Rattle.set_coder.specs.KeptBlocks.{IsCoded, IsSmall, IsOf, IsKept, IsCueKept}
-use Rattle.set_coder.specs.Private.Keeping.{StaysKept}
+use Rattle.set_coder.specs.Private.Keeping.{StaysInFront}
 
 -- ---- each is right
 
@@ -50,6 +50,10 @@ one_more_small kept coded more e small all =
 
 -- ---- what is kept stays
 
+-- of what blocks were kept, blocks are kept still
+abbrev pub StaysKept : List CodedPicture → List CodedPicture → Type 0
+StaysKept old new = (number : ℕ) (region : Depth) → Any (IsOf number region) old → Any (IsOf number region) new
+
 -- what is said of the one that is found, where one is
 pub some_given : {X : Type 0} (P Q : X → Type 0) (o : Option X) → IfSome o P → IfSome o Q
     → is_some o ≡ true → (x : X) × P x × Q x
@@ -68,14 +72,13 @@ pub last_kept : (number : ℕ) (region : Depth) (coded : CodedPicture) (kept mor
 last_kept number region coded kept more n r e =
     subst (Any (IsOf number region)) (sym e) (Any-push (IsOf number region) kept coded (n, r))
 
--- those before them stay
-pub more_stay : (coded : CodedPicture) (kept more : List CodedPicture) → more ≡ kept ++ coded ∷ []
-    → StaysKept kept more
-more_stay coded kept more e = λ number region any.
-    let within : any.0 < length (kept ++ coded ∷ []) = omega (arith, length-append kept (coded ∷ []), any.2) in
-    let here : get_or (kept ++ coded ∷ []) any.0 any.1 ≡ any.1 =
-    get_or-append kept (coded ∷ []) any.1 any.0 any.2 ∙ any.3 in
-    subst (Any (IsOf number region)) (sym e) (any.0, any.1, within, here, any.4)
+-- those in front of them stay
+pub front_stays : (kept more : List CodedPicture) → StaysInFront kept more → StaysKept kept more
+front_stays kept more front = λ number region any.
+    let within : any.0 < length (kept ++ front.0) = omega (arith, length-append kept front.0, any.2) in
+    let here : get_or (kept ++ front.0) any.0 any.1 ≡ any.1 =
+    get_or-append kept front.0 any.1 any.0 any.2 ∙ any.3 in
+    subst (Any (IsOf number region)) (sym front.1) (any.0, any.1, within, here, any.4)
 
 -- the picture of a cue is kept for the region that is found
 pub cue_kept : (pictures : List Picture) (coded : List CodedPicture) (epoch : Epoch) (cue : Cue) (region : Region)

@@ -1,6 +1,7 @@
 pub mod BlockLaws
 pub mod Drawing
 pub mod FieldLaws
+pub mod GrownBlockLaws
 pub mod GrownPackets
 pub mod KeptLaws
 pub mod MeasureLaws

@@ -2,7 +2,8 @@ ghost use Rattle.std.specs.Prelude.{◌≡◌, ℕ, ◌+◌, ◌*◌, ◌<◌, �
 ghost use Rattle.stream_syntax.specs.PixelBlocks.{IsNoDeeper};
 ghost use Rattle.stream_syntax.specs.FieldBlocks.{AreFieldBlocks, AreFieldSizes, DrawsPicture};
 ghost use Rattle.set_coder.specs.KeptBlocks.{IsCoded, AreCoded, CanBeKept, IsSmall, IsOf, IsKept, IsCueKept, AreKept, place_in, place_of, AreLedTo};
-ghost use Rattle.set_coder.specs.Private.Keeping.{StaysKept, with_place, FitsBuffer, IsKeeping};
+ghost use Rattle.set_coder.specs.GrownBlocks.{AreBlocksOf};
+ghost use Rattle.set_coder.specs.Private.Keeping.{StaysInFront, with_place, FitsBuffer};
 
 use crate::coded_picture::{BlockLookup, CodedPicture, KeptBlocks, Slots};
 use crate::field_sizes::{FieldSizes, field_sizes};
@@ -27,25 +28,19 @@ impl KeptBlocks {
         ensures led { IfOk result (λ kept. AreLedTo kept.slots.items kept.coded.items) }
         ensures small { IfOk result (λ kept. All IsSmall kept.coded.items) }
     {
-        let mut kept = KeptBlocks {
-            slots: vec![in alloc; Slots::none(); script.pictures.len()]?,
-            coded: Vec::new(alloc),
-        };
-        for epoch in script.epochs.as_slice() {
-            kept.keep_epoch(script.pictures.as_slice(), epoch)?;
-        }
+        let mut kept = KeptBlocks::none(alloc);
+        kept.grow(script)?;
         Ok(kept)
     }
 
     /// Keeps the blocks of the pictures that the cues of an epoch show.
-    fn keep_epoch(&mut self, pictures: &[Indexed], epoch: &Epoch) -> Result<(), NoMemory>
-        requires right { AreCoded pictures.now self.old.coded.items }
-        requires keeping { IsKeeping pictures.now self.old }
-        ensures right { OnOk result (AreCoded pictures.now self.new.coded.items) }
-        ensures keeping { OnOk result (IsKeeping pictures.now self.new) }
+    #[tactic(auto, using(crate::proofs::GrownBlockLaws::stays_here))]
+    pub(crate) fn keep_epoch(&mut self, pictures: &[Indexed], epoch: &Epoch) -> Result<(), NoMemory>
+        requires { AreBlocksOf pictures.now self.old }
+        ensures blocks { AreBlocksOf pictures.now self.new }
         ensures kept { OnOk result
             (All (IsCueKept pictures.now self.new.coded.items epoch.now) epoch.now.cues) }
-        ensures stay { OnOk result (StaysKept self.old.coded.items self.new.coded.items) }
+        ensures front { StaysInFront self.old.coded.items self.new.coded.items }
     {
         for cue in epoch.cues.as_slice() {
             self.keep_cue(pictures, epoch, cue)?;
@@ -54,14 +49,13 @@ impl KeptBlocks {
     }
 
     /// Keeps the blocks of the picture that a cue shows, for the depth of its region.
+    #[tactic(auto, using(crate::proofs::GrownBlockLaws::stays_here))]
     fn keep_cue(&mut self, pictures: &[Indexed], epoch: &Epoch, cue: &Cue) -> Result<(), NoMemory>
-        requires right { AreCoded pictures.now self.old.coded.items }
-        requires keeping { IsKeeping pictures.now self.old }
-        ensures right { OnOk result (AreCoded pictures.now self.new.coded.items) }
-        ensures keeping { OnOk result (IsKeeping pictures.now self.new) }
+        requires { AreBlocksOf pictures.now self.old }
+        ensures blocks { AreBlocksOf pictures.now self.new }
         ensures kept { OnOk result
             (IsCueKept pictures.now self.new.coded.items epoch.now cue.now) }
-        ensures stay { OnOk result (StaysKept self.old.coded.items self.new.coded.items) }
+        ensures front { StaysInFront self.old.coded.items self.new.coded.items }
     {
         match region_of(epoch, cue.region) {
             Some(region) => self.keep(pictures, cue.picture, region.depth),
@@ -70,13 +64,12 @@ impl KeptBlocks {
     }
 
     /// Keeps the blocks of a picture, where they are not kept yet.
+    #[tactic(auto, using(crate::proofs::GrownBlockLaws::stays_here))]
     fn keep(&mut self, pictures: &[Indexed], number: u32, region: Depth) -> Result<(), NoMemory>
-        requires right { AreCoded pictures.now self.old.coded.items }
-        requires keeping { IsKeeping pictures.now self.old }
-        ensures right { OnOk result (AreCoded pictures.now self.new.coded.items) }
-        ensures keeping { OnOk result (IsKeeping pictures.now self.new) }
+        requires { AreBlocksOf pictures.now self.old }
+        ensures blocks { AreBlocksOf pictures.now self.new }
         ensures kept { OnOk result (IsKept pictures.now self.new.coded.items number region) }
-        ensures stay { OnOk result (StaysKept self.old.coded.items self.new.coded.items) }
+        ensures front { StaysInFront self.old.coded.items self.new.coded.items }
     {
         let place = number as usize;
         // No script has such a picture. Tested here, that need not be a premise.
@@ -91,6 +84,7 @@ impl KeptBlocks {
     }
 
     /// Codes a picture and keeps its blocks.
+    #[tactic(auto, using(crate::proofs::GrownBlockLaws::stays_here))]
     fn add(
         &mut self,
         pictures: &[Indexed],
@@ -98,16 +92,14 @@ impl KeptBlocks {
         number: u32,
         region: Depth,
     ) -> Result<(), NoMemory>
-        requires coded { AreCoded pictures.now self.old.coded.items }
+        requires blocks { AreBlocksOf pictures.now self.old }
         requires picture { slice_get pictures.now number ≡ Some picture.now }
         requires shallow { IsNoDeeper picture.now.depth region }
         requires fits { FitsBuffer picture.now region }
-        requires keeping { IsKeeping pictures.now self.old }
         requires fresh { Any (IsOf number region) self.old.coded.items → ⊥ }
-        ensures right { OnOk result (AreCoded pictures.now self.new.coded.items) }
-        ensures keeping { OnOk result (IsKeeping pictures.now self.new) }
+        ensures blocks { AreBlocksOf pictures.now self.new }
         ensures kept { OnOk result (Any (IsOf number region) self.new.coded.items) }
-        ensures stay { OnOk result (StaysKept self.old.coded.items self.new.coded.items) }
+        ensures front { StaysInFront self.old.coded.items self.new.coded.items }
     {
         let coded = code(*self.coded.allocator(), picture, number, region)?;
         let last = self.coded.len();
@@ -150,7 +142,7 @@ impl KeptBlocks {
 }
 
 impl Slots {
-    fn none() -> Slots {
+    pub(crate) fn none() -> Slots {
         Slots {
             two: None,
             four: None,

@@ -9,6 +9,7 @@ mod fields;
 // Blocks that are kept for all sets of a script.
 mod coded_picture;
 mod cue_blocks;
+mod grown_blocks;
 mod kept_blocks;
 
 // A set's regions, cues and colours by their names, and its segments.
@@ -27,6 +28,7 @@ mod laws;
 pub use coded_picture::KeptBlocks;
 pub use cue_blocks::CueBlocks;
 pub use fields::{FieldLengths, write_fields};
+pub use grown_blocks::BlocksBefore;
 pub use laws::{loads_stay, packets_stay};
 pub use named::epoch_of;
 pub use set_objects::append_blocks;

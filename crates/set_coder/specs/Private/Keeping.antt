@@ -1,5 +1,5 @@
 -- Blocks that are kept while more of them are, and the slots that lead to them.
-use Rattle.std.specs.Prelude.{◌≡◌, ℕ, ◌+◌, ◌*◌, ◌≤◌, ◌⊎◌, List, length, All, Any, Some}
+use Rattle.std.specs.Prelude.{◌≡◌, ℕ, ◌+◌, ◌*◌, ◌≤◌, ◌⊎◌, List, ◌++◌, length, Some}
 use Rattle.sub_base.specs.Picture.{Picture}
 use Rattle.sub_base.specs.declared.depth.Depth.{Depth}
 use Rattle.sub_base.specs.declared.depth.Depth.TheVariants.{Two, Four, Eight}
@@ -8,11 +8,11 @@ use Rattle.set_coder.specs.declared.coded_picture.KeptBlocks.{KeptBlocks}
 use Rattle.set_coder.specs.declared.coded_picture.Slots.{Slots}
 use Rattle.stream_syntax.specs.FieldBlocks.{AreFieldSizes}
 use Rattle.set_coder.specs.declared.kept_blocks.TheConstants.{MOST_BYTES}
-use Rattle.set_coder.specs.KeptBlocks.{IsOf, IsSmall, AreLedTo}
+use Rattle.set_coder.specs.KeptBlocks.{AreLedTo}
 
--- of what blocks were kept, blocks are kept still
-abbrev pub StaysKept : List CodedPicture → List CodedPicture → Type 0
-StaysKept old new = (number : ℕ) (region : Depth) → Any (IsOf number region) old → Any (IsOf number region) new
+-- what was kept is the front of what is kept now
+abbrev pub StaysInFront : List CodedPicture → List CodedPicture → Type 0
+StaysInFront old new = (more : List CodedPicture) × (new ≡ old ++ more)
 
 -- the slots with another place for regions of a depth
 abbrev pub with_place : Slots → Depth → ℕ → Slots
@@ -26,8 +26,8 @@ abbrev pub FitsBuffer : Picture → Depth → Type 0
 FitsBuffer picture region = (70 + picture.height * (3 * picture.width + 10) ≤ 2 * MOST_BYTES)
     ⊎ ((top bottom : ℕ) → AreFieldSizes picture region top bottom → top + bottom ≤ MOST_BYTES)
 
--- each picture has its slots, they lead to what is kept of it, and no buffer is too small for what is kept
-pub record IsKeeping (pictures : List Picture) (kept : KeptBlocks) : Type 0 where
-  pub each : length kept.slots.items ≡ length pictures
-  pub led : AreLedTo kept.slots.items kept.coded.items
-  pub small : All IsSmall kept.coded.items
+-- what was kept before any further picture is the front of what is kept now, which slots lead to, and no slots are gone
+pub record HasGrown (old new : KeptBlocks) : Type 0 where
+  pub front : StaysInFront old.coded.items new.coded.items
+  pub led : AreLedTo new.slots.items new.coded.items
+  pub slots : length old.slots.items ≤ length new.slots.items
