@@ -1,5 +1,5 @@
--- Blocks that are kept stand in front while more are kept, are right for the pictures that go on, and can be gone back to.
-use Rattle.std.proofs.Common.{◌≡◌, ℕ, zero, suc, ◌<◌, ◌≤◌, ◌++◌, List, [], ◌∷◌, length, get_or, take, drop, Option, Some, None, All, refl, sym, ap, subst, ◌∙◌, arith}
+-- Blocks that are kept stand in front while more are kept, and can be gone back to.
+use Rattle.std.proofs.Common.{◌≡◌, ℕ, zero, suc, ◌<◌, ◌++◌, List, [], ◌∷◌, length, get_or, take, drop, Option, Some, None, All, refl, sym, ap, subst, ◌∙◌, arith}
 use Rattle.std.proofs.Math.ListN.{get_or-append}
 use Rattle.std.proofs.Math.Seq.{take-append_seam}
 use Rattle.std.proofs.lemmas.Option.{slice_get_within}
@@ -12,17 +12,17 @@ use Rattle.set_coder.specs.declared.coded_picture.CodedPicture.{CodedPicture}
 use Rattle.set_coder.specs.declared.coded_picture.KeptBlocks.{KeptBlocks}
 use Rattle.set_coder.specs.declared.coded_picture.Slots.{Slots}
 use Rattle.set_coder.specs.declared.grown_blocks.BlocksBefore.{BlocksBefore}
-use Rattle.set_coder.specs.KeptBlocks.{IsCoded, AreCoded, IsSmall, AreLedTo, place_in, place_of}
+use Rattle.set_coder.specs.KeptBlocks.{AreCoded, IsSmall, AreLedTo, place_in, place_of}
 use Rattle.set_coder.specs.GrownBlocks.{AreBlocksOf, CanGoBack}
 use Rattle.set_coder.specs.Private.Keeping.{HasGrown, StaysInFront}
 
 -- ---- what stands in front
 
--- all that is kept stands in front of nothing more
+-- what is kept stands in front of no more
 pub stays_here : (kept : List CodedPicture) → StaysInFront kept kept
 stays_here kept = ([], sym (append-nil kept))
 
--- and what stands in front of what stands in front
+-- what stands in front of what stands in front does so itself
 pub stays_on : (first second third : List CodedPicture) → StaysInFront first second → StaysInFront second third
     → StaysInFront first third
 stays_on first second third one two = (
@@ -48,13 +48,14 @@ led_within slots number region k led = by (slice_get slots number) refl led
     by None e none = cc
     by (Some one) e some = slice_get_within slots number one e
 
+-- what is read in front is read of it
 slice_get-append : (front back : List Slots) (place : ℕ) → place < length front
     → slice_get (front ++ back) place ≡ slice_get front place
 slice_get-append [] back place lt = absurd (omega (arith, lt))
 slice_get-append (first ∷ front) back zero lt = refl
 slice_get-append (first ∷ front) back (suc place) lt = slice_get-append front back place (omega (arith, lt))
 
--- slots behind them change nothing
+-- slots behind others change nothing for these
 place_in_front : (front back : List Slots) (number : ℕ) (region : Depth) → number < length front
     → place_of (front ++ back) number region ≡ place_of front number region
 place_in_front front back number region lt =
@@ -62,7 +63,7 @@ place_in_front front back number region lt =
 
 -- ---- the way back
 
--- what is led to is so in front
+-- slots that lead to blocks lead to those in front
 led_in_front : (kept more : List CodedPicture) (slots : List Slots) → AreLedTo slots (kept ++ more)
     → AreLedTo slots kept
 led_in_front kept more slots led = λ k d lt.

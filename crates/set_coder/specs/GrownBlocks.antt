@@ -6,8 +6,8 @@ use Rattle.set_coder.specs.declared.coded_picture.KeptBlocks.{KeptBlocks}
 use Rattle.set_coder.specs.declared.grown_blocks.BlocksBefore.{BlocksBefore}
 use Rattle.set_coder.specs.KeptBlocks.{AreCoded, AreLedTo, IsSmall}
 
--- blocks of these pictures are kept: each is right for the picture of its number, each picture has its slots, these lead
--- to what is kept of it, and no buffer is too small for what is kept
+-- blocks of these pictures are kept: each is right for the picture of its number, each picture has its slots, these
+-- lead to what is kept of it, and no buffer is too small for what is kept
 pub record AreBlocksOf (pictures : List Picture) (kept : KeptBlocks) : Type 0 where
   pub right : AreCoded pictures kept.coded.items
   pub each : length kept.slots.items ≡ length pictures

@@ -31,7 +31,8 @@ impl KeptBlocks {
 
     /// Codes the pictures that the cues of a script show and of which no blocks are kept yet. The
     /// script goes on from one whose pictures' blocks these are: its first pictures are those.
-    /// Answers the way back; after want of memory what was kept stands.
+    /// Answers the way back; after want of memory what was kept stands. As with `of_script`, no
+    /// blocks are kept of more bytes than the largest coded data buffer has.
     pub fn grow(&mut self, script: &Script) -> Result<BlocksBefore, NoMemory>
         requires goes_on { (pictures : List Picture) × (more : List Picture)
             × AreBlocksOf pictures self.old × (script.now.pictures ≡ pictures ++ more) }
