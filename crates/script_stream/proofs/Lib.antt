@@ -1,5 +1,11 @@
+pub mod BehindLaws
+pub mod LeftLaws
 pub mod LoadLaws
 pub mod RefusalLaws
 pub mod SendLaws
 pub mod ShownLaws
+pub mod SomeBlocks
+pub mod SomePackets
+pub mod SomeRows
+pub mod TimedLaws
 pub mod UnitLaws

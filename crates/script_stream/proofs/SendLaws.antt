@@ -4,7 +4,6 @@ use Rattle.std.specs.List.{concat}
 use Rattle.std.specs.List.Sorted.{IsStrictlyIncreasing}
 use Rattle.std.proofs.Math.Seq.{take-append_seam, drop-append_seam}
 use Rattle.cue_list.specs.declared.script.Script.{Script}
-use Rattle.page_epoch.specs.Plan.{IsPlan}
 use Rattle.page_epoch.specs.declared.planned_set.PlannedSet.{PlannedSet}
 use Rattle.schedule.specs.Packets.{first_packet, no_load}
 use Rattle.schedule.specs.Slots.{IsLoad, IsOnTime, IsSchedule, Timetable}
@@ -61,15 +60,6 @@ sets_fit script sets loads given pace table asked same on_time k d below =
     let load : IsSetLoad script (get_or sets k d) (get_or given k no_load) =
     AllZip-at (IsSetLoad script) sets given k d no_load below own in
     record { longest = (get_or given k no_load).longest; is_longest = load.longest; few = on_time.short k within }
-
--- the sets of a plan, and what they ask
-pub planned_by : (name : ProfileName) (script : Script) (sets own : List PlannedSet) (loads : List WriteLoad)
-    (receiver : Profile) → receiver ≡ profile_of name → IsPlan script receiver own → sets ≡ own
-    → AreLoads script sets loads → IsPlanned name script own loads
-planned_by name script sets own loads receiver is_profile plan same asked = record {
-  plan = subst (λ (p : Profile). IsPlan script p own) is_profile plan;
-  asked = subst (λ (s : List PlannedSet). AreLoads script s loads) same asked;
-}
 
 -- what is written of the sets that are lent is so of the sets
 pub written_of : (script : Script) (page : ℕ) (sets own : List PlannedSet) (written : List (List ℕ)) → sets ≡ own

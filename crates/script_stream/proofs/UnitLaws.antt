@@ -116,7 +116,7 @@ written_more script page sets k set bytes packets written new units inside is so
 }
 
 -- they have the lengths that the loads of their sets say
-sized_as : (script : Script) (sets : List PlannedSet) (loads : List WriteLoad) (units : List (List (List ℕ)))
+pub sized_as : (script : Script) (sets : List PlannedSet) (loads : List WriteLoad) (units : List (List (List ℕ)))
     → AllZip (IsSetLoad script) sets loads → AreSized script sets units → AreSizedAs loads units
 sized_as script [] [] [] asked sized = tt
 sized_as script [] [] (packets ∷ units) asked sized = absurd sized

@@ -1,3 +1,4 @@
+pub mod LeftPackets
 pub mod Private
 pub mod Refused
 pub mod SentScripts

@@ -9,8 +9,7 @@ ghost use Rattle.script_stream.specs.SentScripts.{IsSentFor, stream_bytes};
 ghost use Rattle.script_stream.specs.ShownRightly.{IsShownRightly};
 
 use crate::faults::SendFault;
-use crate::loads::loads_of;
-use crate::refusals::{plan_refused, schedule_refused};
+use crate::timed::{Timed, plan_of};
 use crate::units::{SetUnits, pieces_of, units_of};
 use cue_list::Script;
 use page_epoch::{Plan, PlannedSet};
@@ -19,7 +18,7 @@ use set_coder::KeptBlocks;
 use slot_stream::{StreamFault, write_stream};
 use std::alloc::Global;
 use std::marker::Model;
-use sub_base::{Profile, ProfileName, Sink, WriteLoad};
+use sub_base::{ProfileName, Sink, WriteLoad};
 
 /// All that is sent of a script: the display sets of its plan, their PES packets, and the slots of
 /// their transport packets.
@@ -72,25 +71,17 @@ impl ScriptStream {
             sent.sets sent.loads sent.table (stream_bytes sent)) }
         ensures cause { IfErr result (IsSendCause profile script.now) }
     {
-        let receiver = Profile::of(profile);
-        let plan = match Plan::make(alloc, script, &receiver) {
-            Ok(plan) => plan,
-            Err(fault) => return Err(plan_refused(fault)),
-        };
-        let sets = plan.sets.as_slice();
+        let plan = plan_of(alloc, profile, script)?;
         // Coded once for all sets that show them: refreshes send each picture several times.
-        let Ok(kept) = KeptBlocks::of_script(alloc, script) else {
+        let Ok(blocks) = KeptBlocks::of_script(alloc, script) else {
             return Err(SendFault::Memory);
         };
-        let Ok(loads) = loads_of(alloc, script, &kept, sets) else {
-            return Err(SendFault::Memory);
-        };
-        let asked = loads.as_slice();
-        let schedule = match Schedule::make(alloc, asked, script.origin, &receiver) {
-            Ok(schedule) => schedule,
-            Err(fault) => return Err(schedule_refused(sets, fault)),
-        };
-        let Ok(written) = units_of(alloc, script, &kept, sets, page) else {
+        let Timed {
+            plan,
+            loads,
+            schedule,
+        } = Timed::of_plan(alloc, profile, script, &blocks, plan)?;
+        let Ok(written) = units_of(alloc, script, &blocks, plan.sets.as_slice(), page) else {
             return Err(SendFault::Memory);
         };
         Ok(ScriptStream {
