@@ -10,6 +10,7 @@ use Rattle.cue_list.specs.Past.{epoch_of, last_epoch, looking_back}
 use Rattle.cue_list.specs.Records.{Record, is, kind_of}
 use Rattle.cue_list.specs.RowFaults.{is_misplaced}
 use Rattle.cue_list.specs.Rows.{Row}
+use Rattle.cue_list.specs.TickRows.{first_tick, is_not_above}
 use Rattle.cue_list.specs.declared.epoch.Epoch.{Epoch}
 use Rattle.cue_list.specs.declared.row_kind.RowKind.{RowKind}
 use Rattle.cue_list.specs.declared.row_kind.RowKind.TheVariants as kinds
@@ -18,7 +19,7 @@ use Rattle.cue_list.proofs.FactLaws.{IsRightRow-from}
 use Rattle.page_epoch.specs.Growth.{Grows}
 use Rattle.shown_stream.specs.Compiled.{IsCompiledTo}
 use Rattle.live_plan.specs.LetIn.{IsScriptBehind, LetIn}
-use Rattle.live_plan.specs.LiveRows.{AHEAD, Inserter, IsBatchOf, Taken, row, tick, due_front, early_tick, has_epoch, is_not_above, last_tick, nearest_in, next_record, records_in, rows_in, slots_by, start_in}
+use Rattle.live_plan.specs.LiveRows.{AHEAD, Inserter, IsBatchOf, Taken, row, tick, due_front, has_epoch, last_tick, nearest_in, next_record, records_in, rows_in, slots_by}
 use Rattle.live_plan.proofs.DuePackets.{due_goes_on}
 use Rattle.live_plan.proofs.GrownScripts.{IsHead, IsLate, ListsScript, same_script_grows, script_grows, start_of}
 use Rattle.live_plan.proofs.TakenRows.{late_epoch, length-nearest, listed, nearest_more, row_late, row_let_in, row_right, still_epoch, tick_let_in, ticks_rise}
@@ -27,16 +28,13 @@ use Rattle.live_plan.proofs.TakenRows.{late_epoch, length-nearest, listed, neare
 
 -- the first tick that a row has a part in, by its kind
 same_start : (past : List Taken) (inserter : Inserter) (kind : RowKind) (cells : Row)
-    → start_of kind cells (last_epoch inserter.font (nearest_in past)) ≡ early_tick inserter.font past kind cells
+    → start_of kind cells (last_epoch inserter.font (nearest_in past))
+    ≡ first_tick (looking_back inserter.font (nearest_in past)) kind cells
 same_start past inserter kinds.Origin cells = refl
 same_start past inserter kinds.Display cells = refl
 same_start past inserter kinds.Refresh cells = refl
 same_start past inserter kinds.Epoch cells = refl
-same_start past inserter kinds.Region cells = by (last_epoch inserter.font (nearest_in past))
-  where
-    by : (epoch : Option Epoch) → option_map (λ (one : Epoch). one.start) epoch ≡ start_in epoch
-    by None = refl
-    by (Some epoch) = refl
+same_start past inserter kinds.Region cells = refl
 same_start past inserter kinds.Colour cells = refl
 same_start past inserter kinds.Picture cells = refl
 same_start past inserter kinds.Place cells = refl
@@ -358,3 +356,36 @@ pub due_stays : (inserter : Inserter) (past later : List Taken) (time : ℕ) (pa
     → (more : List ℕ) × (now ≡ due_front inserter past time packets ++ more)
 due_stays inserter past later time packets now let_in was is =
     ((all_stand inserter past later time packets let_in was).1 now is).begins
+
+-- the slots of a later tick are no fewer than those that are due
+pub slots_later : (inserter : Inserter) (all past later : List Taken) (time next : ℕ) (packets : List ℕ)
+    → all ≡ later ++ tick time ∷ past → LetIn inserter all → IsBatchOf inserter past packets → time ≤ next
+    → length (due_front inserter past time packets)
+    ≤ 188 * slots_by (origin_of inserter all) (step_of inserter) next
+slots_later inserter all past later time next packets parts let_in was rises =
+    subst (λ (p : List Taken). length due ≤ 188 * slots_by (origin_of inserter p) (step_of inserter) next) (sym parts)
+    (by (stands later (subst (LetIn inserter) parts let_in)).origin)
+  where
+    due : List ℕ
+    due = due_front inserter past time packets
+
+    batch_of : (later : List Taken) → LetIn inserter (later ++ tick time ∷ past)
+        → (now : List ℕ) × IsBatchOf inserter (later ++ tick time ∷ past) now
+    batch_of [] inside = last_batch inserter (tick time) past inside
+    batch_of (taken ∷ later) inside = last_batch inserter taken (later ++ tick time ∷ past) inside
+
+    stands : (later : List Taken) → (inside : LetIn inserter (later ++ tick time ∷ past))
+        → Stands inserter past (later ++ tick time ∷ past) time due (batch_of later inside).0
+    stands later inside =
+        let now = batch_of later inside in (all_stand inserter past later time packets inside was).1 now.0 now.1
+
+    by : (due ≡ []) ⊎ (origin_of inserter (later ++ tick time ∷ past) ≡ origin_of inserter past)
+        → length due ≤ 188 * slots_by (origin_of inserter (later ++ tick time ∷ past)) (step_of inserter) next
+    by (inl none) = omega (arith, ap (λ (xs : List ℕ). length xs) none)
+    by (inr same) =
+        omega (
+          arith,
+          due_short inserter past time packets,
+          slots_rise (origin_of inserter past) (step_of inserter) time next rises,
+          ap (λ (origin : ℕ). slots_by origin (step_of inserter) next) same,
+        )

@@ -1,15 +1,13 @@
 -- What is due stays due, and begins the packets of what was let in.
-use Rattle.std.proofs.Common.{◌≡◌, ◌∙◌, inl, ℕ, ◌+◌, ◌-◌, ◌*◌, ◌/◌, ◌≤◌, Bool, true, false, if◌then◌else◌, List, [], ◌∷◌, ◌++◌, length, take, Option, Some, None, refl, sym, ap, subst, arith, append-nil}
+use Rattle.std.proofs.Common.{◌≡◌, ◌∙◌, inl, ℕ, ◌+◌, ◌-◌, ◌*◌, ◌/◌, ◌≤◌, List, [], ◌∷◌, ◌++◌, length, take, Option, Some, None, refl, sym, ap, subst, arith}
 use Rattle.std.proofs.Math.Seq.{take-append-add}
 use Rattle.std.proofs.lemmas.List.{length-take}
 use Rattle.stream_syntax.specs.declared.wire.TheConstants.{PACKET_LENGTH}
-use Rattle.cue_list.specs.CellFaults.{value_at}
-use Rattle.cue_list.specs.Rows.{Row}
 use Rattle.live_plan.proofs.DueFronts.{due_stays}
 use Rattle.live_plan.proofs.OneBatch.{due_slots as whole_slots, one_batch}
 use Rattle.live_plan.specs.LetIn.{LetIn}
 use Rattle.live_plan.specs.LiveOutcome.{BeginsBatch, Runs, let_in, none_yet, passed_over, turned_away}
-use Rattle.live_plan.specs.LiveRows.{Inserter, IsBatchOf, IsDue, IsDueBy, Taken, before_tick, due_front, is_tick_row, last_tick, row, taken_as, tick}
+use Rattle.live_plan.specs.LiveRows.{Inserter, IsBatchOf, IsDue, IsDueBy, Taken, before_tick, last_tick, row, tick}
 
 pub runs_let_in : {inserter : Inserter} {pieces : List (List ℕ)} {past : List Taken} {count : ℕ} {lines : List ℕ}
     → Runs inserter pieces past count lines → LetIn inserter past
@@ -33,7 +31,7 @@ some_batch inserter (taken ∷ past) ((cells, is, lets), are) =
     (lets.packets, subst (λ one. IsBatchOf inserter (one ∷ past) lets.packets) (sym is) lets.batch)
 
 -- the last tick with what came behind it and before it
-split_tick : (past : List Taken) (time : ℕ) → last_tick past ≡ Some time
+pub split_tick : (past : List Taken) (time : ℕ) → last_tick past ≡ Some time
     → (later : List Taken) × (past ≡ later ++ tick time ∷ before_tick past)
 split_tick [] time is = absurd (some_there time is)
   where
@@ -76,7 +74,7 @@ short : (n : ℕ) (all now : List ℕ) → now ≡ take n all → length now ≤
 short n all now is = omega (arith, ap length is, length-take n all)
 
 -- a front of bytes that is as long as their beginning goes on with it
-front_goes_on : (n : ℕ) (before more now : List ℕ) → now ≡ take n (before ++ more) → length before ≤ length now
+pub front_goes_on : (n : ℕ) (before more now : List ℕ) → now ≡ take n (before ++ more) → length before ≤ length now
     → (rest : List ℕ) × (now ≡ before ++ rest)
 front_goes_on n before more now is longer =
     let most : length now ≤ n = short n (before ++ more) now is in
@@ -84,31 +82,3 @@ front_goes_on n before more now is longer =
       take (n - length before) more,
       is ∙ (ap (λ k. take k (before ++ more)) split ∙ take-append-add before more (n - length before)),
     )
-
--- what was due is due with one more row too
-pub due_grows : (inserter : Inserter) (past : List Taken) (cells : Row) (before now : List ℕ)
-    → LetIn inserter past → IsDue inserter past before → IsDue inserter (taken_as cells ∷ past) now
-    → length before ≤ length now → (more : List ℕ) × (now ≡ before ++ more)
-due_grows inserter past cells before now are was is longer = by (is_tick_row cells) is
-  where
-    same : (last : Option ℕ) → IsDueBy inserter past last before → IsDueBy inserter past last now
-        → (more : List ℕ) × (now ≡ before ++ more)
-    same None none nothing = ([], nothing ∙ (sym none ∙ sym (append-nil before)))
-    same (Some time) (packets, batch, front) (others, batch_too, front_too) = (
-      [],
-      front_too
-          ∙ (ap (due_front inserter (before_tick past) time)
-          (one_batch inserter (before_tick past) others packets batch_too batch)
-          ∙ (sym front ∙ sym (append-nil before))),
-    )
-
-    by : (is_tick : Bool)
-        → IsDue inserter ((if is_tick then tick (value_at cells 1) else row cells) ∷ past) now
-        → (more : List ℕ) × (now ≡ before ++ more)
-    by true (packets, batch, front) =
-        let begins = due_begins inserter past before are was in
-        front_goes_on _ before begins.0 now
-        (front ∙ ap (due_front inserter past (value_at cells 1))
-        (one_batch inserter past packets (before ++ begins.0) batch begins.1))
-        longer
-    by false is = same (last_tick past) was is

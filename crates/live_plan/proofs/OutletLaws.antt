@@ -104,6 +104,7 @@ due_sent packets due old new good is same =
     let count : old.count - old.sent - n ≡ old.count - old.due = omega (arith, good.sent) in
     subst (IsOutletOf packets due) (sym same) (record {
       whole = is.whole;
+      few = is.few;
       left = ap (λ (k : ℕ). drop k packets) all
           ∙ sym (drop-drop (188 * n) (188 * old.sent) packets)
           ∙ ap (drop (188 * n)) is.left

@@ -7,22 +7,24 @@ use Rattle.std.proofs.lemmas.List.Folds.{list_any-append}
 use Rattle.bitmap_font.specs.Font.{FontValue}
 use Rattle.cue_list.specs.CellFaults.{is_text_row, tick_fault, value_at}
 use Rattle.cue_list.specs.Cells.{cell_at}
-use Rattle.cue_list.specs.Past.{looking_back}
+use Rattle.cue_list.specs.Past.{Past, looking_back}
 use Rattle.cue_list.specs.Records.{Record, is, kind_of, record_of, records_from}
 use Rattle.cue_list.specs.RowFaults.{fault_of, is_misplaced}
 use Rattle.cue_list.specs.Rows.{Row}
 use Rattle.cue_list.specs.ScriptRows.{Lists}
+use Rattle.cue_list.specs.TakenRows.{IsScriptOf}
+use Rattle.cue_list.specs.TickRows.{is_not_above, is_tick_row, tick_row_fault}
 use Rattle.cue_list.specs.declared.fault.ScriptKind.TheVariants as faults
 use Rattle.cue_list.specs.declared.row_kind.RowKind.{RowKind}
 use Rattle.cue_list.specs.declared.row_kind.RowKind.TheVariants as kinds
 use Rattle.cue_list.specs.declared.script.Script.{Script}
 use Rattle.cue_list.proofs.FactLaws.{IsRightRow-from, passed, right}
 use Rattle.live_plan.specs.LetIn.{LetIn}
-use Rattle.live_plan.specs.LiveRows.{AHEAD, Inserter, IsLetIn, IsScriptOf, Taken, row, tick, early_behind, early_tick, has_epoch, is_not_above, is_tick_row, is_within, last_tick, nearest_in, next_record, records_in, rows_in, tick_row_fault}
+use Rattle.live_plan.specs.LiveRows.{AHEAD, Inserter, IsLetIn, Taken, row, tick, early_behind, early_tick, has_epoch, is_within, last_tick, nearest_in, next_record, records_in, rows_in}
 
 -- ---- records
 
-records_more : (number : ℕ) (rows : List Row) (cells : Row)
+pub records_more : (number : ℕ) (rows : List Row) (cells : Row)
     → records_from number (rows ++ cells ∷ [])
     ≡ records_from number rows ++ record_of (length rows + number) cells ∷ []
 records_more number [] cells = ap (λ (n : ℕ). record_of n cells ∷ []) (omega arith)
@@ -107,26 +109,33 @@ tick_let_in inserter past time ((other, same, is), before) =
 pub row_right : (inserter : Inserter) (past : List Taken) (cells : Row) → IsRowIn inserter past cells
     → fault_of inserter.font (nearest_in past) (next_record past cells) ≡ None
 row_right inserter past cells is =
-    sym (ap (λ (b : Bool). if b then tick_row_fault inserter.font past cells
+    let known = looking_back inserter.font (nearest_in past) in
+    sym (ap (λ (b : Bool). if b then tick_row_fault known (last_tick past) cells
     else fault_of inserter.font (nearest_in past) (next_record past cells)) is.plain)
     ∙ is.let_in.right
 
--- a tick that is let in lies above the last one
+-- a tick that passes its tests lies above the last one
+pub tick_above : (known : Past) (last : Option ℕ) (cells : Row) → tick_row_fault known last cells ≡ None
+    → is_not_above last (value_at cells 1) ≡ false
+tick_above known last cells tests =
+    let text = right (not (is_text_row cells)) faults.NotUtf8 _ tests in
+    let count = right (not (length cells == 2)) faults.Count _ text.1 in
+    let begun = right (known.rows == 0) faults.Order _ count.1 in
+    let number = passed (tick_fault known.origin (cell_at cells 1)) _ begun.1 in
+    (right (is_not_above last (value_at cells 1)) faults.Order _ number.1).0
+
+-- and so does one that is let in
 pub ticks_rise : (inserter : Inserter) (past : List Taken) (time : ℕ) → IsTickIn inserter past time
     → is_not_above (last_tick past) time ≡ false
 ticks_rise inserter past time is =
     let font = inserter.font in
     let cells = is.cells in
-    let tests : tick_row_fault font past cells ≡ None =
-    sym (ap (λ (b : Bool). if b then tick_row_fault font past cells
+    let known = looking_back font (nearest_in past) in
+    let tests : tick_row_fault known (last_tick past) cells ≡ None =
+    sym (ap (λ (b : Bool). if b then tick_row_fault known (last_tick past) cells
     else fault_of font (nearest_in past) (next_record past cells)) is.is_tick)
     ∙ is.let_in.right in
-    let text = right (not (is_text_row cells)) faults.NotUtf8 _ tests in
-    let count = right (not (length cells == 2)) faults.Count _ text.1 in
-    let begun = right (length (rows_in past) == 0) faults.Order _ count.1 in
-    let number = passed (tick_fault (looking_back font (nearest_in past)).origin (cell_at cells 1)) _ begun.1 in
-    let above = right (is_not_above (last_tick past) (value_at cells 1)) faults.Order _ number.1 in
-    ap (is_not_above (last_tick past)) (sym is.time_is) ∙ above.0
+    ap (is_not_above (last_tick past)) (sym is.time_is) ∙ tick_above known (last_tick past) cells tests
 
 -- ---- the horizon
 
@@ -140,10 +149,10 @@ outside horizon time test = grind (arith, nat_tests)
 -- a row that is let in has a part in nothing up to the horizon
 pub row_late : (inserter : Inserter) (past : List Taken) (cells : Row) (time first : ℕ)
     → IsRowIn inserter past cells → last_tick past ≡ Some time
-    → early_tick inserter.font past (kind_of (cell_at cells 0)) cells ≡ Some first → time + AHEAD < first
+    → early_tick inserter.font past cells ≡ Some first → time + AHEAD < first
 row_late inserter past cells time first is last there =
     let horizon = time + AHEAD in
-    let early = early_tick inserter.font past (kind_of (cell_at cells 0)) cells in
+    let early = early_tick inserter.font past cells in
     let late : early_behind inserter.font past cells (Some time) ≡ None =
     sym (ap (early_behind inserter.font past cells) last) ∙ is.let_in.late in
     let plain : (if not false && is_within early horizon then Some horizon else None) ≡ None =

@@ -1,8 +1,9 @@
 -- What was let in row by row, and scripts of what was let in.
 use Rattle.std.specs.Prelude.{◌≡◌, true, List, [], ◌∷◌}
 use Rattle.cue_list.specs.Rows.{Row}
+use Rattle.cue_list.specs.TakenRows.{IsScriptOf}
 use Rattle.cue_list.specs.declared.script.Script.{Script}
-use Rattle.live_plan.specs.LiveRows.{Inserter, IsLetIn, IsScriptOf, Taken, has_epoch, records_in, taken_as}
+use Rattle.live_plan.specs.LiveRows.{Inserter, IsLetIn, Taken, has_epoch, records_in, taken_as}
 
 -- each was let in behind those before it
 abbrev pub LetIn : Inserter → List Taken → Type 0

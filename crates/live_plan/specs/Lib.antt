@@ -2,6 +2,7 @@ pub mod FaultNames
 pub mod Pieces
 pub mod LiveRows
 pub mod LetIn
+pub mod LiveCalls
 pub mod Outlets
 pub mod LiveWords
 pub mod LiveOutcome

@@ -4,6 +4,7 @@ use Rattle.std.specs.Io.KnownBytes.{Consumes}
 use Rattle.bitmap_font.specs.Font.{FontValue}
 use Rattle.command_text.specs.Lines.{line_end, then_number}
 use Rattle.cue_list.specs.Rows.{Row, rows_of}
+use Rattle.cue_list.specs.TakenRows.{IsScriptOf}
 use Rattle.cue_list.specs.declared.script.Script.{Script}
 use Rattle.script_input.specs.ReadScript.{HasFont, IsFontRefused, text_limit}
 use Rattle.script_stream.specs.ShownRightly.{IsShownRightly}
@@ -16,7 +17,7 @@ use Rattle.sub_base.specs.declared.status.ToolStatus.{ToolStatus}
 use Rattle.sub_base.specs.declared.status.ToolStatus.TheVariants as tool
 use Rattle.sub_base.specs.declared.status.Which.TheVariants as which
 use Rattle.live_plan.specs.FaultNames.{live_fault_name, row_fault_name}
-use Rattle.live_plan.specs.LiveRows.{Inserter, IsBatchOf, IsDue, IsLetIn, IsRefusedFor, IsScriptOf, Taken, has_epoch, records_in, taken_as}
+use Rattle.live_plan.specs.LiveRows.{Inserter, IsBatchOf, IsDue, IsLetIn, IsRefusedFor, Taken, has_epoch, records_in, taken_as}
 use Rattle.live_plan.specs.Pieces.{all_pieces, pieces_of}
 use Rattle.live_plan.specs.declared.faults.LiveFault.{LiveFault}
 use Rattle.live_plan.specs.declared.faults.LiveFault.TheVariants as live

@@ -1,22 +1,19 @@
 -- Which rows a live inserter lets in, and which packets are due. What was let in stands in a list, the latest first.
-use Rattle.std.specs.Prelude.{◌≡◌, ℕ, ◌+◌, ◌*◌, ◌-◌, ◌/◌, ◌⊎◌, ◌==◌, nat_le, nat_lt, not, Bool, true, false, ◌&&◌, if◌then◌else◌, List, [], ◌∷◌, ◌++◌, length, take, reverse, Option, Some, None, Result, Ok, Err, codes}
+use Rattle.std.specs.Prelude.{◌≡◌, ℕ, ◌+◌, ◌*◌, ◌-◌, ◌/◌, ◌⊎◌, nat_le, nat_lt, not, Bool, true, false, ◌&&◌, if◌then◌else◌, List, [], ◌∷◌, ◌++◌, length, take, reverse, Option, Some, None, Result, Ok, Err}
 use Rattle.std.specs.List.{list_any}
-use Rattle.std.specs.Str.{bytes_eq}
 use Rattle.sub_base.specs.Pace.{pace_of}
 use Rattle.sub_base.specs.Profile.{profile_of}
 use Rattle.sub_base.specs.declared.profile.ProfileName.{ProfileName}
 use Rattle.bitmap_font.specs.Font.{FontValue}
-use Rattle.cue_list.specs.CellFaults.{first_of, fails, value_at, tick_fault, is_text_row}
+use Rattle.cue_list.specs.CellFaults.{value_at}
 use Rattle.cue_list.specs.Cells.{cell_at}
 use Rattle.cue_list.specs.Past.{looking_back}
-use Rattle.cue_list.specs.Records.{Record, is, kind_of, record_of, records_from, records_before}
+use Rattle.cue_list.specs.Records.{Record, is, kind_of, record_of, records_from}
 use Rattle.cue_list.specs.RowFaults.{fault_of}
 use Rattle.cue_list.specs.Rows.{Row, rows_of}
-use Rattle.cue_list.specs.ScriptRows.{AreRight, Lists}
-use Rattle.cue_list.specs.declared.epoch.Epoch.{Epoch}
+use Rattle.cue_list.specs.TakenRows.{IsScriptOf}
+use Rattle.cue_list.specs.TickRows.{first_tick, is_tick_row, tick_row_fault}
 use Rattle.cue_list.specs.declared.fault.ScriptKind.{ScriptKind}
-use Rattle.cue_list.specs.declared.fault.ScriptKind.TheVariants as faults
-use Rattle.cue_list.specs.declared.row_kind.RowKind.{RowKind}
 use Rattle.cue_list.specs.declared.row_kind.RowKind.TheVariants as kinds
 use Rattle.cue_list.specs.declared.script.Script.{Script}
 use Rattle.page_epoch.specs.declared.fault.PlanFault.{PlanFault}
@@ -62,25 +59,6 @@ before_tick (tick time ∷ past) = past
 
 -- ---- the tests of a row
 
--- a row is a tick row by its first cell
-abbrev pub is_tick_row : Row → Bool
-is_tick_row cells = bytes_eq (cell_at cells 0) (codes "tick")
-
--- a tick is not above the last one
-abbrev pub is_not_above : Option ℕ → ℕ → Bool
-is_not_above None time = false
-is_not_above (Some last) time = nat_le time last
-
--- the first test of `tick`, T that fails: a tick needs the origin's row, and lies above the last one
-abbrev pub tick_row_fault : FontValue → List Taken → Row → Option ScriptKind
-tick_row_fault font past cells = first_of (
-    fails (not (is_text_row cells)) faults.NotUtf8
-    ∷ fails (not (length cells == 2)) faults.Count
-    ∷ fails (length (rows_in past) == 0) faults.Order
-    ∷ tick_fault (looking_back font (nearest_in past)).origin (cell_at cells 1)
-    ∷ fails (is_not_above (last_tick past) (value_at cells 1)) faults.Order
-    ∷ [])
-
 -- the record that a row becomes behind those that were let in
 abbrev pub next_record : List Taken → Row → Record
 next_record past cells = record_of (length (rows_in past) + 1) cells
@@ -88,7 +66,7 @@ next_record past cells = record_of (length (rows_in past) + 1) cells
 -- the first test of a row that fails: those of a tick row, or those of a record behind the records before it
 abbrev pub row_fault : FontValue → List Taken → Row → Option ScriptKind
 row_fault font past cells =
-    if is_tick_row cells then tick_row_fault font past cells
+    if is_tick_row cells then tick_row_fault (looking_back font (nearest_in past)) (last_tick past) cells
     else fault_of font (nearest_in past) (next_record past cells)
 
 -- what a row is, once it is let in
@@ -102,19 +80,9 @@ taken_as cells = if is_tick_row cells then tick (value_at cells 1) else row cell
 abbrev pub AHEAD : ℕ
 AHEAD = 453600
 
--- the start of an epoch
-abbrev pub start_in : Option Epoch → Option ℕ
-start_in None = None
-start_in (Some epoch) = Some epoch.start
-
--- the first tick that a row has a part in: its own, and for a region the start of its epoch
-abbrev pub early_tick : FontValue → List Taken → RowKind → Row → Option ℕ
-early_tick font past kinds.Epoch cells = Some (value_at cells 1)
-early_tick font past kinds.Place cells = Some (value_at cells 1)
-early_tick font past kinds.Cue cells = Some (value_at cells 1)
-early_tick font past kinds.Colour cells = Some (value_at cells 1)
-early_tick font past kinds.Region cells = start_in (looking_back font (nearest_in past)).epoch
-early_tick font past _ cells = None
+-- the first tick that a row has a part in, behind those that were let in
+abbrev pub early_tick : FontValue → List Taken → Row → Option ℕ
+early_tick font past cells = first_tick (looking_back font (nearest_in past)) (kind_of (cell_at cells 0)) cells
 
 -- there is such a tick, and it does not lie above the horizon
 abbrev pub is_within : Option ℕ → ℕ → Bool
@@ -125,20 +93,11 @@ is_within (Some time) horizon = nat_le time horizon
 abbrev pub early_behind : FontValue → List Taken → Row → Option ℕ → Option ℕ
 early_behind font past cells None = None
 early_behind font past cells (Some time) =
-    if not (is_tick_row cells) && is_within (early_tick font past (kind_of (cell_at cells 0)) cells) (time + AHEAD)
+    if not (is_tick_row cells) && is_within (early_tick font past cells) (time + AHEAD)
     then Some (time + AHEAD) else None
 
 abbrev pub early_of : FontValue → List Taken → Row → Option ℕ
 early_of font past cells = early_behind font past cells (last_tick past)
-
--- ---- scripts of rows
-
--- a script of records: all of them are right, and they list its values
-pub record IsScriptOf (font : FontValue) (records : List Record) (script : Script) : Type 0 where
-  pub right : AreRight font records (length records)
-  pub lists : Lists font (records_before records (length records)) script.origin script.width script.height
-      script.refresh
-      script.epochs script.pictures
 
 -- an epoch's row is among them
 abbrev pub has_epoch : List Record → Bool

@@ -1,5 +1,5 @@
 -- What is left of a batch of packets, and how much of it is due.
-use Rattle.std.specs.Prelude.{◌≡◌, ℕ, ◌-◌, ◌*◌, Bool, false, List, length, take, drop, Result, MatchResult}
+use Rattle.std.specs.Prelude.{◌≡◌, ℕ, ◌-◌, ◌*◌, ◌≤◌, Bool, false, List, length, take, drop, Result, MatchResult}
 use Rattle.std.specs.Io.KnownBytes.{Appends}
 use Rattle.slot_stream.specs.KeptPackets.{Kept, packets_from}
 use Rattle.stream_syntax.specs.declared.wire.TheConstants.{PACKET_LENGTH}
@@ -8,8 +8,7 @@ use Rattle.sub_base.specs.Endpoints.{AppendsPrefix, Received}
 use Rattle.sub_base.specs.declared.faults.WriteFailed.{WriteFailed}
 
 -- the packets of a batch that are kept, how many of its slots were written, how many are due, how many it has, and
--- whether nothing more
--- is written, since a write failed or all was
+-- whether nothing more is written, since a write failed or all was
 pub record OutletState : Type 0 where
   pub kept : Kept
   pub sent : ℕ
@@ -20,6 +19,7 @@ pub record OutletState : Type 0 where
 -- of these packets the first ones are due, and those behind the slots that were written are kept
 pub record IsOutletOf (packets due : List ℕ) (outlet : OutletState) : Type 0 where
   pub whole : length packets ≡ PACKET_LENGTH * outlet.count
+  pub few : outlet.due ≤ outlet.count
   pub left : drop (PACKET_LENGTH * outlet.sent) packets
       ≡ packets_from outlet.kept outlet.sent (outlet.count - outlet.sent)
   pub is_due : due ≡ take (PACKET_LENGTH * outlet.due) packets

@@ -8,6 +8,11 @@ mod faults;
 // The packets that are not written yet.
 mod outlet;
 
+// Records that come one by one: their packets, those that were accepted, and what is due.
+mod accepted;
+mod live;
+mod planning;
+
 // Records that come later leave what is due as it is.
 mod laws;
 
@@ -21,7 +26,14 @@ mod pieces;
 mod font_input;
 mod told;
 
+// A run: pieces that go in, the reads that they come by, and the top call.
+mod reading;
+mod run;
+mod top;
+
 pub use faults::{LiveFault, RowFault};
 pub use laws::{due_stays, one_batch, one_due, rows_grow};
+pub use live::Live;
 pub use live_words::{LiveCommand, live_inputs};
 pub use outlet::{Outlet, slots_by};
+pub use top::live_top;

@@ -1,9 +1,11 @@
-ghost use Rattle.std.specs.Prelude.{◌≡◌, ◌<◌, ◌≤◌, ◌^◌, [], false, min, IfOk, OnOk};
+ghost use Rattle.std.specs.Prelude.{◌≡◌, ◌<◌, ◌≤◌, ◌^◌, [], true, false, min, IfOk, IfSome, OnErr, OnOk};
 ghost use Rattle.live_plan.specs.LiveRows.{slots_by as slots_by_of};
 ghost use Rattle.live_plan.specs.Outlets.{Finishes, WritesDue};
+ghost use Rattle.live_plan.specs.Private.Loading.{HasRoomFor, loaded};
 ghost use Rattle.slot_stream.specs.KeptPackets.{IsKept};
 
 use command_text::TextBuffer;
+use script_stream::PacketsLeft;
 use slot_stream::KeptPackets;
 use std::alloc::Global;
 use std::marker::Model;
@@ -66,6 +68,13 @@ impl Outlet {
         })
     }
 
+    /// How many slots were written.
+    pub fn sent(&self) -> u64
+        ensures { result ≡ self.now.sent }
+    {
+        self.sent
+    }
+
     /// Takes the packets of a batch with so many slots, in place of those before.
     pub fn load(&mut self, kept: KeptPackets, count: u64)
         requires enough { self.old.due ≤ count }
@@ -76,6 +85,16 @@ impl Outlet {
         self.count = count;
     }
 
+    /// Takes what is left of a batch in place of the packets before, where there is a batch.
+    pub(crate) fn take_left(&mut self, left: Option<PacketsLeft>)
+        requires room { IfSome left (HasRoomFor self.old) }
+        ensures { self.new ≡ loaded self.old left }
+    {
+        if let Some(left) = left {
+            self.load(left.kept, left.count);
+        }
+    }
+
     /// So many slots are due, as far as the batch has them.
     pub fn set_due(&mut self, slots: u64)
         requires later { self.old.due ≤ slots }
@@ -84,13 +103,15 @@ impl Outlet {
         self.due = slots.min(self.count);
     }
 
-    /// Writes what is due and not written yet. Takes no memory.
+    /// Writes what is due and not written yet. Takes no memory. After a failure nothing but that is
+    /// changed.
     pub fn write_due<K: Sink>(&mut self, out: &mut K) -> Result<(), WriteFailed>
         requires good { self.old.closed ≡ false }
         ensures writes { WritesDue self.old self.new (K.received out.old) (K.received out.new)
             result }
         ensures kept { (K.received out.old).faults ≤ (K.received out.new).faults }
         ensures good { OnOk result (self.new.closed ≡ false) }
+        ensures failed { OnErr result (self.new ≡ record self.old { closed = true }) }
     {
         match self.kept.write(out, &mut self.buffer, self.sent, self.due) {
             Ok(()) => {
@@ -109,6 +130,7 @@ impl Outlet {
         requires good { self.old.closed ≡ false }
         ensures writes { Finishes self.old (K.received out.old) (K.received out.new) result }
         ensures kept { (K.received out.old).faults ≤ (K.received out.new).faults }
+        ensures closed { self.new ≡ record self.old { closed = true } }
     {
         let written = self
             .kept
