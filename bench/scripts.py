@@ -3,10 +3,13 @@
     python3 bench/scripts.py hour   > hour.csv      # an hour of cues of two lines, one every four seconds
     python3 bench/scripts.py limits > limits.csv    # 512 epochs, 4,096 cues and 8,192 colours over ten hours
     python3 bench/scripts.py epoch  > epoch.csv     # as many cues and colours in one epoch, one region and one CLUT
+    python3 bench/scripts.py live   > live.csv      # an hour of 1,500 cues of two lines, a tick before each, as late as it may be
 """
 import sys
 
 SECOND = 90_000
+# A cue has to start later than that behind the last tick.
+HORIZON = 453_600
 
 
 def hour():
@@ -42,4 +45,12 @@ def epoch():
         print(f"cue,{begin},{begin + 2 * step},0,24,16,7,8,Cue {number}")
 
 
-{"hour": hour, "limits": limits, "epoch": epoch}[sys.argv[1]]()
+def live():
+    print("origin,0\ndisplay,720,576\nrefresh,5\nepoch,900000\nregion,0,0,480,720,80,4,0")
+    for number in range(1_500):
+        start = 900_000 + number * 216_000
+        print(f"tick,{start - HORIZON - 1}")
+        print(f'cue,{start},{start + 180_000},0,24,16,7,8,"This is the first line of cue number {number},\nand this one is the second of its lines."')
+
+
+{"hour": hour, "limits": limits, "epoch": epoch, "live": live}[sys.argv[1]]()

@@ -40,6 +40,11 @@ fn codes_of_tools_that_fail(rt: HostRuntime) -> Result<(), Fail> {
         ("pictures sd 256 1 1 no_such.ts no_such_folder/out.txt", 5),
         ("pictures sd 256 1 1 /dev/null no_such_folder/out.txt", 6),
         ("pictures sd 256 1 65 /dev/null out.txt", 2),
+        ("live sd 256 1 no_such.csv none no_such_folder/out.ts", 5),
+        ("live sd 256 1 /dev/null no_such.bdf no_such_folder/out.ts", 5),
+        ("live sd 256 1 /dev/null none no_such_folder/out.ts", 3),
+        ("live sd 256 1 /dev/null /dev/null no_such_folder/out.ts", 3),
+        ("live wide 256 1 /dev/null none out.ts", 2),
     ];
     for (line, code) in cases {
         let mut words = Words::make(rt.alloc());
@@ -63,6 +68,7 @@ fn the_table_of_tools_is_told(rt: HostRuntime) -> Result<(), Fail> {
             "mux N1 M1 PID1 PAGE1 LANG1 N2 M2 PID2 PAGE2 LANG2 STREAM1 STREAM2 OUT\n\
             take N STREAM OUT\npair PROFILE PID PAGE1 PAGE2 ANC SCRIPT1 SCRIPT2 OUT\n\
             pairdump PROFILE PID PAGE ANC BANDS STREAM OUT TICK...\n\
+            live PROFILE PID PAGE SCRIPT FONT OUT\n\
             splice PROFILE PID PAGE ORIGIN CUT STREAM1 STREAM2 OUT\n\
             pictures PROFILE PID PAGE BANDS STREAM OUT\n",
             "usage\n",

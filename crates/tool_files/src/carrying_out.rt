@@ -1,5 +1,6 @@
 ghost use Rattle.std.specs.Prelude.{◌≡◌};
 
+use crate::live::live;
 use crate::multiplexes::{mux, take};
 use crate::pictures::pictures;
 use crate::streams::{join, pair};
@@ -27,6 +28,7 @@ pub fn run<T: Threads + Sync>(rt: &HostRuntime, threads: &T) -> u8 {
 pub fn carry_out<T: Threads + Sync>(rt: &HostRuntime, threads: &T, words: &Words) -> u8 {
     match word_at(words, Some(0)) {
         Some(word) if word == "mux" => mux(rt, words),
+        Some(word) if word == "live" => live(rt, words),
         Some(word) if word == "splice" => join(rt, words),
         Some(word) if word == "take" => take(rt, words),
         Some(word) if word == "pair" => pair(rt, threads, words, pair_inputs(words)),

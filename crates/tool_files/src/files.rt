@@ -14,21 +14,58 @@ pub(crate) struct ToolFiles<'a> {
 
 impl<'a> ToolFiles<'a> {
     /// Opens the inputs that stand at these places of the words. The output is made with the first
-    /// byte that is written to it.
+    /// byte that is written to it, and takes the place of what was there at the end.
     pub(crate) fn of(rt: &'a HostRuntime, words: &'a Words, places: InputPlaces) -> ToolFiles<'a> {
-        let first_name = word_at(words, places.first);
-        let second_name = word_at(words, places.second);
-        let first = opened(rt, first_name);
-        let second = opened(rt, second_name);
+        let opened = Opened::at(rt, words, places);
         let output = Output::whole(
             rt,
-            output_name(word_at(words, places.out), first_name, second_name),
-            numbers_of(&first),
-            numbers_of(&second),
+            opened.out,
+            numbers_of(&opened.first),
+            numbers_of(&opened.second),
         );
+        opened.with(output)
+    }
+
+    /// The same, with an output that is written as it comes: its reader waits for it.
+    pub(crate) fn as_it_comes(
+        rt: &'a HostRuntime,
+        words: &'a Words,
+        places: InputPlaces,
+    ) -> ToolFiles<'a> {
+        let opened = Opened::at(rt, words, places);
+        let output = Output::as_it_comes(
+            rt,
+            opened.out,
+            numbers_of(&opened.first),
+            numbers_of(&opened.second),
+        );
+        opened.with(output)
+    }
+}
+
+/// The inputs of a tool, where they can be opened, and the name of its output.
+#[derive(Drop)]
+struct Opened<'a> {
+    first: Option<File>,
+    second: Option<File>,
+    out: Option<&'a str>,
+}
+
+impl<'a> Opened<'a> {
+    fn at(rt: &HostRuntime, words: &'a Words, places: InputPlaces) -> Opened<'a> {
+        let first_name = word_at(words, places.first);
+        let second_name = word_at(words, places.second);
+        Opened {
+            first: opened(rt, first_name),
+            second: opened(rt, second_name),
+            out: output_name(word_at(words, places.out), first_name, second_name),
+        }
+    }
+
+    fn with(self, output: Output<'a>) -> ToolFiles<'a> {
         ToolFiles {
-            first: FileSource::make(first),
-            second: FileSource::make(second),
+            first: FileSource::make(self.first),
+            second: FileSource::make(self.second),
             output,
         }
     }

@@ -8,6 +8,7 @@ mod carrying_out;
 // The tools over their files: multiplexes, streams of scripts or of streams, and what is told of
 // them.
 mod files;
+mod live;
 mod multiplexes;
 mod pictures;
 mod streams;

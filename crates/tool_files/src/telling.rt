@@ -32,6 +32,15 @@ pub(crate) fn tell_on<F: FaultName + Copy>(
     }
 }
 
+/// The code of a tool that has told its status by itself. The table of tools is written to standard
+/// error where the command line was wrong.
+pub(crate) fn code_of<F: FaultName + Copy>(rt: &HostRuntime, status: ToolStatus<F>) -> u8
+    ensures { result ≡ tool_code status }
+{
+    told_table(status, &mut FileSink::make(Some(rt.stderr())));
+    status.code()
+}
+
 /// Writes the table of tools to `errors` where the command line was wrong, and the line of the
 /// status to `out`. Answers the code.
 pub fn told<F: FaultName + Copy, E: Sink, O: Sink>(
@@ -45,8 +54,18 @@ pub fn told<F: FaultName + Copy, E: Sink, O: Sink>(
     ensures no_table { (status ≡ ToolStatus.Usage → ⊥)
         → WroteNothing (E.received errors.old) (E.received errors.new) }
 {
+    told_table(status, errors);
+    tell_tool(status, out).code()
+}
+
+/// Writes the table of tools to `errors` where the command line was wrong, and else nothing.
+fn told_table<F: FaultName + Copy, E: Sink>(status: ToolStatus<F>, errors: &mut E)
+    ensures table { status ≡ ToolStatus.Usage
+        → IsToldOn (E.received errors.old) (E.received errors.new) tool_lines }
+    ensures no_table { (status ≡ ToolStatus.Usage → ⊥)
+        → WroteNothing (E.received errors.old) (E.received errors.new) }
+{
     if let ToolStatus::Usage = status {
         let _ = tell_table(errors, TOOLS);
     }
-    tell_tool(status, out).code()
 }

@@ -27,9 +27,11 @@ mod joined_streams;
 #[cfg(test)]
 mod told_pictures;
 
-// The packets of a live script that are due.
+// Scripts whose records come one by one, and their packets that are due.
 #[cfg(test)]
 mod due_packets;
+#[cfg(test)]
+mod live_scripts;
 
 // The words of a command line.
 #[cfg(test)]
