@@ -41,7 +41,10 @@ fn codes_of_tools_that_fail(rt: HostRuntime) -> Result<(), Fail> {
         ("pictures sd 256 1 1 /dev/null no_such_folder/out.txt", 6),
         ("pictures sd 256 1 65 /dev/null out.txt", 2),
         ("live sd 256 1 no_such.csv none no_such_folder/out.ts", 5),
-        ("live sd 256 1 /dev/null no_such.bdf no_such_folder/out.ts", 5),
+        (
+            "live sd 256 1 /dev/null no_such.bdf no_such_folder/out.ts",
+            5,
+        ),
         ("live sd 256 1 /dev/null none no_such_folder/out.ts", 3),
         ("live sd 256 1 /dev/null /dev/null no_such_folder/out.ts", 3),
         ("live wide 256 1 /dev/null none out.ts", 2),
