@@ -3,14 +3,15 @@
 
     python3 checks/on_air.py [FOLDER]
 
-All commands of the sections "From a subtitle file" and "Into a multiplex", and the one of "Subtitle files" that wants
+All commands of the sections "From a subtitle file", "Into a multiplex" and "Live", and the one of "Subtitle files" that wants
 Pillow where that is installed, are run in FOLDER, or in a folder that is removed again. Then
 
 1. ffprobe finds a video and subtitles with their language in the programme, and both begin where the script says;
 2. the sets that come out of the programme have the script's times;
 3. both hold of the programme that a FIFO gave, too;
 4. a frame with the subtitle burnt in differs from the video's own just within the region of the script, and has no
-   subtitle where none is asked for.
+   subtitle where none is asked for;
+5. what was sent live is what `compile` writes of the same records.
 
 Where ffmpeg is not installed nothing is run, and the last line says so.
 """
@@ -119,6 +120,16 @@ def check_sets(folder, programme):
     print(f"{programme}: {len(taken)} sets have the script's times")
 
 
+def check_live(folder):
+    """The stream that came out of a FIFO of records is the one that they are compiled to."""
+    rows = (folder / "rows.csv").read_text().splitlines(keepends=True)
+    (folder / "accepted.csv").write_text("".join(row for row in rows if not row.startswith("tick,")))
+    words = [TOP / "dvbsub", "compile", "sd", "256", "1", "accepted.csv", TOP / "examples" / "television.bdf", "accepted.ts"]
+    subprocess.run(words, cwd=folder, stdout=subprocess.DEVNULL, check=True)
+    assert (folder / "live.ts").read_bytes() == (folder / "accepted.ts").read_bytes(), "live.ts is not what the records are compiled to"
+    print("live.ts is what the records are compiled to")
+
+
 def in_order(blocks):
     """The blocks with the one that makes the video first, as the text says."""
     return sorted(blocks, key=lambda block: "lavfi" not in block)
@@ -150,6 +161,10 @@ def main(folder):
                 print("not run: smooth letters, as Pillow or DejaVu is not installed")
     for block in commands_of(SECTIONS[1]):
         run(block, folder, sys.executable)
+    (folder / "script").unlink(missing_ok=True)
+    for block in commands_of("Live"):
+        run(block, folder, sys.executable)
+    check_live(folder)
     print("all commands are done, and the programme has what the script says")
 
 
