@@ -1,5 +1,7 @@
 //! Scripts whose records come one by one.
 
+ghost use Rattle.std.specs.Prelude.{◌≤◌};
+
 use crate::running::{sink_of, source_of};
 use bitmap_font::Font;
 use cue_list::Script;
