@@ -20,8 +20,9 @@ import tempfile
 import time
 
 TOP = pathlib.Path(__file__).resolve().parent.parent
-COMPILER = TOP / "crates" / "dvbsub" / "out" / "dvbsub"
-TOOLS = TOP / "crates" / "dvbsub_tools" / "out" / "dvbsub_tools"
+# The programs themselves, and not the scripts that make them: they are measured and killed by themselves.
+COMPILER = pathlib.Path(os.environ.get("DVBSUB", TOP / "crates" / "dvbsub" / "out" / "dvbsub"))
+TOOLS = pathlib.Path(os.environ.get("DVBSUB_TOOLS", TOP / "crates" / "dvbsub_tools" / "out" / "dvbsub_tools"))
 FONT = TOP / "examples" / "subtitle.bdf"
 SECOND = 90_000
 # The ticks of a slot of the profile `sd`, and how far behind a tick a later record has to begin.
