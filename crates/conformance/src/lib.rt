@@ -17,6 +17,8 @@ mod failing;
 #[cfg(test)]
 mod failing_reads;
 #[cfg(test)]
+mod failing_streams;
+#[cfg(test)]
 mod failing_tools;
 #[cfg(test)]
 mod failing_writes;

@@ -1,8 +1,11 @@
 ghost use Rattle.std.specs.Prelude.{◌≤◌};
 
 use dvbsub_cmd::top;
+use live_plan::live_top;
+use page_pair::pair_top;
 use samples::words_of;
 use service_mux::{mux_top, take_top};
+use splice::splice_top;
 use std::alloc::Global;
 use std::process::Abort;
 use std::test::Fail;
@@ -97,6 +100,15 @@ pub(crate) fn run_over<R: Threads + Sync, A: Source, B: Source>(
         mux_top(alloc, &words, first, second, &mut out, &mut notes).code()
     } else if line.starts_with("take ") {
         take_top(alloc, &words, first, &mut out, &mut notes).code()
+    } else if line.starts_with("pair ") {
+        pair_top(
+            rt, alloc, &words, first, second, &mut out, &mut notes, &NoGate,
+        )
+        .code()
+    } else if line.starts_with("live ") {
+        live_top(alloc, &words, first, second, &mut out, &mut notes).code()
+    } else if line.starts_with("splice ") {
+        splice_top(alloc, &words, first, second, &mut out, &mut notes).code()
     } else {
         let status = top(
             rt, alloc, &words, first, second, &mut out, &mut notes, &NoGate,
