@@ -6,7 +6,8 @@
 Crates that do not stand on each other are proved side by side, each by a worker in a copy of the repository of its own, since commands of
 `rt` in one copy wait for each other. What a worker has proved is copied to the others as they need it. Of the crates that could be next
 the one on the longest chain is taken first, and processors for which no crate is left to begin share the next one. A line on standard
-error tells of each crate as it is proved. Exit status 1, with what `rt` said, where a crate is refused.
+error tells of each crate as it is proved. Exit status 1, with what `rt` said, where a crate is refused. Where `rt ci` has proved these very files
+on this machine, the program that it made is taken.
 """
 
 import os
@@ -17,6 +18,8 @@ import sys
 import tempfile
 import threading
 import time
+
+import built_libraries
 
 TOP = pathlib.Path(__file__).resolve().parent.parent
 SOURCES = ("src", "specs", "proofs")
@@ -204,10 +207,20 @@ def make(program):
     return None if "usage" in said.splitlines() else said
 
 
+def note(made, begun):
+    """Notes when the program was begun to be made: what is changed meanwhile is newer than this."""
+    made.touch()
+    os.utime(made, (begun, begun))
+    return 0
+
+
 def main(program):
     libraries = libraries_of()
     made = TOP / "crates" / program / "out" / "made"
     begun = time.time()
+    if built_libraries.is_kept(program):
+        tell(f"{program}: a run of `rt ci` on this machine has proved and made it")
+        return note(made, begun)
     changed = changed_of(crates_of(program, libraries)[:-1], libraries)
     tell(f"{program}: the program is proved and made first, with {len(changed)} crates. From nothing that takes {FIRST_CALL}, once.")
     fault = prove_all(Run(changed, libraries)) or make(program)
@@ -215,10 +228,7 @@ def main(program):
         tell(f"{fault}\n{program}: the program was not made")
         return 1
     tell(f"made {program}")
-    made.touch()
-    # What is changed meanwhile is newer than this.
-    os.utime(made, (begun, begun))
-    return 0
+    return note(made, begun)
 
 
 if __name__ == "__main__":
