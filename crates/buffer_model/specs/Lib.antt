@@ -1,3 +1,4 @@
 pub mod Calls
 pub mod Meters
+pub mod Ticks
 pub mod Within

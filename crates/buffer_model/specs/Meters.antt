@@ -4,18 +4,17 @@ use Rattle.buffer_model.specs.declared.breach.Breach.{Breach}
 use Rattle.sub_base.specs.declared.pace.Pace.{Pace}
 use Rattle.buffer_model.specs.declared.waiting.Waiting.{Waiting}
 use Rattle.buffer_model.specs.declared.waiting.TheConstants.{MOST_WAITING}
-use Rattle.sub_base.specs.Pace.{tick_of, IsSound}
+use Rattle.sub_base.specs.Pace.{tick_of}
+use Rattle.sub_base.specs.declared.profile.TheConstants.{LARGEST_BUFFER}
 use Rattle.buffer_model.specs.Calls.{Call, last_slot, last_shown, unassigned, arrived, left, breaching, greatest, first_breach_of}
 
 -- what a meter keeps: the sets that may wait in the buffer, the bytes that arrived since the last set or drop, the slot
--- of the last packet and the first one that may come, when the last set is shown, the greatest level, the level over
--- the buffer, and the first breach
+-- of the last packet, when the last set is shown, the greatest level, the level over the buffer, and the first breach
 pub record Meter : Type 0 where
   pub pace : Pace
   pub waiting : List Waiting
   pub pending : ℕ
   pub last : ℕ
-  pub next : ℕ
   pub shown : ℕ
   pub peak : ℕ
   pub full : Option ℕ
@@ -29,10 +28,11 @@ held_of tick set = if nat_le set.done tick then 0 else set.bytes
 abbrev pub held : ℕ → List Waiting → ℕ
 held tick sets = sum_by (held_of tick) sets
 
--- what waits fits the buffer
+-- what waits fits the buffer, which is no larger than that of any profile, and the last packet's tick leaves room for
+-- the ticks that sets take
 pub record IsMeter (meter : Meter) : Type 0 where
-  pub sound : IsSound meter.pace
-  pub slots : (meter.last < 2 ^ 50) × (meter.next ≤ 2 ^ 50) × (meter.last ≤ meter.next)
+  pub coded : meter.pace.coded ≤ LARGEST_BUFFER
+  pub tick : tick_of meter.pace meter.last < 2 ^ 63
   pub shown : meter.shown < 2 ^ 62
   pub some : All (λ set. 1 ≤ set.bytes) meter.waiting
   pub bytes : sum_by (λ set. set.bytes) meter.waiting ≤ MOST_WAITING
@@ -40,7 +40,7 @@ pub record IsMeter (meter : Meter) : Type 0 where
       → meter.pending + held (tick_of meter.pace meter.last) meter.waiting ≤ meter.pace.coded)
 
 -- the meter is that of this past
-pub record Stands (past : List Call) (meter : Meter) : Type 0 where
+pub record IsMeterOf (past : List Call) (meter : Meter) : Type 0 where
   pub last : meter.last ≡ last_slot past
   pub shown : meter.shown ≡ last_shown past
   pub full : meter.full ≡ breaching meter.pace past

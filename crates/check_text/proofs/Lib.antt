@@ -1,4 +1,6 @@
 pub mod CheckLaws
+pub mod CourseLaws
+pub mod MeteredLaws
 pub mod PeakLaws
 pub mod SetLaws
 pub mod StepLaws

@@ -11,16 +11,16 @@ use Rattle.decoder_model.specs.Readings.{Reading}
 use Rattle.decoder_model.specs.Sets.{Delivery}
 use Rattle.decoder_model.specs.Verdict.{verdict_of}
 use Rattle.decoder_model.specs.declared.set_end.SetEnd.{SetEnd}
-use Rattle.set_receiver.specs.Receiving.{Receiving, Reception}
+use Rattle.decoder_model.specs.Received.{Reception}
+use Rattle.set_receiver.specs.Receiving.{SetReceiving}
 use Rattle.received_level_laws.specs.StreamCalls.{arrived_in, drop_where}
-use Rattle.received_level_laws.specs.ToldSets.{DoneSet, ToldCall, call_of_end, calls_told, done_by, of_no_set, of_set, set_told, told_call, told_sets, told_sets_behind}
+use Rattle.received_level_laws.specs.ToldSets.{ToldDoneSet, ToldCall, call_of_end, calls_told, done_by, of_no_set, of_set, set_told, told_call, told_sets, told_sets_behind}
 use Rattle.received_level_laws.proofs.SetCalls.{set_tells}
 use Rattle.received_level_laws.proofs.ToldLaws.{calls_more, one_more_tells, sets_more}
-use Rattle.sub_base.specs.Pace.{pace_of}
 use Rattle.sub_base.specs.declared.load.SetLoad.{SetLoad}
 use Rattle.sub_base.specs.declared.pace.Pace.{Pace}
 use Rattle.check_text.specs.CheckText.{set_line, sets_text}
-use Rattle.check_text.specs.Checking.{Counts, IsAt, told_with}
+use Rattle.check_text.specs.Checking.{Counts, IsCheckedTo, told_with}
 
 -- ---- texts
 
@@ -51,24 +51,24 @@ text_same : (pace : Pace) (told more : List ToldCall) → AreSilent more
     → sets_text pace (told ++ more) ≡ sets_text pace told
 text_same pace told more silent =
     text_more pace told more
-    ∙ ap (λ (sets : List DoneSet). sets_text pace told ++ flat_map set_line sets) (silent pace (reverse told))
+    ∙ ap (λ (sets : List ToldDoneSet). sets_text pace told ++ flat_map set_line sets) (silent pace (reverse told))
     ∙ append-nil (sets_text pace told)
 
 -- ---- calls
 
 -- calls of no set were told
-pub counted : (made : Reception) (ended : Bool) (receiving : Receiving) (old new : Meter) (packets : List (List ℕ))
-    (past : List (Delivery Reading)) (told more : List ToldCall) (text : List ℕ)
-    → AreSilent more → Counts old new more → IsAt made ended receiving old packets past told text
-    → IsAt made ended receiving new packets past (told ++ more) text
-counted made ended receiving old new packets past told more text silent counts at = record {
+pub counted : (made : Reception) (pace : Pace) (ended : Bool) (receiving : SetReceiving) (old new : Meter)
+    (packets : List (List ℕ)) (past : List (Delivery Reading)) (told more : List ToldCall) (text : List ℕ)
+    → AreSilent more → Counts old new more → IsCheckedTo made pace ended receiving old packets past told text
+    → IsCheckedTo made pace ended receiving new packets past (told ++ more) text
+counted made pace ended receiving old new packets past told more text silent counts at = record {
   own = at.own;
   taken = at.taken;
-  pace = counts.pace ∙ at.pace;
+  pace_is = counts.pace ∙ at.pace_is;
   metered =
-      subst (λ (calls : List Call). meters.Stands calls new) (sym (calls_more told more))
+      subst (λ (calls : List Call). meters.IsMeterOf calls new) (sym (calls_more told more))
       (counts.stands (calls_told told) at.metered);
-  whole = at.whole ∙ sym (text_same (pace_of made.anchor made.profile) told more silent);
+  whole = at.whole ∙ sym (text_same pace told more silent);
 }
 
 -- ---- sets

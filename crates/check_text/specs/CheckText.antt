@@ -6,15 +6,13 @@ use Rattle.buffer_model.specs.Calls.{Call, first_breach_of, greatest}
 use Rattle.buffer_model.specs.declared.breach.Breach.{Breach}
 use Rattle.buffer_model.specs.declared.breach.Breach.TheVariants.{Coded, Late}
 use Rattle.command_text.specs.Lines.{line_end, then_number}
-use Rattle.decoder_model.specs.declared.pages.Pages.{Pages}
+use Rattle.decoder_model.specs.Received.{Reception}
 use Rattle.decoder_model.specs.declared.set_end.SetEnd.{SetEnd}
 use Rattle.decoder_model.specs.declared.set_end.SetEnd.TheVariants.{Shown, Waiting, Broken, NotLater}
 use Rattle.received_level_laws.specs.StreamCalls.{AreCallsOf}
-use Rattle.received_level_laws.specs.ToldSets.{AreToldCalls, DoneSet, ToldCall, calls_told, told_sets}
-use Rattle.set_receiver.specs.Receiving.{Reception}
+use Rattle.received_level_laws.specs.ToldSets.{AreToldCalls, ToldDoneSet, ToldCall, calls_told, told_sets}
 use Rattle.sub_base.specs.Pace.{pace_of}
 use Rattle.sub_base.specs.declared.pace.Pace.{Pace}
-use Rattle.sub_base.specs.declared.profile.Profile.{Profile}
 
 -- ---- lines
 
@@ -26,7 +24,7 @@ end_word (Broken fault) = codes "broken"
 end_word (NotLater last) = codes "notlater"
 
 -- a set: its presentation time in ticks, what becomes of it, the bytes of its units, and the tick at which it is done
-abbrev pub set_line : DoneSet → List ℕ
+abbrev pub set_line : ToldDoneSet → List ℕ
 set_line one =
     codes "set" ++ then_number one.set.load.pts ++ codes " " ++ end_word one.set.end ++ then_number one.set.load.size
     ++ then_number one.done ++ line_end
@@ -57,28 +55,16 @@ abbrev pub check_text : Bool → Pace → List ToldCall → List ℕ
 check_text false pace told = sets_text pace told
 check_text true pace told = sets_text pace told ++ end_text pace told
 
--- the text of the sets and levels of these packets, the first of them in slot 0 at the origin, in a receiver of a
--- profile for a PID and these pages whose lifted times begin at the origin; the stream ends with the packets or not
-pub record IsCheckText (profile : Profile) (origin pid : ℕ) (pages : Pages) (ended : Bool) (packets : List (List ℕ))
-    (text : List ℕ) : Type 0 where
+-- the text of the sets and levels that these packets have in a receiver, the first of them in slot 0 at the tick at
+-- which lifted times begin; the stream ends with the packets or not
+pub record IsCheckText (reception : Reception) (ended : Bool) (packets : List (List ℕ)) (text : List ℕ) : Type 0 where
   pub told : List ToldCall
-  pub are : AreToldCalls profile pid pages origin 0 ended packets told
-  pub whole : text ≡ check_text ended (pace_of origin profile) told
+  pub are : AreToldCalls reception 0 ended packets told
+  pub whole : text ≡ check_text ended (pace_of reception.anchor reception.profile) told
 
--- the same, in a receiver that is for that
-abbrev pub IsCheckTextIn : Reception → Bool → List (List ℕ) → List ℕ → Type 0
-IsCheckTextIn reception ended packets text =
-    IsCheckText reception.profile reception.anchor reception.pid reception.pages ended packets text
-
--- the greatest level of the coded data buffer over these packets, the first of them in slot 0 at the origin, in such a
--- receiver; more packets may come
-pub record IsPeak (profile : Profile) (pid : ℕ) (pages : Pages) (origin : ℕ) (packets : List (List ℕ))
-    (peak : ℕ) : Type 0 where
+-- the greatest level of the coded data buffer of a receiver over these packets, the first of them in slot 0 at the tick
+-- at which lifted times begin; more packets may come
+pub record IsPeak (reception : Reception) (packets : List (List ℕ)) (peak : ℕ) : Type 0 where
   pub calls : List Call
-  pub called : AreCallsOf profile pid pages origin 0 false packets calls
-  pub peak_is : peak ≡ greatest (pace_of origin profile) calls
-
--- the same, in a receiver that is for that
-abbrev pub IsPeakIn : Reception → List (List ℕ) → ℕ → Type 0
-IsPeakIn reception packets peak =
-    IsPeak reception.profile reception.pid reception.pages reception.anchor packets peak
+  pub called : AreCallsOf reception 0 false packets calls
+  pub peak_is : peak ≡ greatest (pace_of reception.anchor reception.profile) calls

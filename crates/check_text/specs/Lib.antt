@@ -1,2 +1,3 @@
 pub mod CheckText
 pub mod Checking
+pub mod Courses

@@ -3,18 +3,18 @@
 
 ghost use Rattle.std.specs.Prelude.{◌≡◌, ◌+◌, ◌<◌, ◌≤◌, ◌^◌, ℕ, List, [], ◌∷◌, IsSome};
 ghost use Rattle.buffer_model.specs.Calls.{Call};
-ghost use Rattle.buffer_model.specs.Meters.{Stands};
+ghost use Rattle.buffer_model.specs.Meters.{IsMeterOf};
 ghost use Rattle.decoder_model.specs.PacketArrivals.{is_break};
 ghost use Rattle.display_sets.specs.Gathered.{first_ready, ready_sets, sets_behind};
-ghost use Rattle.packet_source.specs.declared.limits.TheConstants.{STREAM_LIMIT};
 ghost use Rattle.set_reader.specs.Arrived.{arrival_value};
-ghost use Rattle.set_receiver.specs.Receiving.{IsSame, reception};
+ghost use Rattle.set_receiver.specs.Receiving.{IsSameReception, reception};
 ghost use Rattle.received_level_laws.specs.StreamCalls.{arrived_in, drop_where as drop_calls};
 ghost use Rattle.received_level_laws.specs.ToldSets.{call_of_end, done_by, of_no_set};
 ghost use Rattle.stream_syntax.specs.declared.wire.TheConstants.{PAYLOAD_LENGTH};
-ghost use Rattle.set_receiver.specs.Taking.{AllTaken, HasNext};
+ghost use Rattle.set_receiver.specs.Taking.{AllReceived, HasNextReceived};
 ghost use Rattle.check_text.specs.Checking.{Counts, TakesCalls, TakesSets};
 ghost use Rattle.check_text.specs.Checking.{behind_first};
+ghost use Rattle.sub_base.specs.Pace.{tick_of};
 ghost use Rattle.sub_base.specs.declared.profile.TheConstants.{LARGEST_BUFFER};
 
 use crate::lines::set_line;
@@ -25,34 +25,35 @@ use set_receiver::{Arrival, SetReceiver};
 use stream_syntax::Event;
 use sub_base::{SetLoad, Sink};
 
-/// Tells the meter the calls of the packet of that place, by its event and what it brought, with
-/// those of the sets that come with it, whose lines are put out. The set that a unit of another
-/// time makes ready stands before the packet's bytes.
+/// Tells the meter the calls of a packet in that slot, by its event and what it brought, with those
+/// of the sets that come with it, whose lines are put out. The set that a unit of another time
+/// makes ready stands before the packet's bytes.
 pub(crate) fn take_calls<K: Sink>(
     out: &mut K,
     buffer: &mut TextBuffer,
     receiver: &mut SetReceiver,
     levels: &mut Levels,
-    place: u64,
+    slot: u64,
     event: Event,
     arrival: Arrival,
 )
     requires coded { (reception receiver.old).profile.coded ≤ LARGEST_BUFFER }
-    requires place { place < STREAM_LIMIT }
-    requires next { levels.old.next ≤ place }
+    requires later { levels.old.last ≤ slot }
+    requires tick { tick_of levels.old.pace slot < 2 ^ 63 }
     requires short { arrival.bytes ≤ PAYLOAD_LENGTH }
-    ensures calls { TakesCalls event (arrival_value arrival) place
+    ensures calls { TakesCalls event (arrival_value arrival) slot
         (K.received out.old)
         (K.received out.new)
         receiver.old receiver.new levels.old levels.new buffer.old buffer.new }
     ensures none { ready_sets receiver.new.collecting.sets ≡ [] }
-    ensures all { AllTaken receiver.new }
-    ensures same { IsSame receiver.old receiver.new }
-    ensures next { levels.new.next ≤ place + 1 }
+    ensures all { AllReceived receiver.new }
+    ensures same { IsSameReception receiver.old receiver.new }
+    ensures pace { levels.new.pace ≡ levels.old.pace }
+    ensures last { levels.new.last ≤ slot }
 {
     drop_where(levels, is_broken_off(event));
     take_first(out, buffer, receiver, levels, arrival.before);
-    arrive(levels, place, u64::from(arrival.bytes));
+    arrive(levels, slot, u64::from(arrival.bytes));
     take_ready(out, buffer, receiver, levels);
     drop_where(levels, arrival.dropped);
 }
@@ -75,23 +76,23 @@ fn is_broken_off(event: Event) -> bool
 /// The bytes of a unit are dropped, where there is one to drop.
 fn drop_where(levels: &mut Levels, dropped: bool)
     ensures calls { Counts levels.old levels.new (drop_calls of_no_set dropped) }
-    ensures next { levels.new.next ≡ levels.old.next }
+    ensures last { levels.new.last ≡ levels.old.last }
 {
     if dropped {
         levels.drop_unit();
     }
 }
 
-/// A packet of that place arrives, where any of its bytes do.
-fn arrive(levels: &mut Levels, place: u64, bytes: u64)
-    requires place { place < STREAM_LIMIT }
-    requires next { levels.old.next ≤ place }
+/// A packet arrives in that slot, where any of its bytes do.
+fn arrive(levels: &mut Levels, slot: u64, bytes: u64)
+    requires later { levels.old.last ≤ slot }
+    requires tick { tick_of levels.old.pace slot < 2 ^ 63 }
     requires short { bytes ≤ PAYLOAD_LENGTH }
-    ensures calls { Counts levels.old levels.new (arrived_in of_no_set place bytes) }
-    ensures next { levels.new.next ≤ place + 1 }
+    ensures calls { Counts levels.old levels.new (arrived_in of_no_set slot bytes) }
+    ensures last { levels.new.last ≤ slot }
 {
     if bytes != 0 {
-        levels.arrive(place, bytes);
+        levels.arrive(slot, bytes);
     }
 }
 
@@ -110,8 +111,9 @@ fn take_first<K: Sink>(
         receiver.old receiver.new levels.old levels.new buffer.old buffer.new }
     ensures left { ready_sets receiver.new.collecting.sets
         ≡ behind_first first (ready_sets receiver.old.collecting.sets) }
-    ensures same { IsSame receiver.old receiver.new }
-    ensures next { levels.new.next ≡ levels.old.next }
+    ensures same { IsSameReception receiver.old receiver.new }
+    ensures pace { levels.new.pace ≡ levels.old.pace }
+    ensures last { levels.new.last ≡ levels.old.last }
 {
     if first {
         if let Some(_) = receiver.ready() {
@@ -133,9 +135,10 @@ pub(crate) fn take_ready<K: Sink>(
         (K.received out.new)
         receiver.old receiver.new levels.old levels.new buffer.old buffer.new }
     ensures none { ready_sets receiver.new.collecting.sets ≡ [] }
-    ensures all { AllTaken receiver.new }
-    ensures same { IsSame receiver.old receiver.new }
-    ensures next { levels.new.next ≡ levels.old.next }
+    ensures all { AllReceived receiver.new }
+    ensures same { IsSameReception receiver.old receiver.new }
+    ensures pace { levels.new.pace ≡ levels.old.pace }
+    ensures last { levels.new.last ≡ levels.old.last }
 {
     while let Some(_) = receiver.ready() {
         take_next(out, buffer, receiver, levels);
@@ -150,7 +153,7 @@ fn take_next<K: Sink>(
     levels: &mut Levels,
 )
     requires ready { IsSome (first_ready (ready_sets receiver.old.collecting.sets)) }
-    requires next { HasNext receiver.old }
+    requires next { HasNextReceived receiver.old }
     requires coded { (reception receiver.old).profile.coded ≤ LARGEST_BUFFER }
     ensures sets { TakesSets
         (K.received out.old)
@@ -158,8 +161,9 @@ fn take_next<K: Sink>(
         receiver.old receiver.new levels.old levels.new buffer.old buffer.new }
     ensures left { ready_sets receiver.new.collecting.sets
         ≡ sets_behind (ready_sets receiver.old.collecting.sets) }
-    ensures same { IsSame receiver.old receiver.new }
-    ensures next { levels.new.next ≡ levels.old.next }
+    ensures same { IsSameReception receiver.old receiver.new }
+    ensures pace { levels.new.pace ≡ levels.old.pace }
+    ensures last { levels.new.last ≡ levels.old.last }
 {
     let end = receiver.take();
     let load = receiver.load();
@@ -173,11 +177,11 @@ fn count_set(levels: &mut Levels, end: SetEnd, load: SetLoad) -> u64
     requires pts { load.pts < 2 ^ 62 }
     requires size { load.size < 2 ^ 62 }
     requires painted { load.painted < 2 ^ 62 }
-    ensures stands { (past : List Call) → Stands past levels.old
-        → Stands (call_of_end end load ∷ past) levels.new }
-    ensures done { (past : List Call) → Stands past levels.old
+    ensures stands { (past : List Call) → IsMeterOf past levels.old
+        → IsMeterOf (call_of_end end load ∷ past) levels.new }
+    ensures done { (past : List Call) → IsMeterOf past levels.old
         → result ≡ done_by levels.old.pace past (call_of_end end load) }
-    ensures next { levels.new.next ≡ levels.old.next }
+    ensures last { levels.new.last ≡ levels.old.last }
     ensures pace { levels.new.pace ≡ levels.old.pace }
 {
     match end {

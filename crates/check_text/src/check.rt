@@ -1,15 +1,10 @@
-//! What tells of the sets and levels of a stream.
+//! What tells of the sets and levels of a stream that was compiled.
 
-ghost use Rattle.std.specs.Prelude.{◌≡◌};
-ghost use Rattle.check_text.specs.Checking.{PutsEnd};
-
-use crate::calls::{take_calls, take_ready};
-use crate::lines::{breach_line, peak_line};
+use crate::set_meter::SetMeter;
 use buffer_model::Levels;
-use command_text::{TextBuffer, put};
+use command_text::TextBuffer;
 use decoder_model::Pages;
 use packet_walk::PacketTeller;
-use set_receiver::SetReceiver;
 use std::alloc::Global;
 use std::marker::Model;
 use stream_syntax::PacketFault;
@@ -19,18 +14,17 @@ use sub_base::{NoMemory, Profile, Sink};
 /// arrives in the slot of that number.
 #[derive(Drop)]
 pub struct Check {
-    receiver: SetReceiver,
-    levels: Levels,
+    sets: SetMeter,
 }
 
 impl Model for Check {
-    ghost use Rattle.check_text.specs.Checking.{Checking, IsChecking};
+    ghost use Rattle.check_text.specs.Checking.{Checking, IsSlow};
 
     ghost Value = { Checking };
 
-    ghost view = { λ c. record { receiving = c.receiver; meter = c.levels } };
+    ghost view = { λ c. c.sets };
 
-    ghost invariant = { λ c. IsChecking (record { receiving = c.receiver; meter = c.levels }) };
+    ghost invariant = { λ c. IsSlow c.sets.meter.pace };
 }
 
 impl Check {
@@ -39,10 +33,10 @@ impl Check {
     ghost use Rattle.command_text.specs.Putting.{PutsOut};
     ghost use Rattle.packet_source.specs.declared.limits.TheConstants.{STREAM_LIMIT};
     ghost use Rattle.packet_walk.specs.Told.{HasTaken, StaysTold, TellsOne};
-    ghost use Rattle.set_receiver.specs.Receiving.{IsSame, reception};
+    ghost use Rattle.set_receiver.specs.Receiving.{IsSameReception, reception};
     ghost use Rattle.stream_syntax.specs.TransportPackets.{packet_fault};
     ghost use Rattle.sub_base.specs.Pace.{IsSending};
-    ghost use Rattle.check_text.specs.CheckText.{IsCheckTextIn, IsPeakIn};
+    ghost use Rattle.check_text.specs.CheckText.{IsCheckText, IsPeak};
     ghost use Rattle.check_text.specs.Checking.{HasChecked};
 
     /// A receiver of a profile with a step, for a PID and these pages, whose lifted times begin at
@@ -60,9 +54,9 @@ impl Check {
             ≡ record { profile = profile.now; pid = pid; pages = pages; anchor = origin }) }
         ensures nothing { IfOk result (λ check. HasChecked check [] []) }
     {
+        let levels = Levels::make(alloc, profile, origin)?;
         Ok(Check {
-            receiver: SetReceiver::make(alloc, profile, pid, pages, origin)?,
-            levels: Levels::make(alloc, profile, origin)?,
+            sets: SetMeter::make(alloc, profile, origin, pid, pages, levels)?,
         })
     }
 
@@ -80,7 +74,7 @@ impl Check {
         ensures fault { MatchResult result
             (λ _. packet_fault (reception self.old.receiving).pid packet.now ≡ None)
             (λ fault. packet_fault (reception self.old.receiving).pid packet.now ≡ Some fault) }
-        ensures same { IsSame self.old.receiving self.new.receiving }
+        ensures same { IsSameReception self.old.receiving self.new.receiving }
         ensures told { OnOk result (TellsOne HasChecked
             (K.received out.old)
             (K.received out.new)
@@ -90,26 +84,15 @@ impl Check {
             (K.received out.new)
             self.old self.new buffer.old buffer.new) }
     {
-        let event = self.receiver.feed(packet)?;
-        let arrival = self.receiver.arrival();
-        take_calls(
-            out,
-            buffer,
-            &mut self.receiver,
-            &mut self.levels,
-            place,
-            event,
-            arrival,
-        );
-        Ok(())
+        self.sets.take(out, buffer, place, packet)
     }
 
     /// The greatest level of the coded data buffer so far, in bytes.
     pub fn peak(&self) -> u64
         ensures { (packets : List (List ℕ)) (text : List ℕ) → HasChecked self.now packets text
-            → IsPeakIn (reception self.now.receiving) packets result }
+            → IsPeak (reception self.now.receiving) packets result }
     {
-        self.levels.peak()
+        self.sets.peak()
     }
 
     /// The stream has ended: puts out the lines of the sets that are left, of the greatest level
@@ -117,17 +100,16 @@ impl Check {
     pub fn finish<K: Sink>(&mut self, out: &mut K, buffer: &mut TextBuffer)
         ensures { (packets : List (List ℕ)) (text : List ℕ) → HasChecked self.old packets text
             → (more : List ℕ)
-            × IsCheckTextIn (reception self.old.receiving) true packets (text ++ more)
+            × IsCheckText (reception self.old.receiving) true packets (text ++ more)
             × PutsOut (K.received out.old) (K.received out.new) buffer.old buffer.new more }
     {
-        self.receiver.finish();
-        take_ready(out, buffer, &mut self.receiver, &mut self.levels);
-        put_end(out, buffer, &self.levels);
+        self.sets.finish(out, buffer);
     }
 }
 
 impl PacketTeller for Check {
-    ghost use Rattle.set_receiver.specs.Receiving.{Reception, reception};
+    ghost use Rattle.decoder_model.specs.Received.{Reception};
+    ghost use Rattle.set_receiver.specs.Receiving.{reception};
     ghost use Rattle.check_text.specs.Checking.{HasChecked};
 
     ghost pid = { λ check. (reception check.receiving).pid };
@@ -147,15 +129,4 @@ impl PacketTeller for Check {
     ) -> Result<(), PacketFault> {
         self.take(out, buffer, place, packet)
     }
-}
-
-/// Puts out the lines of the greatest level and of the first breach.
-fn put_end<K: Sink>(out: &mut K, buffer: &mut TextBuffer, levels: &Levels)
-    ensures { PutsEnd levels.now
-        (K.received out.old)
-        (K.received out.new)
-        buffer.old buffer.new }
-{
-    put(out, buffer, peak_line(levels.peak()).as_bytes());
-    put(out, buffer, breach_line(levels.first_breach()).as_bytes());
 }

@@ -81,3 +81,28 @@ fn largest_buffer(rt: HostRuntime) -> Result<(), Fail> {
     );
     Ok(())
 }
+
+/// Packets that come by the tick: two in one tick, of which the second does not fit.
+#[test]
+fn packets_by_the_tick(rt: HostRuntime) -> Result<(), Fail> {
+    let mut levels = Levels::by_ticks(rt.alloc(), &Profile::of(ProfileName::Sd))?;
+    assert_eq!(rt; levels.arrive(7, 20_000), 20_000);
+    assert_eq!(rt; levels.tick(), 7);
+    let load = SetLoad {
+        pts: 300_000,
+        size: 20_000,
+        painted: 0,
+    };
+    assert_eq!(rt; levels.set_whole(load), 20_007);
+    assert_eq!(rt; levels.arrive(20_006, 184), 20_184);
+    assert_eq!(rt; levels.arrive(20_006, 4_393), 24_577);
+    assert_eq!(rt; levels.peak(), 24_577);
+    assert_eq!(rt;
+        levels.first_breach(),
+        Some(Breach::Coded {
+            slot: 20_006,
+            level: 24_577
+        })
+    );
+    Ok(())
+}

@@ -21,6 +21,8 @@ mod unit_bytes;
 
 // Sets out of packets, their slots, and the levels of the coded data buffer.
 #[cfg(test)]
+mod clock_samples;
+#[cfg(test)]
 mod coded_levels;
 #[cfg(test)]
 mod gathered_sets;

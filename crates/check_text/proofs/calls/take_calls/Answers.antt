@@ -8,7 +8,7 @@ use Rattle.check_text.proofs.calls.take_calls.Goals as goal
 
 pub returns-clause-calls : goal.returns-clause-calls
 returns-clause-calls g c =
-    calls_taken c.args.event (arrival_value c.args.arrival) c.args.place _ _ _ c.args.receiver.now
+    calls_taken c.args.event (arrival_value c.args.arrival) c.args.slot _ _ _ c.args.receiver.now
     c.take_first.new.receiver c.take_ready.new.receiver
     c.args.levels.now c.drop_where.new.levels c.take_first.new.levels c.arrive.new.levels c.take_ready.new.levels
     c.drop_where-2.new.levels c.args.buffer.now c.take_first.new.buffer c.take_ready.new.buffer
@@ -16,5 +16,5 @@ returns-clause-calls g c =
     c.is_broken_off.ensures c.drop_where.ensures.calls)
     c.take_first.ensures.sets c.take_first.ensures.left
     (subst (λ (bytes : ℕ). Counts c.take_first.new.levels c.arrive.new.levels
-    (arrived_in of_no_set c.args.place bytes)) c.from.ensures c.arrive.ensures.calls)
+    (arrived_in of_no_set c.args.slot bytes)) c.from.ensures c.arrive.ensures.calls)
     c.take_ready.ensures.sets c.take_ready.ensures.none c.drop_where-2.ensures.calls

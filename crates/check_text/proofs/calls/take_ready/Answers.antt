@@ -6,7 +6,8 @@ pub loop-out-init : goal.loop-out-init
 loop-out-init g c = record {
   sets = taken_nothing _ c.args.receiver.now c.args.levels.now c.args.buffer.now;
   same = refl;
-  next = refl;
+  pace = refl;
+  last = refl;
 }
 
 pub take_next-requires-clause-next : goal.take_next-requires-clause-next
@@ -22,7 +23,8 @@ loop-out-preserved g c = record {
       c.loop-out.invariant.sets c.take_next.ensures.sets;
   same =
       c.take_next.ensures.same ∙ c.loop-out.invariant.same;
-  next = c.take_next.ensures.next ∙ c.loop-out.invariant.next;
+  pace = c.take_next.ensures.pace ∙ c.loop-out.invariant.pace;
+  last = c.take_next.ensures.last ∙ c.loop-out.invariant.last;
 }
 
 pub returns-clause-all : goal.returns-clause-all

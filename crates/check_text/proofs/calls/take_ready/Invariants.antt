@@ -1,6 +1,6 @@
 use Rattle.std.proofs.Common.{◌≡◌, length}
 use Rattle.display_sets.specs.Gathered.{ready_sets}
-use Rattle.set_receiver.specs.Receiving.{IsSame}
+use Rattle.set_receiver.specs.Receiving.{IsSameReception}
 use Rattle.check_text.specs.Checking.{TakesSets}
 use Rattle.check_text.proofs.calls.take_ready.Given as goal
 
@@ -11,8 +11,9 @@ invariant-loop-out g l =
           (g.K.Sink.received l.fn.out)
           (g.K.Sink.received l.out)
           l.fn.receiver l.receiver l.fn.levels l.levels l.fn.buffer l.buffer;
-      same : IsSame l.fn.receiver l.receiver;
-      next : l.levels.next ≡ l.fn.levels.next;
+      same : IsSameReception l.fn.receiver l.receiver;
+      pace : l.levels.pace ≡ l.fn.levels.pace;
+      last : l.levels.last ≡ l.fn.levels.last;
     }
 
 abbrev pub decreases-loop-out : goal.decreases-loop-out

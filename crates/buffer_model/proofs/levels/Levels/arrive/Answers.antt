@@ -16,6 +16,6 @@ overflow_add-level-in-None c =
       c.self.invariant.0.bytes,
       c.self.invariant.0.level
           c.in-None.is,
-      c.self.invariant.0.sound.coded,
+      c.self.invariant.0.coded,
       c.requires.bytes,
     )

@@ -1,23 +1,27 @@
 -- A check that was fed nothing.
-use Rattle.std.proofs.Common.{◌∙◌, ◌≤◌, ◌^◌, sym, subst}
-use Rattle.set_receiver.specs.Receiving.{Reception}
+use Rattle.std.proofs.Common.{◌∙◌, ap, sym, subst, arith}
+use Rattle.buffer_model.specs.Meters.{Meter}
+use Rattle.decoder_model.specs.Received.{Reception}
 use Rattle.sub_base.specs.Pace.{pace_of}
-use Rattle.check_text.proofs.CheckLaws.{few_in_profile, nothing_checked}
+use Rattle.check_text.specs.Checking.{IsSlow, own_slot}
+use Rattle.check_text.proofs.CheckLaws.{few_in_profile, nothing_checked, slow_pace}
 use Rattle.check_text.proofs.check.Check.make.Goals as goal
-use Rattle.sub_base.specs.declared.profile.TheConstants.{LARGEST_BUFFER}
+
+pub make-requires-2-clause-coded : goal.make-requires-2-clause-coded
+make-requires-2-clause-coded c = (few_in_profile c.args.profile.now c.requires.profile).0
+
+pub make-requires-2-clause-nodes : goal.make-requires-2-clause-nodes
+make-requires-2-clause-nodes c = (few_in_profile c.args.profile.now c.requires.profile).1
 
 pub invariant_of-result : goal.invariant_of-result
-invariant_of-result c = record {
-  none = c.in_ok-make.ensures.none;
-  coded =
-      subst (λ (made : Reception). made.profile.coded ≤ LARGEST_BUFFER) (sym c.in_ok-make.ensures.made)
-      (few_in_profile c.args.profile.now c.requires.profile).0;
-}
+invariant_of-result c =
+    subst (λ (meter : Meter). IsSlow meter.pace) (sym c.in_ok-make.ensures.meter)
+    (subst IsSlow (sym c.in_ok-levels.ensures.pace)
+    (slow_pace c.args.origin c.args.profile.now c.requires.profile (omega (arith, c.requires.origin))))
 
 pub returns-clause-nothing : goal.returns-clause-nothing
 returns-clause-nothing c =
-    nothing_checked c.in_ok-make.field-0 c.in_ok-make-2.field-0 c.in_ok-make.ensures.stands
-    c.in_ok-make-2.ensures.stands
-    (c.in_ok-make-2.ensures.pace
-    ∙ (λ i. pace_of (sym c.in_ok-make.ensures.made i).anchor (sym c.in_ok-make.ensures.made i).profile))
-    c.in_ok-make-2.ensures.next
+    nothing_checked c.in_ok-make.field-0 (c.in_ok-make.ensures.nothing own_slot)
+    (ap (λ (meter : Meter). meter.pace) c.in_ok-make.ensures.meter ∙ c.in_ok-levels.ensures.pace
+    ∙ ap (λ (made : Reception). pace_of made.anchor made.profile) (sym c.in_ok-make.ensures.made))
+    (ap (λ (meter : Meter). meter.last) c.in_ok-make.ensures.meter ∙ c.in_ok-levels.ensures.last)

@@ -1,0 +1,3 @@
+pub mod LevelText
+pub mod Levelling
+pub mod RateClock
