@@ -1,0 +1,16 @@
+//! What `faults` tells of a stream: what is wrong with its display sets, which regions of shown
+//! sets pass the edges of the display, which definitions change under one version, and how many
+//! sets came to each end.
+#![tactic(auto)]
+
+mod changes;
+mod fault_names;
+mod faults;
+mod kept;
+mod lines;
+mod sets;
+mod taking;
+mod tally;
+
+pub use faults::Faults;
+pub use tally::Tally;

@@ -1,0 +1,2 @@
+pub mod KnowLaws
+mod WalkLaws
