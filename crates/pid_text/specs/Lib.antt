@@ -1,0 +1,4 @@
+pub mod PidUnits
+pub mod PidText
+pub mod Watched
+pub mod Private
