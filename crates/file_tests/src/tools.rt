@@ -40,6 +40,18 @@ fn codes_of_tools_that_fail(rt: HostRuntime) -> Result<(), Fail> {
         ("pictures sd 256 1 1 no_such.ts no_such_folder/out.txt", 5),
         ("pictures sd 256 1 1 /dev/null no_such_folder/out.txt", 6),
         ("pictures sd 256 1 65 /dev/null out.txt", 2),
+        ("pids no_such.ts no_such_folder/out.txt", 5),
+        ("pids /dev/null no_such_folder/out.txt", 6),
+        ("pids /dev/null", 2),
+        ("faults sd 256 1 no_such.ts no_such_folder/out.txt", 5),
+        ("faults sd 256 1 /dev/null no_such_folder/out.txt", 6),
+        ("faults sd 256 65536 /dev/null out.txt", 2),
+        ("levels sd 256 1 1000 no_such.ts no_such_folder/out.txt", 5),
+        (
+            "levels sd 256 1 1000000000 /dev/null no_such_folder/out.txt",
+            6,
+        ),
+        ("levels sd 256 1 999 /dev/null out.txt", 2),
         ("live sd 256 1 no_such.csv none no_such_folder/out.ts", 5),
         (
             "live sd 256 1 /dev/null no_such.bdf no_such_folder/out.ts",
@@ -73,7 +85,10 @@ fn the_table_of_tools_is_told(rt: HostRuntime) -> Result<(), Fail> {
             pairdump PROFILE PID PAGE ANC BANDS STREAM OUT TICK...\n\
             live PROFILE PID PAGE SCRIPT FONT OUT\n\
             splice PROFILE PID PAGE ORIGIN CUT STREAM1 STREAM2 OUT\n\
-            pictures PROFILE PID PAGE BANDS STREAM OUT\n",
+            pids STREAM OUT\n\
+            pictures PROFILE PID PAGE BANDS STREAM OUT\n\
+            faults PROFILE PID PAGE STREAM OUT\n\
+            levels PROFILE PID PAGE RATE STREAM OUT\n",
             "usage\n",
         ),
         (ToolStatus::Memory, 7, "", "memory\n"),

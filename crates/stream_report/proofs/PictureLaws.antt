@@ -6,9 +6,9 @@ use Rattle.std.proofs.lemmas.List.Concat.{flat_map-append}
 use Rattle.std.proofs.lemmas.List.Elements.{All-nil, All-push}
 use Rattle.command_text.specs.Putting.{Buffered, PutsOut}
 use Rattle.command_text.proofs.PutLaws.{PutsOut-both, PutsOut-nothing}
-use Rattle.decoder_model.specs.declared.pages.Pages.{Pages}
 use Rattle.decoder_model.specs.Kept.{last_time, lifted_time}
 use Rattle.decoder_model.specs.Readings.{AreDeliveriesRead, IsDeliveryRead, Reading}
+use Rattle.decoder_model.specs.Received.{Reception, sets_received}
 use Rattle.decoder_model.specs.Sets.{Delivery}
 use Rattle.decoder_model.specs.Shown.{view_at}
 use Rattle.decoder_model.specs.Verdict.{verdict_of}
@@ -21,8 +21,8 @@ use Rattle.page_core.specs.Memory.{Memory}
 use Rattle.reading_laws.proofs.PacketsRead.{packets_read}
 use Rattle.receiver.specs.Receiving.{IsNext, IsSame, Receiving, Stands, reception}
 use Rattle.receiver.specs.Taking.{AllTaken, HasNext}
-use Rattle.set_receiver.specs.Receiving.{AreLosses, Reception, sets_received}
-use Rattle.set_receiver.specs.Taking.{AreBytes}
+use Rattle.set_receiver.specs.Receiving.{AreLosses}
+use Rattle.set_receiver.specs.Taking.{AreAllBytes}
 use Rattle.set_receiver.proofs.PastLaws.{losses_read}
 use Rattle.set_receiver.proofs.TakenSets.{next_read, read_more}
 use Rattle.sub_base.specs.Endpoints.{Received}
@@ -74,7 +74,7 @@ module _ (old new : Receiving) (at : Option ℕ) (end : SetEnd)
   comes made ended packets text state =
       let coming = has_next ended packets state.given state.stands in
       let asked = reception old in
-      let all = packets_read asked.profile asked.pid asked.pages ended packets state.bytes in
+      let all = packets_read asked ended packets state.bytes in
       let found = next_read asked ended packets state.given coming.1 coming.0 all.0 all.1 coming.2.all in
       record {
         delivery = coming.0;
@@ -171,14 +171,12 @@ on_both a b c old mid new until next last was between is one other = record {
 -- ---- packets
 
 -- a receiver that was fed nothing
-pub nothing_pictured : (receiving : Receiving) (bands : ℕ) → (reception receiving).anchor ≡ 0
-    → Stands false [] [] receiving
+pub nothing_pictured : (receiving : Receiving) (bands : ℕ) → Stands false [] [] receiving
     → HasPictured (record { receiving = receiving; bands = bands; until = None }) [] []
-nothing_pictured receiving bands anchored stands = record {
-  anchored = anchored;
+nothing_pictured receiving bands stands = record {
   told = record {
     own = refl;
-    bytes = All-nil AreBytes;
+    bytes = All-nil AreAllBytes;
     given = [];
     stands = stands;
     past = [];
@@ -190,7 +188,7 @@ nothing_pictured receiving bands anchored stands = record {
 
 -- a packet that was fed
 fed_told : (made : Reception) (old new : Receiving) (until : Option ℕ) (packets : List (List ℕ)) (packet text : List ℕ)
-    → AreBytes packet → IsSame old new
+    → AreAllBytes packet → IsSame old new
     → ((fed : List (List ℕ)) (given : List (Delivery (List ℕ))) → Stands false fed given old
     → (losses : List (Delivery (List ℕ))) × AreLosses losses
     × Stands false (fed ++ packet ∷ []) (given ++ losses) new)
@@ -201,7 +199,7 @@ fed_told made old new until packets packet text bytes same feeds is =
     let lost = losses_read fed.0 is.given is.past fed.1 is.read in
     record {
       own = same ∙ is.own;
-      bytes = All-push AreBytes packets packet is.bytes bytes;
+      bytes = All-push AreAllBytes packets packet is.bytes bytes;
       given = is.given ++ fed.0;
       stands = fed.2;
       past = lost.more ++ is.past;
@@ -211,7 +209,7 @@ fed_told made old new until packets packet text bytes same feeds is =
 
 -- with the sets that were taken then
 pub packet_told : (before now : Received) (old : Picturing) (mid new : Receiving) (next : Option ℕ)
-    (was is : Buffered) (place : ℕ) (packet : List ℕ) → AreBytes packet → IsSame old.receiving mid
+    (was is : Buffered) (place : ℕ) (packet : List ℕ) → AreAllBytes packet → IsSame old.receiving mid
     → ((fed : List (List ℕ)) (given : List (Delivery (List ℕ))) → Stands false fed given old.receiving
     → (losses : List (Delivery (List ℕ))) × AreLosses losses
     × Stands false (fed ++ packet ∷ []) (given ++ losses) mid)
@@ -226,7 +224,6 @@ packet_told before now old mid new next was is place packet bytes same feeds lat
       let told = on.goes made false (packets ++ packet ∷ []) text fed in (
         told.0,
         record {
-          anchored = ap (λ (one : Reception). one.anchor) both ∙ has.anchored;
           told = record {
             own = refl;
             bytes = told.1.bytes;
@@ -258,9 +255,7 @@ pictured_so_far picturing packets text has =
           has.told.read;
       whole = has.told.of.whole
           ∙ ap (shown_text made.profile made.anchor has.told.past)
-          (sym (append-nil (ticks_of_sets made.profile made.anchor has.told.past)))
-          ∙ ap (λ (a : ℕ). shown_text made.profile a has.told.past (ticks_told made.profile a false has.told.past))
-          has.anchored;
+          (sym (append-nil (ticks_of_sets made.profile made.anchor has.told.past)));
     }
 
 -- the last time-out ends no earlier than the last kept set
@@ -313,9 +308,7 @@ pictured_whole before mid now old fed new next was between is finishes same on l
             (sym (all packets true state.given state.stands)) state.read);
         whole =
             sym (append_assoc text told.0 last)
-            ∙ whole_text made.profile made.anchor next state.past (text ++ told.0) state.of
-            ∙ ap (λ (a : ℕ). shown_text made.profile a state.past (ticks_told made.profile a true state.past))
-            has.anchored;
+            ∙ whole_text made.profile made.anchor next state.past (text ++ told.0) state.of;
       },
       PutsOut-both before mid now was between is told.0 last told.2
           (subst (λ (one : Reception). PutsOut mid now between is
@@ -327,12 +320,11 @@ pictured_whole before mid now old fed new next was between is finishes same on l
     )
 
 -- what a receiver at work tells is what it was made for
-pub tells_as_made : (profile : Profile) (pid : ℕ) (pages : Pages) (picturing : Picturing) (ended : Bool)
-    (packets : List (List ℕ)) (text : List ℕ)
-    → reception picturing.receiving ≡ record { profile = profile; pid = pid; pages = pages; anchor = 0 }
-    → pictures_tell picturing ended packets text → IsPicturesText profile pid pages ended packets text
-tells_as_made profile pid pages picturing ended packets text same is =
-    subst (λ (one : Reception). IsPicturesText one.profile one.pid one.pages ended packets text) same is
+pub tells_as_made : (made : Reception) (picturing : Picturing) (ended : Bool) (packets : List (List ℕ))
+    (text : List ℕ) → reception picturing.receiving ≡ made → pictures_tell picturing ended packets text
+    → IsPicturesText made ended packets text
+tells_as_made made picturing ended packets text same is =
+    subst (λ (one : Reception). IsPicturesText one ended packets text) same is
 
 -- ---- the answer
 

@@ -9,12 +9,12 @@ use Rattle.decoder_model.specs.declared.set_end.SetEnd.{SetEnd}
 use Rattle.decoder_model.specs.declared.set_end.SetEnd.TheVariants.{Shown}
 use Rattle.page_core.specs.Memory as cores
 use Rattle.page_core.specs.Memory.{Memory}
-use Rattle.page_core.specs.Scenes.{Shows, until_in}
+use Rattle.page_core.specs.Scenes.{ShowsStanding, until_in}
 use Rattle.sub_base.specs.declared.pace.TheConstants.{SECOND}
 use Rattle.stream_report.specs.Private.Picturing.{IsUntilBy, IsUntilIn}
 
 -- no earlier than the last kept set
-in_late : (memory : Memory) (past : List (Delivery Reading)) → cores.Stands past memory
+in_late : (memory : Memory) (past : List (Delivery Reading)) → cores.IsMemoryAfter past memory
     → IfSome (until_in memory) (λ tick. unwrap_or (last_time memory.anchor past) 0 ≤ tick)
 in_late memory past stands = by (memory.time_out == 0)
   where
@@ -29,9 +29,9 @@ in_late memory past stands = by (memory.time_out == 0)
 
 -- that of the page that stands, where the set is shown
 pub until_shown : (memory : Memory) (until : Option ℕ)
-    → ((past : List (Delivery Reading)) → cores.Stands past memory
+    → ((past : List (Delivery Reading)) → cores.IsMemoryAfter past memory
     → (standing : Standing) × (standing_after memory.profile memory.anchor past ≡ Some standing)
-    × Shows standing memory)
+    × ShowsStanding standing memory)
     → until ≡ until_in memory → IsUntilIn memory Shown until
 until_shown memory until shows is past stands =
     let shown = shows past stands in

@@ -1,5 +1,11 @@
+pub mod FaultsOutcome
+pub mod FaultsWords
+pub mod LevelsOutcome
+pub mod LevelsWords
 pub mod PicturesOutcome
 pub mod PicturesText
 pub mod PicturesWords
-pub mod ReportOutcome
+pub mod PidsOutcome
+pub mod PidsWords
 pub mod Private
+pub mod ReportOutcome

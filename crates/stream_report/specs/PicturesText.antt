@@ -2,16 +2,13 @@
 -- at the end of a time-out that comes before the next one. The sets and losses stand in a list, the latest first.
 use Rattle.std.specs.Prelude.{◌≡◌, ℕ, nat_lt, Bool, if◌then◌else◌, List, [], ◌∷◌, ◌++◌, Option, Some, None, option_and_then}
 use Rattle.std.specs.Option.{is_some}
-use Rattle.decoder_model.specs.declared.pages.Pages.{Pages}
-use Rattle.decoder_model.specs.Frames.{only}
 use Rattle.decoder_model.specs.Kept.{lifted_time}
 use Rattle.decoder_model.specs.Readings.{Reading}
-use Rattle.decoder_model.specs.Received.{HasReceived}
+use Rattle.decoder_model.specs.Received.{HasReceived, Reception, for_page}
 use Rattle.decoder_model.specs.Sets.{Delivery}
 use Rattle.decoder_model.specs.Shown.{standing_after, until_of}
 use Rattle.dump_text.specs.DumpText.{shown_text}
 use Rattle.packet_walk.specs.ToldEnds.{Telling}
-use Rattle.sub_base.specs.Profile.{profile_of}
 use Rattle.sub_base.specs.declared.profile.Profile.{Profile}
 use Rattle.stream_report.specs.declared.pictures_words.PictureReport.{PictureReport}
 
@@ -47,15 +44,16 @@ abbrev pub ticks_told : Profile → ℕ → Bool → List (Delivery Reading) →
 ticks_told profile anchor ended past =
     ticks_of_sets profile anchor past ++ (if ended then alone (until_after profile anchor past) else [])
 
--- the texts of what is shown at these ticks, in a receiver of a profile for a PID and these pages whose lifted times
--- begin at 0; the stream ends with these packets or not
-pub record IsPicturesText (profile : Profile) (pid : ℕ) (pages : Pages) (ended : Bool) (packets : List (List ℕ))
+-- the texts of what a receiver shows at these ticks; the stream ends with these packets or not
+pub record IsPicturesText (reception : Reception) (ended : Bool) (packets : List (List ℕ))
     (text : List ℕ) : Type 0 where
   pub past : List (Delivery Reading)
-  pub received : HasReceived profile pid pages ended packets past
-  pub whole : text ≡ shown_text profile 0 past (ticks_told profile 0 ended past)
+  pub received : HasReceived reception ended packets past
+  pub whole : text ≡ shown_text reception.profile reception.anchor past
+      (ticks_told reception.profile reception.anchor ended past)
 
--- what `pictures` tells by its words: however many the bands, the text is the same
+-- what `pictures` tells by its words, in a receiver whose lifted times begin at 0: however many the bands, the text is
+-- the same
 abbrev pub tells_pictures : PictureReport → Telling
 tells_pictures report ended packets text =
-    IsPicturesText (profile_of report.profile) report.pid (only report.page) ended packets text
+    IsPicturesText (for_page report.profile report.pid report.page 0) ended packets text

@@ -1,5 +1,5 @@
 ghost use Rattle.std.specs.Prelude.{◌≡◌};
-ghost use Rattle.packet_walk.specs.Closing.{Finishes};
+ghost use Rattle.packet_walk.specs.Closing.{FinishesTold};
 ghost use Rattle.packet_walk.specs.ToldEnds.{IsToldEnd};
 ghost use Rattle.stream_report.specs.PicturesOutcome.{HasPicturesRead, pictures_causes};
 ghost use Rattle.stream_report.specs.PicturesText.{tells_pictures};
@@ -139,7 +139,7 @@ fn finish<R: Threads + Sync, G: BandGate + Sync, K: Sink>(
     buffer: &mut TextBuffer,
     end: WalkEnd,
 )
-    ensures { Finishes (HasPictured pictures.old) (pictures_tell pictures.old)
+    ensures { FinishesTold (HasPictured pictures.old) (pictures_tell pictures.old)
         (K.received out.old)
         (K.received out.new)
         buffer.old buffer.new end }

@@ -51,7 +51,7 @@ impl Pictures {
     ghost use Rattle.std.specs.Prelude.{IfErr, IfOk, MatchResult, None, OnErr, OnOk, Some};
     ghost use Rattle.command_text.specs.Putting.{PutsOut};
     ghost use Rattle.packet_source.specs.InHand.{nothing_read};
-    ghost use Rattle.packet_source.specs.Packets.{Stands};
+    ghost use Rattle.packet_source.specs.Packets.{HasGivenInHand};
     ghost use Rattle.packet_source.specs.declared.limits.TheConstants.{STREAM_LIMIT};
     ghost use Rattle.packet_walk.specs.Told.{StaysTold, Tells, TellsOne};
     ghost use Rattle.packet_walk.specs.Walking.{IsEnd};
@@ -103,7 +103,7 @@ impl Pictures {
         requires buffer { buffer.old ≡ record { waits = []; failed = false } }
         requires stands { HasPictured self.old [] [] }
         requires nothing { packets.old ≡ nothing_read }
-        requires source { (now : Supplied) → Stands now now packets.old [] }
+        requires source { (now : Supplied) → HasGivenInHand now now packets.old [] }
         ensures same { IsSame self.old.receiving self.new.receiving }
         ensures end { IsEnd (HasPictured self.new) (reception self.old.receiving).pid
             (A.supplied stream.old)

@@ -2,7 +2,7 @@ ghost use Rattle.std.specs.Prelude.{◌≡◌};
 
 use crate::live::live;
 use crate::multiplexes::{mux, take};
-use crate::pictures::pictures;
+use crate::reports::{faults, levels, pictures, pids};
 use crate::streams::{join, pair};
 use crate::telling::tell_on;
 use page_pair::{dump_inputs, pair_inputs};
@@ -33,7 +33,10 @@ pub fn carry_out<T: Threads + Sync>(rt: &HostRuntime, threads: &T, words: &Words
         Some(word) if word == "take" => take(rt, words),
         Some(word) if word == "pair" => pair(rt, threads, words, pair_inputs(words)),
         Some(word) if word == "pairdump" => pair(rt, threads, words, dump_inputs(words)),
+        Some(word) if word == "pids" => pids(rt, words),
         Some(word) if word == "pictures" => pictures(rt, threads, words),
+        Some(word) if word == "faults" => faults(rt, words),
+        Some(word) if word == "levels" => levels(rt, words),
         _ => tell_on(rt, without_a_tool(ToolStatus::Usage), false),
     }
 }

@@ -10,7 +10,7 @@ mod carrying_out;
 mod files;
 mod live;
 mod multiplexes;
-mod pictures;
+mod reports;
 mod streams;
 
 // What is told on standard output and standard error.

@@ -5,6 +5,7 @@ use Rattle.std.specs.List.{AllByRecursion}
 use Rattle.command_text.specs.Putting.{Buffered, PutsOut}
 use Rattle.decoder_model.specs.Kept.{last_time}
 use Rattle.decoder_model.specs.Readings.{Reading, AreDeliveriesRead}
+use Rattle.decoder_model.specs.Received.{Reception, sets_received}
 use Rattle.decoder_model.specs.Sets.{Delivery}
 use Rattle.decoder_model.specs.Shown.{standing_after, until_of}
 use Rattle.decoder_model.specs.declared.set_end.SetEnd.{SetEnd}
@@ -14,8 +15,7 @@ use Rattle.dump_text.specs.DumpText.{shown_text}
 use Rattle.page_core.specs.Memory as cores
 use Rattle.page_core.specs.Memory.{Memory}
 use Rattle.receiver.specs.Receiving.{Receiving, Stands, reception}
-use Rattle.set_receiver.specs.Receiving.{Reception, sets_received}
-use Rattle.set_receiver.specs.Taking.{AreBytes}
+use Rattle.set_receiver.specs.Taking.{AreAllBytes}
 use Rattle.sub_base.specs.Endpoints.{Received}
 use Rattle.sub_base.specs.declared.profile.Profile.{Profile}
 use Rattle.stream_report.specs.PicturesText.{IsPicturesText, ticks_of_sets, until_after}
@@ -58,7 +58,7 @@ pub record IsPicturedOf (profile : Profile) (anchor : ℕ) (until : Option ℕ) 
 pub record IsPictured (made : Reception) (ended : Bool) (receiving : Receiving) (until : Option ℕ)
     (packets : List (List ℕ)) (text : List ℕ) : Type 0 where
   pub own : reception receiving ≡ made
-  pub bytes : All AreBytes packets
+  pub bytes : All AreAllBytes packets
   pub given : List (Delivery (List ℕ))
   pub stands : Stands ended packets given receiving
   pub past : List (Delivery Reading)
@@ -67,15 +67,13 @@ pub record IsPictured (made : Reception) (ended : Bool) (receiving : Receiving) 
 
 -- the packets were taken with all sets that they make ready, and the text is of these sets
 pub record HasPictured (picturing : Picturing) (packets : List (List ℕ)) (text : List ℕ) : Type 0 where
-  pub anchored : (reception picturing.receiving).anchor ≡ 0
   pub told : IsPictured (reception picturing.receiving) false picturing.receiving picturing.until packets text
   pub all : sets_received (reception picturing.receiving) false packets ≡ told.given
 
 -- what is told of packets by a receiver at work, with which the stream ends or not
 abbrev pub pictures_tell : Picturing → Bool → List (List ℕ) → List ℕ → Type 0
 pictures_tell picturing ended packets text =
-    IsPicturesText (reception picturing.receiving).profile (reception picturing.receiving).pid
-    (reception picturing.receiving).pages ended packets text
+    IsPicturesText (reception picturing.receiving) ended packets text
 
 -- ---- steps
 
@@ -98,7 +96,7 @@ pub record IsUntilBy (end : SetEnd) (profile : Profile) (anchor : ℕ) (past : L
 -- the same of a page memory, whatever it was handed
 abbrev pub IsUntilIn : Memory → SetEnd → Option ℕ → Type 0
 IsUntilIn memory end until =
-    (past : List (Delivery Reading)) → cores.Stands past memory
+    (past : List (Delivery Reading)) → cores.IsMemoryAfter past memory
     → IsUntilBy end memory.profile memory.anchor past until
 
 -- behind a set with that lifted time and end, the next end of a time-out: where the set is not kept, it is as before

@@ -1,12 +1,10 @@
+use Rattle.decoder_model.specs.Received.{Reception, for_page}
 use Rattle.std.proofs.Common.{◌∙◌, ℕ, ap, subst}
-use Rattle.decoder_model.specs.Frames.{only}
 use Rattle.packet_walk.proofs.CloseLaws.{closed}
 use Rattle.packet_walk.proofs.EndLaws.{end_told}
 use Rattle.packet_walk.specs.Closing.{is_whole_end}
 use Rattle.packet_walk.specs.ToldEnds.{IsToldEnd}
-use Rattle.set_receiver.specs.Receiving.{Reception}
 use Rattle.receiver.specs.Receiving.{reception}
-use Rattle.sub_base.specs.Profile.{profile_of}
 use Rattle.stream_report.specs.PicturesText.{tells_pictures}
 use Rattle.stream_report.specs.Private.Picturing.{pictures_tell}
 use Rattle.stream_report.proofs.PictureLaws.{tells_as_made}
@@ -31,8 +29,8 @@ returns g c =
     let told =
     end_told (pictures_tell walked (is_whole_end end)) (tells_pictures report (is_whole_end end)) pid _ _ _ _
     c.finish.new.buffer end
-    (λ packets text. tells_as_made (profile_of report.profile) report.pid (only report.page) walked
-    (is_whole_end end) packets text same) ended in
+    (λ packets text. tells_as_made (for_page report.profile report.pid report.page 0) walked (is_whole_end end)
+    packets text same) ended in
     subst (λ (pid : ℕ). IsToldEnd (tells_pictures report) pid (g.A.Source.supplied c.args.stream.now)
     (g.A.Source.supplied c.walk-end.new.stream) (g.K.Sink.received c.args.out.now)
     (g.K.Sink.received c.close_walk.new.out) c.close_walk.result)

@@ -1,5 +1,4 @@
-use Rattle.std.proofs.Common.{◌∙◌, ap}
-use Rattle.set_receiver.specs.Receiving.{Reception}
+use Rattle.std.proofs.Common.{◌∙◌}
 use Rattle.stream_report.proofs.PictureLaws.{nothing_pictured}
 use Rattle.stream_report.proofs.pictures.Pictures.make.Goals as goal
 
@@ -13,5 +12,4 @@ returns-clause-made c = λ i. record {
 
 pub returns-clause-nothing : goal.returns-clause-nothing
 returns-clause-nothing c =
-    nothing_pictured c.in_ok-of_pages.field-0 c.args.bands c.in_ok-of_pages.ensures.anchor
-    c.in_ok-of_pages.ensures.stands
+    nothing_pictured c.in_ok-of_pages.field-0 c.args.bands c.in_ok-of_pages.ensures.stands

@@ -1,0 +1,19 @@
+//! Tests of what archives and laboratories ask of a stream. There is no code here but tests; each
+//! expected value was worked out by hand.
+#![tactic(auto)]
+
+// Sources, sinks and packets for a tool.
+#[cfg(test)]
+mod running;
+
+// What is wrong with the sets.
+#[cfg(test)]
+mod told_faults;
+
+// What each PID has of subtitles.
+#[cfg(test)]
+mod told_pids;
+
+// The levels of the coded data buffer, by the stream's own clock.
+#[cfg(test)]
+mod told_levels;

@@ -1,0 +1,84 @@
+//! What is told of one stream: its pictures, its faults, the levels of a buffer, its PIDs.
+
+use crate::files::{ToolFiles, end};
+use std::io;
+use std::thread::Threads;
+use stream_report::{
+    faults_inputs, faults_top, levels_inputs, levels_top, pictures_inputs, pictures_top,
+    pids_inputs, pids_top,
+};
+use sub_base::{FileSink, NoGate, Words};
+
+/// Tells the pictures of all sets of a stream.
+pub(crate) fn pictures<'a, T: Threads + Sync>(
+    rt: &'a HostRuntime,
+    threads: &T,
+    words: &'a Words,
+) -> u8 {
+    let ToolFiles {
+        mut first,
+        second: _,
+        mut output,
+    } = ToolFiles::of(rt, words, pictures_inputs(words));
+    let status = pictures_top(
+        threads,
+        rt.alloc(),
+        words,
+        &mut first,
+        &mut FileSink::make(Some(&mut output)),
+        &mut FileSink::make(Some(io::sink())),
+        &NoGate,
+    );
+    end(rt, &mut output, status)
+}
+
+/// Tells why sets of a stream are not shown.
+pub(crate) fn faults<'a>(rt: &'a HostRuntime, words: &'a Words) -> u8 {
+    let ToolFiles {
+        mut first,
+        second: _,
+        mut output,
+    } = ToolFiles::of(rt, words, faults_inputs(words));
+    let status = faults_top(
+        rt.alloc(),
+        words,
+        &mut first,
+        &mut FileSink::make(Some(&mut output)),
+        &mut FileSink::make(Some(io::sink())),
+    );
+    end(rt, &mut output, status)
+}
+
+/// Tells the levels of a receiver's coded data buffer, by the stream's own clock.
+pub(crate) fn levels<'a>(rt: &'a HostRuntime, words: &'a Words) -> u8 {
+    let ToolFiles {
+        mut first,
+        second: _,
+        mut output,
+    } = ToolFiles::of(rt, words, levels_inputs(words));
+    let status = levels_top(
+        rt.alloc(),
+        words,
+        &mut first,
+        &mut FileSink::make(Some(&mut output)),
+        &mut FileSink::make(Some(io::sink())),
+    );
+    end(rt, &mut output, status)
+}
+
+/// Tells the PIDs of a stream that have subtitles, with their pages and services.
+pub(crate) fn pids<'a>(rt: &'a HostRuntime, words: &'a Words) -> u8 {
+    let ToolFiles {
+        mut first,
+        second: _,
+        mut output,
+    } = ToolFiles::of(rt, words, pids_inputs(words));
+    let status = pids_top(
+        rt.alloc(),
+        words,
+        &mut first,
+        &mut FileSink::make(Some(&mut output)),
+        &mut FileSink::make(Some(io::sink())),
+    );
+    end(rt, &mut output, status)
+}
