@@ -5,20 +5,21 @@ ghost use Rattle.cue_list.specs.declared.epoch.Cue.{Cue};
 ghost use Rattle.cue_list.specs.declared.epoch.Epoch.{Epoch};
 ghost use Rattle.cue_list.specs.declared.epoch.Region.{Region};
 ghost use Rattle.cue_list.specs.declared.script.Script.{Script};
-ghost use Rattle.decoder_model.specs.Readings.{Content};
 ghost use Rattle.decoder_model.specs.Taken.{Taken};
 ghost use Rattle.page_epoch.specs.Live.{live_places};
 ghost use Rattle.page_epoch.specs.Plan.{IsPlan};
 ghost use Rattle.page_epoch.specs.SentRegions.{filled, region_version, sent_region};
 ghost use Rattle.page_epoch.specs.declared.planned_set.PlannedSet.{PlannedSet};
 ghost use Rattle.set_coder.specs.SetSegments.{AreSetSegments};
-ghost use Rattle.shown_plan.specs.HiddenRegions.{AreHiddenOtherwise, IsDrawnAnew};
+ghost use Rattle.shown_plan.specs.HiddenRegions.{IsDrawnAnew, IsHiddenExample};
 ghost use Rattle.shown_plan.specs.HoldsScript.{IsKnownRegion};
 ghost use Rattle.shown_plan.specs.NamedSets.{AreNamedSegments};
 ghost use Rattle.shown_plan.specs.NeighbourPages.{AreNeighbourSets, HaveSamePage, IsPageAfter};
 ghost use Rattle.stream_syntax.specs.Segments.{SegmentValue};
 ghost use Rattle.sub_base.specs.Lists.{has_some};
+ghost use Rattle.sub_base.specs.Profile.{profile_of};
 ghost use Rattle.sub_base.specs.declared.profile.Profile.{Profile};
+ghost use Rattle.sub_base.specs.declared.profile.ProfileName.TheVariants.{Sd};
 
 /// Of two sets that follow each other the version of the page rises, but at a refresh, which sends
 /// the same page again. So where the pages differ the versions do, over the start of an epoch too:
@@ -62,9 +63,9 @@ pub fn taken_anew()
         → IsDrawnAnew epoch whole (before ∷ earlier) tick taken region }
 {}
 
-/// Two receivers that know one epoch, by the same display set last, may differ in the codes of a
-/// region that the page of that set does not list.
+/// Of the sets of a script's plan one receiver may have received all up to one of them, and another
+/// one those from an acquisition point on: both know the epoch, by the same set last, and differ in
+/// the codes of a region that the page of that set does not list.
 pub fn hidden_regions_differ()
-    ensures { (first : List (List Content)) × (second : List (List Content))
-        × (set : List Content) × AreHiddenOtherwise first second set 1 0 0 }
+    ensures { IsHiddenExample (profile_of Sd) }
 {}

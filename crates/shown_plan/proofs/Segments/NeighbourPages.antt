@@ -14,7 +14,7 @@ use Rattle.sub_base.specs.Lists.{has_some}
 use Rattle.sub_base.specs.Picture.{Picture}
 use Rattle.sub_base.specs.declared.profile.Profile.{Profile}
 use Rattle.cue_list.specs.Authored.{live_cues}
-use Rattle.cue_list.specs.Sound.{IsSound, ticks_of}
+use Rattle.cue_list.specs.Sound.{IsSoundScript, ticks_of}
 use Rattle.cue_list.specs.declared.epoch.Epoch.{Epoch}
 use Rattle.cue_list.specs.declared.epoch.Region.{Region}
 use Rattle.cue_list.specs.declared.script.Script.{Script}
@@ -25,7 +25,7 @@ use Rattle.page_epoch.proofs.PageVersions.{version_on}
 use Rattle.page_epoch.proofs.PlanLaws.{reverse_more}
 use Rattle.page_epoch.specs.Instants.{is_named, named_ticks}
 use Rattle.page_epoch.specs.Live.{cue_at, live_places}
-use Rattle.page_epoch.specs.Plan.{IsNext, IsPlan}
+use Rattle.page_epoch.specs.Plan.{IsNextSet, IsPlan}
 use Rattle.page_epoch.specs.SentRegions.{AreShown}
 use Rattle.page_epoch.specs.declared.planned_set.PlannedSet.{PlannedSet}
 use Rattle.set_coder.specs.SetSegments.{page_entry_of}
@@ -108,7 +108,7 @@ other_row first second high tall (inl above) same = absurd (omega arith)
 other_row first second high tall (inr below) same = absurd (omega arith)
 
 own_rows_from : (origin width height refresh : ℕ) (epochs : List Epoch) (pictures : List Picture)
-    → IsSound origin width height refresh epochs pictures → All HaveOwnRows epochs
+    → IsSoundScript origin width height refresh epochs pictures → All HaveOwnRows epochs
 own_rows_from origin width height refresh epochs pictures sound k d there i j e before within =
     let regions = (sound.each k d there).regions in
     let short : i < length (get_or epochs k d).regions = omega arith in
@@ -171,8 +171,8 @@ same_shown epoch from tick one other own order still first second =
 -- what is known of two neighbours
 record AreNext (script : Script) (sets : List PlannedSet) (first second : PlannedSet) : Type 0 where
   earlier : List PlannedSet
-  first_next : IsNext script.epochs script.refresh earlier first
-  second_next : IsNext script.epochs script.refresh (first ∷ earlier) second
+  first_next : IsNextSet script.epochs script.refresh earlier first
+  second_next : IsNextSet script.epochs script.refresh (first ∷ earlier) second
 
 are_next : (script : Script) (profile : Profile) (sets : List PlannedSet) (first second : PlannedSet)
     → IsPlan script profile sets → AreNeighbourSets sets first second → AreNext script sets first second
@@ -187,7 +187,7 @@ are_next script profile sets first second plan near =
       earlier = reverse (take n sets);
       first_next = plan.planned.first.each n first near.has_first;
       second_next =
-          subst (λ (xs : List PlannedSet). IsNext script.epochs script.refresh xs second) past
+          subst (λ (xs : List PlannedSet). IsNextSet script.epochs script.refresh xs second) past
           (plan.planned.first.each (n + 1) second near.has_second);
     }
 

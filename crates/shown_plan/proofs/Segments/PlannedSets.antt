@@ -16,8 +16,8 @@ use Rattle.page_epoch.proofs.ListLaws.{All-none}
 use Rattle.page_epoch.proofs.SendLaws.{sendable_all}
 use Rattle.page_epoch.specs.Instants.{is_named, IsInstant}
 use Rattle.page_epoch.specs.Needs.{pixel_need, node_need}
-use Rattle.page_epoch.specs.Plan.{IsEpochAt, IsNext, Fits, AllBehind, ArePlanned, IsPlan}
-use Rattle.page_epoch.specs.Sendable.{IsSendableIn, IsSendable}
+use Rattle.page_epoch.specs.Plan.{IsEpochAt, IsNextSet, Fits, AllBehind, ArePlanned, IsPlan}
+use Rattle.page_epoch.specs.Sendable.{IsSendableIn, IsOfItsEpoch}
 use Rattle.page_epoch.specs.States.{is_due, last_entry, state_of, seen_of}
 use Rattle.page_epoch.specs.declared.planned_set.PlannedSet.{PlannedSet}
 use Rattle.shown_plan.proofs.Steps.Fair.{IsFairEpoch, IsFair}
@@ -200,7 +200,7 @@ record IsSetOf (script : Script) (profile : Profile) (sets front back : List Pla
   plan : IsPlan script profile sets
   whole : sets ≡ front ++ set ∷ back
   times : HasTimes script sets
-  next : IsNext script.epochs script.refresh (reverse front) set
+  next : IsNextSet script.epochs script.refresh (reverse front) set
 
 -- the instants of its epoch before it, the latest first
 abbrev earlier_of : {script : Script} {profile : Profile} {sets front back : List PlannedSet} {set : PlannedSet}
@@ -230,9 +230,9 @@ own_sendable {script} {profile} {sets} {front} {back} {set} is =
         subst (λ (all : List PlannedSet). Contains all set) (sym is.whole)
         (Contains-append_right front (set ∷ back) set (0, omega arith, refl))
 
-    sendable : IsSendable script set
+    sendable : IsOfItsEpoch script set
     sendable =
-        all_at (IsSendable script) sets set (sendable_all script profile sets is.fair.plain is.plan.planned) here
+        all_at (IsOfItsEpoch script) sets set (sendable_all script profile sets is.fair.plain is.plan.planned) here
 
 -- the profile has what it needs
 own_room : {script : Script} {profile : Profile} {sets front back : List PlannedSet} {set : PlannedSet}
@@ -369,7 +369,7 @@ in_epoch script profile sets front back set is_fair plan whole =
           plan = plan;
           whole = whole;
           times = has_times script profile sets plan.planned;
-          next = stands_of (IsNext script.epochs script.refresh) sets front back set whole plan.planned.first.each;
+          next = stands_of (IsNextSet script.epochs script.refresh) sets front back set whole plan.planned.first.each;
         }
 
 -- ---- two neighbours

@@ -9,7 +9,7 @@ use Rattle.std.proofs.lemmas.Bool.Decides.{nat_tests}
 use Rattle.sub_base.specs.Depth.{code_count}
 use Rattle.sub_base.specs.Picture.{Picture, IsPicture}
 use Rattle.cue_list.specs.Authored.{lies_in, picture_at_place}
-use Rattle.cue_list.specs.Sound.{IsSound, IsEpoch, IsRegion, IsCue, FitsRegion, Follows, AreApart, ticks_of}
+use Rattle.cue_list.specs.Sound.{IsSoundScript, IsEpoch, IsRegion, IsCue, FitsRegion, Follows, AreSeparate, ticks_of}
 use Rattle.cue_list.specs.declared.epoch.ColourRow.{ColourRow}
 use Rattle.cue_list.specs.declared.epoch.Cue.{Cue}
 use Rattle.cue_list.specs.declared.epoch.Epoch.{Epoch}
@@ -53,7 +53,7 @@ pub record IsFair (script : Script) : Type 0 where
 -- ---- from soundness
 
 -- a place in one of two regions that share no row lies not in the other
-not_both : (first second : Region) → AreApart first second → (x y : ℕ) → lies_in x y first ≡ true
+not_both : (first second : Region) → AreSeparate first second → (x y : ℕ) → lies_in x y first ≡ true
     → lies_in x y second ≡ false
 not_both first second apart x y inside = by (lies_in x y second) refl apart.rows
   where
@@ -100,7 +100,8 @@ fair_epoch origin width height pictures epoch drawn is =
     }
 
 fair_from : (script : Script)
-    → IsSound script.origin script.width script.height script.refresh script.epochs script.pictures → IsFair script
+    → IsSoundScript script.origin script.width script.height script.refresh script.epochs script.pictures
+    → IsFair script
 fair_from script sound =
     record {
       plain = plain script.origin script.width script.height script.refresh script.epochs script.pictures script.sound;
